@@ -1,0 +1,6 @@
+pub mod Cells
+pub mod Causes
+pub mod Checks
+pub mod Limits
+pub mod Sinks
+pub mod Crc

@@ -1,0 +1,16 @@
+//! Cells: big-endian numbers at an offset.
+#![tactic(auto, unfolding(crate::specs::Cells::cell, crate::specs::Cells::u32_at))]
+
+ghost use Rattle.std.specs.Prelude.{◌≡◌, ◌+◌, ◌≤◌, ◌↔◌, length, IsSome, IfSome};
+ghost use Rattle.bi_base.specs.Cells.{cell, slice, u32_at};
+
+/// The number whose cell, its four big-endian bytes, stands at offset `at`. None exactly where the bytes end before
+/// the cell does.
+pub fn be32_at(bytes: &[u8], at: usize) -> Option<u32>
+    ensures within { IsSome result ↔ (at + 4 ≤ length bytes.now) }
+    ensures value { IfSome result (λ number. number ≡ u32_at bytes.now at) }
+    ensures inverse { IfSome result (λ number. cell number ≡ slice bytes.now at 4) }
+{
+    let cell = bytes.get(at..)?.first_chunk::<4>()?;
+    Some(u32::from_be_bytes(*cell))
+}

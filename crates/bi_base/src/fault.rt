@@ -1,0 +1,146 @@
+//! Why a file is refused, and what else can go wrong.
+
+ghost use Rattle.std.specs.Prelude.{◌≡◌};
+ghost use Rattle.bi_base.specs.declared.fault.Error.TheVariants.{OutOfMemory};
+
+use std::alloc::{AllocError, AllocFailed};
+
+/// Why a file, or an argument of a building call, is refused.
+#[derive(Clone, Copy, Debug, PartialEq, Eq)]
+pub enum Cause {
+    /// The file ends before something that it has to hold.
+    Truncated = 1,
+    /// The file begins with another word than the format's.
+    BadMagic = 2,
+    /// The header checksum of a legacy image is not that of its header.
+    BadHeaderCrc = 3,
+    /// The data checksum of a legacy image is not that of its data.
+    BadDataCrc = 4,
+    /// The list of part sizes of a multi or script image has no end.
+    BadPartTable = 5,
+    /// A part ends after the data that it has to stand in.
+    BadPart = 6,
+    /// The `totalsize` of a blob is less than its header.
+    BadTotalSize = 7,
+    /// The version of a blob is not one that can be read.
+    BadVersion = 8,
+    /// A block of a blob does not stand where it may.
+    BadOffset = 9,
+    /// A token of the structure block is unknown, or stands where it may not.
+    BadToken = 10,
+    /// A node or property has a name that it may not have.
+    BadName = 11,
+    /// A property's name does not stand in the strings block.
+    BadNameOffset = 12,
+    /// A property stands after a child node.
+    PropertyAfterChild = 13,
+    /// A node has two properties of one name.
+    DuplicateProperty = 14,
+    /// A node has two children of one name.
+    DuplicateNode = 15,
+    /// More nodes are open than the limit allows.
+    TooDeep = 16,
+    /// The root has no child `images`.
+    NoImages = 17,
+    /// A property that has to be one cell is not four bytes long.
+    BadCell = 18,
+    /// An image node tells where its payload stands, and not its size.
+    NoSize = 19,
+    /// A payload ends after the file.
+    OutsideFile = 20,
+    /// The file, or the text to be written, is longer than the limit.
+    TooLarge = 21,
+    /// A code has no name.
+    NoCodeName = 22,
+    /// An image has more parts than the other format has places for.
+    TooManyParts = 23,
+    /// A part is empty, or there is none.
+    EmptyPart = 24,
+    /// A field cannot be written as it is given.
+    BadField = 25,
+    /// The file is of a kind that cannot be handled yet.
+    Unsupported = 26,
+}
+
+impl Cause {
+    ghost use Rattle.bi_base.specs.Causes.{number_of};
+
+    /// The number of the cause, 1 to 26.
+    pub fn number(self) -> u8
+        ensures { result ≡ number_of self }
+    {
+        self as u8
+    }
+
+    /// The name of the cause, as the program prints it.
+    pub fn name(self) -> &'static str {
+        match self {
+            Cause::Truncated => "Truncated",
+            Cause::BadMagic => "BadMagic",
+            Cause::BadHeaderCrc => "BadHeaderCrc",
+            Cause::BadDataCrc => "BadDataCrc",
+            Cause::BadPartTable => "BadPartTable",
+            Cause::BadPart => "BadPart",
+            Cause::BadTotalSize => "BadTotalSize",
+            Cause::BadVersion => "BadVersion",
+            Cause::BadOffset => "BadOffset",
+            Cause::BadToken => "BadToken",
+            Cause::BadName => "BadName",
+            Cause::BadNameOffset => "BadNameOffset",
+            Cause::PropertyAfterChild => "PropertyAfterChild",
+            Cause::DuplicateProperty => "DuplicateProperty",
+            Cause::DuplicateNode => "DuplicateNode",
+            Cause::TooDeep => "TooDeep",
+            Cause::NoImages => "NoImages",
+            Cause::BadCell => "BadCell",
+            Cause::NoSize => "NoSize",
+            Cause::OutsideFile => "OutsideFile",
+            Cause::TooLarge => "TooLarge",
+            Cause::NoCodeName => "NoCodeName",
+            Cause::TooManyParts => "TooManyParts",
+            Cause::EmptyPart => "EmptyPart",
+            Cause::BadField => "BadField",
+            Cause::Unsupported => "Unsupported",
+        }
+    }
+}
+
+/// A refusal: why, and at which offset of the file, or of the image to be written.
+#[derive(Clone, Copy, Debug, PartialEq, Eq)]
+pub struct Fault {
+    pub cause: Cause,
+    pub offset: u32,
+}
+
+/// What a call that reads, writes or takes memory can answer in place of its value.
+#[derive(Clone, Copy, Debug, PartialEq, Eq, thiserror::Error)]
+pub enum Error {
+    /// The file or the arguments are refused.
+    #[error("refused")]
+    Refused(Fault),
+    /// A growth was refused. No statement about the file.
+    #[error("out of memory")]
+    OutOfMemory,
+    /// A read failed. No statement about the file.
+    #[error("read failed")]
+    ReadFailed,
+    /// A write failed. No statement about the file.
+    #[error("write failed")]
+    WriteFailed,
+}
+
+impl From<AllocError> for Error {
+    ghost from_gives = { λ _ error. error ≡ OutOfMemory };
+
+    fn from(_error: AllocError) -> Error {
+        Error::OutOfMemory
+    }
+}
+
+impl<T: Drop> From<AllocFailed<T>> for Error {
+    ghost from_gives = { λ _ error. error ≡ OutOfMemory };
+
+    fn from(_error: AllocFailed<T>) -> Error {
+        Error::OutOfMemory
+    }
+}

@@ -1,0 +1,56 @@
+//! How much a call takes in.
+
+ghost use Rattle.std.specs.Prelude.{◌≡◌, ◌≤◌, ◌↔◌, IsSome, IfSome};
+ghost use Rattle.bi_base.specs.Limits.{Bounds, IsInRange};
+
+use std::marker::Model;
+
+/// The limits of a call: `file` bounds in bytes every input and every image or payload that is written, `depth` the
+/// open nodes of a blob's tree, the root counted.
+#[derive(Clone, Copy, Debug, PartialEq, Eq)]
+pub struct Limits {
+    file: u32,
+    depth: u8,
+}
+
+impl Model for Limits {
+    ghost Value = { Bounds };
+
+    ghost view = { λ limits. record { file = limits.file; depth = limits.depth } };
+
+    ghost inverse = { λ bounds. record { file = bounds.file; depth = bounds.depth } };
+
+    ghost invariant = { λ limits. IsInRange limits.file limits.depth };
+}
+
+impl Limits {
+    /// The limits with these bounds. Some exactly where `file` is 64 to 0x7fffffff and `depth` is 1 to 64.
+    pub fn new(file: u32, depth: u8) -> Option<Limits>
+        ensures in_range { IsSome result ↔ IsInRange file depth }
+        ensures value { IfSome result (λ limits. limits ≡ record { file = file; depth = depth }) }
+    {
+        if (64..=0x7fff_ffff).contains(&file) && (1..=64).contains(&depth) {
+            Some(Limits { file, depth })
+        } else {
+            None
+        }
+    }
+
+    /// The most bytes of an input, or of an image or payload that is written: 64 to 0x7fffffff.
+    pub fn file(self) -> u32
+        ensures value { result ≡ self.file }
+        ensures least { 64 ≤ result }
+        ensures most { result ≤ 0x7fffffff }
+    {
+        self.file
+    }
+
+    /// The most open nodes of a blob's tree, the root counted: 1 to 64.
+    pub fn depth(self) -> u8
+        ensures value { result ≡ self.depth }
+        ensures least { 1 ≤ result }
+        ensures most { result ≤ 64 }
+    {
+        self.depth
+    }
+}
