@@ -1,0 +1,47 @@
+use Rattle.std.specs.Prelude.{ℕ, ◌+◌, ◌*◌, ◌≤◌, ◌<◌, ◌≡◌, ⊤, List, [], ◌∷◌, ◌++◌, length, MatchBool, if◌then◌else◌}
+use Rattle.bi_base.specs.declared.fault.Fault.{Fault}
+use Rattle.bi_base.specs.declared.fault.Cause.TheVariants.{TooLarge, EmptyPart, BadField}
+use Rattle.bi_base.specs.Limits.{Bounds}
+use Rattle.bi_base.specs.Checks.{IsFirstFault, HasNoFault}
+use Rattle.bi_legacy.specs.Meaning.{LegacyImage, IsImageName, IsListedPart, has_table}
+use Rattle.bi_legacy.specs.Text.{legacy_text}
+
+-- What an image has to be so that it can be written (profile of this project).
+
+pub data Check : Type 0 where
+  HasImageName : Check
+  HasPartCount : Check
+  FitsLimit : Check
+  HasBytes : (index : ℕ) → (part : List ℕ) → Check
+
+-- What each check asks.
+abbrev pub Passes : LegacyImage → Bounds → Check → Type 0
+Passes image limits HasImageName = IsImageName image.name
+Passes image limits HasPartCount = MatchBool (has_table image.image_type) ⊤ (length image.parts ≡ 1)
+Passes image limits FitsLimit = length (legacy_text image) ≤ limits.file
+Passes image limits (HasBytes index part) = IsListedPart part
+
+-- What the image is refused with where a check fails: the place of the field in the image to be written.
+abbrev pub fault_of : Bounds → Check → Fault
+fault_of limits HasImageName = record { cause = BadField; offset = 32 }
+fault_of limits HasPartCount = record { cause = BadField; offset = 30 }
+fault_of limits FitsLimit = record { cause = TooLarge; offset = limits.file }
+fault_of limits (HasBytes index part) = record { cause = EmptyPart; offset = 64 + 4 * index }
+
+-- A check of each of these parts, the first of which is part `index`.
+abbrev pub part_checks : ℕ → List (List ℕ) → List Check
+part_checks index [] = []
+part_checks index (part ∷ parts) = HasBytes index part ∷ part_checks (index + 1) parts
+
+-- All checks of an image to be written, in their order.
+abbrev pub checks : LegacyImage → List Check
+checks image =
+    HasImageName ∷ HasPartCount ∷ FitsLimit ∷ (if has_table image.image_type then part_checks 0 image.parts else [])
+
+-- What an image is refused with: the fault of its first failing check.
+abbrev pub IsEmitFault : LegacyImage → Bounds → Fault → Type 0
+IsEmitFault image limits fault = IsFirstFault (Passes image limits) (fault_of limits) (checks image) fault
+
+-- The image fails no check.
+abbrev pub HasNoEmitFault : LegacyImage → Bounds → Type 0
+HasNoEmitFault image limits = HasNoFault (Passes image limits) (checks image)

@@ -1,0 +1,47 @@
+use Rattle.std.specs.Prelude.{ℕ, ◌^◌, ◌<◌, ◌≤◌, ◌≡◌, List, [], ◌∷◌, ◌++◌, length, MatchOption}
+use Rattle.bi_base.specs.Cells.{cell, AreBytes}
+use Rattle.bi_base.specs.Crc.{crc32}
+use Rattle.bi_base.specs.Limits.{Bounds}
+use Rattle.bi_legacy.specs.Meaning.{LegacyImage, HasRanges, IsImageName}
+use Rattle.bi_legacy.specs.Parts.{HoldsParts}
+
+-- The 64 bytes of a header with a given number as its header checksum (U-Boot, include/image.h: struct legacy_img_hdr).
+-- `field` is the name's 32 bytes, `body` the data.
+abbrev pub header_with : ℕ → LegacyImage → List ℕ → List ℕ → List ℕ
+header_with checksum image field body =
+    cell 0x27051956 ++ (cell checksum ++ (cell image.time ++ (cell (length body) ++ (cell image.load ++ (cell image.entry
+    ++ (cell (crc32 body) ++ ((image.os ∷ image.arch ∷ image.image_type ∷ image.compression ∷ []) ++ field)))))))
+
+-- The header: its checksum is that of the header itself with zeros in the checksum's place.
+unfoldable pub header : LegacyImage → List ℕ → List ℕ → List ℕ
+header image field body = header_with (crc32 (header_with 0 image field body)) image field body
+
+-- Nothing, or a zero and then anything.
+abbrev pub IsUnused : List ℕ → Type 0
+IsUnused [] = Unit {0}
+IsUnused (byte ∷ bytes) = byte ≡ 0
+
+-- The name's 32 bytes hold this name: the bytes before the first zero; what follows that zero is free.
+pub record HoldsName (field name : List ℕ) : Type 0 where
+  pub padding : List ℕ
+  pub spelled : field ≡ name ++ padding
+  pub unused : IsUnused padding
+  pub whole : length field ≡ 32
+  pub is_name : IsImageName name
+
+-- The file is a legacy image that means this: header, data, and then anything.
+pub record IsLegacyFile (file : List ℕ) (image : LegacyImage) : Type 0 where
+  pub field : List ℕ
+  pub body : List ℕ
+  pub rest : List ℕ
+  pub spelled : file ≡ header image field body ++ (body ++ rest)
+  pub ranges : HasRanges image
+  pub name : HoldsName field image.name
+  pub size : length body < 2 ^ 32
+  pub parts : HoldsParts image.image_type body image.parts
+  pub bytes : AreBytes file
+
+-- The file, of at most the limit, means this.
+pub record LegacyMeans (file : List ℕ) (image : LegacyImage) (limits : Bounds) : Type 0 where
+  pub is_file : IsLegacyFile file image
+  pub short : length file ≤ limits.file

@@ -1,0 +1,43 @@
+use Rattle.std.specs.Prelude.{ℕ, ◌^◌, ◌<◌, ◌≤◌, ◌≢◌, ◌≡◌, ◌==◌, ◌||◌, Bool, List, [], ◌∷◌, length, MatchBool}
+use Rattle.std.specs.List.{AllByRecursion}
+
+-- What a legacy image says (U-Boot, include/image.h: struct legacy_img_hdr, and the list of sizes of a multi-file
+-- image). Checksums and the data size are told by the rest, and are no part of it.
+pub record LegacyImage : Type 0 where
+  pub time : ℕ
+  pub load : ℕ
+  pub entry : ℕ
+  pub os : ℕ
+  pub arch : ℕ
+  pub image_type : ℕ
+  pub compression : ℕ
+  pub name : List ℕ
+  pub parts : List (List ℕ)
+
+-- Whether the data of this type is a list of sizes and then the parts: 4 is multi, 6 is script (U-Boot,
+-- include/image.h: IH_TYPE_MULTI, IH_TYPE_SCRIPT).
+abbrev pub has_table : ℕ → Bool
+has_table image_type = (image_type == 4) || (image_type == 6)
+
+-- A name that the header can hold: at most 32 bytes, none of them zero (U-Boot, include/image.h: IH_NMLEN).
+pub record IsImageName (name : List ℕ) : Type 0 where
+  pub short : length name ≤ 32
+  pub no_zero : AllByRecursion (λ byte. byte ≢ 0) name
+
+-- A part that a list of sizes can tell: a size of zero ends the list.
+abbrev pub IsListedPart : List ℕ → Type 0
+IsListedPart part = 0 < length part
+
+-- The parts that an image of this type can have: any number of listed parts, or else exactly one part, which may be empty.
+abbrev pub AreParts : ℕ → List (List ℕ) → Type 0
+AreParts image_type parts = MatchBool (has_table image_type) (AllByRecursion IsListedPart parts) (length parts ≡ 1)
+
+-- Each number of the meaning is one that its field of the header can hold.
+pub record HasRanges (image : LegacyImage) : Type 0 where
+  pub time : image.time < 2 ^ 32
+  pub load : image.load < 2 ^ 32
+  pub entry : image.entry < 2 ^ 32
+  pub os : image.os < 2 ^ 8
+  pub arch : image.arch < 2 ^ 8
+  pub image_type : image.image_type < 2 ^ 8
+  pub compression : image.compression < 2 ^ 8

@@ -1,0 +1,52 @@
+use Rattle.std.specs.Prelude.{ℕ, ◌+◌, ◌*◌, ◌-◌, ◌≤◌, ◌≡◌, ◌==◌, List, [], ◌∷◌, ◌++◌, length, map, replicate, MatchBool, if◌then◌else◌}
+use Rattle.std.specs.List.{AllByRecursion, flat_map}
+use Rattle.bi_base.specs.Cells.{cell, slice, up4}
+use Rattle.bi_legacy.specs.Meaning.{has_table, IsListedPart}
+
+-- The parts of an image in its data (U-Boot, include/image.h and boot/image.c: multi-file images).
+
+-- The list of sizes: the length of each part as a cell, and a cell of zero that ends the list.
+abbrev pub size_list : List (List ℕ) → List ℕ
+size_list parts = flat_map (λ part. cell (length part)) parts ++ cell 0
+
+-- Where parts of these sizes begin, the first at `at` and each later one at the next multiple of four.
+abbrev pub places_from : ℕ → List ℕ → List ℕ
+places_from at [] = []
+places_from at (size ∷ sizes) = at ∷ places_from (up4 (at + size)) sizes
+
+-- Each part stands in this data, the first at `at` and each later one at the next multiple of four; what lies between
+-- them is free.
+abbrev pub StandFrom : ℕ → List (List ℕ) → List ℕ → Type 0
+StandFrom at [] body = Unit {0}
+StandFrom at (part ∷ parts) body =
+    (at + length part ≤ length body) × (slice body at (length part) ≡ part) × StandFrom (up4 (at + length part)) parts body
+
+-- The data is the list of sizes of these parts and then the parts, the first right behind the list; what lies behind
+-- the last one is free.
+pub record IsTable (parts : List (List ℕ)) (body : List ℕ) : Type 0 where
+  pub behind : List ℕ
+  pub list : body ≡ size_list parts ++ behind
+  pub listed : AllByRecursion IsListedPart parts
+  pub stand : StandFrom (length (size_list parts)) parts body
+
+-- The data of an image of this type holds these parts: by a list of sizes for multi and script images, else it is
+-- itself the one part.
+abbrev pub HoldsParts : ℕ → List ℕ → List (List ℕ) → Type 0
+HoldsParts image_type body parts = MatchBool (has_table image_type) (IsTable parts body) (parts ≡ body ∷ [])
+
+-- Where the parts begin in the data.
+abbrev pub first_place : ℕ → List (List ℕ) → ℕ
+first_place image_type parts = if has_table image_type then length (size_list parts) else 0
+
+abbrev pub part_places : ℕ → List (List ℕ) → List ℕ
+part_places image_type parts = places_from (first_place image_type parts) (map length parts)
+
+-- Where the last of the parts from `at` on ends, or `at` where there are none.
+abbrev pub end_from : ℕ → List (List ℕ) → ℕ
+end_from at [] = at
+end_from at (part ∷ []) = at + length part
+end_from at (part ∷ next ∷ later) = end_from (up4 (at + length part)) (next ∷ later)
+
+-- Where the last part ends in the data; where there are no parts, the list of sizes.
+abbrev pub parts_end : ℕ → List (List ℕ) → ℕ
+parts_end image_type parts = end_from (first_place image_type parts) parts

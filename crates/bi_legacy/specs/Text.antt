@@ -1,0 +1,40 @@
+use Rattle.std.specs.Prelude.{ℕ, ◌+◌, ◌-◌, ◌^◌, ◌<◌, List, [], ◌∷◌, ◌++◌, length, replicate, if◌then◌else◌}
+use Rattle.std.specs.List.{AllByRecursion, concat}
+use Rattle.bi_base.specs.Cells.{up4, AreBytes}
+use Rattle.bi_legacy.specs.Meaning.{LegacyImage, HasRanges, IsImageName, AreParts, has_table}
+use Rattle.bi_legacy.specs.Parts.{size_list}
+use Rattle.bi_legacy.specs.File.{header}
+
+-- The normal form of a legacy image (profile of this project).
+
+-- These bytes, followed by zeros up to a multiple of four.
+abbrev pub filled : List ℕ → List ℕ
+filled bytes = bytes ++ replicate (up4 (length bytes) - length bytes) 0
+
+-- The parts one behind another, each but the last filled.
+abbrev pub joined : List (List ℕ) → List ℕ
+joined [] = []
+joined (part ∷ []) = part
+joined (part ∷ next ∷ later) = filled part ++ joined (next ∷ later)
+
+-- The normal data: for multi and script images the list of sizes and the parts, else the one part.
+abbrev pub normal_body : ℕ → List (List ℕ) → List ℕ
+normal_body image_type parts = if has_table image_type then size_list parts ++ joined parts else joined parts
+
+-- The name's 32 bytes: the name, and then zeros.
+abbrev pub name_field : List ℕ → List ℕ
+name_field name = name ++ replicate (32 - length name) 0
+
+-- The normal text: header and normal data, and nothing behind them.
+unfoldable pub legacy_text : LegacyImage → List ℕ
+legacy_text image =
+    let body = normal_body image.image_type image.parts in header image (name_field image.name) body ++ body
+
+-- A meaning that a legacy image can have: every number, the name and the parts are ones that the format can hold.
+pub record IsLegacyImage (image : LegacyImage) : Type 0 where
+  pub ranges : HasRanges image
+  pub name : IsImageName image.name
+  pub name_bytes : AreBytes image.name
+  pub parts : AreParts image.image_type image.parts
+  pub parts_bytes : AllByRecursion AreBytes image.parts
+  pub size : length (normal_body image.image_type image.parts) < 2 ^ 32

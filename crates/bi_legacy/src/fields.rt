@@ -1,0 +1,23 @@
+//! The fields of a legacy header.
+
+/// The fields of a legacy header that carry meaning (U-Boot, include/image.h). Checksums and the data size follow from
+/// these and the parts.
+#[derive(Clone, Copy, Debug, PartialEq, Eq)]
+pub struct Fields<'a> {
+    /// The time of creation, in seconds since 1970.
+    pub time: u32,
+    /// The address that the data is loaded to.
+    pub load: u32,
+    /// The address of the entry point.
+    pub entry: u32,
+    /// The code of the operating system.
+    pub os: u8,
+    /// The code of the processor architecture.
+    pub arch: u8,
+    /// The code of the image type: 4 is multi and 6 is script, whose data is a list of parts.
+    pub image_type: u8,
+    /// The code of the compression.
+    pub compression: u8,
+    /// The name: at most 32 bytes, none of them zero.
+    pub name: &'a [u8],
+}
