@@ -3,9 +3,14 @@
 #![tactic(auto)]
 
 mod cells;
+mod checksum;
+mod crc;
 mod fault;
+pub mod laws;
 mod limits;
 
 pub use cells::be32_at;
+pub use checksum::crc32;
+pub use crc::Crc32;
 pub use fault::{Cause, Error, Fault};
 pub use limits::Limits;
