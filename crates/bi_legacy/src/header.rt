@@ -3,6 +3,7 @@
 ghost use Rattle.std.specs.Prelude.{◌≡◌, ◌≤◌, ◌+◌, ◌^◌, ◌<◌, length, OnOk, IfErr, slice_index, ◌==◌};
 ghost use Rattle.std.specs.List.{before_first};
 ghost use Rattle.bi_base.specs.Cells.{slice, u32_at};
+ghost use Rattle.bi_base.specs.Crc.{crc32 as crc32_of};
 ghost use Rattle.bi_base.specs.Checks.{IsFirstFault, HasNoFault};
 ghost use Rattle.bi_legacy.specs.Faults.{Passes, fault_of, header_checks, summed_header};
 
@@ -63,7 +64,7 @@ fn cell(file: &[u8], at: usize) -> u32
 /// The CRC-32 of the header with zeros in the place of its checksum.
 fn header_checksum(file: &[u8]) -> u32
     requires { 64 ≤ length file.now }
-    ensures { result ≡ Rattle.bi_base.specs.Crc.crc32 (summed_header file.now) }
+    ensures { result ≡ crc32_of (summed_header file.now) }
 {
     let mut sum = Crc32::new();
     sum.update(&file[..4]);

@@ -2,5 +2,6 @@
 #![tactic(auto)]
 
 mod fields;
+mod header;
 
 pub use fields::Fields;
