@@ -3,5 +3,10 @@
 
 mod fields;
 mod header;
+mod legacy;
+mod parts;
+mod table;
 
 pub use fields::Fields;
+pub use legacy::Legacy;
+pub use parts::{Part, Parts};
