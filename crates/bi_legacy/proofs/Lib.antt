@@ -1,1 +1,3 @@
 pub mod HeaderSum
+pub mod Sizes
+pub mod TableWalk

@@ -9,7 +9,7 @@ ghost use Rattle.bi_legacy.specs.Faults.{Passes, fault_of, header_checks, summed
 
 use bi_base::{Cause, Crc32, Fault, Limits, be32_at, crc32};
 
-use crate::fields::Fields;
+use crate::cells::cell_at;
 
 /// The magic number of a legacy image.
 pub(crate) const MAGIC: u32 = 0x2705_1956;
@@ -34,14 +34,14 @@ pub(crate) fn check_header(file: &[u8], limits: Limits) -> Result<(), Fault>
     if file.len() < HEADER_SIZE {
         return refuse(Cause::Truncated, 0);
     }
-    if cell(file, 4) != header_checksum(file) {
+    if cell_at(file, 4) != header_checksum(file) {
         return refuse(Cause::BadHeaderCrc, 4);
     }
-    let data_size = cell(file, 12) as usize;
+    let data_size = cell_at(file, 12) as usize;
     if data_size > file.len() - HEADER_SIZE {
         return refuse(Cause::Truncated, 12);
     }
-    if cell(file, 24) != crc32(&file[HEADER_SIZE..HEADER_SIZE + data_size]) {
+    if cell_at(file, 24) != crc32(&file[HEADER_SIZE..HEADER_SIZE + data_size]) {
         return refuse(Cause::BadDataCrc, 24);
     }
     Ok(())
@@ -51,14 +51,6 @@ fn refuse(cause: Cause, offset: u32) -> Result<(), Fault>
     ensures { result ≡ Err (record { cause = cause; offset = offset }) }
 {
     Err(Fault { cause, offset })
-}
-
-/// The cell at an offset of the header.
-fn cell(file: &[u8], at: usize) -> u32
-    requires { at + 4 ≤ length file.now }
-    ensures { result ≡ u32_at file.now at }
-{
-    be32_at(file, at).unwrap()
 }
 
 /// The CRC-32 of the header with zeros in the place of its checksum.

@@ -1,12 +1,9 @@
 //! Legacy images of U-Boot, the format of `mkimage` without a tree: reading them, and writing their normal form.
 #![tactic(auto)]
 
+mod cells;
 mod fields;
 mod header;
-mod legacy;
-mod parts;
 mod table;
 
 pub use fields::Fields;
-pub use legacy::Legacy;
-pub use parts::{Part, Parts};

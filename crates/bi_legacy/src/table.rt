@@ -5,28 +5,29 @@ ghost use Rattle.std.specs.List.{Contains};
 ghost use Rattle.bi_base.specs.Checks.{IsFirstFault, HasNoFault};
 ghost use Rattle.bi_base.specs.Limits.{Bounds};
 ghost use Rattle.bi_legacy.specs.Faults.{Passes, fault_of, body_of, cells_of, listed_sizes, table_checks, part_checks};
+ghost use Rattle.bi_legacy.specs.Parts.{end_from};
+ghost use Rattle.bi_legacy.specs.Pieces.{FitFrom};
 
 use bi_base::{Cause, Fault, be32_at};
 
-/// The number of the parts of some data, and where the last one ends in it.
+use crate::cells::{cell_at, up4};
+
+/// How many parts some data holds, and where the last one ends in it, or the list of sizes where there are none.
 #[derive(Drop)]
 pub(crate) struct Extent {
     pub(crate) part_count: usize,
     pub(crate) end: usize,
 }
 
-/// The least multiple of four that is at least `n`.
-pub(crate) fn up4(n: usize) -> usize
-    requires { n + 3 < 2 ^ 64 }
-    ensures { result ≡ Rattle.bi_base.specs.Cells.up4 n }
-{
-    (n + 3) / 4 * 4
-}
-
 /// The extent of the parts that a list of sizes tells. BadPartTable at 64 where the list has no end, BadPart at
 /// `64 + 4 * k` for the first part k that ends after the data.
 pub(crate) fn listed_extent(body: &[u8]) -> Result<Extent, Fault>
     requires { length body.now < 2 ^ 31 }
+    ensures ok { IfOk result (λ extent. (file : List ℕ) (limits : Bounds) → body_of file ≡ body.now → HasNoFault (Passes file limits) (table_checks body.now)) }
+    ensures count { IfOk result (λ extent. extent.part_count ≡ length (listed_sizes body.now)) }
+    ensures end { IfOk result (λ extent. extent.end ≡ end_from (4 * (length (listed_sizes body.now) + 1)) (listed_sizes body.now)) }
+    ensures within { IfOk result (λ extent. extent.end ≤ length body.now) }
+    ensures fault { IfErr result (λ fault. (file : List ℕ) (limits : Bounds) → body_of file ≡ body.now → IsFirstFault (Passes file limits) (fault_of limits) (table_checks body.now) fault) }
 {
     let Some(part_count) = count_sizes(body) else {
         return Err(Fault {
@@ -59,10 +60,14 @@ fn end_of_parts(body: &[u8], part_count: usize) -> Result<usize, Fault>
     requires count { part_count ≡ length (listed_sizes body.now) }
     requires room { 4 * (part_count + 1) ≤ length body.now }
     requires small { length body.now < 2 ^ 31 }
+    ensures ok { IfOk result (λ end. FitFrom (length body.now) (4 * (part_count + 1)) (listed_sizes body.now)) }
+    ensures end { IfOk result (λ end. end ≡ end_from (4 * (part_count + 1)) (listed_sizes body.now)) }
+    ensures within { IfOk result (λ end. end ≤ length body.now) }
+    ensures fault { IfErr result (λ fault. (file : List ℕ) (limits : Bounds) → body_of file ≡ body.now → IsFirstFault (Passes file limits) (fault_of limits) (part_checks 0 (4 * (part_count + 1)) (listed_sizes body.now)) fault) }
 {
     let mut end = 4 * (part_count + 1);
     for index in 0..part_count {
-        end = up4(end) + be32_at(body, 4 * index).unwrap() as usize;
+        end = up4(end) + cell_at(body, 4 * index) as usize;
         if end > body.len() {
             return Err(Fault {
                 cause: Cause::BadPart,
