@@ -1,4 +1,4 @@
-use Rattle.std.specs.Prelude.{◌≡◌, ◌≢◌, ◌⊎◌, ◌+◌, ◌-◌, ◌^◌, ◌≤◌, ◌↔◌, ℕ, Bool, min, Result, IsTrue, IsErrAnd, MatchResult}
+use Rattle.std.specs.Prelude.{◌≡◌, ◌≢◌, ◌⊎◌, ◌+◌, ◌-◌, ◌^◌, ◌<◌, ◌≤◌, ◌↔◌, ℕ, Bool, List, length, min, Result, IsTrue, IsOkAnd, IsErrAnd, MatchResult}
 use Rattle.std.specs.IoError.{error_kind}
 use Rattle.std.specs.declared.io.Error.{Error}
 use Rattle.std.specs.declared.io.ErrorKind.TheVariants.{Interrupted}
@@ -10,6 +10,10 @@ use Rattle.std.specs.declared.io.ErrorKind.TheVariants.{Interrupted}
 abbrev pub TellsFailure : {T : Type 0} → Bool → Result T Error → Type 0
 TellsFailure failed result = IsTrue failed ↔ IsErrAnd result (λ error. error_kind error ≢ Interrupted)
 
+-- The flag tells whether the write of these bytes stalled: there were some, and it took none.
+abbrev pub TellsStall : Bool → Result ℕ Error → List ℕ → Type 0
+TellsStall stalled result bytes = IsTrue stalled ↔ IsOkAnd result (λ count. (count ≡ 0) × (0 < length bytes))
+
 -- The count of interrupted calls in a row, before and after the call. It stops at 2^32 - 1.
 abbrev pub CountsInterruptions : {T : Type 0} → ℕ → ℕ → Result T Error → Type 0
 CountsInterruptions old new result =
@@ -20,3 +24,7 @@ CountsInterruptions old new result =
 -- There is a reason to give up: the last call failed, or the last 1,024 were interrupted.
 abbrev pub HasToStop : Bool → ℕ → Type 0
 HasToStop failed interruptions = IsTrue failed ⊎ (1024 ≤ interruptions)
+
+-- There is a reason to give up writing: one of these, or that the last write stalled.
+abbrev pub CannotGoOn : Bool → Bool → ℕ → Type 0
+CannotGoOn failed stalled interruptions = HasToStop failed interruptions ⊎ IsTrue stalled

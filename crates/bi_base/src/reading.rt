@@ -9,11 +9,9 @@ ghost use Rattle.bi_base.specs.Reading.{IfRefused, TakesAtMost, too_large};
 
 use crate::fault::{Cause, Error, Fault};
 use crate::limits::Limits;
+use crate::outcomes::{MOST_INTERRUPTIONS, Outcome};
 use std::alloc::Global;
 use std::io::{self, ErrorKind, Read};
-
-/// How many reads in a row may be interrupted: the last of them is a failure.
-const MOST_INTERRUPTIONS: u32 = 1024;
 
 /// How many bytes are read at once, at most.
 const CHUNK: usize = 0x1_0000;
@@ -46,8 +44,7 @@ pub trait Source {
 #[derive(Drop)]
 pub struct ReaderSource<'a, R> {
     reader: &'a mut R,
-    failed: bool,
-    interruptions: u32,
+    outcome: Outcome,
 }
 
 impl<'a, R: Read> ReaderSource<'a, R> {
@@ -61,8 +58,7 @@ impl<'a, R: Read> ReaderSource<'a, R> {
     {
         ReaderSource {
             reader,
-            failed: false,
-            interruptions: 0,
+            outcome: Outcome::new(),
         }
     }
 }
@@ -70,34 +66,21 @@ impl<'a, R: Read> ReaderSource<'a, R> {
 impl<'a, R: Read> Source for ReaderSource<'a, R> {
     ghost left = { λ source. R.remaining source.reader.now };
 
-    ghost failed = { λ source. source.failed };
+    ghost failed = { λ source. source.outcome.failed };
 
-    ghost interruptions = { λ source. source.interruptions };
+    ghost interruptions = { λ source. source.outcome.interruptions };
 
     ghost reader = { λ source. source.reader.ghost_name };
 
     fn read_once(&mut self, buffer: &mut [u8]) -> io::Result<usize> {
-        match self.reader.read(buffer) {
-            Ok(count) => {
-                self.failed = false;
-                self.interruptions = 0;
-                Ok(count)
-            }
-            Err(error) => {
-                self.failed = error.kind() != ErrorKind::Interrupted;
-                self.interruptions = if self.failed {
-                    0
-                } else {
-                    self.interruptions.saturating_add(1)
-                };
-                Err(error)
-            }
-        }
+        let call = self.reader.read(buffer);
+        self.outcome = self.outcome.after(&call);
+        call
     }
 }
 
-/// Reads once, and again after each interruption. `ReadFailed` where a read fails, or `MOST_INTERRUPTIONS` reads in a row
-/// are interrupted.
+/// Reads once, and again after each interruption. `ReadFailed` where a read fails, or 1,024 reads in a row are
+/// interrupted.
 fn read_some<S: Source>(source: &mut S, buffer: &mut [u8]) -> Result<usize, Error>
     ensures bound { ReadsAtMost result buffer.new }
     ensures ok { IfOk result (λ count.
