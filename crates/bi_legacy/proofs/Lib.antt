@@ -1,0 +1,9 @@
+pub mod FileCuts
+pub mod HeaderSplit
+pub mod NameField
+pub mod NoFaultMeans
+pub mod PartEnds
+pub mod PartPieces
+pub mod PartTables
+pub mod SizeCells
+pub mod ZeroEnded
