@@ -1,3 +1,12 @@
+pub mod FileCuts
+pub mod HeaderSplit
 pub mod HeaderSum
+pub mod NameField
+pub mod NoFaultMeans
+pub mod PartEnds
+pub mod PartPieces
+pub mod PartTables
+pub mod SizeCells
 pub mod Sizes
 pub mod TableWalk
+pub mod ZeroEnded

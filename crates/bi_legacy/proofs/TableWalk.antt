@@ -1,7 +1,7 @@
 use Rattle.std.proofs.Common.{◌≡◌, ℕ, ◌+◌, ◌≤◌, List, [], ◌∷◌, length, drop, sym, ap, ◌∙◌, subst, refl, inl, inr}
 use Rattle.bi_base.specs.declared.fault.Fault.{Fault}
 use Rattle.bi_base.specs.Cells.{up4}
-use Rattle.bi_base.specs.Checks.{IsFirstFault, HasNoFault}
+use Rattle.bi_base.specs.Checks.{IsFirstFault}
 use Rattle.bi_base.specs.Limits.{Bounds}
 use Rattle.bi_legacy.specs.Faults.{Passes, fault_of, body_of, part_checks, HasPart}
 use Rattle.bi_legacy.specs.Parts.{end_from}
@@ -26,8 +26,3 @@ first-here file limits index at size sizes later e fails =
 pub first-later : (file : List ℕ) (limits : Bounds) (index at size : ℕ) (sizes later : List ℕ) (fault : Fault) → sizes ≡ size ∷ later → at + size ≤ length (body_of file) → IsFirstFault (Passes file limits) (fault_of limits) (part_checks (index + 1) (up4 (at + size)) later) fault → IsFirstFault (Passes file limits) (fault_of limits) (part_checks index at sizes) fault
 first-later file limits index at size sizes later fault e fits rest =
     subst (λ (left : List ℕ). IsFirstFault (Passes file limits) (fault_of limits) (part_checks index at left) fault) (sym e) (inr (fits, rest))
-
--- Pieces that fit pass the checks of their ends.
-pub FitFrom-passes : (file : List ℕ) (limits : Bounds) (index at : ℕ) (sizes : List ℕ) → FitFrom (length (body_of file)) at sizes → HasNoFault (Passes file limits) (part_checks index at sizes)
-FitFrom-passes file limits index at [] fit = tt
-FitFrom-passes file limits index at (size ∷ sizes) fit = (fit.0, FitFrom-passes file limits (index + 1) (up4 (at + size)) sizes fit.1)

@@ -1,11 +1,12 @@
-use Rattle.std.specs.Prelude.{ℕ, ◌+◌, ◌*◌, ◌-◌, ◌≡◌, List, [], ◌∷◌, length, map, if◌then◌else◌}
-use Rattle.bi_base.specs.Cells.{slice, up4}
+use Rattle.std.specs.Prelude.{ℕ, ◌+◌, ◌*◌, ◌-◌, ◌≡◌, ◌==◌, List, [], ◌∷◌, length, map, slice_index, if◌then◌else◌}
+use Rattle.std.specs.List.{before_first}
+use Rattle.bi_base.specs.Cells.{slice, u32_at, up4}
 use Rattle.bi_base.specs.Limits.{Bounds}
 use Rattle.bi_legacy.specs.declared.fields.Fields.{Fields}
 use Rattle.bi_legacy.specs.Meaning.{LegacyImage, has_table}
 use Rattle.bi_legacy.specs.Parts.{part_places, parts_end}
 use Rattle.bi_legacy.specs.File.{LegacyMeans}
-use Rattle.bi_legacy.specs.Faults.{listed_sizes}
+use Rattle.bi_legacy.specs.Faults.{listed_sizes, body_of}
 
 -- What an image of these header fields and these parts says.
 abbrev pub image_of : Fields → List (List ℕ) → LegacyImage
@@ -19,7 +20,7 @@ image_of fields parts =
       image_type = fields.image_type;
       compression = fields.compression;
       name = fields.name.now;
-      parts = parts
+      parts = parts;
     }
 
 -- What a reader of a legacy image tells: what the image says, and how many bytes of the file no part needs.
@@ -45,3 +46,18 @@ pieces body at (size ∷ sizes) = slice body at size ∷ pieces body (up4 (at + 
 abbrev pub parts_in : ℕ → List ℕ → List (List ℕ)
 parts_in image_type body =
     if has_table image_type then pieces body (4 * (length (listed_sizes body) + 1)) (listed_sizes body) else body ∷ []
+
+-- What the bytes of a file say at the places of a legacy image's fields, whether or not it is one.
+abbrev pub read_image : List ℕ → LegacyImage
+read_image file =
+    record {
+      time = u32_at file 8;
+      load = u32_at file 16;
+      entry = u32_at file 20;
+      os = slice_index file 28;
+      arch = slice_index file 29;
+      image_type = slice_index file 30;
+      compression = slice_index file 31;
+      name = before_first (λ byte. byte == 0) (slice file 32 32);
+      parts = parts_in (slice_index file 30) (body_of file);
+    }

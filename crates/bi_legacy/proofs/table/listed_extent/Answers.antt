@@ -3,7 +3,7 @@ use Rattle.std.proofs.lemmas.Result.{err_from_is_err_and}
 use Rattle.std.specs.List.{Contains}
 use Rattle.bi_legacy.specs.Faults.{body_of, cells_of, listed_sizes}
 use Rattle.bi_legacy.specs.Pieces.{FitFrom}
-use Rattle.bi_legacy.proofs.TableWalk.{FitFrom-passes}
+use Rattle.bi_legacy.proofs.PartPieces.{ends_pass}
 use Rattle.bi_legacy.proofs.table.listed_extent.Goals as goal
 
 pub returns-in_err-end-clause-fault : goal.returns-in_err-end-clause-fault
@@ -20,5 +20,5 @@ returns-clause-ok c file limits same =
     let R : ℕ → Type 0 = λ count. FitFrom (length c.args.body.now) (4 * (count + 1)) (listed_sizes c.args.body.now) in
     (
       subst P (sym same) (c.in-Some.ensures.ends.0 refl),
-      FitFrom-passes file limits 0 _ (listed_sizes c.args.body.now) (subst Q (sym same) (subst R c.in-Some.ensures.count c.in_ok-end.ensures.ok)),
+      ends_pass file limits 0 _ (listed_sizes c.args.body.now) (subst Q (sym same) (subst R c.in-Some.ensures.count c.in_ok-end.ensures.ok)),
     )

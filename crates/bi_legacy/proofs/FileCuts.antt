@@ -1,0 +1,22 @@
+use Rattle.std.proofs.Common.{◌≡◌, ℕ, ◌+◌, ◌<◌, ◌≤◌, ◌^◌, List, ◌++◌, length, drop, arith, sym, ap, ◌∙◌}
+use Rattle.std.proofs.lemmas.List.{take-append-drop, drop-drop}
+use Rattle.bi_base.specs.Cells.{cell, u32_at, slice, AreBytes}
+use Rattle.bi_base.proofs.CellLaws.{AreBytes-slice, cell-u32_at}
+
+-- Laws of cutting a file, which know nothing of a format.
+
+-- The bytes from an offset on are a slice there and the bytes behind the slice.
+pub drop_slice : (file : List ℕ) (at n : ℕ) → drop at file ≡ slice file at n ++ drop (at + n) file
+drop_slice file at n = sym (take-append-drop n (drop at file)) ∙ ap (λ rest. slice file at n ++ rest) (drop-drop n at file)
+
+-- The bytes from an offset on are the cell there and the bytes behind it.
+pub drop_cell : (file : List ℕ) (at : ℕ) → AreBytes file → at + 4 ≤ length file → drop at file ≡ cell (u32_at file at) ++ drop (at + 4) file
+drop_cell file at bytes within =
+    drop_slice file at 4 ∙ ap (λ first. first ++ drop (at + 4) file) (sym (cell-u32_at file at bytes within))
+
+-- A number that is read from bytes fits 32 bits.
+pub u32_at_fits : (file : List ℕ) (at : ℕ) → AreBytes file → u32_at file at < 2 ^ 32
+unfolding u32_at
+u32_at_fits file at bytes =
+    let part = AreBytes-slice file at 4 bytes in
+    omega (arith, part.each 0, part.each 1, part.each 2, part.each 3)

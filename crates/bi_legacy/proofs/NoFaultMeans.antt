@@ -1,0 +1,55 @@
+use Rattle.std.proofs.Common.{◌≡◌, ℕ, ◌+◌, Bool, true, false, List, ◌++◌, [], ◌∷◌, length, drop, slice_index, refl, ap, ◌∙◌, MatchBool, if◌then◌else◌}
+use Rattle.bi_base.specs.Cells.{slice, u32_at, AreBytes}
+use Rattle.bi_base.specs.Checks.{HasNoFault}
+use Rattle.bi_base.specs.Limits.{Bounds}
+use Rattle.bi_base.proofs.CellLaws.{AreBytes-slice, length-slice}
+use Rattle.bi_legacy.specs.Faults.{Passes, HasNoLegacyFault, body_of, table_checks}
+use Rattle.bi_legacy.specs.File.{header, LegacyMeans}
+use Rattle.bi_legacy.specs.Meaning.{HasRanges, has_table}
+use Rattle.bi_legacy.specs.Parts.{IsTable}
+use Rattle.bi_legacy.specs.Reading.{read_image}
+use Rattle.bi_legacy.proofs.FileCuts.{drop_slice, u32_at_fits}
+use Rattle.bi_legacy.proofs.HeaderSplit.{header_split}
+use Rattle.bi_legacy.proofs.NameField.{name_held}
+use Rattle.bi_legacy.proofs.PartPieces.{ends_checked}
+use Rattle.bi_legacy.proofs.PartTables.{listed_parts, table_held}
+
+-- A file that fails no check is a legacy image, which means what its bytes say at the fields' places.
+
+-- What is read from bytes is in the ranges of the fields.
+ranges_read : (file : List ℕ) → AreBytes file → HasRanges (read_image file)
+ranges_read file bytes = record {
+  time = u32_at_fits file 8 bytes;
+  load = u32_at_fits file 16 bytes;
+  entry = u32_at_fits file 20 bytes;
+  os = bytes.each 28;
+  arch = bytes.each 29;
+  image_type = bytes.each 30;
+  compression = bytes.each 31;
+}
+
+-- Where the checks of the parts pass, the data holds the parts that it tells.
+parts_held : (table : Bool) (file : List ℕ) (limits : Bounds) → AreBytes file → HasNoFault (Passes file limits) (if table then table_checks (body_of file) else []) → MatchBool table (IsTable (if table then listed_parts (body_of file) else body_of file ∷ []) (body_of file)) ((if table then listed_parts (body_of file) else body_of file ∷ []) ≡ body_of file ∷ [])
+parts_held true file limits bytes none =
+    table_held (body_of file) (AreBytes-slice file 64 (u32_at file 12) bytes) none.0 (ends_checked file limits 0 _ _ none.1)
+parts_held false file limits bytes none = refl
+
+-- A file of bytes that fails no check means what its bytes say at the fields' places.
+pub no_fault_means : (file : List ℕ) (limits : Bounds) → AreBytes file → HasNoLegacyFault file limits → LegacyMeans file (read_image file) limits
+no_fault_means file limits bytes (short, (cell, (magic, (whole, (header_sum, (whole_data, (data_sum, parts))))))) =
+    let size : length (body_of file) ≡ u32_at file 12 = length-slice file 64 (u32_at file 12) whole_data in
+    record {
+      is_file = record {
+        field = slice file 32 32;
+        body = body_of file;
+        rest = drop (64 + u32_at file 12) file;
+        spelled = header_split file bytes whole magic header_sum size data_sum
+            ∙ ap (λ rest. header (read_image file) (slice file 32 32) (body_of file) ++ rest) (drop_slice file 64 (u32_at file 12));
+        ranges = ranges_read file bytes;
+        name = name_held (slice file 32 32) (length-slice file 32 32 whole);
+        size = rw size (u32_at_fits file 12 bytes);
+        parts = parts_held (has_table (slice_index file 30)) file limits bytes parts;
+        bytes = bytes;
+      };
+      short = short;
+    }

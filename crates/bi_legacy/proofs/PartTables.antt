@@ -1,0 +1,84 @@
+use Rattle.std.proofs.Common.{◌≡◌, ℕ, ◌+◌, ◌*◌, ◌<◌, ◌^◌, List, ◌++◌, [], ◌∷◌, length, map, drop, arith, refl, sym, ap, ◌∙◌, subst, flat_map, Contains}
+use Rattle.std.proofs.lemmas.List.{length-append, length-map}
+use Rattle.bi_base.specs.Cells.{cell, AreBytes}
+use Rattle.bi_base.proofs.CellLaws.{length-cell}
+use Rattle.bi_legacy.specs.Faults.{cells_of, listed_sizes}
+use Rattle.bi_legacy.specs.Parts.{size_list, IsTable, StandFrom}
+use Rattle.bi_legacy.specs.Reading.{pieces}
+use Rattle.bi_legacy.specs.Pieces.{FitFrom}
+use Rattle.bi_legacy.proofs.PartPieces.{length_pieces, pieces_stand, pieces_listed, pieces_are, parts_end_within, part_sizes}
+use Rattle.bi_legacy.proofs.SizeCells.{size_list_is, listed_sizes_are, size_list_ends, size_list_split}
+use Rattle.bi_legacy.proofs.ZeroEnded.{before_zero_nonzero}
+
+-- Data that holds parts behind a list of sizes, and what the list tells of them.
+
+-- Cells are four bytes each.
+length-cells : (numbers : List ℕ) → length (flat_map cell numbers) ≡ 4 * length numbers
+length-cells [] = refl
+length-cells (number ∷ numbers) =
+    length-append (cell number) (flat_map cell numbers) ∙ omega (arith, length-cell number, length-cells numbers)
+
+-- The list of sizes has a cell for each part, and one more.
+pub length-size_list : (parts : List (List ℕ)) → length (size_list parts) ≡ 4 * (length parts + 1)
+length-size_list parts =
+    let sizes = map length parts in
+    ap length (size_list_is parts) ∙ length-append (flat_map cell sizes) (cell 0)
+    ∙ omega (arith, length-cells sizes, length-cell 0, length-map parts length)
+
+-- Where the parts begin whose sizes a list in the data tells.
+abbrev pub first_listed : List ℕ → ℕ
+first_listed body = 4 * (length (listed_sizes body) + 1)
+
+-- The parts that a list of sizes in the data tells.
+abbrev pub listed_parts : List ℕ → List (List ℕ)
+listed_parts body = pieces body (first_listed body) (listed_sizes body)
+
+-- Data whose list of sizes ends and tells parts that end within it holds these parts.
+pub table_held : (body : List ℕ) → AreBytes body → Contains (cells_of body) 0 → FitFrom (length body) (first_listed body) (listed_sizes body) → IsTable (listed_parts body) body
+table_held body bytes there ends =
+    let sizes : map length (listed_parts body) ≡ listed_sizes body = length_pieces body (first_listed body) (listed_sizes body) ends in
+    let first : first_listed body ≡ length (size_list (listed_parts body)) =
+    ap (λ n. 4 * (n + 1)) (ap length (sym sizes) ∙ length-map (listed_parts body) length) ∙ sym (length-size_list (listed_parts body)) in
+    record {
+      behind = drop (first_listed body) body;
+      list = size_list_split body bytes there
+          ∙ ap (λ list. (flat_map cell list ++ cell 0) ++ drop (first_listed body) body) (sym sizes)
+          ∙ ap (λ list. list ++ drop (first_listed body) body) (sym (size_list_is (listed_parts body)));
+      listed = pieces_listed body (first_listed body) (listed_sizes body) ends (before_zero_nonzero (cells_of body));
+      stand = subst (λ at. StandFrom at (listed_parts body) body) first (pieces_stand body (first_listed body) (listed_sizes body) ends);
+    }
+
+-- Data that holds these parts begins with the cells of their lengths and a cell of zero.
+table_list : (parts : List (List ℕ)) (body : List ℕ) (table : IsTable parts body) → body ≡ (flat_map cell (map length parts) ++ cell 0) ++ table.behind
+table_list parts body table = table.list ∙ ap (λ list. list ++ table.behind) (size_list_is parts)
+
+-- The sizes that data tells which holds these parts are their lengths.
+pub table_sizes : (parts : List (List ℕ)) (body : List ℕ) → length body < 2 ^ 32 → IsTable parts body → listed_sizes body ≡ map length parts
+table_sizes parts body fits table =
+    ap listed_sizes (table_list parts body table)
+    ∙ listed_sizes_are (map length parts) table.behind (part_sizes body _ parts fits table.stand table.listed)
+
+-- The list of sizes ends in data that holds these parts.
+pub table_ends : (parts : List (List ℕ)) (body : List ℕ) → length body < 2 ^ 32 → IsTable parts body → Contains (cells_of body) 0
+table_ends parts body fits table =
+    subst (λ bytes. Contains (cells_of bytes) 0) (sym (table_list parts body table))
+    (size_list_ends (map length parts) table.behind (part_sizes body _ parts fits table.stand table.listed))
+
+-- The parts begin where the list of their sizes ends.
+pub table_first : (parts : List (List ℕ)) (body : List ℕ) → length body < 2 ^ 32 → IsTable parts body → first_listed body ≡ length (size_list parts)
+table_first parts body fits table =
+    ap (λ sizes. 4 * (length sizes + 1)) (table_sizes parts body fits table)
+    ∙ ap (λ n. 4 * (n + 1)) (length-map parts length) ∙ sym (length-size_list parts)
+
+-- The parts that data tells which holds these parts are these.
+pub table_parts : (parts : List (List ℕ)) (body : List ℕ) → length body < 2 ^ 32 → IsTable parts body → listed_parts body ≡ parts
+table_parts parts body fits table =
+    ap (λ at. pieces body at (listed_sizes body)) (table_first parts body fits table)
+    ∙ ap (pieces body (length (size_list parts))) (table_sizes parts body fits table)
+    ∙ pieces_are body (length (size_list parts)) parts table.stand
+
+-- The parts that data tells which holds some parts end within it.
+pub table_within : (parts : List (List ℕ)) (body : List ℕ) → length body < 2 ^ 32 → IsTable parts body → FitFrom (length body) (first_listed body) (listed_sizes body)
+table_within parts body fits table =
+    rw (table_first parts body fits table, table_sizes parts body fits table)
+    (parts_end_within body (length (size_list parts)) parts table.stand)
