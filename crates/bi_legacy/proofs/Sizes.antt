@@ -1,10 +1,11 @@
-use Rattle.std.proofs.Common.{◌≡◌, ◌≢◌, ◌==◌, ℕ, ◌+◌, ◌*◌, ◌/◌, ◌<◌, ◌≤◌, List, [], ◌∷◌, length, take, drop, get_or, zero, suc, arith, refl, sym, ap, ◌∙◌, subst, true, false}
+use Rattle.std.proofs.Common.{◌≡◌, ◌≢◌, ◌==◌, ℕ, ◌+◌, ◌*◌, ◌/◌, ◌<◌, ◌≤◌, List, [], ◌∷◌, length, take, drop, get_or, zero, suc, arith, refl, sym, ap, ◌∙◌, Bool, true, false}
 use Rattle.std.specs.List.{position_or_len, Contains}
 use Rattle.std.proofs.lemmas.List.Sums.{position_or_len_is, fails_before_first, passes_at_first}
 use Rattle.std.proofs.lemmas.List.{length-take, length-take-le, get_or-take, drop_more}
 use Rattle.std.proofs.lemmas.Bool.{ne_eqb, eq-eqb}
 use Rattle.bi_base.specs.Cells.{u32_at}
 use Rattle.bi_legacy.specs.Faults.{cells_of, listed_sizes}
+use Rattle.bi_legacy.specs.Pieces.{sizes_in, first_in}
 
 -- The whole cells of some bytes are a quarter as many.
 pub length-cells : (bytes : List ℕ) → length (cells_of bytes) ≡ length bytes / 4
@@ -45,3 +46,8 @@ drop-listed body i within below =
     let place = position_or_len (λ number. number == 0) (cells_of body) in
     let read : get_or (listed_sizes body) i 0 ≡ u32_at body (4 * i) = get_or-take place (cells_of body) i 0 (omega (arith, length-take place (cells_of body))) ∙ get_or-cells body i within in
     drop_more (listed_sizes body) i 0 below ∙ ap (λ size. size ∷ drop (i + 1) (listed_sizes body)) read
+
+-- The same for data that is known to have a list of sizes.
+pub drop-sizes_in : (is_listed : Bool) (body : List ℕ) (i : ℕ) → is_listed ≡ true → i < length (sizes_in is_listed body) → first_in is_listed body ≤ length body → drop i (sizes_in is_listed body) ≡ u32_at body (4 * i) ∷ drop (i + 1) (sizes_in is_listed body)
+drop-sizes_in true body i e within room = drop-listed body i (omega arith) within
+drop-sizes_in false body i e within room = absurd cc

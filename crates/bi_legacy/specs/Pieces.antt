@@ -1,5 +1,6 @@
-use Rattle.std.specs.Prelude.{ℕ, ◌+◌, ◌*◌, ◌≤◌, Bool, List, [], ◌∷◌, length, if◌then◌else◌}
+use Rattle.std.specs.Prelude.{ℕ, ◌+◌, ◌*◌, ◌^◌, ◌<◌, ◌≤◌, ◌≡◌, Bool, List, [], ◌∷◌, length, drop, Option, MatchOption, if◌then◌else◌}
 use Rattle.bi_base.specs.Cells.{slice, up4}
+use Rattle.bi_legacy.specs.declared.parts.Part.{Part}
 use Rattle.bi_legacy.specs.Meaning.{LegacyImage}
 use Rattle.bi_legacy.specs.Parts.{first_place}
 use Rattle.bi_legacy.specs.Faults.{listed_sizes}
@@ -38,3 +39,20 @@ cut_from body at (size ∷ sizes) =
 abbrev pub FitFrom : ℕ → ℕ → List ℕ → Type 0
 FitFrom most at [] = Unit {0}
 FitFrom most at (size ∷ sizes) = (at + size ≤ most) × FitFrom most (up4 (at + size)) sizes
+
+-- What holds of a walk over the parts of some data that has come to part `index`, whose place is `place`.
+pub record IsPartsState (is_listed : Bool) (body : List ℕ) (part_count index place : ℕ) : Type 0 where
+  pub counted : part_count ≡ length (sizes_in is_listed body)
+  pub started : index ≤ part_count
+  pub room : first_in is_listed body ≤ length body
+  pub fit : FitFrom (length body) place (drop index (sizes_in is_listed body))
+  pub near : place < 2 ^ 32
+  pub small : length body < 2 ^ 31
+
+-- A part that was handed out, as contracts see it.
+abbrev pub piece_of : Part → Piece
+piece_of part = record { place = part.place; bytes = part.bytes.now }
+
+-- A call that hands out the first of the parts that are left, and leaves the others; None where none are left.
+abbrev pub GivesPart : List Piece → Option Part → List Piece → Type 0
+GivesPart old result new = MatchOption result ((old ≡ []) × (new ≡ [])) (λ part. old ≡ piece_of part ∷ new)

@@ -4,6 +4,8 @@
 mod cells;
 mod fields;
 mod header;
+mod parts;
 mod table;
 
 pub use fields::Fields;
+pub use parts::{Part, Parts};
