@@ -49,6 +49,13 @@ pub record IsPartsState (is_listed : Bool) (body : List ℕ) (part_count index p
   pub near : place < 2 ^ 32
   pub small : length body < 2 ^ 31
 
+-- What holds of the parts that some data was found to hold.
+pub record IsExtent (is_listed : Bool) (body : List ℕ) (part_count : ℕ) : Type 0 where
+  pub counted : part_count ≡ length (sizes_in is_listed body)
+  pub room : first_in is_listed body ≤ length body
+  pub fit : FitFrom (length body) (first_in is_listed body) (sizes_in is_listed body)
+  pub small : length body < 2 ^ 31
+
 -- A part that was handed out, as contracts see it.
 abbrev pub piece_of : Part → Piece
 piece_of part = record { place = part.place; bytes = part.bytes.now }

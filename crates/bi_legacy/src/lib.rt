@@ -4,8 +4,10 @@
 mod cells;
 mod fields;
 mod header;
+mod legacy;
 mod parts;
 mod table;
 
 pub use fields::Fields;
+pub use legacy::Legacy;
 pub use parts::{Part, Parts};

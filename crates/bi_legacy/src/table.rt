@@ -1,16 +1,18 @@
 //! The list of sizes of multi and script images: how many parts there are, and where the last one ends.
 
-ghost use Rattle.std.specs.Prelude.{◌≡◌, ℕ, ◌+◌, ◌*◌, ◌^◌, ◌<◌, ◌≤◌, ◌↔◌, List, length, IsSome, IfSome, IfOk, IfErr};
+ghost use Rattle.std.specs.Prelude.{◌≡◌, ℕ, true, ◌+◌, ◌*◌, ◌^◌, ◌<◌, ◌≤◌, ◌↔◌, List, length, IsSome, IfSome, IfOk, IfErr};
 ghost use Rattle.std.specs.List.{Contains};
 ghost use Rattle.bi_base.specs.Checks.{IsFirstFault, HasNoFault};
 ghost use Rattle.bi_base.specs.Limits.{Bounds};
-ghost use Rattle.bi_legacy.specs.Faults.{Passes, fault_of, body_of, cells_of, listed_sizes, table_checks, part_checks};
+ghost use Rattle.bi_legacy.specs.Faults.{Passes, fault_of, body_of, cells_of, listed_sizes, table_checks, body_checks, part_checks};
 ghost use Rattle.bi_legacy.specs.Parts.{end_from};
-ghost use Rattle.bi_legacy.specs.Pieces.{FitFrom};
+ghost use Rattle.bi_legacy.specs.Meaning.{has_table};
+ghost use Rattle.bi_legacy.specs.Pieces.{FitFrom, IsExtent, first_in, sizes_in};
 
 use bi_base::{Cause, Fault, be32_at};
 
 use crate::cells::{cell_at, up4};
+use crate::fields::has_size_list;
 
 /// How many parts some data holds, and where the last one ends in it, or the list of sizes where there are none.
 #[derive(Drop)]
@@ -19,12 +21,31 @@ pub(crate) struct Extent {
     pub(crate) end: usize,
 }
 
-/// The extent of the parts that a list of sizes tells. BadPartTable at 64 where the list has no end, BadPart at
-/// `64 + 4 * k` for the first part k that ends after the data.
-pub(crate) fn listed_extent(body: &[u8]) -> Result<Extent, Fault>
+/// The extent of the parts that the data of an image of this type holds. BadPartTable at 64 where a list of sizes has no
+/// end, BadPart at `64 + 4 * k` for the first listed part k that ends after the data.
+pub(crate) fn extent_of(image_type: u8, body: &[u8]) -> Result<Extent, Fault>
+    requires { length body.now < 2 ^ 31 }
+    ensures ok { IfOk result (λ extent. (file : List ℕ) (limits : Bounds) → body_of file ≡ body.now → HasNoFault (Passes file limits) (body_checks image_type body.now)) }
+    ensures extent { IfOk result (λ extent. IsExtent (has_table image_type) body.now extent.part_count) }
+    ensures end { IfOk result (λ extent. extent.end ≡ end_from (first_in (has_table image_type) body.now) (sizes_in (has_table image_type) body.now)) }
+    ensures within { IfOk result (λ extent. extent.end ≤ length body.now) }
+    ensures fault { IfErr result (λ fault. (file : List ℕ) (limits : Bounds) → body_of file ≡ body.now → IsFirstFault (Passes file limits) (fault_of limits) (body_checks image_type body.now) fault) }
+{
+    if has_size_list(image_type) {
+        listed_extent(body)
+    } else {
+        Ok(Extent {
+            part_count: 1,
+            end: body.len(),
+        })
+    }
+}
+
+/// The extent of the parts that a list of sizes tells.
+fn listed_extent(body: &[u8]) -> Result<Extent, Fault>
     requires { length body.now < 2 ^ 31 }
     ensures ok { IfOk result (λ extent. (file : List ℕ) (limits : Bounds) → body_of file ≡ body.now → HasNoFault (Passes file limits) (table_checks body.now)) }
-    ensures count { IfOk result (λ extent. extent.part_count ≡ length (listed_sizes body.now)) }
+    ensures extent { IfOk result (λ extent. IsExtent true body.now extent.part_count) }
     ensures end { IfOk result (λ extent. extent.end ≡ end_from (4 * (length (listed_sizes body.now) + 1)) (listed_sizes body.now)) }
     ensures within { IfOk result (λ extent. extent.end ≤ length body.now) }
     ensures fault { IfErr result (λ fault. (file : List ℕ) (limits : Bounds) → body_of file ≡ body.now → IsFirstFault (Passes file limits) (fault_of limits) (table_checks body.now) fault) }
