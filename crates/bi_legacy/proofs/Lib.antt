@@ -1,5 +1,7 @@
 pub mod FileCuts
+pub mod HeaderReads
 pub mod HeaderSplit
+pub mod MeansNoFault
 pub mod NameField
 pub mod NoFaultMeans
 pub mod PartEnds
