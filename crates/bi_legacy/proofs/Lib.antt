@@ -4,6 +4,7 @@ pub mod HeaderSplit
 pub mod MeansNoFault
 pub mod NameField
 pub mod NoFaultMeans
+pub mod OneMeaning
 pub mod PartEnds
 pub mod PartPieces
 pub mod PartTables
