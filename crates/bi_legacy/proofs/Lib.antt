@@ -1,9 +1,13 @@
+pub mod ByteLists
 pub mod FileCuts
 pub mod HeaderReads
 pub mod HeaderSplit
+pub mod ImageOfFile
 pub mod MeansNoFault
 pub mod NameField
 pub mod NoFaultMeans
+pub mod NoEmitFault
+pub mod NormalLength
 pub mod OneMeaning
 pub mod PartEnds
 pub mod PartPieces
