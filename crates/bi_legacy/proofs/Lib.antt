@@ -7,10 +7,13 @@ pub mod MeansNoFault
 pub mod NameField
 pub mod NoFaultMeans
 pub mod NoEmitFault
+pub mod NormalBytes
 pub mod NormalLength
+pub mod NormalParts
 pub mod OneMeaning
 pub mod PartEnds
 pub mod PartPieces
 pub mod PartTables
 pub mod SizeCells
+pub mod TextMeans
 pub mod ZeroEnded
