@@ -1,6 +1,9 @@
 use Rattle.std.proofs.Common.{◌≡◌, ℕ, ◌+◌, ◌<◌, ◌≤◌, ◌^◌, List, ◌++◌, length, drop, arith, sym, ap, ◌∙◌}
+use Rattle.std.specs.Int.{from_be_bytes, w32}
 use Rattle.std.proofs.lemmas.List.{take-append-drop, drop-drop}
+use Rattle.std.proofs.lemmas.Nat.{from_be_bytes-to_be_bytes_4}
 use Rattle.bi_base.specs.Cells.{cell, u32_at, slice, AreBytes}
+use Rattle.bi_base.specs.Crc.{crc32}
 use Rattle.bi_base.proofs.CellLaws.{AreBytes-slice, cell-u32_at}
 
 -- Laws of cutting a file, which know nothing of a format.
@@ -20,3 +23,13 @@ unfolding u32_at
 u32_at_fits file at bytes =
     let part = AreBytes-slice file at 4 bytes in
     omega (arith, part.each 0, part.each 1, part.each 2, part.each 3)
+
+-- Where a cell stands, its number is read.
+pub cell_read : (file : List ℕ) (at n : ℕ) → n < 2 ^ 32 → slice file at 4 ≡ cell n → u32_at file at ≡ n
+unfolding cell u32_at
+cell_read file at n fits there = ap (from_be_bytes w32) there ∙ from_be_bytes-to_be_bytes_4 n fits
+
+-- A CRC-32 fits 32 bits.
+pub crc32_fits : (bytes : List ℕ) → crc32 bytes < 2 ^ 32
+unfolding crc32
+crc32_fits bytes = omega arith

@@ -1,0 +1,50 @@
+use Rattle.std.proofs.Common.{◌-◌, ℕ, List, ◌++◌, [], length, replicate, refl, sym, ap, arith, zero, suc, append-nil}
+use Rattle.bi_base.specs.Limits.{Bounds}
+use Rattle.bi_legacy.specs.File.{header, IsUnused, HoldsName, IsLegacyFile, LegacyMeans}
+use Rattle.bi_legacy.specs.Meaning.{LegacyImage, IsImageName}
+use Rattle.bi_legacy.specs.Text.{normal_body, name_field, legacy_text, IsLegacyImage}
+use Rattle.bi_legacy.proofs.ImageOfFile.{image_of_file, text_no_longer}
+use Rattle.bi_legacy.proofs.NormalBytes.{legacy_text_bytes}
+use Rattle.bi_legacy.proofs.NormalLength.{length-name_field}
+use Rattle.bi_legacy.proofs.NormalParts.{normal_body_holds}
+
+-- The normal text is a legacy image that means what it was made of.
+
+-- Zeros are nothing, or a zero and then anything.
+zeros_unused : (n : ℕ) → IsUnused (replicate n 0)
+zeros_unused zero = tt
+zeros_unused (suc n) = refl
+
+-- The name's normal field holds the name.
+name_field_holds : (name : List ℕ) → IsImageName name → HoldsName (name_field name) name
+name_field_holds name is = record {
+  padding = replicate (32 - length name) 0;
+  spelled = refl;
+  unused = zeros_unused (32 - length name);
+  whole = length-name_field name is.short;
+  is_name = is;
+}
+
+-- The normal text is a legacy image that means what it was made of.
+pub text_means : (image : LegacyImage) → IsLegacyImage image → IsLegacyFile (legacy_text image) image
+unfolding legacy_text
+text_means image is =
+    let body = normal_body image.image_type image.parts in
+    record {
+      field = name_field image.name;
+      body = body;
+      rest = [];
+      spelled = ap (λ list. header image (name_field image.name) body ++ list) (sym (append-nil body));
+      ranges = is.ranges;
+      name = name_field_holds image.name is.name;
+      size = is.size;
+      parts = normal_body_holds image.image_type image.parts is.parts;
+      bytes = legacy_text_bytes image is;
+    }
+
+-- The normal text of what a file means within the limits means the same within them.
+pub text_means_same : (file : List ℕ) (image : LegacyImage) (limits : Bounds) → LegacyMeans file image limits → LegacyMeans (legacy_text image) image limits
+text_means_same file image limits means = record {
+  is_file = text_means image (image_of_file file image means.is_file);
+  short = omega (arith, text_no_longer file image means.is_file, means.short);
+}
