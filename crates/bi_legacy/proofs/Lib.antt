@@ -1,4 +1,5 @@
 pub mod ByteLists
+pub mod FaultLaws
 pub mod FileCuts
 pub mod HeaderReads
 pub mod HeaderSplit
