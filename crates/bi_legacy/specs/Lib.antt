@@ -5,3 +5,4 @@ pub mod Text
 pub mod Faults
 pub mod Reading
 pub mod Emitting
+pub mod Laws

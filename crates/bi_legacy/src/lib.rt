@@ -2,5 +2,6 @@
 #![tactic(auto)]
 
 mod fields;
+pub mod laws;
 
 pub use fields::Fields;
