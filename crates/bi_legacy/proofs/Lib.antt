@@ -17,4 +17,5 @@ pub mod PartPieces
 pub mod PartTables
 pub mod SizeCells
 pub mod TextMeans
+pub mod VectorFacts
 pub mod ZeroEnded

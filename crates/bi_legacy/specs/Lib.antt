@@ -2,6 +2,7 @@ pub mod Meaning
 pub mod Parts
 pub mod File
 pub mod Text
+pub mod Vectors
 pub mod Faults
 pub mod Reading
 pub mod Emitting

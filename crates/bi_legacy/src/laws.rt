@@ -1,6 +1,7 @@
 //! The laws of legacy images. Each function does nothing, and what it ensures is a law.
 
 ghost use Rattle.bi_legacy.specs.Laws.{OneMeaning, MeaningWithoutFault, MeaningOrFault, NoMeaningWithFault, OneFault, ImagesOfFiles, TextMeansImage, TextNoLonger, TextOfText, TextsDiffer, MeantCanBeWritten, WrittenMeansImage};
+ghost use Rattle.bi_legacy.specs.Vectors.{KernelText, MultiText};
 
 /// A file means at most one image.
 pub fn one_meaning()
@@ -60,4 +61,14 @@ pub fn meant_can_be_written()
 /// What can be written under the limits means, once it is written, what was to be written.
 pub fn written_means_image()
     ensures { WrittenMeansImage }
+{}
+
+/// The normal text of a kernel image is what `mkimage` writes for it.
+pub fn kernel_text()
+    ensures { KernelText }
+{}
+
+/// The normal text of a multi-file image is what `mkimage` writes for it.
+pub fn multi_text()
+    ensures { MultiText }
 {}
