@@ -1,5 +1,6 @@
 pub mod ByteLists
 pub mod CheckLists
+pub mod FaultLaws
 pub mod FileCuts
 pub mod HeaderReads
 pub mod HeaderSplit
@@ -23,4 +24,5 @@ pub mod SizeCells
 pub mod Sizes
 pub mod TableWalk
 pub mod TextMeans
+pub mod VectorFacts
 pub mod ZeroEnded

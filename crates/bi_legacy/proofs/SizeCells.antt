@@ -84,7 +84,7 @@ size_list_ends sizes behind are =
     rw (sizes_read sizes behind are) (Contains-append_right sizes (0 ∷ cells_of behind) 0 (0, omega arith, refl))
 
 -- Numbers that contain a zero have a first one.
-zero_within : (numbers : List ℕ) → Contains numbers 0 → zero_place numbers < length numbers
+pub zero_within : (numbers : List ℕ) → Contains numbers 0 → zero_place numbers < length numbers
 zero_within numbers there = elim (cases_lt (zero_place numbers) (length numbers)) [
   | inl within ↦ within
   | inr past ↦ absurd (eqb-false (get_or numbers there.0 0) 0 (fails_before_first (λ number. number == 0) numbers there.0 0 (omega (arith, there.1))) there.2)

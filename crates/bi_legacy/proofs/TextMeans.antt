@@ -1,4 +1,4 @@
-use Rattle.std.proofs.Common.{◌-◌, ℕ, List, ◌++◌, [], length, replicate, refl, sym, ap, arith, zero, suc, append-nil}
+use Rattle.std.proofs.Common.{◌≡◌, ◌-◌, ℕ, List, ◌++◌, [], length, replicate, refl, sym, ap, arith, zero, suc, append-nil}
 use Rattle.bi_base.specs.Limits.{Bounds}
 use Rattle.bi_legacy.specs.File.{header, IsUnused, HoldsName, IsLegacyFile, LegacyMeans}
 use Rattle.bi_legacy.specs.Meaning.{LegacyImage, IsImageName}
@@ -7,6 +7,7 @@ use Rattle.bi_legacy.proofs.ImageOfFile.{image_of_file, text_no_longer}
 use Rattle.bi_legacy.proofs.NormalBytes.{legacy_text_bytes}
 use Rattle.bi_legacy.proofs.NormalLength.{length-name_field}
 use Rattle.bi_legacy.proofs.NormalParts.{normal_body_holds}
+use Rattle.bi_legacy.proofs.OneMeaning.{one_meaning}
 
 -- The normal text is a legacy image that means what it was made of.
 
@@ -48,3 +49,7 @@ text_means_same file image limits means = record {
   is_file = text_means image (image_of_file file image means.is_file);
   short = omega (arith, text_no_longer file image means.is_file, means.short);
 }
+
+-- Two meanings that legacy images can have and whose normal texts are one are one meaning.
+pub texts_differ : (a b : LegacyImage) → IsLegacyImage a → IsLegacyImage b → legacy_text a ≡ legacy_text b → a ≡ b
+texts_differ a b is_a is_b same = one_meaning (legacy_text b) a b (rw (← same) (text_means a is_a)) (text_means b is_b)

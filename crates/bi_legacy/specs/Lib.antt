@@ -3,6 +3,8 @@ pub mod Parts
 pub mod Pieces
 pub mod File
 pub mod Text
+pub mod Vectors
 pub mod Faults
 pub mod Reading
 pub mod Emitting
+pub mod Laws

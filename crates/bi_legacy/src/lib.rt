@@ -4,6 +4,7 @@
 mod cells;
 mod fields;
 mod header;
+pub mod laws;
 mod legacy;
 mod parts;
 mod table;
