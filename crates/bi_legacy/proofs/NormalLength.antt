@@ -1,4 +1,4 @@
-use Rattle.std.proofs.Common.{◌≡◌, ℕ, ◌+◌, ◌-◌, ◌≤◌, Bool, true, false, List, ◌++◌, [], ◌∷◌, length, replicate, arith, refl, ap, ◌∙◌, MatchBool, if◌then◌else◌}
+use Rattle.std.proofs.Common.{◌≡◌, ℕ, ◌+◌, ◌-◌, ◌≤◌, Bool, true, false, List, ◌++◌, [], ◌∷◌, length, replicate, map, arith, sym, ap, subst, ◌∙◌, MatchBool, if◌then◌else◌}
 use Rattle.std.specs.List.{AllByRecursion}
 use Rattle.std.proofs.lemmas.List.{length-append, length-replicate}
 use Rattle.bi_base.specs.Cells.{up4}
@@ -18,21 +18,28 @@ length-filled part =
     length-append part (replicate (up4 (length part) - length part) 0)
     ∙ omega (arith, length-replicate {A = ℕ} (up4 (length part) - length part) 0)
 
+-- Pieces end where they do from the next multiple of four on.
+end_from-up4 : (end size : ℕ) (sizes : List ℕ) → end_from (up4 end) (size ∷ sizes) ≡ end_from end (size ∷ sizes)
+end_from-up4 end size sizes = ap (λ at. end_from (at + size) sizes) (up4-up4 end)
+
 -- The parts one behind another end where the last of them ends.
-pub length-joined : (at : ℕ) (parts : List (List ℕ)) → up4 at ≡ at → at + length (joined parts) ≡ end_from at parts
+pub length-joined : (at : ℕ) (parts : List (List ℕ)) → up4 at ≡ at → at + length (joined parts) ≡ end_from at (map length parts)
 length-joined at [] aligned = omega arith
-length-joined at (part ∷ []) aligned = refl
+length-joined at (part ∷ []) aligned = omega (arith, aligned)
 length-joined at (part ∷ next ∷ later) aligned =
     let rest = joined (next ∷ later) in
     let next_at : up4 (at + length part) ≡ at + up4 (length part) = omega (arith, aligned) in
-    omega (arith, length-append (filled part) rest, length-filled part, next_at, length-joined (up4 (at + length part)) (next ∷ later) (up4-up4 (at + length part)))
+    let sum : at + length (filled part ++ rest) ≡ up4 (at + length part) + length rest = omega (arith, length-append (filled part) rest, length-filled part, next_at) in
+    sum ∙ length-joined (up4 (at + length part)) (next ∷ later) (up4-up4 (at + length part))
+    ∙ end_from-up4 (at + length part) (length next) (map length later)
+    ∙ ap (λ n. end_from (n + length part) (map length (next ∷ later))) (sym aligned)
 
 -- A list of sizes ends at a multiple of four.
 pub size_list_aligned : (parts : List (List ℕ)) → up4 (length (size_list parts)) ≡ length (size_list parts)
 size_list_aligned parts = rw (length-size_list parts) (up4_of_four (length parts + 1))
 
 -- The normal data of some parts, with or without a list of sizes, ends where the last part ends.
-normal_end : (table : Bool) (parts : List (List ℕ)) → MatchBool table (AllByRecursion IsListedPart parts) (length parts ≡ 1) → length (if table then size_list parts ++ joined parts else joined parts) ≡ end_from (if table then length (size_list parts) else 0) parts
+normal_end : (table : Bool) (parts : List (List ℕ)) → MatchBool table (AllByRecursion IsListedPart parts) (length parts ≡ 1) → length (if table then size_list parts ++ joined parts else joined parts) ≡ end_from (if table then length (size_list parts) else 0) (map length parts)
 normal_end true parts are =
     length-append (size_list parts) (joined parts) ∙ length-joined (length (size_list parts)) parts (size_list_aligned parts)
 normal_end false parts are = omega (arith, length-joined 0 parts (omega arith))
@@ -41,17 +48,16 @@ normal_end false parts are = omega (arith, length-joined 0 parts (omega arith))
 pub length-normal_body : (image_type : ℕ) (parts : List (List ℕ)) → AreParts image_type parts → length (normal_body image_type parts) ≡ parts_end image_type parts
 length-normal_body image_type parts are = normal_end (has_table image_type) parts are
 
--- Parts that stand in data end within it, where the first of them could begin within it.
-end_within : (at : ℕ) (parts : List (List ℕ)) (body : List ℕ) → at ≤ length body → StandFrom at parts body → end_from at parts ≤ length body
-end_within at [] body starts stand = starts
-end_within at (part ∷ []) body starts stand = stand.0
-end_within at (part ∷ next ∷ later) body starts stand =
-    end_within (up4 (at + length part)) (next ∷ later) body (omega (arith, stand.2.0)) stand.2
+-- Parts that stand in data, the first at the next multiple of four from an end within it, end within it.
+end_within : (end : ℕ) (parts : List (List ℕ)) (body : List ℕ) → end ≤ length body → StandFrom (up4 end) parts body → end_from end (map length parts) ≤ length body
+end_within end [] body starts stand = starts
+end_within end (part ∷ later) body starts stand = end_within (up4 end + length part) later body stand.0 stand.2
 
 -- The last part ends within data of a kind with or without a list that holds the parts.
-held_end : (table : Bool) (parts : List (List ℕ)) (body : List ℕ) → MatchBool table (IsTable parts body) (parts ≡ body ∷ []) → end_from (if table then length (size_list parts) else 0) parts ≤ length body
+held_end : (table : Bool) (parts : List (List ℕ)) (body : List ℕ) → MatchBool table (IsTable parts body) (parts ≡ body ∷ []) → end_from (if table then length (size_list parts) else 0) (map length parts) ≤ length body
 held_end true parts body holds =
-    end_within (length (size_list parts)) parts body (omega (arith, ap length holds.list, length-append (size_list parts) holds.behind)) holds.stand
+    end_within (length (size_list parts)) parts body (omega (arith, ap length holds.list, length-append (size_list parts) holds.behind))
+    (subst (λ (at : ℕ). StandFrom at parts body) (sym (size_list_aligned parts)) holds.stand)
 held_end false parts body holds = rw holds (omega arith)
 
 -- The last part ends within the data that holds the parts.
