@@ -1,6 +1,6 @@
 use Rattle.std.specs.Prelude.{ℕ, ◌≤◌}
 
--- What a call may take in: the most bytes of an input or of an image that is written, and the most open nodes of a
+-- What a call may take in: the most bytes of an input, and of an image or payload that is written, and the most open nodes of a
 -- blob's tree, the root counted (profile of this project).
 pub record Bounds : Type 0 where
   pub file : ℕ

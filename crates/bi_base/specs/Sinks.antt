@@ -13,7 +13,7 @@ abbrev pub Wrote : {S : Type 0} → (S → List ℕ → S → Type 0) → (Error
 Wrote appends names old bytes result new =
     MatchResult result (λ _. appends old bytes new) (λ error. AppendsPrefix appends old bytes new × names error)
 
--- The law that appending nothing changes nothing.
+-- The law that a sink that is left as it is has had nothing appended.
 abbrev pub AppendsNothing : {S : Type 0} → (S → List ℕ → S → Type 0) → Type 0
 AppendsNothing {S} appends = (a : S) → appends a [] a
 

@@ -6,7 +6,7 @@ use Rattle.bi_base.proofs.CellLaws.{cell-u32_at, length-cell, length-slice}
 use Rattle.bi_legacy.proofs.FileCuts.{drop_slice, drop_cell}
 use Rattle.bi_legacy.specs.File.{header_with, header}
 use Rattle.bi_legacy.specs.Faults.{body_of, summed_header}
-use Rattle.bi_legacy.specs.Reading.{read_image}
+use Rattle.bi_legacy.specs.Walk.{read_image}
 
 -- A file of at least a header is the header that its fields spell, and the bytes behind it.
 

@@ -7,7 +7,7 @@ use Rattle.bi_legacy.specs.Faults.{Passes, HasNoLegacyFault, body_of, table_chec
 use Rattle.bi_legacy.specs.File.{header, LegacyMeans}
 use Rattle.bi_legacy.specs.Meaning.{HasRanges, has_table}
 use Rattle.bi_legacy.specs.Parts.{IsTable}
-use Rattle.bi_legacy.specs.Reading.{read_image}
+use Rattle.bi_legacy.specs.Walk.{read_image}
 use Rattle.bi_legacy.proofs.FileCuts.{drop_slice, u32_at_fits}
 use Rattle.bi_legacy.proofs.HeaderSplit.{header_split}
 use Rattle.bi_legacy.proofs.NameField.{name_held}

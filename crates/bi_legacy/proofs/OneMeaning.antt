@@ -5,7 +5,7 @@ use Rattle.bi_legacy.specs.Faults.{body_of}
 use Rattle.bi_legacy.specs.File.{IsLegacyFile}
 use Rattle.bi_legacy.specs.Meaning.{LegacyImage, has_table}
 use Rattle.bi_legacy.specs.Parts.{IsTable}
-use Rattle.bi_legacy.specs.Reading.{read_image, parts_in}
+use Rattle.bi_legacy.specs.Walk.{read_image, parts_in}
 use Rattle.bi_legacy.proofs.HeaderReads.{time_read, load_read, entry_read, os_read, arch_read, type_read, compression_read, field_read, body_read}
 use Rattle.bi_legacy.proofs.NameField.{name_is}
 use Rattle.bi_legacy.proofs.PartTables.{listed_parts, table_parts}

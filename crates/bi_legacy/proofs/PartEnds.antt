@@ -5,8 +5,7 @@ use Rattle.bi_base.specs.Checks.{HasNoFault}
 use Rattle.bi_legacy.specs.Faults.{Passes, HasNoLegacyFault, body_of, listed_sizes, table_checks}
 use Rattle.bi_legacy.specs.Meaning.{has_table}
 use Rattle.bi_legacy.specs.Parts.{size_list, places_from, end_from, part_places, parts_end}
-use Rattle.bi_legacy.specs.Reading.{pieces, parts_in, read_end}
-use Rattle.bi_legacy.specs.Pieces.{FitFrom, first_in, sizes_in}
+use Rattle.bi_legacy.specs.Walk.{pieces, parts_in, read_end, FitFrom, first_in, sizes_in}
 use Rattle.bi_legacy.proofs.PartPieces.{length_pieces, ends_checked}
 use Rattle.bi_legacy.proofs.PartTables.{first_listed, listed_parts, length-size_list}
 

@@ -4,8 +4,7 @@ use Rattle.bi_base.specs.Cells.{cell, AreBytes}
 use Rattle.bi_base.proofs.CellLaws.{length-cell}
 use Rattle.bi_legacy.specs.Faults.{cells_of, listed_sizes}
 use Rattle.bi_legacy.specs.Parts.{size_list, IsTable, StandFrom}
-use Rattle.bi_legacy.specs.Reading.{pieces}
-use Rattle.bi_legacy.specs.Pieces.{FitFrom}
+use Rattle.bi_legacy.specs.Walk.{pieces, FitFrom}
 use Rattle.bi_legacy.proofs.PartPieces.{length_pieces, pieces_stand, pieces_listed, pieces_are, parts_end_within, part_sizes}
 use Rattle.bi_legacy.proofs.SizeCells.{size_list_is, listed_sizes_are, size_list_ends, size_list_split}
 use Rattle.bi_legacy.proofs.ZeroEnded.{before_zero_nonzero}

@@ -4,8 +4,8 @@ use Rattle.bi_base.specs.Cells.{slice, up4}
 use Rattle.bi_base.proofs.CellLaws.{length-slice}
 use Rattle.bi_legacy.specs.Meaning.{has_table}
 use Rattle.bi_legacy.specs.Parts.{size_list, first_place}
-use Rattle.bi_legacy.specs.Pieces.{Piece, FitFrom, cut_from, placed_from, first_in, sizes_in}
-use Rattle.bi_legacy.specs.Reading.{pieces, parts_in}
+use Rattle.bi_legacy.specs.Pieces.{Piece, placed_from}
+use Rattle.bi_legacy.specs.Walk.{FitFrom, cut_from, first_in, sizes_in, pieces, parts_in}
 use Rattle.bi_legacy.proofs.PartEnds.{length-pieces, listed_first}
 use Rattle.bi_legacy.proofs.PartTables.{first_listed, listed_parts}
 

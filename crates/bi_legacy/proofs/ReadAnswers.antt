@@ -6,10 +6,11 @@ use Rattle.bi_base.proofs.FirstFault.{one_fault, not_both}
 use Rattle.bi_legacy.specs.Meaning.{LegacyImage}
 use Rattle.bi_legacy.specs.File.{LegacyMeans}
 use Rattle.bi_legacy.specs.Faults.{IsLegacyFault, HasNoLegacyFault, Passes, fault_of, checks}
-use Rattle.bi_legacy.specs.Reading.{Told, IsTold, read_image, read_end}
+use Rattle.bi_legacy.specs.Reading.{Told, IsTold}
 use Rattle.bi_legacy.proofs.MeansNoFault.{means_no_fault}
 use Rattle.bi_legacy.proofs.NoFaultMeans.{no_fault_means}
 use Rattle.bi_legacy.specs.Parts.{parts_end}
+use Rattle.bi_legacy.specs.Walk.{read_image, read_end}
 use Rattle.bi_legacy.proofs.PartEnds.{told_end}
 use Rattle.bi_legacy.proofs.OneMeaning.{one_meaning}
 

@@ -5,7 +5,7 @@ use Rattle.std.proofs.lemmas.List.{length-take, length-take-le, get_or-take, dro
 use Rattle.std.proofs.lemmas.Bool.{ne_eqb, eq-eqb}
 use Rattle.bi_base.specs.Cells.{u32_at}
 use Rattle.bi_legacy.specs.Faults.{cells_of, listed_sizes}
-use Rattle.bi_legacy.specs.Pieces.{sizes_in, first_in}
+use Rattle.bi_legacy.specs.Walk.{sizes_in, first_in}
 
 -- The whole cells of some bytes are a quarter as many.
 pub length-cells : (bytes : List ℕ) → length (cells_of bytes) ≡ length bytes / 4

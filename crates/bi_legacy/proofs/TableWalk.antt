@@ -5,7 +5,7 @@ use Rattle.bi_base.specs.Checks.{IsFirstFault}
 use Rattle.bi_base.specs.Limits.{Bounds}
 use Rattle.bi_legacy.specs.Faults.{Passes, fault_of, body_of, part_checks, HasPart}
 use Rattle.bi_legacy.specs.Parts.{end_from}
-use Rattle.bi_legacy.specs.Pieces.{FitFrom}
+use Rattle.bi_legacy.specs.Walk.{FitFrom}
 
 -- One step of a walk over sizes: what the first of those that are left does, and what the others do.
 

@@ -21,7 +21,7 @@ Passes image limits HasPartCount = MatchBool (has_table image.image_type) ⊤ (l
 Passes image limits FitsLimit = length (legacy_text image) ≤ limits.file
 Passes image limits (HasBytes index part) = IsListedPart part
 
--- What the image is refused with where a check fails: the place of the field in the image to be written.
+-- What the image is refused with where a check fails: the place of the field in the image to be written, or the limit.
 abbrev pub fault_of : Bounds → Check → Fault
 fault_of limits HasImageName = record { cause = BadField; offset = 32 }
 fault_of limits HasPartCount = record { cause = BadField; offset = 30 }

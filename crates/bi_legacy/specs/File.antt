@@ -21,7 +21,8 @@ abbrev pub IsUnused : List ℕ → Type 0
 IsUnused [] = Unit {0}
 IsUnused (byte ∷ bytes) = byte ≡ 0
 
--- The name's 32 bytes hold this name: the bytes before the first zero; what follows that zero is free.
+-- The name's 32 bytes hold this name: the bytes before the first zero. That what follows that zero is free, and that a
+-- name may fill all 32 bytes, is profile of this project.
 pub record HoldsName (field name : List ℕ) : Type 0 where
   pub padding : List ℕ
   pub spelled : field ≡ name ++ padding
@@ -29,7 +30,7 @@ pub record HoldsName (field name : List ℕ) : Type 0 where
   pub whole : length field ≡ 32
   pub is_name : IsImageName name
 
--- The file is a legacy image that means this: header, data, and then anything.
+-- The file is a legacy image that means this: header, data, and then anything (profile of this project).
 pub record IsLegacyFile (file : List ℕ) (image : LegacyImage) : Type 0 where
   pub field : List ℕ
   pub body : List ℕ

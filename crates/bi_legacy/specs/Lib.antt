@@ -8,3 +8,4 @@ pub mod Faults
 pub mod Reading
 pub mod Emitting
 pub mod Laws
+pub mod Walk

@@ -24,15 +24,17 @@ pub record IsImageName (name : List ℕ) : Type 0 where
   pub short : length name ≤ 32
   pub no_zero : AllByRecursion (λ byte. byte ≢ 0) name
 
--- A part that a list of sizes can tell: a size of zero ends the list.
+-- A part that a list of sizes can tell: a size of zero ends the list (U-Boot, include/image.h).
 abbrev pub IsListedPart : List ℕ → Type 0
 IsListedPart part = 0 < length part
 
--- The parts that an image of this type can have: any number of listed parts, or else exactly one part, which may be empty.
+-- The parts that an image of this type can have: any number of listed parts, or else exactly one part, which may be empty
+-- (U-Boot, include/image.h; that there may be none listed, and that the one may be empty, is profile of this project).
 abbrev pub AreParts : ℕ → List (List ℕ) → Type 0
 AreParts image_type parts = MatchBool (has_table image_type) (AllByRecursion IsListedPart parts) (length parts ≡ 1)
 
--- Each number of the meaning is one that its field of the header can hold.
+-- Each number of the meaning is one that its field of the header can hold: any code may stand there (profile of this
+-- project).
 pub record HasRanges (image : LegacyImage) : Type 0 where
   pub time : image.time < 2 ^ 32
   pub load : image.load < 2 ^ 32

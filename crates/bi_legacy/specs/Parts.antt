@@ -3,7 +3,9 @@ use Rattle.std.specs.List.{AllByRecursion, flat_map}
 use Rattle.bi_base.specs.Cells.{cell, slice, up4}
 use Rattle.bi_legacy.specs.Meaning.{has_table, IsListedPart}
 
--- The parts of an image in its data (U-Boot, include/image.h and boot/image.c: multi-file images).
+-- The parts of an image in its data (U-Boot, include/image.h and boot/image.c: multi-file images). Places are counted
+-- from the data's beginning; a list of sizes is whole cells, so a multiple of four from its end is one from there. That
+-- the bytes between the parts, and behind the last one, may be anything is profile of this project.
 
 -- The list of sizes: the length of each part as a cell, and a cell of zero that ends the list.
 abbrev pub size_list : List (List ℕ) → List ℕ
@@ -21,8 +23,8 @@ StandFrom at [] body = Unit {0}
 StandFrom at (part ∷ parts) body =
     (at + length part ≤ length body) × (slice body at (length part) ≡ part) × StandFrom (up4 (at + length part)) parts body
 
--- The data is the list of sizes of these parts and then the parts, the first right behind the list; what lies behind
--- the last one is free.
+-- The data, of less than 2^32 bytes, is the list of sizes of these parts and then the parts, the first right behind the
+-- list; what lies behind the last one is free.
 pub record IsTable (parts : List (List ℕ)) (body : List ℕ) : Type 0 where
   pub behind : List ℕ
   pub list : body ≡ size_list parts ++ behind

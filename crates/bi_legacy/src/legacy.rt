@@ -8,8 +8,9 @@ ghost use Rattle.bi_base.specs.declared.fault.Fault.{Fault};
 ghost use Rattle.bi_legacy.specs.Meaning.{LegacyImage, has_table};
 ghost use Rattle.bi_legacy.specs.File.{LegacyMeans};
 ghost use Rattle.bi_legacy.specs.Faults.{IsLegacyFault, HasNoLegacyFault, body_of};
-ghost use Rattle.bi_legacy.specs.Pieces.{IsExtent, piece_of, placed_parts};
-ghost use Rattle.bi_legacy.specs.Reading.{Told, IsTold, image_of, parts_in, read_image, read_end, file_places};
+ghost use Rattle.bi_legacy.specs.Pieces.{piece_of, placed_parts};
+ghost use Rattle.bi_legacy.specs.Reading.{Told, IsTold, image_of, file_places};
+ghost use Rattle.bi_legacy.specs.Walk.{IsExtent, parts_in, read_image, read_end};
 
 use std::marker::Model;
 

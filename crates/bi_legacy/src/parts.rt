@@ -2,7 +2,8 @@
 
 ghost use Rattle.std.specs.Prelude.{◌≡◌, ℕ, ◌+◌, ◌*◌, ◌^◌, ◌<◌, ◌≤◌, List, [], ◌∷◌, length, drop, MatchOption};
 ghost use Rattle.std.specs.Iterator.{at_most};
-ghost use Rattle.bi_legacy.specs.Pieces.{Piece, IsPartsState, GivesPart, cut_from, sizes_in, first_in, FitFrom};
+ghost use Rattle.bi_legacy.specs.Pieces.{Piece, GivesPart};
+ghost use Rattle.bi_legacy.specs.Walk.{IsPartsState, cut_from, sizes_in, first_in, FitFrom};
 
 use std::marker::Model;
 

@@ -7,7 +7,7 @@ ghost use Rattle.bi_base.specs.Limits.{Bounds};
 ghost use Rattle.bi_legacy.specs.Faults.{Passes, fault_of, body_of, cells_of, listed_sizes, table_checks, body_checks, part_checks};
 ghost use Rattle.bi_legacy.specs.Parts.{end_from};
 ghost use Rattle.bi_legacy.specs.Meaning.{has_table};
-ghost use Rattle.bi_legacy.specs.Pieces.{FitFrom, IsExtent, first_in, sizes_in};
+ghost use Rattle.bi_legacy.specs.Walk.{FitFrom, IsExtent, first_in, sizes_in};
 
 use bi_base::{Cause, Fault, be32_at};
 

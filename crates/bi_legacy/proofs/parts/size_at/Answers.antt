@@ -1,5 +1,5 @@
 use Rattle.std.proofs.Common.{◌∷◌, ◌+◌, ◌∙◌, ap, sym, drop}
-use Rattle.bi_legacy.specs.Pieces.{sizes_in}
+use Rattle.bi_legacy.specs.Walk.{sizes_in}
 use Rattle.bi_legacy.proofs.Sizes.{drop-sizes_in}
 use Rattle.bi_legacy.proofs.parts.size_at.Goals as goal
 

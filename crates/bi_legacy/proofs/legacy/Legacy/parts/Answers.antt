@@ -1,6 +1,7 @@
 use Rattle.std.proofs.Common.{◌∙◌, ap}
-use Rattle.bi_legacy.specs.Pieces.{cut_from, first_in, sizes_in, placed_parts}
+use Rattle.bi_legacy.specs.Pieces.{placed_parts}
 use Rattle.bi_legacy.specs.Reading.{Told}
+use Rattle.bi_legacy.specs.Walk.{cut_from, first_in, sizes_in}
 use Rattle.bi_legacy.proofs.PlacedParts.{placed_is}
 use Rattle.bi_legacy.proofs.legacy.Legacy.parts.Goals as goal
 

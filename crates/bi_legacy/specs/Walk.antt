@@ -1,0 +1,76 @@
+use Rattle.std.specs.Prelude.{ℕ, ◌+◌, ◌*◌, ◌^◌, ◌<◌, ◌≤◌, ◌≡◌, ◌==◌, Bool, List, [], ◌∷◌, length, drop, slice_index, if◌then◌else◌}
+use Rattle.std.specs.List.{before_first}
+use Rattle.bi_base.specs.Cells.{slice, u32_at, up4}
+use Rattle.bi_legacy.specs.Meaning.{LegacyImage, has_table}
+use Rattle.bi_legacy.specs.Parts.{end_from}
+use Rattle.bi_legacy.specs.Faults.{listed_sizes, body_of}
+use Rattle.bi_legacy.specs.Pieces.{Piece}
+
+-- How a reader goes over a file whose checks pass: what it holds, and what its private functions promise one another. No
+-- promise about the format is made in these words.
+
+-- The sizes of the parts that the data holds: those of its list of sizes, or that of the whole.
+abbrev pub sizes_in : Bool → List ℕ → List ℕ
+sizes_in is_listed body = if is_listed then listed_sizes body else length body ∷ []
+
+-- Where the first part begins in the data.
+abbrev pub first_in : Bool → List ℕ → ℕ
+first_in is_listed body = if is_listed then 4 * (length (listed_sizes body) + 1) else 0
+
+-- The pieces of these sizes of some data with their places, the first from `at` on and each later one from the next
+-- multiple of four.
+abbrev pub cut_from : List ℕ → ℕ → List ℕ → List Piece
+cut_from body at [] = []
+cut_from body at (size ∷ sizes) =
+    record { place = 64 + at; bytes = slice body at size } ∷ cut_from body (up4 (at + size)) sizes
+
+-- Each of the pieces of these sizes, the first from `at` on, ends within so many bytes.
+abbrev pub FitFrom : ℕ → ℕ → List ℕ → Type 0
+FitFrom most at [] = Unit {0}
+FitFrom most at (size ∷ sizes) = (at + size ≤ most) × FitFrom most (up4 (at + size)) sizes
+
+-- What holds of a walk over the parts of some data that has come to part `index`, whose place is `place`.
+pub record IsPartsState (is_listed : Bool) (body : List ℕ) (part_count index place : ℕ) : Type 0 where
+  pub counted : part_count ≡ length (sizes_in is_listed body)
+  pub started : index ≤ part_count
+  pub room : first_in is_listed body ≤ length body
+  pub fit : FitFrom (length body) place (drop index (sizes_in is_listed body))
+  pub near : place < 2 ^ 32
+  pub small : length body < 2 ^ 31
+
+-- The pieces of these sizes of some data, the first from `at` on and each later one from the next multiple of four.
+abbrev pub pieces : List ℕ → ℕ → List ℕ → List (List ℕ)
+pieces body at [] = []
+pieces body at (size ∷ sizes) = slice body at size ∷ pieces body (up4 (at + size)) sizes
+
+-- The parts of the data of an image of this type: as its list of sizes tells, or the whole.
+abbrev pub parts_in : ℕ → List ℕ → List (List ℕ)
+parts_in image_type body =
+    if has_table image_type then pieces body (4 * (length (listed_sizes body) + 1)) (listed_sizes body) else body ∷ []
+
+-- What the bytes of a file say at the places of a legacy image's fields, whether or not it is one.
+abbrev pub read_image : List ℕ → LegacyImage
+read_image file =
+    record {
+      time = u32_at file 8;
+      load = u32_at file 16;
+      entry = u32_at file 20;
+      os = slice_index file 28;
+      arch = slice_index file 29;
+      image_type = slice_index file 30;
+      compression = slice_index file 31;
+      name = before_first (λ byte. byte == 0) (slice file 32 32);
+      parts = parts_in (slice_index file 30) (body_of file);
+    }
+
+-- Where the parts that they say end in the data, by the sizes alone.
+abbrev pub read_end : List ℕ → ℕ
+read_end file =
+    let listed = has_table (slice_index file 30) in end_from (first_in listed (body_of file)) (sizes_in listed (body_of file))
+
+-- What holds of the parts that some data was found to hold.
+pub record IsExtent (is_listed : Bool) (body : List ℕ) (part_count : ℕ) : Type 0 where
+  pub counted : part_count ≡ length (sizes_in is_listed body)
+  pub room : first_in is_listed body ≤ length body
+  pub fit : FitFrom (length body) (first_in is_listed body) (sizes_in is_listed body)
+  pub small : length body < 2 ^ 31
