@@ -1,0 +1,73 @@
+use Rattle.std.specs.Prelude.{ℕ, ◌≤◌, ◌≡◌, ◌≢◌, ◌⊎◌, ◌↔◌, ◌==◌, ⊤, List, [], ◌∷◌, length, MatchBool}
+use Rattle.bi_base.specs.declared.fault.Fault.{Fault}
+use Rattle.bi_base.specs.declared.fault.Error.{Error}
+use Rattle.bi_base.specs.declared.fault.Error.TheVariants.{Refused, OutOfMemory, ReadFailed, WriteFailed}
+use Rattle.bi_base.specs.declared.fault.Cause.TheVariants.{Truncated, BadMagic, TooLarge, Unsupported}
+use Rattle.bi_base.specs.Cells.{u32_at}
+use Rattle.bi_base.specs.Checks.{IsFirstFault}
+use Rattle.bi_base.specs.Limits.{Bounds}
+use Rattle.bi_legacy.specs.Meaning.{LegacyImage}
+use Rattle.bi_legacy.specs.File.{LegacyMeans}
+use Rattle.bi_legacy.specs.Text.{legacy_text}
+use Rattle.bi_legacy.specs.Faults.{IsLegacyFault}
+use Rattle.bootimg.specs.declared.kind.Kind.TheVariants.{Legacy, Fit}
+use Rattle.bootimg.specs.Kinds.{magic_of}
+
+-- What normalising promises: two accepted files give the same bytes exactly if they mean the same.
+
+-- The text stands for the file: it is the normal text of what the file means.
+pub record StandsFor (file : List ℕ) (limits : Bounds) (text : List ℕ) : Type 0 where
+  pub image : LegacyImage
+  pub means : LegacyMeans file image limits
+  pub is : text ≡ legacy_text image
+
+-- The text tells meanings apart: of all files, those that mean what this one means have this normal text, and no others.
+abbrev pub TellsApart : List ℕ → Bounds → List ℕ → Type 0
+TellsApart file limits text =
+    (image : LegacyImage) → LegacyMeans file image limits →
+    (other_file : List ℕ) (other : LegacyImage) → LegacyMeans other_file other limits →
+    (legacy_text other ≡ text) ↔ (other ≡ image)
+
+-- The text is its own normal form: it means what the file means, under the same limits.
+abbrev pub IsOwnNormalForm : List ℕ → Bounds → List ℕ → Type 0
+IsOwnNormalForm file limits text =
+    (image : LegacyImage) → LegacyMeans file image limits → LegacyMeans text image limits
+
+-- The checks of a file that does not begin with the magic number of a legacy image.
+pub data Check : Type 0 where
+  IsWithinLimit : Check
+  HasMagicCell : Check
+  HasMagic : Check
+  IsSupported : Check
+
+-- What each check asks. A flattened image tree is not supported yet.
+abbrev pub Passes : List ℕ → Bounds → Check → Type 0
+Passes file limits IsWithinLimit = length file ≤ limits.file
+Passes file limits HasMagicCell = 4 ≤ length file
+Passes file limits HasMagic = u32_at file 0 ≡ magic_of Fit
+Passes file limits IsSupported = ⊥
+
+-- What a file is refused with where a check fails.
+abbrev pub fault_of : Bounds → Check → Fault
+fault_of limits IsWithinLimit = record { cause = TooLarge; offset = limits.file }
+fault_of limits HasMagicCell = record { cause = Truncated; offset = 0 }
+fault_of limits HasMagic = record { cause = BadMagic; offset = 0 }
+fault_of limits IsSupported = record { cause = Unsupported; offset = 0 }
+
+-- The fault of a file: as a legacy image where it begins as one, else that of these checks, of which one fails.
+abbrev pub IsFileFault : List ℕ → Bounds → Fault → Type 0
+IsFileFault file limits fault =
+    MatchBool (u32_at file 0 == magic_of Legacy)
+    (IsLegacyFault file limits fault)
+    (IsFirstFault (Passes file limits) (fault_of limits) (IsWithinLimit ∷ HasMagicCell ∷ HasMagic ∷ IsSupported ∷ []) fault)
+
+-- The file means nothing within the limits.
+abbrev pub MeansNothing : List ℕ → Bounds → Type 0
+MeansNothing file limits = (image : LegacyImage) → ¬ (LegacyMeans file image limits)
+
+-- What an error says of the file: a refusal is its first fault, and the file means nothing. Want of memory says nothing.
+abbrev pub IsRefusalOf : List ℕ → Bounds → Error → Type 0
+IsRefusalOf file limits (Refused fault) = IsFileFault file limits fault × MeansNothing file limits
+IsRefusalOf file limits OutOfMemory = ⊤
+IsRefusalOf file limits ReadFailed = ⊥
+IsRefusalOf file limits WriteFailed = ⊥
