@@ -1,2 +1,3 @@
 pub mod CellLaws
+pub mod CrcLaws
 pub mod FirstFault

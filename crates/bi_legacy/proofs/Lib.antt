@@ -3,11 +3,12 @@ pub mod FaultLaws
 pub mod FileCuts
 pub mod HeaderReads
 pub mod HeaderSplit
+pub mod HeaderSum
 pub mod ImageOfFile
 pub mod MeansNoFault
 pub mod NameField
-pub mod NoFaultMeans
 pub mod NoEmitFault
+pub mod NoFaultMeans
 pub mod NormalBytes
 pub mod NormalLength
 pub mod NormalParts
@@ -16,6 +17,8 @@ pub mod PartEnds
 pub mod PartPieces
 pub mod PartTables
 pub mod SizeCells
+pub mod Sizes
+pub mod TableWalk
 pub mod TextMeans
 pub mod VectorFacts
 pub mod ZeroEnded

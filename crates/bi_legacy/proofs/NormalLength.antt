@@ -1,4 +1,4 @@
-use Rattle.std.proofs.Common.{◌≡◌, ℕ, ◌+◌, ◌-◌, ◌≤◌, Bool, true, false, List, ◌++◌, [], ◌∷◌, length, replicate, arith, refl, ap, ◌∙◌, MatchBool, if◌then◌else◌}
+use Rattle.std.proofs.Common.{◌≡◌, ℕ, ◌+◌, ◌-◌, ◌≤◌, Bool, true, false, List, ◌++◌, [], ◌∷◌, length, map, replicate, arith, refl, ap, ◌∙◌, MatchBool, if◌then◌else◌}
 use Rattle.std.specs.List.{AllByRecursion}
 use Rattle.std.proofs.lemmas.List.{length-append, length-replicate}
 use Rattle.bi_base.specs.Cells.{up4}
@@ -7,7 +7,7 @@ use Rattle.bi_legacy.specs.Parts.{size_list, StandFrom, IsTable, HoldsParts, end
 use Rattle.bi_legacy.specs.Text.{filled, joined, normal_body, name_field, legacy_text}
 use Rattle.bi_legacy.specs.File.{header}
 use Rattle.bi_legacy.proofs.HeaderReads.{length-header}
-use Rattle.bi_legacy.proofs.PartEnds.{up4_of_four, up4-up4}
+use Rattle.bi_legacy.proofs.PartEnds.{up4_of_four}
 use Rattle.bi_legacy.proofs.PartTables.{length-size_list}
 
 -- How long the normal data and the normal text are.
@@ -18,21 +18,25 @@ length-filled part =
     length-append part (replicate (up4 (length part) - length part) 0)
     ∙ omega (arith, length-replicate {A = ℕ} (up4 (length part) - length part) 0)
 
--- The parts one behind another end where the last of them ends.
-pub length-joined : (at : ℕ) (parts : List (List ℕ)) → up4 at ≡ at → at + length (joined parts) ≡ end_from at parts
-length-joined at [] aligned = omega arith
-length-joined at (part ∷ []) aligned = refl
-length-joined at (part ∷ next ∷ later) aligned =
+-- Parts one behind another, behind an end, end where the last of them ends.
+joined_end : (end : ℕ) (part : List ℕ) (parts : List (List ℕ)) → up4 end + length (joined (part ∷ parts)) ≡ end_from end (map length (part ∷ parts))
+joined_end end part [] = refl
+joined_end end part (next ∷ later) =
     let rest = joined (next ∷ later) in
-    let next_at : up4 (at + length part) ≡ at + up4 (length part) = omega (arith, aligned) in
-    omega (arith, length-append (filled part) rest, length-filled part, next_at, length-joined (up4 (at + length part)) (next ∷ later) (up4-up4 (at + length part)))
+    let next_at : up4 (up4 end + length part) ≡ up4 end + up4 (length part) = omega arith in
+    omega (arith, length-append (filled part) rest, length-filled part, next_at, joined_end (up4 end + length part) next later)
+
+-- The parts one behind another end where the last of them ends.
+pub length-joined : (at : ℕ) (parts : List (List ℕ)) → up4 at ≡ at → at + length (joined parts) ≡ end_from at (map length parts)
+length-joined at [] aligned = omega arith
+length-joined at (part ∷ parts) aligned = omega (arith, joined_end at part parts, aligned)
 
 -- A list of sizes ends at a multiple of four.
 pub size_list_aligned : (parts : List (List ℕ)) → up4 (length (size_list parts)) ≡ length (size_list parts)
 size_list_aligned parts = rw (length-size_list parts) (up4_of_four (length parts + 1))
 
 -- The normal data of some parts, with or without a list of sizes, ends where the last part ends.
-normal_end : (table : Bool) (parts : List (List ℕ)) → MatchBool table (AllByRecursion IsListedPart parts) (length parts ≡ 1) → length (if table then size_list parts ++ joined parts else joined parts) ≡ end_from (if table then length (size_list parts) else 0) parts
+normal_end : (table : Bool) (parts : List (List ℕ)) → MatchBool table (AllByRecursion IsListedPart parts) (length parts ≡ 1) → length (if table then size_list parts ++ joined parts else joined parts) ≡ end_from (if table then length (size_list parts) else 0) (map length parts)
 normal_end true parts are =
     length-append (size_list parts) (joined parts) ∙ length-joined (length (size_list parts)) parts (size_list_aligned parts)
 normal_end false parts are = omega (arith, length-joined 0 parts (omega arith))
@@ -41,17 +45,16 @@ normal_end false parts are = omega (arith, length-joined 0 parts (omega arith))
 pub length-normal_body : (image_type : ℕ) (parts : List (List ℕ)) → AreParts image_type parts → length (normal_body image_type parts) ≡ parts_end image_type parts
 length-normal_body image_type parts are = normal_end (has_table image_type) parts are
 
--- Parts that stand in data end within it, where the first of them could begin within it.
-end_within : (at : ℕ) (parts : List (List ℕ)) (body : List ℕ) → at ≤ length body → StandFrom at parts body → end_from at parts ≤ length body
-end_within at [] body starts stand = starts
-end_within at (part ∷ []) body starts stand = stand.0
-end_within at (part ∷ next ∷ later) body starts stand =
-    end_within (up4 (at + length part)) (next ∷ later) body (omega (arith, stand.2.0)) stand.2
+-- Parts that stand in data behind an end within it end within it.
+end_within : (end : ℕ) (parts : List (List ℕ)) (body : List ℕ) → end ≤ length body → StandFrom (up4 end) parts body → end_from end (map length parts) ≤ length body
+end_within end [] body starts stand = starts
+end_within end (part ∷ parts) body starts stand = end_within (up4 end + length part) parts body stand.0 stand.2
 
 -- The last part ends within data of a kind with or without a list that holds the parts.
-held_end : (table : Bool) (parts : List (List ℕ)) (body : List ℕ) → MatchBool table (IsTable parts body) (parts ≡ body ∷ []) → end_from (if table then length (size_list parts) else 0) parts ≤ length body
+held_end : (table : Bool) (parts : List (List ℕ)) (body : List ℕ) → MatchBool table (IsTable parts body) (parts ≡ body ∷ []) → end_from (if table then length (size_list parts) else 0) (map length parts) ≤ length body
 held_end true parts body holds =
-    end_within (length (size_list parts)) parts body (omega (arith, ap length holds.list, length-append (size_list parts) holds.behind)) holds.stand
+    let starts : length (size_list parts) ≤ length body = omega (arith, ap length holds.list, length-append (size_list parts) holds.behind) in
+    end_within (length (size_list parts)) parts body starts (rw (size_list_aligned parts) holds.stand)
 held_end false parts body holds = rw holds (omega arith)
 
 -- The last part ends within the data that holds the parts.

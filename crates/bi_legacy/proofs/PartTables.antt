@@ -5,7 +5,8 @@ use Rattle.bi_base.proofs.CellLaws.{length-cell}
 use Rattle.bi_legacy.specs.Faults.{cells_of, listed_sizes}
 use Rattle.bi_legacy.specs.Parts.{size_list, IsTable, StandFrom}
 use Rattle.bi_legacy.specs.Reading.{pieces}
-use Rattle.bi_legacy.proofs.PartPieces.{EndWithin, length_pieces, pieces_stand, pieces_listed, pieces_are, parts_end_within, part_sizes}
+use Rattle.bi_legacy.specs.Pieces.{FitFrom}
+use Rattle.bi_legacy.proofs.PartPieces.{length_pieces, pieces_stand, pieces_listed, pieces_are, parts_end_within, part_sizes}
 use Rattle.bi_legacy.proofs.SizeCells.{size_list_is, listed_sizes_are, size_list_ends, size_list_split}
 use Rattle.bi_legacy.proofs.ZeroEnded.{before_zero_nonzero}
 
@@ -33,7 +34,7 @@ abbrev pub listed_parts : List ℕ → List (List ℕ)
 listed_parts body = pieces body (first_listed body) (listed_sizes body)
 
 -- Data whose list of sizes ends and tells parts that end within it holds these parts.
-pub table_held : (body : List ℕ) → AreBytes body → Contains (cells_of body) 0 → EndWithin (length body) (first_listed body) (listed_sizes body) → IsTable (listed_parts body) body
+pub table_held : (body : List ℕ) → AreBytes body → Contains (cells_of body) 0 → FitFrom (length body) (first_listed body) (listed_sizes body) → IsTable (listed_parts body) body
 table_held body bytes there ends =
     let sizes : map length (listed_parts body) ≡ listed_sizes body = length_pieces body (first_listed body) (listed_sizes body) ends in
     let first : first_listed body ≡ length (size_list (listed_parts body)) =
@@ -77,7 +78,7 @@ table_parts parts body fits table =
     ∙ pieces_are body (length (size_list parts)) parts table.stand
 
 -- The parts that data tells which holds some parts end within it.
-pub table_within : (parts : List (List ℕ)) (body : List ℕ) → length body < 2 ^ 32 → IsTable parts body → EndWithin (length body) (first_listed body) (listed_sizes body)
+pub table_within : (parts : List (List ℕ)) (body : List ℕ) → length body < 2 ^ 32 → IsTable parts body → FitFrom (length body) (first_listed body) (listed_sizes body)
 table_within parts body fits table =
     rw (table_first parts body fits table, table_sizes parts body fits table)
     (parts_end_within body (length (size_list parts)) parts table.stand)

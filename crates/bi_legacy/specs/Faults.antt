@@ -77,10 +77,13 @@ table_checks body =
 abbrev pub header_checks : List Check
 header_checks = IsWithinLimit ∷ HasMagicCell ∷ HasMagic ∷ HasHeader ∷ HasHeaderChecksum ∷ HasData ∷ HasDataChecksum ∷ []
 
+-- The checks of the data of an image of this type.
+abbrev pub body_checks : ℕ → List ℕ → List Check
+body_checks image_type body = if has_table image_type then table_checks body else []
+
 -- All checks of a legacy image, in their order. Byte 30 of the header is the type.
 abbrev pub checks : List ℕ → List Check
-checks file =
-    header_checks ++ (if has_table (slice_index file 30) then table_checks (body_of file) else [])
+checks file = header_checks ++ body_checks (slice_index file 30) (body_of file)
 
 -- The fault of a file: that of its first failing check.
 abbrev pub IsLegacyFault : List ℕ → Bounds → Fault → Type 0

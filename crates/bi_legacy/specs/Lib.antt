@@ -1,5 +1,6 @@
 pub mod Meaning
 pub mod Parts
+pub mod Pieces
 pub mod File
 pub mod Text
 pub mod Vectors

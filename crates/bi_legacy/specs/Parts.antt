@@ -41,12 +41,12 @@ first_place image_type parts = if has_table image_type then length (size_list pa
 abbrev pub part_places : ℕ → List (List ℕ) → List ℕ
 part_places image_type parts = places_from (first_place image_type parts) (map length parts)
 
--- Where the last of the parts from `at` on ends, or `at` where there are none.
-abbrev pub end_from : ℕ → List (List ℕ) → ℕ
-end_from at [] = at
-end_from at (part ∷ []) = at + length part
-end_from at (part ∷ next ∷ later) = end_from (up4 (at + length part)) (next ∷ later)
+-- Where the last of the pieces of these sizes ends, each of which begins at the next multiple of four from where the one
+-- before it ends, the first from `end` on.
+abbrev pub end_from : ℕ → List ℕ → ℕ
+end_from end [] = end
+end_from end (size ∷ sizes) = end_from (up4 end + size) sizes
 
 -- Where the last part ends in the data; where there are no parts, the list of sizes.
 abbrev pub parts_end : ℕ → List (List ℕ) → ℕ
-parts_end image_type parts = end_from (first_place image_type parts) parts
+parts_end image_type parts = end_from (first_place image_type parts) (map length parts)

@@ -1,5 +1,14 @@
 //! The fields of a legacy header.
 
+ghost use Rattle.std.specs.Prelude.{◌≡◌};
+ghost use Rattle.bi_legacy.specs.Meaning.{has_table};
+
+/// The code of a multi-file image.
+const MULTI: u8 = 4;
+
+/// The code of a script.
+const SCRIPT: u8 = 6;
+
 /// The fields of a legacy header that carry meaning (U-Boot, include/image.h). Checksums and the data size follow from
 /// these and the parts.
 #[derive(Clone, Copy, Debug, PartialEq, Eq)]
@@ -14,10 +23,17 @@ pub struct Fields<'a> {
     pub os: u8,
     /// The code of the processor architecture.
     pub arch: u8,
-    /// The code of the image type: 4 is multi and 6 is script, whose data is a list of parts.
+    /// The code of the image type: 4 is multi and 6 is script, whose data is a list of sizes and then the parts.
     pub image_type: u8,
     /// The code of the compression.
     pub compression: u8,
     /// The name: at most 32 bytes, none of them zero.
     pub name: &'a [u8],
+}
+
+/// Whether the data of an image of this type is a list of sizes and then the parts.
+pub(crate) fn has_size_list(image_type: u8) -> bool
+    ensures { result ≡ has_table image_type }
+{
+    image_type == MULTI || image_type == SCRIPT
 }

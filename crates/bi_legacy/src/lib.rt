@@ -1,7 +1,14 @@
 //! Legacy images of U-Boot, the format of `mkimage` without a tree: reading them, and writing their normal form.
 #![tactic(auto)]
 
+mod cells;
 mod fields;
+mod header;
 pub mod laws;
+mod legacy;
+mod parts;
+mod table;
 
 pub use fields::Fields;
+pub use legacy::Legacy;
+pub use parts::{Part, Parts};

@@ -1,0 +1,12 @@
+use Rattle.std.proofs.Common.{◌≡◌, ℕ, ◌-◌, List, [], ◌∷◌, ◌++◌, sym, ap, ◌∙◌, refl}
+use Rattle.bi_base.specs.Cells.{cell}
+use Rattle.bi_base.specs.Crc.{crc32, crc_after}
+use Rattle.bi_base.proofs.CrcLaws.{crc_after-append}
+
+-- A sum over three pieces, four zeros between two others, is the CRC-32 of all of them.
+pub sum-around_zeros : (a b : List ℕ) → 0xFFFFFFFF - crc_after (crc_after (crc_after 0xFFFFFFFF a) (0 ∷ 0 ∷ 0 ∷ 0 ∷ [])) b ≡ crc32 (a ++ (cell 0 ++ b))
+unfolding cell crc32
+sum-around_zeros a b =
+    ap (λ register. 0xFFFFFFFF - register)
+    (sym (crc_after-append (crc_after 0xFFFFFFFF a) (0 ∷ 0 ∷ 0 ∷ 0 ∷ []) b)
+    ∙ sym (crc_after-append 0xFFFFFFFF a ((0 ∷ 0 ∷ 0 ∷ 0 ∷ []) ++ b)))

@@ -1,0 +1,66 @@
+//! The header: its checks, and the fields that it tells.
+
+ghost use Rattle.std.specs.Prelude.{◌≡◌, ◌≤◌, ◌+◌, ◌^◌, ◌<◌, length, OnOk, IfErr, slice_index, ◌==◌};
+ghost use Rattle.std.specs.List.{before_first};
+ghost use Rattle.bi_base.specs.Cells.{slice, u32_at};
+ghost use Rattle.bi_base.specs.Crc.{crc32 as crc32_of};
+ghost use Rattle.bi_base.specs.Checks.{IsFirstFault, HasNoFault};
+ghost use Rattle.bi_legacy.specs.Faults.{Passes, fault_of, header_checks, summed_header};
+
+use bi_base::{Cause, Crc32, Fault, Limits, be32_at, crc32};
+
+use crate::cells::cell_at;
+
+/// The magic number of a legacy image.
+pub(crate) const MAGIC: u32 = 0x2705_1956;
+
+/// The bytes of a header.
+pub(crate) const HEADER_SIZE: usize = 64;
+
+/// Checks header and data checksum, in the order of the format's checks.
+pub(crate) fn check_header(file: &[u8], limits: Limits) -> Result<(), Fault>
+    ensures ok { OnOk result (HasNoFault (Passes file.now limits) header_checks) }
+    ensures fault { IfErr result (IsFirstFault (Passes file.now limits) (fault_of limits) header_checks) }
+{
+    if file.len() > limits.file() as usize {
+        return refuse(Cause::TooLarge, limits.file());
+    }
+    let Some(magic) = be32_at(file, 0) else {
+        return refuse(Cause::Truncated, 0);
+    };
+    if magic != MAGIC {
+        return refuse(Cause::BadMagic, 0);
+    }
+    if file.len() < HEADER_SIZE {
+        return refuse(Cause::Truncated, 0);
+    }
+    if cell_at(file, 4) != header_checksum(file) {
+        return refuse(Cause::BadHeaderCrc, 4);
+    }
+    let data_size = cell_at(file, 12) as usize;
+    if data_size > file.len() - HEADER_SIZE {
+        return refuse(Cause::Truncated, 12);
+    }
+    if cell_at(file, 24) != crc32(&file[HEADER_SIZE..HEADER_SIZE + data_size]) {
+        return refuse(Cause::BadDataCrc, 24);
+    }
+    Ok(())
+}
+
+fn refuse(cause: Cause, offset: u32) -> Result<(), Fault>
+    ensures { result ≡ Err (record { cause = cause; offset = offset }) }
+{
+    Err(Fault { cause, offset })
+}
+
+/// The CRC-32 of the header with zeros in the place of its checksum.
+fn header_checksum(file: &[u8]) -> u32
+    requires { 64 ≤ length file.now }
+    ensures { result ≡ crc32_of (summed_header file.now) }
+{
+    let mut sum = Crc32::new();
+    sum.update(&file[..4]);
+    sum.update(&[0; 4]);
+    sum.update(&file[8..HEADER_SIZE]);
+    sum.finish()
+}

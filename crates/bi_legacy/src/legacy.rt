@@ -1,0 +1,162 @@
+//! Reading a legacy image.
+
+ghost use Rattle.std.specs.Prelude.{◌≡◌, ◌==◌, ℕ, ◌+◌, ◌^◌, ◌<◌, ◌≤◌, ◌↔◌, List, length, slice_get, IsOk, OnOk, IfOk, IfErr};
+ghost use Rattle.std.specs.Option.{option_map};
+ghost use Rattle.std.specs.List.{before_first};
+ghost use Rattle.bi_base.specs.Cells.{slice, u32_at};
+ghost use Rattle.bi_base.specs.declared.fault.Fault.{Fault};
+ghost use Rattle.bi_legacy.specs.Meaning.{LegacyImage, has_table};
+ghost use Rattle.bi_legacy.specs.File.{LegacyMeans};
+ghost use Rattle.bi_legacy.specs.Faults.{IsLegacyFault, HasNoLegacyFault, body_of};
+ghost use Rattle.bi_legacy.specs.Pieces.{IsExtent, piece_of, placed_parts};
+ghost use Rattle.bi_legacy.specs.Reading.{Told, IsTold, image_of, parts_in, read_image, file_places};
+
+use std::marker::Model;
+
+use bi_base::{Fault, Limits};
+
+use crate::cells::cell_at;
+use crate::fields::{Fields, has_size_list};
+use crate::header::{HEADER_SIZE, check_header};
+use crate::parts::{Part, Parts};
+use crate::table::extent_of;
+
+/// A legacy image that was read. It holds slices of its file, and makes no list of the parts.
+#[derive(Drop)]
+pub struct Legacy<'a> {
+    fields: Fields<'a>,
+    body: &'a [u8],
+    part_count: usize,
+    unused: u32,
+}
+
+impl<'a> Model for Legacy<'a> {
+    ghost Value = { Told };
+
+    ghost view = { λ legacy. record {
+        image = image_of legacy.fields (parts_in legacy.fields.image_type legacy.body.now);
+        unused = legacy.unused
+    } };
+
+    ghost invariant = { λ legacy. IsExtent (has_table legacy.fields.image_type) legacy.body.now legacy.part_count };
+}
+
+impl<'a> Legacy<'a> {
+    /// Reads a legacy image (U-Boot, include/image.h). The file may be longer than the image.
+    ///
+    /// Ok exactly where the file, of at most `limits.file()` bytes, is a legacy image. Else the fault of the first check
+    /// that fails: TooLarge at the limit; Truncated at 0; BadMagic at 0; Truncated at 0 for less than a header;
+    /// BadHeaderCrc at 4; Truncated at 12 where the data ends after the file; BadDataCrc at 24; for multi and script
+    /// images BadPartTable at 64, and BadPart at `64 + 4 * k` for the first part k that ends after the data.
+    pub fn read(file: &'a [u8], limits: Limits) -> Result<Legacy<'a>, Fault>
+        ensures accepts { IsOk result ↔ ((image : LegacyImage) × LegacyMeans file.entry.now image limits) }
+        ensures told { IfOk result (IsTold file.entry.now limits) }
+        ensures one_meaning { IfOk result (λ told. (image : LegacyImage) → LegacyMeans file.entry.now image limits → image ≡ told.image) }
+        ensures no_fault { OnOk result (HasNoLegacyFault file.entry.now limits) }
+        ensures fault { IfErr result (IsLegacyFault file.entry.now limits) }
+        ensures one_fault { IfErr result (λ fault. (other : Fault) → IsLegacyFault file.entry.now limits other → other ≡ fault) }
+    {
+        check_header(file, limits)?;
+        let fields = fields_of(file);
+        let body = body_at(file);
+        let extent = extent_of(fields.image_type, body)?;
+        let unused = (file.len() - HEADER_SIZE - extent.end) as u32;
+        Ok(Legacy {
+            fields,
+            body,
+            part_count: extent.part_count,
+            unused,
+        })
+    }
+
+    /// The fields of the header that carry meaning.
+    pub fn fields(&self) -> Fields<'a>
+        ensures { image_of result self.now.image.parts ≡ self.now.image }
+    {
+        self.fields
+    }
+
+    /// The number of the parts: one, but for multi and script images.
+    pub fn part_count(&self) -> usize
+        ensures { result ≡ length self.now.image.parts }
+    {
+        self.part_count
+    }
+
+    /// The parts in their order, each with its place. Going over all of them takes time linear in their number.
+    pub fn parts(&self) -> Parts<'a>
+        ensures { result ≡ placed_parts self.now.image }
+    {
+        Parts::new(
+            self.body,
+            has_size_list(self.fields.image_type),
+            self.part_count,
+        )
+    }
+
+    /// Part `index`, from 0. None exactly where there is no such part. It goes over the sizes of the parts before it.
+    pub fn part(&self, index: usize) -> Option<&'a [u8]>
+        ensures { option_map (λ part. part.now) result ≡ slice_get self.now.image.parts index }
+    {
+        Some(self.nth_part(index)?.bytes)
+    }
+
+    /// The offset in the file of the first byte of part `index`, from 0. None exactly where there is no such part.
+    pub fn part_place(&self, index: usize) -> Option<u32>
+        ensures { result ≡ slice_get (file_places self.now.image) index }
+    {
+        Some(self.nth_part(index)?.place)
+    }
+
+    /// The number of bytes of the file after the end of the last part, or of the list of sizes where there are no parts.
+    pub fn unused(&self) -> u32
+        ensures { result ≡ self.now.unused }
+    {
+        self.unused
+    }
+
+    fn nth_part(&self, index: usize) -> Option<Part<'a>>
+        ensures { option_map piece_of result ≡ slice_get (placed_parts self.now.image) index }
+    {
+        let mut parts = self.parts();
+        for _ in 0..index {
+            parts.next()?;
+        }
+        parts.next()
+    }
+}
+
+/// The data of a file whose header was checked.
+fn body_at<'a>(file: &'a [u8]) -> &'a [u8]
+    requires whole { 64 ≤ length file.now }
+    requires within { 64 + u32_at file.now 12 ≤ length file.now }
+    ensures { result.now ≡ body_of file.entry.now }
+{
+    let size = cell_at(file, 12) as usize;
+    &file[HEADER_SIZE..HEADER_SIZE + size]
+}
+
+/// The fields of a file whose header was checked.
+fn fields_of<'a>(file: &'a [u8]) -> Fields<'a>
+    requires { 64 ≤ length file.now }
+    ensures { image_of result (read_image file.entry.now).parts ≡ read_image file.entry.now }
+{
+    Fields {
+        time: cell_at(file, 8),
+        load: cell_at(file, 16),
+        entry: cell_at(file, 20),
+        os: file[28],
+        arch: file[29],
+        image_type: file[30],
+        compression: file[31],
+        name: name_in(&file[32..HEADER_SIZE]),
+    }
+}
+
+/// The name that a field holds: the bytes before its first zero.
+fn name_in<'a>(field: &'a [u8]) -> &'a [u8]
+    ensures { result.now ≡ before_first (λ byte. byte == 0) field.entry.now }
+{
+    let size = field.iter().position(|byte| *byte == 0).unwrap_or(field.len());
+    &field[..size]
+}

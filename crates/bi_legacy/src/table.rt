@@ -1,0 +1,100 @@
+//! The list of sizes of multi and script images: how many parts there are, and where the last one ends.
+
+ghost use Rattle.std.specs.Prelude.{◌≡◌, ℕ, true, ◌+◌, ◌*◌, ◌^◌, ◌<◌, ◌≤◌, ◌↔◌, List, length, IsSome, IfSome, IfOk, IfErr};
+ghost use Rattle.std.specs.List.{Contains};
+ghost use Rattle.bi_base.specs.Checks.{IsFirstFault, HasNoFault};
+ghost use Rattle.bi_base.specs.Limits.{Bounds};
+ghost use Rattle.bi_legacy.specs.Faults.{Passes, fault_of, body_of, cells_of, listed_sizes, table_checks, body_checks, part_checks};
+ghost use Rattle.bi_legacy.specs.Parts.{end_from};
+ghost use Rattle.bi_legacy.specs.Meaning.{has_table};
+ghost use Rattle.bi_legacy.specs.Pieces.{FitFrom, IsExtent, first_in, sizes_in};
+
+use bi_base::{Cause, Fault, be32_at};
+
+use crate::cells::{cell_at, up4};
+use crate::fields::has_size_list;
+
+/// How many parts some data holds, and where the last one ends in it, or the list of sizes where there are none.
+#[derive(Drop)]
+pub(crate) struct Extent {
+    pub(crate) part_count: usize,
+    pub(crate) end: usize,
+}
+
+/// The extent of the parts that the data of an image of this type holds. BadPartTable at 64 where a list of sizes has no
+/// end, BadPart at `64 + 4 * k` for the first listed part k that ends after the data.
+pub(crate) fn extent_of(image_type: u8, body: &[u8]) -> Result<Extent, Fault>
+    requires { length body.now < 2 ^ 31 }
+    ensures ok { IfOk result (λ extent. (file : List ℕ) (limits : Bounds) → body_of file ≡ body.now → HasNoFault (Passes file limits) (body_checks image_type body.now)) }
+    ensures extent { IfOk result (λ extent. IsExtent (has_table image_type) body.now extent.part_count) }
+    ensures end { IfOk result (λ extent. extent.end ≡ end_from (first_in (has_table image_type) body.now) (sizes_in (has_table image_type) body.now)) }
+    ensures within { IfOk result (λ extent. extent.end ≤ length body.now) }
+    ensures fault { IfErr result (λ fault. (file : List ℕ) (limits : Bounds) → body_of file ≡ body.now → IsFirstFault (Passes file limits) (fault_of limits) (body_checks image_type body.now) fault) }
+{
+    if has_size_list(image_type) {
+        listed_extent(body)
+    } else {
+        Ok(Extent {
+            part_count: 1,
+            end: body.len(),
+        })
+    }
+}
+
+/// The extent of the parts that a list of sizes tells.
+fn listed_extent(body: &[u8]) -> Result<Extent, Fault>
+    requires { length body.now < 2 ^ 31 }
+    ensures ok { IfOk result (λ extent. (file : List ℕ) (limits : Bounds) → body_of file ≡ body.now → HasNoFault (Passes file limits) (table_checks body.now)) }
+    ensures extent { IfOk result (λ extent. IsExtent true body.now extent.part_count) }
+    ensures end { IfOk result (λ extent. extent.end ≡ end_from (4 * (length (listed_sizes body.now) + 1)) (listed_sizes body.now)) }
+    ensures within { IfOk result (λ extent. extent.end ≤ length body.now) }
+    ensures fault { IfErr result (λ fault. (file : List ℕ) (limits : Bounds) → body_of file ≡ body.now → IsFirstFault (Passes file limits) (fault_of limits) (table_checks body.now) fault) }
+{
+    let Some(part_count) = count_sizes(body) else {
+        return Err(Fault {
+            cause: Cause::BadPartTable,
+            offset: 64,
+        });
+    };
+    let end = end_of_parts(body, part_count)?;
+    Ok(Extent { part_count, end })
+}
+
+/// The number of sizes before the zero that ends their list. None exactly where no whole cell of the data is zero.
+fn count_sizes(body: &[u8]) -> Option<usize>
+    ensures ends { IsSome result ↔ Contains (cells_of body.now) 0 }
+    ensures count { IfSome result (λ count. count ≡ length (listed_sizes body.now)) }
+    ensures room { IfSome result (λ count. 4 * (count + 1) ≤ length body.now) }
+{
+    let mut count = 0;
+    while let Some(size) = be32_at(body, 4 * count) {
+        if size == 0 {
+            return Some(count);
+        }
+        count += 1;
+    }
+    None
+}
+
+/// Where the last part ends, or the list of sizes where there are no parts.
+fn end_of_parts(body: &[u8], part_count: usize) -> Result<usize, Fault>
+    requires count { part_count ≡ length (listed_sizes body.now) }
+    requires room { 4 * (part_count + 1) ≤ length body.now }
+    requires small { length body.now < 2 ^ 31 }
+    ensures ok { IfOk result (λ end. FitFrom (length body.now) (4 * (part_count + 1)) (listed_sizes body.now)) }
+    ensures end { IfOk result (λ end. end ≡ end_from (4 * (part_count + 1)) (listed_sizes body.now)) }
+    ensures within { IfOk result (λ end. end ≤ length body.now) }
+    ensures fault { IfErr result (λ fault. (file : List ℕ) (limits : Bounds) → body_of file ≡ body.now → IsFirstFault (Passes file limits) (fault_of limits) (part_checks 0 (4 * (part_count + 1)) (listed_sizes body.now)) fault) }
+{
+    let mut end = 4 * (part_count + 1);
+    for index in 0..part_count {
+        end = up4(end) + cell_at(body, 4 * index) as usize;
+        if end > body.len() {
+            return Err(Fault {
+                cause: Cause::BadPart,
+                offset: 64 + 4 * index as u32,
+            });
+        }
+    }
+    Ok(end)
+}
