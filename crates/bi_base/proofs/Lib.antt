@@ -1,3 +1,4 @@
 pub mod CellLaws
 pub mod CrcLaws
 pub mod FirstFault
+pub mod SinkLaws

@@ -5,4 +5,5 @@ pub mod Limits
 pub mod Outcomes
 pub mod Reading
 pub mod Sinks
+pub mod WriteSink
 pub mod Crc

@@ -10,6 +10,7 @@ pub mod laws;
 mod limits;
 mod outcomes;
 mod reading;
+mod sinks;
 mod writing;
 
 pub use cells::be32_at;
@@ -18,4 +19,5 @@ pub use crc::Crc32;
 pub use fault::{Cause, Error, Fault};
 pub use limits::Limits;
 pub use reading::{ReaderSource, Source, read_all, read_source};
+pub use sinks::{Sink, VecSink, WriteSink};
 pub use writing::{Target, WriterTarget, flush, write_whole};

@@ -1,4 +1,5 @@
 pub mod ByteLists
+pub mod CheckLists
 pub mod FaultLaws
 pub mod FileCuts
 pub mod HeaderReads
@@ -12,10 +13,13 @@ pub mod NoFaultMeans
 pub mod NormalBytes
 pub mod NormalLength
 pub mod NormalParts
+pub mod NthPart
 pub mod OneMeaning
 pub mod PartEnds
 pub mod PartPieces
 pub mod PartTables
+pub mod PlacedParts
+pub mod ReadAnswers
 pub mod SizeCells
 pub mod Sizes
 pub mod TableWalk

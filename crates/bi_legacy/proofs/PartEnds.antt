@@ -5,8 +5,8 @@ use Rattle.bi_base.specs.Checks.{HasNoFault}
 use Rattle.bi_legacy.specs.Faults.{Passes, HasNoLegacyFault, body_of, listed_sizes, table_checks}
 use Rattle.bi_legacy.specs.Meaning.{has_table}
 use Rattle.bi_legacy.specs.Parts.{size_list, places_from, end_from, part_places, parts_end}
-use Rattle.bi_legacy.specs.Reading.{pieces, parts_in}
-use Rattle.bi_legacy.specs.Pieces.{FitFrom}
+use Rattle.bi_legacy.specs.Reading.{pieces, parts_in, read_end}
+use Rattle.bi_legacy.specs.Pieces.{FitFrom, first_in, sizes_in}
 use Rattle.bi_legacy.proofs.PartPieces.{length_pieces, ends_checked}
 use Rattle.bi_legacy.proofs.PartTables.{first_listed, listed_parts, length-size_list}
 
@@ -54,7 +54,7 @@ get_or-pieces body at (size ∷ sizes) (suc i) d aligned within =
     ∙ ap (λ at. up4 (end_from (at + size) (take i sizes))) (sym aligned))
 
 -- The lists of sizes that data tells and that its parts have are equally long.
-listed_first : (body : List ℕ) → FitFrom (length body) (first_listed body) (listed_sizes body) → length (size_list (listed_parts body)) ≡ first_listed body
+pub listed_first : (body : List ℕ) → FitFrom (length body) (first_listed body) (listed_sizes body) → length (size_list (listed_parts body)) ≡ first_listed body
 listed_first body ends =
     length-size_list (listed_parts body) ∙ ap (λ n. 4 * (n + 1)) (length-pieces body (first_listed body) (listed_sizes body))
 
@@ -76,9 +76,9 @@ places_found true file limits none = listed_places (body_of file) (ends_checked 
 places_found false file limits none = refl
 
 -- Where the last part of data of a kind with or without a list ends.
-end_found : (table : Bool) (file : List ℕ) (limits : Bounds) → HasNoFault (Passes file limits) (if table then table_checks (body_of file) else []) → let parts = if table then listed_parts (body_of file) else body_of file ∷ [] in end_from (if table then length (size_list parts) else 0) (map length parts) ≡ (if table then end_from (first_listed (body_of file)) (listed_sizes (body_of file)) else length (body_of file))
+end_found : (table : Bool) (file : List ℕ) (limits : Bounds) → HasNoFault (Passes file limits) (if table then table_checks (body_of file) else []) → let parts = if table then listed_parts (body_of file) else body_of file ∷ [] in end_from (if table then length (size_list parts) else 0) (map length parts) ≡ end_from (first_in table (body_of file)) (sizes_in table (body_of file))
 end_found true file limits none = listed_end (body_of file) (ends_checked file limits 0 _ _ none.1)
-end_found false file limits none = zero-add (length (body_of file))
+end_found false file limits none = refl
 
 -- In a file that fails no check, the parts begin where the walk over the sizes that its data tells finds them.
 pub told_places : (file : List ℕ) (limits : Bounds) → HasNoLegacyFault file limits → part_places (slice_index file 30) (parts_in (slice_index file 30) (body_of file)) ≡ (if has_table (slice_index file 30) then places_from (first_listed (body_of file)) (listed_sizes (body_of file)) else 0 ∷ [])
@@ -86,6 +86,6 @@ told_places file limits (short, (cell, (magic, (whole, (header_sum, (whole_data,
     places_found (has_table (slice_index file 30)) file limits parts
 
 -- In a file that fails no check, the last part ends where the walk over the sizes that its data tells ends.
-pub told_unused : (file : List ℕ) (limits : Bounds) → HasNoLegacyFault file limits → parts_end (slice_index file 30) (parts_in (slice_index file 30) (body_of file)) ≡ (if has_table (slice_index file 30) then end_from (first_listed (body_of file)) (listed_sizes (body_of file)) else length (body_of file))
-told_unused file limits (short, (cell, (magic, (whole, (header_sum, (whole_data, (data_sum, parts))))))) =
+pub told_end : (file : List ℕ) (limits : Bounds) → HasNoLegacyFault file limits → parts_end (slice_index file 30) (parts_in (slice_index file 30) (body_of file)) ≡ read_end file
+told_end file limits (short, (cell, (magic, (whole, (header_sum, (whole_data, (data_sum, parts))))))) =
     end_found (has_table (slice_index file 30)) file limits parts

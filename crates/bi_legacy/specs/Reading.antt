@@ -4,7 +4,8 @@ use Rattle.bi_base.specs.Cells.{slice, u32_at, up4}
 use Rattle.bi_base.specs.Limits.{Bounds}
 use Rattle.bi_legacy.specs.declared.fields.Fields.{Fields}
 use Rattle.bi_legacy.specs.Meaning.{LegacyImage, has_table}
-use Rattle.bi_legacy.specs.Parts.{part_places, parts_end}
+use Rattle.bi_legacy.specs.Parts.{part_places, parts_end, end_from}
+use Rattle.bi_legacy.specs.Pieces.{first_in, sizes_in}
 use Rattle.bi_legacy.specs.File.{LegacyMeans}
 use Rattle.bi_legacy.specs.Faults.{listed_sizes, body_of}
 
@@ -61,3 +62,8 @@ read_image file =
       name = before_first (λ byte. byte == 0) (slice file 32 32);
       parts = parts_in (slice_index file 30) (body_of file);
     }
+
+-- Where the parts that they say end in the data, by the sizes alone.
+abbrev pub read_end : List ℕ → ℕ
+read_end file =
+    let listed = has_table (slice_index file 30) in end_from (first_in listed (body_of file)) (sizes_in listed (body_of file))

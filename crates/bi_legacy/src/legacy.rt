@@ -1,6 +1,6 @@
 //! Reading a legacy image.
 
-ghost use Rattle.std.specs.Prelude.{◌≡◌, ◌==◌, ℕ, ◌+◌, ◌^◌, ◌<◌, ◌≤◌, ◌↔◌, List, length, slice_get, IsOk, OnOk, IfOk, IfErr};
+ghost use Rattle.std.specs.Prelude.{◌≡◌, ◌==◌, ℕ, ◌+◌, ◌-◌, ◌^◌, ◌<◌, ◌≤◌, ◌↔◌, List, length, slice_get, IsOk, OnOk, IfOk, IfErr};
 ghost use Rattle.std.specs.Option.{option_map};
 ghost use Rattle.std.specs.List.{before_first};
 ghost use Rattle.bi_base.specs.Cells.{slice, u32_at};
@@ -9,7 +9,7 @@ ghost use Rattle.bi_legacy.specs.Meaning.{LegacyImage, has_table};
 ghost use Rattle.bi_legacy.specs.File.{LegacyMeans};
 ghost use Rattle.bi_legacy.specs.Faults.{IsLegacyFault, HasNoLegacyFault, body_of};
 ghost use Rattle.bi_legacy.specs.Pieces.{IsExtent, piece_of, placed_parts};
-ghost use Rattle.bi_legacy.specs.Reading.{Told, IsTold, image_of, parts_in, read_image, file_places};
+ghost use Rattle.bi_legacy.specs.Reading.{Told, IsTold, image_of, parts_in, read_image, read_end, file_places};
 
 use std::marker::Model;
 
@@ -56,17 +56,7 @@ impl<'a> Legacy<'a> {
         ensures fault { IfErr result (IsLegacyFault file.entry.now limits) }
         ensures one_fault { IfErr result (λ fault. (other : Fault) → IsLegacyFault file.entry.now limits other → other ≡ fault) }
     {
-        check_header(file, limits)?;
-        let fields = fields_of(file);
-        let body = body_at(file);
-        let extent = extent_of(fields.image_type, body)?;
-        let unused = (file.len() - HEADER_SIZE - extent.end) as u32;
-        Ok(Legacy {
-            fields,
-            body,
-            part_count: extent.part_count,
-            unused,
-        })
+        examine(file, limits)
     }
 
     /// The fields of the header that carry meaning.
@@ -126,6 +116,26 @@ impl<'a> Legacy<'a> {
     }
 }
 
+/// Makes the checks, and finds what they were passed with.
+fn examine<'a>(file: &'a [u8], limits: Limits) -> Result<Legacy<'a>, Fault>
+    ensures no_fault { OnOk result (HasNoLegacyFault file.entry.now limits) }
+    ensures image { IfOk result (λ told. told.image ≡ read_image file.entry.now) }
+    ensures unused { IfOk result (λ told. told.unused ≡ length file.entry.now - (64 + read_end file.entry.now)) }
+    ensures fault { IfErr result (IsLegacyFault file.entry.now limits) }
+{
+    check_header(file, limits)?;
+    let fields = fields_of(file);
+    let body = body_at(file);
+    let extent = extent_of(fields.image_type, body)?;
+    let unused = (file.len() - HEADER_SIZE - extent.end) as u32;
+    Ok(Legacy {
+        fields,
+        body,
+        part_count: extent.part_count,
+        unused,
+    })
+}
+
 /// The data of a file whose header was checked.
 fn body_at<'a>(file: &'a [u8]) -> &'a [u8]
     requires whole { 64 ≤ length file.now }
@@ -157,6 +167,10 @@ fn fields_of<'a>(file: &'a [u8]) -> Fields<'a>
 fn name_in<'a>(field: &'a [u8]) -> &'a [u8]
     ensures { result.now ≡ before_first (λ byte. byte == 0) field.entry.now }
 {
-    let size = field.iter().position(|byte| *byte == 0).unwrap_or(field.len());
-    &field[..size]
+    for (index, byte) in field.iter().enumerate() {
+        if *byte == 0 {
+            return &field[..index];
+        }
+    }
+    field
 }

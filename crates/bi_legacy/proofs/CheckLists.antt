@@ -1,0 +1,37 @@
+use Rattle.std.proofs.Common.{◌≡◌, ℕ, List, [], ◌∷◌, ◌++◌, slice_index, inl, inr, subst}
+use Rattle.bi_base.specs.Checks.{IsFirstFault, HasNoFault}
+use Rattle.bi_base.specs.Limits.{Bounds}
+use Rattle.bi_base.specs.declared.fault.Fault.{Fault}
+use Rattle.bi_legacy.specs.Faults.{Check, Passes, fault_of, header_checks, body_checks, body_of, IsLegacyFault, HasNoLegacyFault}
+
+-- Checks that come in two lists.
+
+-- Both lists pass.
+pub HasNoFault-append : {C : Type 0} (P : C → Type 0) (front behind : List C) → HasNoFault P front → HasNoFault P behind → HasNoFault P (front ++ behind)
+HasNoFault-append P [] behind none rest = rest
+HasNoFault-append P (check ∷ front) behind none rest = (none.0, HasNoFault-append P front behind none.1 rest)
+
+-- The first fault stands in the front.
+pub IsFirstFault-front : {C : Type 0} (P : C → Type 0) (f : C → Fault) (front behind : List C) (fault : Fault) → IsFirstFault P f front fault → IsFirstFault P f (front ++ behind) fault
+IsFirstFault-front P f [] behind fault first = absurd first
+IsFirstFault-front P f (check ∷ front) behind fault (inl here) = inl here
+IsFirstFault-front P f (check ∷ front) behind fault (inr later) = inr (later.0, IsFirstFault-front P f front behind fault later.1)
+
+-- The front passes, and the first fault stands behind it.
+pub IsFirstFault-behind : {C : Type 0} (P : C → Type 0) (f : C → Fault) (front behind : List C) (fault : Fault) → HasNoFault P front → IsFirstFault P f behind fault → IsFirstFault P f (front ++ behind) fault
+IsFirstFault-behind P f [] behind fault none first = first
+IsFirstFault-behind P f (check ∷ front) behind fault none first = inr (none.0, IsFirstFault-behind P f front behind fault none.1 first)
+
+-- A file whose header and whose data pass.
+pub fine_by_both : (file : List ℕ) (limits : Bounds) (image_type : ℕ) (body : List ℕ) → image_type ≡ slice_index file 30 → body ≡ body_of file → HasNoFault (Passes file limits) header_checks → HasNoFault (Passes file limits) (body_checks image_type body) → HasNoLegacyFault file limits
+fine_by_both file limits image_type body type_is body_is none rest =
+    let P : ℕ → Type 0 = λ n. HasNoFault (Passes file limits) (body_checks n body) in
+    let Q : List ℕ → Type 0 = λ b. HasNoFault (Passes file limits) (body_checks (slice_index file 30) b) in
+    HasNoFault-append (Passes file limits) header_checks _ none (subst Q body_is (subst P type_is rest))
+
+-- A file whose header passes and whose data does not.
+pub fault_in_body : (file : List ℕ) (limits : Bounds) (image_type : ℕ) (body : List ℕ) (fault : Fault) → image_type ≡ slice_index file 30 → body ≡ body_of file → HasNoFault (Passes file limits) header_checks → IsFirstFault (Passes file limits) (fault_of limits) (body_checks image_type body) fault → IsLegacyFault file limits fault
+fault_in_body file limits image_type body fault type_is body_is none first =
+    let P : ℕ → Type 0 = λ n. IsFirstFault (Passes file limits) (fault_of limits) (body_checks n body) fault in
+    let Q : List ℕ → Type 0 = λ b. IsFirstFault (Passes file limits) (fault_of limits) (body_checks (slice_index file 30) b) fault in
+    IsFirstFault-behind (Passes file limits) (fault_of limits) header_checks _ fault none (subst Q body_is (subst P type_is first))

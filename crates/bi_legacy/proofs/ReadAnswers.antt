@@ -1,0 +1,44 @@
+use Rattle.std.proofs.Common.{◌≡◌, ℕ, ◌+◌, ◌-◌, ◌↔◌, List, length, Result, Ok, Err, IsOk, OnOk, IfOk, IfErr, refl, sym, ap, ◌∙◌, subst}
+use Rattle.bi_base.specs.Cells.{AreBytes}
+use Rattle.bi_base.specs.Limits.{Bounds}
+use Rattle.bi_base.specs.declared.fault.Fault.{Fault}
+use Rattle.bi_base.proofs.FirstFault.{one_fault, not_both}
+use Rattle.bi_legacy.specs.Meaning.{LegacyImage}
+use Rattle.bi_legacy.specs.File.{LegacyMeans}
+use Rattle.bi_legacy.specs.Faults.{IsLegacyFault, HasNoLegacyFault, Passes, fault_of, checks}
+use Rattle.bi_legacy.specs.Reading.{Told, IsTold, read_image, read_end}
+use Rattle.bi_legacy.proofs.MeansNoFault.{means_no_fault}
+use Rattle.bi_legacy.proofs.NoFaultMeans.{no_fault_means}
+use Rattle.bi_legacy.specs.Parts.{parts_end}
+use Rattle.bi_legacy.proofs.PartEnds.{told_end}
+use Rattle.bi_legacy.proofs.OneMeaning.{one_meaning}
+
+-- What an answer says of a file that is right by the checks: told where none fails, else the first fault.
+
+-- It is Ok exactly where the file means something.
+pub accepts_of : (file : List ℕ) (limits : Bounds) (r : Result Told Fault) → AreBytes file → OnOk r (HasNoLegacyFault file limits) → IfErr r (IsLegacyFault file limits) → IsOk r ↔ ((image : LegacyImage) × LegacyMeans file image limits)
+accepts_of file limits (Ok told) bytes none first = (λ _. (read_image file, no_fault_means file limits bytes none), λ _. refl)
+accepts_of file limits (Err fault) bytes none first = (
+  λ e. absurd cc,
+  λ meant. absurd (not_both (Passes file limits) (fault_of limits) (checks file) fault (means_no_fault file meant.0 limits meant.1) first),
+)
+
+-- It tells what the file means.
+pub told_of : (file : List ℕ) (limits : Bounds) (r : Result Told Fault) → AreBytes file → OnOk r (HasNoLegacyFault file limits) → IfOk r (λ told. told.image ≡ read_image file) → IfOk r (λ told. told.unused ≡ length file - (64 + read_end file)) → IfOk r (IsTold file limits)
+told_of file limits (Ok told) bytes none image unused = record {
+  means = subst (λ (image : LegacyImage). LegacyMeans file image limits) (sym image) (no_fault_means file limits bytes none);
+  unused = unused ∙ ap (λ n. length file - (64 + n)) (sym (told_end file limits none) ∙ ap (λ (i : LegacyImage). parts_end i.image_type i.parts) (sym image));
+}
+told_of file limits (Err fault) bytes none image unused = tt
+
+-- And the file means nothing else.
+pub one_meaning_of : (file : List ℕ) (limits : Bounds) (r : Result Told Fault) → AreBytes file → OnOk r (HasNoLegacyFault file limits) → IfOk r (λ told. told.image ≡ read_image file) → IfOk r (λ told. (image : LegacyImage) → LegacyMeans file image limits → image ≡ told.image)
+one_meaning_of file limits (Ok told) bytes none image = λ other means.
+  one_meaning file other (read_image file) means.is_file (no_fault_means file limits bytes none).is_file ∙ sym image
+one_meaning_of file limits (Err fault) bytes none image = tt
+
+-- The fault is the only one.
+pub one_fault_of : (file : List ℕ) (limits : Bounds) (r : Result Told Fault) → IfErr r (IsLegacyFault file limits) → IfErr r (λ fault. (other : Fault) → IsLegacyFault file limits other → other ≡ fault)
+one_fault_of file limits (Ok told) first = tt
+one_fault_of file limits (Err fault) first = λ other another.
+  one_fault (Passes file limits) (fault_of limits) (checks file) other fault another first

@@ -1,0 +1,22 @@
+use Rattle.std.proofs.Common.{arith}
+use Rattle.bi_base.specs.Cells.{AreBytes}
+use Rattle.bi_legacy.proofs.ReadAnswers.{accepts_of, told_of, one_meaning_of, one_fault_of}
+use Rattle.bi_legacy.proofs.legacy.Legacy.read.Goals as goal
+
+pub returns-clause-accepts : goal.returns-clause-accepts
+returns-clause-accepts c =
+    accepts_of c.args.file.now c.args.limits c.examine.result (record { each = λ i. omega (arith, c.type_inv.file i) })
+    c.examine.ensures.no_fault c.examine.ensures.fault
+
+pub returns-clause-told : goal.returns-clause-told
+returns-clause-told c =
+    told_of c.args.file.now c.args.limits c.examine.result (record { each = λ i. omega (arith, c.type_inv.file i) })
+    c.examine.ensures.no_fault c.examine.ensures.image c.examine.ensures.unused
+
+pub returns-clause-one_meaning : goal.returns-clause-one_meaning
+returns-clause-one_meaning c =
+    one_meaning_of c.args.file.now c.args.limits c.examine.result (record { each = λ i. omega (arith, c.type_inv.file i) })
+    c.examine.ensures.no_fault c.examine.ensures.image
+
+pub returns-clause-one_fault : goal.returns-clause-one_fault
+returns-clause-one_fault c = one_fault_of c.args.file.now c.args.limits c.examine.result c.examine.ensures.fault

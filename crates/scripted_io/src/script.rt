@@ -1,0 +1,92 @@
+//! What the calls of a reader or a writer do, in their order.
+
+use std::io::{self, ErrorKind};
+
+/// What one call does.
+#[derive(Clone, Copy, Debug, PartialEq, Eq)]
+pub enum Turn {
+    /// It takes all the bytes that it can.
+    TakesAll,
+    /// It takes this many bytes, or all where there are fewer. A read takes one at least, while any is left.
+    Takes(usize),
+    /// It is interrupted, and takes none.
+    IsInterrupted,
+    /// It fails, as on a broken pipe, and takes none.
+    Fails,
+}
+
+/// What each call does: some calls, which may come again after every so many, do one thing, and the others another.
+#[derive(Clone, Copy, Debug, PartialEq, Eq)]
+pub struct Script {
+    first: u64,
+    calls: u64,
+    turn: Turn,
+    others: Turn,
+    period: u64,
+}
+
+impl Script {
+    /// Each call does this.
+    pub fn always(turn: Turn) -> Script {
+        Script {
+            first: 0,
+            calls: 0,
+            turn,
+            others: turn,
+            period: u64::MAX,
+        }
+    }
+
+    /// The call of this number, the first call's being 0, does this, and each other call takes all that it can.
+    pub fn at(number: u64, turn: Turn) -> Script {
+        Script {
+            first: number,
+            calls: 1,
+            turn,
+            others: Turn::TakesAll,
+            period: u64::MAX,
+        }
+    }
+
+    /// As many calls as `calls` do `turn`, and each call after them does `then`.
+    pub fn first(calls: u64, turn: Turn, then: Turn) -> Script {
+        Script {
+            first: 0,
+            calls,
+            turn,
+            others: then,
+            period: u64::MAX,
+        }
+    }
+
+    /// As many calls as `calls` do `turn`, the next one does `then`, and so again from the beginning.
+    pub fn repeated(calls: u32, turn: Turn, then: Turn) -> Script {
+        Script {
+            first: 0,
+            calls: u64::from(calls),
+            turn,
+            others: then,
+            period: u64::from(calls) + 1,
+        }
+    }
+
+    /// What the call of this number does, the first call's being 0.
+    fn turn(self, number: u64) -> Turn {
+        let place = number.checked_rem(self.period).unwrap_or(number);
+        if self.first <= place && place - self.first < self.calls {
+            self.turn
+        } else {
+            self.others
+        }
+    }
+
+    /// How many bytes the call of this number may take, or the error that it gives.
+    pub(crate) fn most(self, number: u64) -> io::Result<usize> {
+        match self.turn(number) {
+            Turn::TakesAll => Ok(usize::MAX),
+            Turn::Takes(count) => Ok(count),
+            Turn::IsInterrupted => Err(io::Error::from(ErrorKind::Interrupted)),
+            Turn::Fails => Err(io::Error::from(ErrorKind::BrokenPipe)),
+        }
+    }
+}
