@@ -1,7 +1,7 @@
 //! Why a file is refused, and what else can go wrong.
 
 ghost use Rattle.std.specs.Prelude.{◌≡◌};
-ghost use Rattle.bi_base.specs.declared.fault.Error.TheVariants.{OutOfMemory};
+ghost use Rattle.bi_base.specs.declared.fault.Error.TheVariants.{OutOfMemory, Refused};
 
 use std::alloc::{AllocError, AllocFailed};
 
@@ -127,6 +127,14 @@ pub enum Error {
     /// A write failed. No statement about the file.
     #[error("write failed")]
     WriteFailed,
+}
+
+impl From<Fault> for Error {
+    ghost from_gives = { λ fault error. error ≡ Refused fault };
+
+    fn from(fault: Fault) -> Error {
+        Error::Refused(fault)
+    }
 }
 
 impl From<AllocError> for Error {

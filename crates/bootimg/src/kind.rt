@@ -1,0 +1,43 @@
+//! The kinds of boot images.
+
+ghost use Rattle.std.specs.Prelude.{◌≡◌, List, IfOk, IfErr};
+ghost use Rattle.bootimg.specs.declared.kind.Kind.{Kind};
+ghost use Rattle.bootimg.specs.Kinds.{BeginsAs, IsKindFault};
+
+use bi_base::{Cause, Fault, be32_at};
+
+/// The magic number of a legacy image (U-Boot, include/image.h).
+const LEGACY_MAGIC: u32 = 0x2705_1956;
+
+/// The magic number of a blob, and so of a flattened image tree (Devicetree Specification, 5.2).
+const FIT_MAGIC: u32 = 0xd00d_feed;
+
+/// A kind of boot image.
+#[derive(Clone, Copy, Debug, PartialEq, Eq)]
+pub enum Kind {
+    /// A legacy image: a header of 64 bytes and the data.
+    Legacy,
+    /// A flattened image tree in a devicetree blob.
+    Fit,
+}
+
+/// The kind that the file's first four bytes tell. Truncated at 0 below four bytes, else BadMagic at 0 where they are the
+/// magic number of no kind.
+pub fn kind_of(file: &[u8]) -> Result<Kind, Fault>
+    ensures ok { IfOk result (BeginsAs file.now) }
+    ensures exactly { (kind : Kind) → BeginsAs file.now kind → result ≡ Ok kind }
+    ensures refused { IfErr result (IsKindFault file.now) }
+{
+    match be32_at(file, 0) {
+        None => Err(Fault {
+            cause: Cause::Truncated,
+            offset: 0,
+        }),
+        Some(LEGACY_MAGIC) => Ok(Kind::Legacy),
+        Some(FIT_MAGIC) => Ok(Kind::Fit),
+        Some(_) => Err(Fault {
+            cause: Cause::BadMagic,
+            offset: 0,
+        }),
+    }
+}

@@ -1,0 +1,6 @@
+//! `bootimg`: reads, lists, extracts from and normalises U-Boot's boot images.
+#![tactic(auto)]
+
+mod kind;
+
+fn main() {}
