@@ -30,12 +30,18 @@ fn an_input_longer_than_the_limit_is_refused(rt: HostRuntime) {
     for turn in [Turn::TakesAll, Turn::Takes(1), Turn::Takes(63)] {
         for length in [65, 66, 200] {
             let mut reader = ScriptedReader::new(&bytes[..length], Script::always(turn));
-            assert_eq!(rt; read_all(rt.alloc(), &mut reader, small()).err(), Some(too_large));
+            assert_eq!(rt;
+                read_all(rt.alloc(), &mut reader, small()).err(),
+                Some(too_large)
+            );
             assert_eq!(rt; reader.taken, 65, "of {length} bytes");
         }
     }
     let mut reader = EndlessReader::new(7);
-    assert_eq!(rt; read_all(rt.alloc(), &mut reader, small()).err(), Some(too_large));
+    assert_eq!(rt;
+        read_all(rt.alloc(), &mut reader, small()).err(),
+        Some(too_large)
+    );
     assert!(rt; reader.taken <= 65);
 }
 
@@ -52,7 +58,10 @@ fn interrupted_reads_are_made_again(rt: HostRuntime) -> Result<(), Fail> {
 fn too_many_interruptions_in_a_row_are_a_failure(rt: HostRuntime) {
     let script = Script::first(1024, Turn::IsInterrupted, Turn::TakesAll);
     let mut reader = ScriptedReader::new(b"abcde", script);
-    assert_eq!(rt; read_all(rt.alloc(), &mut reader, small()).err(), Some(Error::ReadFailed));
+    assert_eq!(rt;
+        read_all(rt.alloc(), &mut reader, small()).err(),
+        Some(Error::ReadFailed)
+    );
     assert_eq!(rt; (reader.reads, reader.taken), (1024, 0));
 }
 
@@ -70,4 +79,14 @@ fn a_failed_read_is_told_wherever_it_comes(rt: HostRuntime) -> Result<(), Fail> 
     let held = read_all(rt.alloc(), &mut reader, small())?;
     assert_eq!(rt; held.as_slice(), b"abcde".as_slice());
     Ok(())
+}
+
+#[test]
+fn a_refused_growth_is_told_while_reading(rt: HostRuntime) {
+    let bytes = [0x5a; 64];
+    let mut reader = ScriptedReader::new(&bytes, Script::always(Turn::Takes(5)));
+    match read_all(rt.alloc(), &mut reader, small()) {
+        Ok(held) => assert_eq!(rt; held.as_slice(), bytes.as_slice()),
+        Err(error) => assert_eq!(rt; error, Error::OutOfMemory),
+    }
 }

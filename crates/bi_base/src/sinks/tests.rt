@@ -45,7 +45,11 @@ fn a_failed_write_leaves_what_was_taken_before(rt: HostRuntime) -> Result<(), Fa
     for (number, left) in [(0, ""), (1, "a"), (4, "abcd")] {
         let mut held = writer(rt.alloc(), Script::failing_among(number, Turn::Takes(1)));
         let mut sink = WriteSink::new(&mut held);
-        assert_eq!(rt; sink.put(b"abcde"), Err(Error::WriteFailed), "at write {number}");
+        assert_eq!(rt;
+            sink.put(b"abcde"),
+            Err(Error::WriteFailed),
+            "at write {number}"
+        );
         assert_eq!(rt; held.held.as_slice(), left.as_bytes());
         assert_eq!(rt; held.writes, number + 1);
     }
@@ -63,7 +67,10 @@ fn a_write_that_takes_nothing_is_a_failure(rt: HostRuntime) {
 
 #[test]
 fn too_many_interruptions_in_a_row_are_a_failure(rt: HostRuntime) {
-    let mut held = writer(rt.alloc(), Script::first(1024, Turn::IsInterrupted, Turn::TakesAll));
+    let mut held = writer(
+        rt.alloc(),
+        Script::first(1024, Turn::IsInterrupted, Turn::TakesAll),
+    );
     let mut sink = WriteSink::new(&mut held);
     assert_eq!(rt; sink.put(b"abcde"), Err(Error::WriteFailed));
     assert_eq!(rt; (held.held.len(), held.writes), (0, 1024));
@@ -73,8 +80,16 @@ fn too_many_interruptions_in_a_row_are_a_failure(rt: HostRuntime) {
 fn a_flush_may_be_interrupted_and_may_fail(rt: HostRuntime) {
     for (flushing, answer, flushes) in [
         (Script::always(Turn::TakesAll), Ok(()), 1),
-        (Script::first(1023, Turn::IsInterrupted, Turn::TakesAll), Ok(()), 1024),
-        (Script::first(1024, Turn::IsInterrupted, Turn::TakesAll), Err(Error::WriteFailed), 1024),
+        (
+            Script::first(1023, Turn::IsInterrupted, Turn::TakesAll),
+            Ok(()),
+            1024,
+        ),
+        (
+            Script::first(1024, Turn::IsInterrupted, Turn::TakesAll),
+            Err(Error::WriteFailed),
+            1024,
+        ),
         (Script::always(Turn::Fails), Err(Error::WriteFailed), 1),
     ] {
         let mut held = flusher(rt.alloc(), flushing);
@@ -84,4 +99,17 @@ fn a_flush_may_be_interrupted_and_may_fail(rt: HostRuntime) {
         assert_eq!(rt; held.held.as_slice(), b"abc".as_slice());
         assert_eq!(rt; held.flushes, flushes);
     }
+}
+
+#[test]
+fn a_refused_growth_appends_nothing(rt: HostRuntime) {
+    let mut sink = VecSink::new(rt.alloc());
+    let mut count = 0;
+    for _ in 0..20 {
+        match sink.put(b"abcde") {
+            Ok(()) => count += 5,
+            Err(error) => assert_eq!(rt; error, Error::OutOfMemory),
+        }
+    }
+    assert_eq!(rt; sink.into_vec().len(), count);
 }
