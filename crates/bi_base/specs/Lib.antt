@@ -6,4 +6,5 @@ pub mod Outcomes
 pub mod Reading
 pub mod Sinks
 pub mod WriteSink
+pub mod Writing
 pub mod Crc

@@ -20,4 +20,4 @@ pub use fault::{Cause, Error, Fault};
 pub use limits::Limits;
 pub use reading::{ReaderSource, Source, read_all, read_source};
 pub use sinks::{Sink, VecSink, WriteSink};
-pub use writing::{Target, WriterTarget, flush, write_whole};
+pub use writing::{Target, WriterTarget, flush, write_text, write_whole};

@@ -6,6 +6,7 @@ ghost use Rattle.std.specs.Io.{WritesAtMost};
 ghost use Rattle.std.specs.Io.KnownBytes.{Appends, Keeps, WriteAppends};
 ghost use Rattle.bi_base.specs.Outcomes.{TellsFailure, TellsStall, CountsInterruptions, HasToStop, CannotGoOn};
 ghost use Rattle.bi_base.specs.Sinks.{Wrote};
+ghost use Rattle.bi_base.specs.Writing.{TookPrefix};
 
 use crate::fault::Error;
 use crate::outcomes::{MOST_INTERRUPTIONS, Outcome};
@@ -22,8 +23,8 @@ pub trait Target {
     // The last call was a write of some bytes, and took none.
     ghost stalled: { Self → Bool };
 
-    // The last call was a flush, and did it.
-    ghost flushed: { Self → Bool };
+    // The last call was a flush.
+    ghost flushing: { Self → Bool };
 
     // How many calls in a row were interrupted, up to the last one.
     ghost interruptions: { Self → ℕ };
@@ -38,6 +39,7 @@ pub trait Target {
         ensures bytes { WriteAppends (contents self.old) (contents self.new) result bytes.now }
         ensures failed { TellsFailure (failed self.new) result }
         ensures stalled { TellsStall (stalled self.new) result bytes.now }
+        ensures writing { IsFalse (flushing self.new) }
         ensures interruptions { CountsInterruptions (interruptions self.old) (interruptions self.new) result }
         ensures same_writer { writer self.new ≡ writer self.old };
 
@@ -46,7 +48,7 @@ pub trait Target {
         ensures bytes { Keeps (contents self.old) (contents self.new) }
         ensures failed { TellsFailure (failed self.new) result }
         ensures not_stalled { IsFalse (stalled self.new) }
-        ensures flushed { OnOk result (IsTrue (flushed self.new)) }
+        ensures flushing { IsTrue (flushing self.new) }
         ensures interruptions { CountsInterruptions (interruptions self.old) (interruptions self.new) result }
         ensures same_writer { writer self.new ≡ writer self.old };
 }
@@ -57,7 +59,7 @@ pub struct WriterTarget<'a, W> {
     writer: &'a mut W,
     outcome: Outcome,
     stalled: bool,
-    flushed: bool,
+    flushing: bool,
 }
 
 impl<'a, W: Write> WriterTarget<'a, W> {
@@ -68,14 +70,14 @@ impl<'a, W: Write> WriterTarget<'a, W> {
         ensures contents { ⟦<WriterTarget<'a, W> as Target>⟧.contents result ≡ W.contents writer.old }
         ensures not_failed { IsFalse (⟦<WriterTarget<'a, W> as Target>⟧.failed result) }
         ensures not_stalled { IsFalse (⟦<WriterTarget<'a, W> as Target>⟧.stalled result) }
-        ensures not_flushed { IsFalse (⟦<WriterTarget<'a, W> as Target>⟧.flushed result) }
+        ensures not_flushing { IsFalse (⟦<WriterTarget<'a, W> as Target>⟧.flushing result) }
         ensures not_interrupted { ⟦<WriterTarget<'a, W> as Target>⟧.interruptions result ≡ 0 }
     {
         WriterTarget {
             writer,
             outcome: Outcome::new(),
             stalled: false,
-            flushed: false,
+            flushing: false,
         }
     }
 }
@@ -87,7 +89,7 @@ impl<'a, W: Write> Target for WriterTarget<'a, W> {
 
     ghost stalled = { λ target. target.stalled };
 
-    ghost flushed = { λ target. target.flushed };
+    ghost flushing = { λ target. target.flushing };
 
     ghost interruptions = { λ target. target.outcome.interruptions };
 
@@ -97,7 +99,7 @@ impl<'a, W: Write> Target for WriterTarget<'a, W> {
         let call = self.writer.write(bytes);
         self.outcome = self.outcome.after(&call);
         self.stalled = !bytes.is_empty() && matches!(call, Ok(0));
-        self.flushed = false;
+        self.flushing = false;
         call
     }
 
@@ -105,7 +107,7 @@ impl<'a, W: Write> Target for WriterTarget<'a, W> {
         let call = self.writer.flush();
         self.outcome = self.outcome.after(&call);
         self.stalled = false;
-        self.flushed = call.is_ok();
+        self.flushing = true;
         call
     }
 }
@@ -121,6 +123,7 @@ fn write_some<T: Target>(target: &mut T, bytes: &[u8]) -> Result<usize, Error>
     ensures error { IfErr result (λ error. error ≡ Error.WriteFailed) }
     ensures cause { OnErr result
         (CannotGoOn (T.failed target.new) (T.stalled target.new) (T.interruptions target.new)) }
+    ensures writing { OnErr result (IsFalse (T.flushing target.new)) }
     ensures same_writer { T.writer target.new ≡ T.writer target.old }
 {
     for _ in 0..MOST_INTERRUPTIONS {
@@ -151,6 +154,7 @@ pub fn write_whole<T: Target>(target: &mut T, bytes: &[u8]) -> Result<(), Error>
         (λ error. error ≡ Error.WriteFailed) target.old bytes.now result target.new }
     ensures cause { OnErr result
         (CannotGoOn (T.failed target.new) (T.stalled target.new) (T.interruptions target.new)) }
+    ensures writing { OnErr result (IsFalse (T.flushing target.new)) }
     ensures same_writer { T.writer target.new ≡ T.writer target.old }
 {
     let mut done = 0;
@@ -165,7 +169,8 @@ pub fn write_whole<T: Target>(target: &mut T, bytes: &[u8]) -> Result<(), Error>
 /// The only error is `WriteFailed`. It comes only after a flush that failed by another error than an interruption, or
 /// after 1,024 interrupted flushes in a row.
 pub fn flush<T: Target>(target: &mut T) -> Result<(), Error>
-    ensures ok { OnOk result (IsTrue (T.flushed target.new)) }
+    ensures ok { OnOk result (IsFalse (T.failed target.new)) }
+    ensures flushing { IsTrue (T.flushing target.new) }
     ensures bytes { Keeps (T.contents target.old) (T.contents target.new) }
     ensures error { IfErr result (λ error. error ≡ Error.WriteFailed) }
     ensures cause { OnErr result (HasToStop (T.failed target.new) (T.interruptions target.new)) }
@@ -182,4 +187,23 @@ pub fn flush<T: Target>(target: &mut T) -> Result<(), Error>
         }
     }
     Err(Error::WriteFailed)
+}
+
+/// Writes a whole text, and flushes.
+///
+/// The only error is `WriteFailed`. The writer took a first part of the text then, and all of it where the flush failed. It
+/// comes only after a write or flush that failed by another error than an interruption, after a write that took none of the
+/// bytes that were left, or after 1,024 interruptions in a row.
+pub fn write_text<T: Target>(target: &mut T, text: &[u8]) -> Result<(), Error>
+    ensures ok { OnOk result (Appends (T.contents target.old) (T.contents target.new) text.now) }
+    ensures flushed { OnOk result (IsTrue (T.flushing target.new) × IsFalse (T.failed target.new)) }
+    ensures error { IfErr result (λ error. error ≡ Error.WriteFailed) }
+    ensures prefix { OnErr result (TookPrefix (T.contents target.old) (T.contents target.new) (T.flushing target.new) text.now) }
+    ensures cause { OnErr result
+        (CannotGoOn (T.failed target.new) (T.stalled target.new) (T.interruptions target.new)) }
+    ensures same_writer { T.writer target.new ≡ T.writer target.old }
+{
+    write_whole(target, text)?;
+    flush(target)?;
+    Ok(())
 }

@@ -1,4 +1,4 @@
-use Rattle.std.proofs.Common.{◌≡◌, ◌≤◌}
+use Rattle.std.proofs.Common.{◌≡◌, ◌<◌, ◌≤◌, IsTrue}
 use Rattle.std.specs.Io.KnownBytes.{Keeps}
 use Rattle.bi_base.proofs.writing.flush.Given as goal
 
@@ -7,5 +7,6 @@ abbrev pub invariant-loop : goal.invariant-loop
 invariant-loop g l = record {
   kept : Keeps (g.T.Target.contents l.initial.target) (g.T.Target.contents l.target);
   counted : l.counter ≤ g.T.Target.interruptions l.target;
+  last : 0 < l.counter → IsTrue (g.T.Target.flushing l.target);
   same_writer : g.T.Target.writer l.target ≡ g.T.Target.writer l.initial.target;
 }

@@ -1,0 +1,38 @@
+use Rattle.std.specs.Prelude.{ℕ, ◌==◌, List, [], ◌∷◌, Option, None, Some, codes, if◌then◌else◌}
+
+-- The codes of a legacy header that have names (U-Boot, include/image.h: IH_OS_*, IH_ARCH_*, IH_TYPE_*, IH_COMP_*; which of
+-- them have one here is profile of this project).
+
+-- A code and its name.
+pub record Named : Type 0 where
+  pub code : ℕ
+  pub name : List ℕ
+
+abbrev pub os_names : List Named
+os_names =
+    record { code = 2; name = codes "netbsd" } ∷ record { code = 5; name = codes "linux" }
+    ∷ record { code = 14; name = codes "vxworks" } ∷ record { code = 17; name = codes "u-boot" } ∷ []
+
+abbrev pub arch_names : List Named
+arch_names =
+    record { code = 2; name = codes "arm" } ∷ record { code = 3; name = codes "x86" } ∷ record { code = 5; name = codes "mips" }
+    ∷ record { code = 7; name = codes "ppc" } ∷ record { code = 22; name = codes "arm64" }
+    ∷ record { code = 24; name = codes "x86_64" } ∷ record { code = 26; name = codes "riscv" } ∷ []
+
+abbrev pub type_names : List Named
+type_names =
+    record { code = 1; name = codes "standalone" } ∷ record { code = 2; name = codes "kernel" }
+    ∷ record { code = 3; name = codes "ramdisk" } ∷ record { code = 4; name = codes "multi" }
+    ∷ record { code = 5; name = codes "firmware" } ∷ record { code = 6; name = codes "script" }
+    ∷ record { code = 8; name = codes "flat_dt" } ∷ []
+
+abbrev pub compression_names : List Named
+compression_names =
+    record { code = 0; name = codes "none" } ∷ record { code = 1; name = codes "gzip" } ∷ record { code = 2; name = codes "bzip2" }
+    ∷ record { code = 3; name = codes "lzma" } ∷ record { code = 4; name = codes "lzo" } ∷ record { code = 5; name = codes "lz4" }
+    ∷ record { code = 6; name = codes "zstd" } ∷ []
+
+-- The name of a code, where it has one.
+abbrev pub name_in : List Named → ℕ → Option (List ℕ)
+name_in [] code = None
+name_in (entry ∷ later) code = if entry.code == code then Some entry.name else name_in later code
