@@ -1,4 +1,4 @@
-use Rattle.std.specs.Prelude.{ℕ}
+use Rattle.std.specs.Prelude.{ℕ, List, codes}
 use Rattle.bi_base.specs.declared.fault.Cause.{Cause}
 use Rattle.bi_base.specs.declared.fault.Cause.TheVariants.{Truncated, BadMagic, BadHeaderCrc, BadDataCrc, BadPartTable, BadPart, BadTotalSize, BadVersion, BadOffset, BadToken, BadName, BadNameOffset, PropertyAfterChild, DuplicateProperty, DuplicateNode, TooDeep, NoImages, BadCell, NoSize, OutsideFile, TooLarge, NoCodeName, TooManyParts, EmptyPart, BadField, Unsupported}
 
@@ -30,3 +30,32 @@ number_of TooManyParts = 23
 number_of EmptyPart = 24
 number_of BadField = 25
 number_of Unsupported = 26
+
+-- The name of a cause, as the program prints it (profile of this project).
+abbrev pub name_of : Cause → List ℕ
+name_of Truncated = codes "Truncated"
+name_of BadMagic = codes "BadMagic"
+name_of BadHeaderCrc = codes "BadHeaderCrc"
+name_of BadDataCrc = codes "BadDataCrc"
+name_of BadPartTable = codes "BadPartTable"
+name_of BadPart = codes "BadPart"
+name_of BadTotalSize = codes "BadTotalSize"
+name_of BadVersion = codes "BadVersion"
+name_of BadOffset = codes "BadOffset"
+name_of BadToken = codes "BadToken"
+name_of BadName = codes "BadName"
+name_of BadNameOffset = codes "BadNameOffset"
+name_of PropertyAfterChild = codes "PropertyAfterChild"
+name_of DuplicateProperty = codes "DuplicateProperty"
+name_of DuplicateNode = codes "DuplicateNode"
+name_of TooDeep = codes "TooDeep"
+name_of NoImages = codes "NoImages"
+name_of BadCell = codes "BadCell"
+name_of NoSize = codes "NoSize"
+name_of OutsideFile = codes "OutsideFile"
+name_of TooLarge = codes "TooLarge"
+name_of NoCodeName = codes "NoCodeName"
+name_of TooManyParts = codes "TooManyParts"
+name_of EmptyPart = codes "EmptyPart"
+name_of BadField = codes "BadField"
+name_of Unsupported = codes "Unsupported"

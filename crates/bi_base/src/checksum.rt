@@ -14,3 +14,26 @@ pub fn crc32(bytes: &[u8]) -> u32
     sum.update(bytes);
     sum.finish()
 }
+
+#[cfg(test)]
+mod tests {
+    use super::*;
+
+    #[test]
+    fn checksums_are_those_of_other_programs(rt: HostRuntime) {
+        assert_eq!(rt; crc32(b""), 0);
+        assert_eq!(rt; crc32(b"abc"), 0x3524_41c2);
+        assert_eq!(rt; crc32(b"123456789"), 0xcbf4_3926);
+    }
+
+    #[test]
+    fn a_running_checksum_is_the_same_for_every_cut(rt: HostRuntime) {
+        let digits = b"123456789";
+        for cut in 0..=digits.len() {
+            let mut sum = Crc32::new();
+            sum.update(&digits[..cut]);
+            sum.update(&digits[cut..]);
+            assert_eq!(rt; sum.finish(), 0xcbf4_3926, "cut at {cut}");
+        }
+    }
+}

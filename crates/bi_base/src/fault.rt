@@ -63,7 +63,7 @@ pub enum Cause {
 }
 
 impl Cause {
-    ghost use Rattle.bi_base.specs.Causes.{number_of};
+    ghost use Rattle.bi_base.specs.Causes.{number_of, name_of};
 
     /// The number of the cause, 1 to 26.
     pub fn number(self) -> u8
@@ -73,7 +73,9 @@ impl Cause {
     }
 
     /// The name of the cause, as the program prints it.
-    pub fn name(self) -> &'static str {
+    pub fn name(self) -> &'static str
+        ensures { result.now ≡ name_of self }
+    {
         match self {
             Cause::Truncated => "Truncated",
             Cause::BadMagic => "BadMagic",
@@ -142,5 +144,46 @@ impl<T: Drop> From<AllocFailed<T>> for Error {
 
     fn from(_error: AllocFailed<T>) -> Error {
         Error::OutOfMemory
+    }
+}
+
+#[cfg(test)]
+mod tests {
+    use super::*;
+    use std::process::Abort;
+
+    fn expect(rt: &impl Abort, cause: Cause, number: u8, name: &str) {
+        assert_eq!(rt; cause.number(), number);
+        assert_eq!(rt; cause.name(), name);
+    }
+
+    #[test]
+    fn causes_have_numbers_and_names(rt: HostRuntime) {
+        expect(&rt, Cause::Truncated, 1, "Truncated");
+        expect(&rt, Cause::BadMagic, 2, "BadMagic");
+        expect(&rt, Cause::BadHeaderCrc, 3, "BadHeaderCrc");
+        expect(&rt, Cause::BadDataCrc, 4, "BadDataCrc");
+        expect(&rt, Cause::BadPartTable, 5, "BadPartTable");
+        expect(&rt, Cause::BadPart, 6, "BadPart");
+        expect(&rt, Cause::BadTotalSize, 7, "BadTotalSize");
+        expect(&rt, Cause::BadVersion, 8, "BadVersion");
+        expect(&rt, Cause::BadOffset, 9, "BadOffset");
+        expect(&rt, Cause::BadToken, 10, "BadToken");
+        expect(&rt, Cause::BadName, 11, "BadName");
+        expect(&rt, Cause::BadNameOffset, 12, "BadNameOffset");
+        expect(&rt, Cause::PropertyAfterChild, 13, "PropertyAfterChild");
+        expect(&rt, Cause::DuplicateProperty, 14, "DuplicateProperty");
+        expect(&rt, Cause::DuplicateNode, 15, "DuplicateNode");
+        expect(&rt, Cause::TooDeep, 16, "TooDeep");
+        expect(&rt, Cause::NoImages, 17, "NoImages");
+        expect(&rt, Cause::BadCell, 18, "BadCell");
+        expect(&rt, Cause::NoSize, 19, "NoSize");
+        expect(&rt, Cause::OutsideFile, 20, "OutsideFile");
+        expect(&rt, Cause::TooLarge, 21, "TooLarge");
+        expect(&rt, Cause::NoCodeName, 22, "NoCodeName");
+        expect(&rt, Cause::TooManyParts, 23, "TooManyParts");
+        expect(&rt, Cause::EmptyPart, 24, "EmptyPart");
+        expect(&rt, Cause::BadField, 25, "BadField");
+        expect(&rt, Cause::Unsupported, 26, "Unsupported");
     }
 }

@@ -168,3 +168,6 @@ pub fn read_all<R: Read>(alloc: Global, reader: &mut R, limits: Limits) -> Resul
     let mut source = ReaderSource::new(reader);
     read_source(alloc, &mut source, limits)
 }
+
+#[cfg(test)]
+mod tests;

@@ -139,3 +139,6 @@ impl<'a, W: Write> Sink for WriteSink<'a, W> {
           (W.contents (writer_of c).now) xs ys first.1 second.1,
     ) };
 }
+
+#[cfg(test)]
+mod tests;

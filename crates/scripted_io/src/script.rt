@@ -37,13 +37,13 @@ impl Script {
         }
     }
 
-    /// The call of this number, the first call's being 0, does this, and each other call takes all that it can.
-    pub fn at(number: u64, turn: Turn) -> Script {
+    /// The call of this number, the first call's being 0, fails, and each other call does this.
+    pub fn failing_among(number: u64, others: Turn) -> Script {
         Script {
             first: number,
             calls: 1,
-            turn,
-            others: Turn::TakesAll,
+            turn: Turn::Fails,
+            others,
             period: u64::MAX,
         }
     }
