@@ -5,5 +5,6 @@ pub mod Limits
 pub mod Outcomes
 pub mod Reading
 pub mod Sinks
+pub mod CrcSink
 pub mod WriteSink
 pub mod Crc
