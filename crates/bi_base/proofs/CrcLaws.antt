@@ -1,14 +1,12 @@
-use Rattle.std.proofs.Common.{◌≡◌, ℕ, ◌/◌, ◌%◌, [], ◌∷◌, ap, ◌∙◌, fold, suc}
-use Rattle.std.proofs.lemmas.Grind.{flat_map-append}
+use Rattle.std.proofs.Common.{◌≡◌, ℕ, ◌/◌, ◌%◌, [], ◌∷◌, refl, sym, ap, fold, suc}
 use Rattle.std.proofs.lemmas.List.{append-nil}
-use Rattle.std.proofs.lemmas.List.Sums.{fold-append}
-use Rattle.bi_base.specs.Crc.{crc_bit, crc_after, low_bits, message_bits, SameForEveryCut}
+use Rattle.bi_base.specs.Crc.{crc_bit, crc_after, low_bits, SameForEveryCut}
+use Rattle.bi_base.specs.CrcSink.{goes_on_in_turn}
 
 -- The register after two pieces in turn is that after both together.
 pub crc_after-append : SameForEveryCut
-unfolding crc_after
 crc_after-append register first second =
-    ap (fold crc_bit register) (flat_map-append (low_bits 8) first second) ∙ fold-append crc_bit register (message_bits first) (message_bits second)
+    let mid = crc_after register first in sym (goes_on_in_turn register mid (crc_after mid second) first second refl refl)
 
 -- The register after one byte is that after its eight bits.
 pub crc_after-byte : (register byte : ℕ) → crc_after register (byte ∷ []) ≡ fold crc_bit register (low_bits 8 byte)

@@ -5,6 +5,7 @@ pub mod Limits
 pub mod Outcomes
 pub mod Reading
 pub mod Sinks
+pub mod CrcSink
 pub mod WriteSink
 pub mod Writing
 pub mod Crc

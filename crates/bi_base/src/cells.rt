@@ -1,8 +1,13 @@
-//! Cells: big-endian numbers at an offset.
+//! Cells: big-endian numbers, read at an offset and appended to a sink.
 #![tactic(auto, unfolding(crate::specs::Cells::cell, crate::specs::Cells::u32_at))]
 
 ghost use Rattle.std.specs.Prelude.{◌≡◌, ◌+◌, ◌≤◌, ◌↔◌, length, IsSome, IfSome};
+ghost use Rattle.std.specs.List.{flat_map};
 ghost use Rattle.bi_base.specs.Cells.{cell, slice, u32_at};
+ghost use Rattle.bi_base.specs.Sinks.{Wrote};
+
+use crate::fault::Error;
+use crate::sinks::Sink;
 
 /// The number whose cell, its four big-endian bytes, stands at offset `at`. None exactly where the bytes end before
 /// the cell does.
@@ -15,9 +20,31 @@ pub fn be32_at(bytes: &[u8], at: usize) -> Option<u32>
     Some(u32::from_be_bytes(*cell))
 }
 
+/// Appends the cell of this number: its four bytes, the highest first (Devicetree Specification, 2.3). An error is one
+/// that the sink names, and a first part of the cell was appended then.
+pub fn put_cell<S: Sink>(sink: &mut S, number: u32) -> Result<(), Error>
+    ensures { Wrote S.appends S.names sink.old (cell number) result sink.new }
+{
+    sink.put(&number.to_be_bytes())
+}
+
+/// Appends the cells of these numbers in their order. An error is one that the sink names, and a first part of the
+/// cells was appended then.
+pub fn put_cells<S: Sink>(sink: &mut S, numbers: &[u32]) -> Result<(), Error>
+    ensures { Wrote S.appends S.names sink.old (flat_map cell numbers.now) result sink.new }
+{
+    for &number in numbers {
+        put_cell(sink, number)?;
+    }
+    Ok(())
+}
+
 #[cfg(test)]
 mod tests {
     use super::*;
+    use crate::crc::Crc32;
+    use crate::sinks::VecSink;
+    use std::test::Fail;
 
     #[test]
     fn a_cell_is_four_bytes_the_highest_first(rt: HostRuntime) {
@@ -26,5 +53,27 @@ mod tests {
         assert_eq!(rt; be32_at(&bytes, 1), Some(0x0dfe_ed07));
         assert_eq!(rt; be32_at(&bytes, 2), None);
         assert_eq!(rt; be32_at(&bytes, usize::MAX), None);
+    }
+
+    #[test]
+    fn cells_are_appended_in_their_order(rt: HostRuntime) -> Result<(), Fail> {
+        let mut sink = VecSink::new(rt.alloc());
+        put_cell(&mut sink, 0xd00d_feed)?;
+        put_cells(&mut sink, &[1, 0x0203])?;
+        let bytes = sink.into_vec();
+        assert_eq!(rt;
+            bytes.as_slice(),
+            b"\xd0\x0d\xfe\xed\x00\x00\x00\x01\x00\x00\x02\x03".as_slice()
+        );
+        Ok(())
+    }
+
+    // The text of these two cells is "12345678"; its CRC-32 is that of Python's zlib.
+    #[test]
+    fn cells_can_be_summed_as_they_are_appended(rt: HostRuntime) -> Result<(), Fail> {
+        let mut sum = Crc32::new();
+        put_cells(&mut sum, &[0x3132_3334, 0x3536_3738])?;
+        assert_eq!(rt; sum.finish(), 0x9ae0_daaf);
+        Ok(())
     }
 }

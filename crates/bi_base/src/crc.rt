@@ -3,7 +3,10 @@
 
 ghost use Rattle.std.specs.Prelude.{◌≡◌, ℕ, ◌-◌, ◌<◌, fold};
 ghost use Rattle.bi_base.specs.Crc.{crc_bit, crc_after, low_bits};
+ghost use Rattle.bi_base.specs.CrcSink.{GoesOn, goes_on_nothing, goes_on_in_turn};
 
+use crate::fault::Error;
+use crate::sinks::Sink;
 use std::marker::Model;
 
 /// The polynomial of CRC-32, its bits reflected (RFC 1952, section 8).
@@ -47,6 +50,22 @@ impl Crc32 {
     {
         0xffff_ffff - self.register
     }
+}
+
+/// As a sink, a `Crc32` keeps no bytes: it goes on over those that are appended. No call answers an error.
+impl Sink for Crc32 {
+    ghost appends = { GoesOn };
+
+    ghost names = { λ _. ⊥ };
+
+    fn put(&mut self, bytes: &[u8]) -> Result<(), Error> {
+        self.update(bytes);
+        Ok(())
+    }
+
+    ghost nothing = { goes_on_nothing };
+
+    ghost in_turn = { goes_on_in_turn };
 }
 
 /// The register after these bytes.

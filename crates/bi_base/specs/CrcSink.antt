@@ -1,0 +1,24 @@
+use Rattle.std.specs.Prelude.{◌≡◌, ℕ, List, refl, fold}
+use Rattle.std.proofs.Common.{sym, ap, ◌∙◌}
+use Rattle.std.proofs.lemmas.Grind.{flat_map-append}
+use Rattle.std.proofs.lemmas.List.Sums.{fold-append}
+use Rattle.bi_base.specs.Crc.{crc_bit, crc_after, low_bits, message_bits}
+use Rattle.bi_base.specs.Sinks.{AppendsNothing, AppendsInTurn}
+
+-- A running CRC-32 as a sink, which keeps no bytes (RFC 1952, section 8).
+
+-- Going on over these bytes leads from the one register to the other.
+abbrev pub GoesOn : ℕ → List ℕ → ℕ → Type 0
+GoesOn old bytes new = new ≡ crc_after old bytes
+
+-- Going on over no bytes changes nothing.
+pub goes_on_nothing : AppendsNothing GoesOn
+unfolding crc_after
+goes_on_nothing a = refl
+
+-- Going on over two pieces in turn is going on over both together.
+pub goes_on_in_turn : AppendsInTurn GoesOn
+unfolding crc_after
+goes_on_in_turn a b c xs ys first second =
+    second ∙ ap (λ register. crc_after register ys) first
+    ∙ sym (ap (fold crc_bit a) (flat_map-append (low_bits 8) xs ys) ∙ fold-append crc_bit a (message_bits xs) (message_bits ys))
