@@ -71,3 +71,10 @@ IsRefusalOf file limits (Refused fault) = IsFileFault file limits fault × Means
 IsRefusalOf file limits OutOfMemory = ⊤
 IsRefusalOf file limits ReadFailed = ⊥
 IsRefusalOf file limits WriteFailed = ⊥
+
+-- The same of a file that is read and written through: failed reads and writes say nothing of it.
+abbrev pub IsStreamRefusalOf : List ℕ → Bounds → Error → Type 0
+IsStreamRefusalOf file limits (Refused fault) = IsFileFault file limits fault × MeansNothing file limits
+IsStreamRefusalOf file limits OutOfMemory = ⊤
+IsStreamRefusalOf file limits ReadFailed = ⊤
+IsStreamRefusalOf file limits WriteFailed = ⊤
