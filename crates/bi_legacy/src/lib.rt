@@ -2,6 +2,7 @@
 #![tactic(auto)]
 
 mod cells;
+pub mod codes;
 mod fields;
 mod header;
 pub mod laws;
