@@ -2,5 +2,8 @@
 #![tactic(auto)]
 
 mod kind;
+mod listing;
+mod open;
+mod shown;
 
 fn main() {}

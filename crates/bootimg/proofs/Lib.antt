@@ -1,0 +1,5 @@
+pub mod Hexadecimal
+pub mod Lines
+pub mod Meaningless
+pub mod PartLines
+pub mod ShownBytes
