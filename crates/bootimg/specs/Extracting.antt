@@ -1,5 +1,4 @@
 use Rattle.std.specs.Prelude.{ℕ, ◌≤◌, ◌≡◌, ⊤, List, Some, length, slice_get}
-use Rattle.bi_base.specs.declared.fault.Error.{Error}
 use Rattle.bi_base.specs.declared.fault.Error.TheVariants.{Refused, OutOfMemory, ReadFailed, WriteFailed}
 use Rattle.bi_base.specs.Limits.{Bounds}
 use Rattle.bi_legacy.specs.Meaning.{LegacyImage}
@@ -12,32 +11,42 @@ use Rattle.bootimg.specs.Normalising.{IsFileFault, MeansNothing}
 
 -- What `extract` writes (profile of this project).
 
--- The selection of an image chooses these bytes: the part of that index. The name of an image node chooses nothing here.
+-- Of a legacy image the selection chooses these bytes: those of the part of that index. The name of an image node chooses
+-- nothing of it.
 abbrev pub Chooses : Select → LegacyImage → List ℕ → Type 0
 Chooses (Part index) image bytes = slice_get image.parts index ≡ Some bytes
 Chooses (Image name) image bytes = ⊥
 
--- The file means an image of which the selection chooses these bytes.
+-- The file means a legacy image, of which the selection chooses these bytes.
 pub record IsChosen (select : Select) (limits : Bounds) (file bytes : List ℕ) : Type 0 where
   pub image : LegacyImage
   pub means : LegacyMeans file image limits
   pub chosen : Chooses select image bytes
 
--- The file means an image, and the selection is of another kind of image.
+-- The file means a legacy image, and the selection is one of another kind of image.
 abbrev pub IsOfOtherKind : Select → Bounds → List ℕ → Type 0
 IsOfOtherKind (Part index) limits file = ⊥
 IsOfOtherKind (Image name) limits file = (image : LegacyImage) × LegacyMeans file image limits
 
--- The file means an image, and the selection is of a part that it does not have.
+-- The file means a legacy image, and the selection is a part that it does not have.
 abbrev pub IsPastParts : Select → Bounds → List ℕ → Type 0
 IsPastParts (Part index) limits file = (image : LegacyImage) × LegacyMeans file image limits × (length image.parts ≤ index)
 IsPastParts (Image name) limits file = ⊥
 
--- What an error says of the file and the selection. Want of memory and failed reads and writes say nothing.
+-- What an error says of the file and the selection: a refusal is the file's first fault, and the file means nothing.
 abbrev pub IsExtractRefusal : Select → Bounds → List ℕ → ExtractError → Type 0
 IsExtractRefusal select limits file (Failed (Refused fault)) = IsFileFault file limits fault × MeansNothing file limits
-IsExtractRefusal select limits file (Failed OutOfMemory) = ⊤
-IsExtractRefusal select limits file (Failed ReadFailed) = ⊤
-IsExtractRefusal select limits file (Failed WriteFailed) = ⊤
+IsExtractRefusal select limits file (Failed OutOfMemory) = ⊥
+IsExtractRefusal select limits file (Failed ReadFailed) = ⊥
+IsExtractRefusal select limits file (Failed WriteFailed) = ⊥
 IsExtractRefusal select limits file WrongKind = IsOfOtherKind select limits file
 IsExtractRefusal select limits file NoPart = IsPastParts select limits file
+
+-- The same of a file that is read and written through: want of memory and failed reads and writes say nothing of it.
+abbrev pub IsStreamExtractRefusal : Select → Bounds → List ℕ → ExtractError → Type 0
+IsStreamExtractRefusal select limits file (Failed (Refused fault)) = IsFileFault file limits fault × MeansNothing file limits
+IsStreamExtractRefusal select limits file (Failed OutOfMemory) = ⊤
+IsStreamExtractRefusal select limits file (Failed ReadFailed) = ⊤
+IsStreamExtractRefusal select limits file (Failed WriteFailed) = ⊤
+IsStreamExtractRefusal select limits file WrongKind = IsOfOtherKind select limits file
+IsStreamExtractRefusal select limits file NoPart = IsPastParts select limits file

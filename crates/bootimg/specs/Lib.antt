@@ -1,3 +1,4 @@
+pub mod Extracting
 pub mod Kinds
 pub mod Listing
 pub mod Normalising

@@ -1,6 +1,7 @@
 //! `bootimg`: reads, lists, extracts from and normalises U-Boot's boot images.
 #![tactic(auto)]
 
+mod extract;
 mod kind;
 mod listing;
 mod open;
