@@ -7,5 +7,6 @@ pub mod Vectors
 pub mod Faults
 pub mod Reading
 pub mod Emitting
+pub mod Codes
 pub mod Laws
 pub mod Walk
