@@ -11,11 +11,6 @@ use Rattle.bi_legacy.specs.Meaning.{has_table, IsListedPart}
 abbrev pub size_list : List (List ℕ) → List ℕ
 size_list parts = flat_map (λ part. cell (length part)) parts ++ cell 0
 
--- Where parts of these sizes begin, the first at `at` and each later one at the next multiple of four.
-abbrev pub places_from : ℕ → List ℕ → List ℕ
-places_from at [] = []
-places_from at (size ∷ sizes) = at ∷ places_from (up4 (at + size)) sizes
-
 -- Each part stands in this data, the first at `at` and each later one at the next multiple of four; what lies between
 -- them is free.
 abbrev pub StandFrom : ℕ → List (List ℕ) → List ℕ → Type 0
@@ -39,9 +34,6 @@ HoldsParts image_type body parts = MatchBool (has_table image_type) (IsTable par
 -- Where the parts begin in the data.
 abbrev pub first_place : ℕ → List (List ℕ) → ℕ
 first_place image_type parts = if has_table image_type then length (size_list parts) else 0
-
-abbrev pub part_places : ℕ → List (List ℕ) → List ℕ
-part_places image_type parts = places_from (first_place image_type parts) (map length parts)
 
 -- Where the last of the pieces of these sizes ends, each of which begins at the next multiple of four from where the one
 -- before it ends, the first from `end` on.
