@@ -1,6 +1,6 @@
 //! Writing bytes to writers that may take few of them, be interrupted or fail.
 
-ghost use Rattle.std.specs.Prelude.{◌≡◌, ◌<◌, ℕ, Bool, List, Option, length, take, IfOk, OnOk, IfErr, OnErr, IsTrue, IsFalse};
+ghost use Rattle.std.specs.Prelude.{◌≡◌, ◌<◌, ℕ, Bool, List, Option, length, take, IfOk, IfErr, OnErr, IsOk, IsTrue, IsFalse, ◌↔◌};
 ghost use Rattle.std.specs.Borrow.{GName};
 ghost use Rattle.std.specs.Io.{WritesAtMost};
 ghost use Rattle.std.specs.Io.KnownBytes.{Appends, Keeps, WriteAppends};
@@ -38,6 +38,7 @@ pub trait Target {
         ensures bytes { WriteAppends (contents self.old) (contents self.new) result bytes.now }
         ensures failed { TellsFailure (failed self.new) result }
         ensures stalled { TellsStall (stalled self.new) result bytes.now }
+        ensures not_flushed { IsFalse (flushed self.new) }
         ensures interruptions { CountsInterruptions (interruptions self.old) (interruptions self.new) result }
         ensures same_writer { writer self.new ≡ writer self.old };
 
@@ -46,7 +47,7 @@ pub trait Target {
         ensures bytes { Keeps (contents self.old) (contents self.new) }
         ensures failed { TellsFailure (failed self.new) result }
         ensures not_stalled { IsFalse (stalled self.new) }
-        ensures flushed { OnOk result (IsTrue (flushed self.new)) }
+        ensures flushed { IsTrue (flushed self.new) ↔ IsOk result }
         ensures interruptions { CountsInterruptions (interruptions self.old) (interruptions self.new) result }
         ensures same_writer { writer self.new ≡ writer self.old };
 }
@@ -165,7 +166,7 @@ pub fn write_whole<T: Target>(target: &mut T, bytes: &[u8]) -> Result<(), Error>
 /// The only error is `WriteFailed`. It comes only after a flush that failed by another error than an interruption, or
 /// after 1,024 interrupted flushes in a row.
 pub fn flush<T: Target>(target: &mut T) -> Result<(), Error>
-    ensures ok { OnOk result (IsTrue (T.flushed target.new)) }
+    ensures flushed { IsTrue (T.flushed target.new) ↔ IsOk result }
     ensures bytes { Keeps (T.contents target.old) (T.contents target.new) }
     ensures error { IfErr result (λ error. error ≡ Error.WriteFailed) }
     ensures cause { OnErr result (HasToStop (T.failed target.new) (T.interruptions target.new)) }
