@@ -4,3 +4,10 @@ pub mod Checks
 pub mod Limits
 pub mod Sinks
 pub mod Crc
+pub mod Tree
+pub mod Tokens
+pub mod Marks
+pub mod Stages
+pub mod Blob
+pub mod BlobFaults
+pub mod Layout

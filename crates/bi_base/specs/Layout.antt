@@ -1,0 +1,149 @@
+use Rattle.std.specs.Prelude.{◌≡◌, ℕ, ◌+◌, ◌-◌, ◌^◌, ◌<◌, ◌≤◌, List, [], ◌∷◌, ◌++◌, map, length, replicate, filter, flat_map, sum_by, not, bytes_eq, if◌then◌else◌}
+use Rattle.std.specs.List.{AllByRecursion}
+use Rattle.bi_base.specs.Cells.{cell, up4, AreBytes}
+use Rattle.bi_base.specs.Tokens.{Token, BeginNode, EndNode, Prop, Nop, End, unpadded, width}
+use Rattle.bi_base.specs.Tree.{Nodes, none, node, Root, Property, Placed, Located, as_nodes, IsTree, AreProperties}
+use Rattle.bi_base.specs.Marks.{Mark, Opens, Has, Closes, marks, marks_of}
+use Rattle.bi_base.specs.Blob.{Range, IsRange, reserved_block, blob_magic}
+
+-- The normal text of a blob (profile of this project): the header of version 17, the reservation block, the structure block
+-- and the strings block stand one behind the other, there is no FDT_NOP, what fills up is zero, and each name stands
+-- once in the strings block.
+
+-- The names of properties that a mark uses.
+abbrev pub names_in : Mark → List (List ℕ)
+names_in (Has property) = property.0 ∷ []
+names_in mark = []
+
+-- The names of properties in the order of their use.
+abbrev pub used : List Mark → List (List ℕ)
+used marks = flat_map names_in marks
+
+-- Each of these names once, where it stands first.
+abbrev pub firsts : List (List ℕ) → List (List ℕ)
+firsts [] = []
+firsts (name ∷ later) = name ∷ filter (λ other. not (bytes_eq name other)) (firsts later)
+
+-- These names one behind the other, a zero byte after each (Devicetree Specification, 5.5).
+abbrev pub strings_of : List (List ℕ) → List ℕ
+strings_of names = flat_map (λ name. name ++ 0 ∷ []) names
+
+-- The offset of a name in these: the length of what stands before it.
+abbrev pub offset_in : List (List ℕ) → List ℕ → ℕ
+offset_in [] name = 0
+offset_in (other ∷ later) name = if bytes_eq other name then 0 else length other + 1 + offset_in later name
+
+-- The zero bytes that fill up what is this long to a multiple of four.
+abbrev pub filling : ℕ → List ℕ
+filling size = replicate (up4 size - size) 0
+
+-- The bytes of a token with zeros as its padding (5.4.1).
+abbrev pub spelling : Token → List ℕ
+spelling token = unpadded token ++ filling (length (unpadded token))
+
+-- The token of a mark, where the strings block has these names.
+abbrev pub token_of : List (List ℕ) → Mark → Token
+token_of names (Opens name) = BeginNode name
+token_of names (Has property) = Prop (offset_in names property.0) property.1
+token_of names Closes = EndNode
+
+-- The tokens of these marks, but for FDT_END.
+abbrev pub tokens_of : List Mark → List Token
+tokens_of marks = map (token_of (firsts (used marks))) marks
+
+-- The structure block of these marks (5.4).
+abbrev pub structure_block : List Mark → List ℕ
+structure_block marks = flat_map spelling (tokens_of marks ++ End ∷ [])
+
+-- The strings block of these marks (5.5).
+abbrev pub strings_block : List Mark → List ℕ
+strings_block marks = strings_of (firsts (used marks))
+
+-- The length of a text before it is filled up, with blocks of these lengths behind a header of 40 bytes.
+abbrev pub unfilled : (reserved structure strings : ℕ) → ℕ
+unfilled reserved structure strings = 40 + reserved + structure + strings
+
+-- The header of a text with blocks of these lengths: version 17, which version 16 may be understood as (5.2).
+abbrev pub header : (cpu reserved structure strings : ℕ) → List ℕ
+header cpu reserved structure strings =
+    cell blob_magic
+    ++ (cell (up4 (unfilled reserved structure strings))
+    ++ (cell (40 + reserved)
+    ++ (cell (40 + reserved + structure)
+    ++ (cell 40
+    ++ (cell 17
+    ++ (cell 16
+    ++ (cell cpu
+    ++ (cell strings
+    ++ cell structure))))))))
+
+-- A text of a boot processor and three blocks.
+unfoldable pub text_of : ℕ → (reserved structure strings : List ℕ) → List ℕ
+text_of cpu reserved structure strings =
+    header cpu (length reserved) (length structure) (length strings)
+    ++ (reserved ++ (structure ++ (strings ++ filling (unfilled (length reserved) (length structure) (length strings)))))
+
+-- The normal text of a boot processor, reserved ranges and marks.
+unfoldable pub blob_text : ℕ → List Range → List Mark → List ℕ
+blob_text cpu ranges marks = text_of cpu (reserved_block ranges) (structure_block marks) (strings_block marks)
+
+-- The normal text of a boot processor, reserved ranges and a tree.
+abbrev pub tree_text : ℕ → List Range → Root (List Property) → List ℕ
+tree_text cpu ranges root = blob_text cpu ranges (marks_of root)
+
+-- How many bytes the token of a mark takes.
+abbrev pub mark_width : Mark → ℕ
+mark_width (Opens name) = width (BeginNode name)
+mark_width (Has property) = width (Prop 0 property.1)
+mark_width Closes = width EndNode
+
+-- Where the token behind those of these marks stands, if theirs stand from this offset on.
+abbrev pub behind : ℕ → List Mark → ℕ
+behind at marks = at + sum_by mark_width marks
+
+-- Properties with the places of their tokens, if these stand from this offset on.
+abbrev pub located_properties : ℕ → List Property → List Placed
+located_properties at [] = []
+located_properties at (property ∷ later) =
+    record { name = property.0; value = property.1; place = at }
+    ∷ located_properties (at + mark_width (Has property)) later
+
+-- Nodes with the places of their tokens, if these stand from this offset on.
+abbrev pub located : ℕ → Nodes (List Property) → Nodes Located
+located at none = none
+located at (node name properties children later) =
+    node name
+    (record { place = at; properties = located_properties (at + mark_width (Opens name)) properties })
+    (located (behind (at + mark_width (Opens name)) (map Has properties)) children)
+    (located (behind at (marks (node name properties children none))) later)
+
+-- Where the structure block stands in a text with these ranges.
+abbrev pub structure_place : List Range → ℕ
+structure_place ranges = 40 + length (reserved_block ranges)
+
+-- The tree of a text with the places of its tokens.
+abbrev pub located_tree : List Range → Root (List Property) → Root Located
+located_tree ranges root = record {
+  own = record {
+    place = structure_place ranges;
+    properties = located_properties (structure_place ranges + mark_width (Opens [])) root.own;
+  };
+  children = located (behind (structure_place ranges + mark_width (Opens [])) (map Has root.own)) root.children;
+}
+
+-- The names and values of a mark are bytes.
+abbrev pub HasBytes : Mark → Type 0
+HasBytes (Opens name) = AreBytes name
+HasBytes (Has property) = AreBytes property.0 × AreBytes property.1
+HasBytes Closes = Unit {0}
+
+-- What a blob may say: a boot processor, reserved ranges and a tree within their ranges of numbers, with good names.
+pub record IsContent (cpu : ℕ) (ranges : List Range) (root : Root (List Property)) : Type 0 where
+  pub cpu_fits : cpu < 2 ^ 32
+  pub are_ranges : AllByRecursion IsRange ranges
+  pub is_tree : IsTree AreProperties root
+  pub bytes : AllByRecursion HasBytes (marks_of root)
+
+-- The most bytes that a text may have (profile of this project).
+abbrev pub longest_text : ℕ
+longest_text = 0x7fffffff
