@@ -1,1 +1,3 @@
 pub mod CellLaws
+pub mod TextFacts
+pub mod HeaderFacts
