@@ -1,9 +1,61 @@
-use Rattle.std.proofs.Common.{◌≡◌, ℕ, ◌+◌, ◌-◌, ◌*◌, ◌/◌, ◌<◌, ◌≤◌, ◌^◌, List, [], ◌∷◌, ◌++◌, length, take, drop, slice_index, arith, refl, sym, ap, subst, ◌∙◌}
+use Rattle.std.proofs.Common.{◌≡◌, ℕ, ◌+◌, ◌<◌, ◌≤◌, ◌^◌, List, ◌++◌, length, take, drop, get_or, arith, refl, sym, ap, ◌∙◌, inl, inr}
 use Rattle.std.specs.Int.{to_be_bytes, from_be_bytes, w32}
+use Rattle.std.proofs.Math.Seq.{take-append_seam, drop-append_seam}
+use Rattle.std.proofs.lemmas.Bool.{cases_lt}
+use Rattle.std.proofs.lemmas.List.{get_or-take, get_or-drop, get_or_past, length-drop, length-take, length-take-le}
 use Rattle.std.proofs.lemmas.Nat.{be_bytes_4, from_be_bytes-to_be_bytes_4}
 use Rattle.bi_base.specs.Cells.{cell, u32_at, slice, AreBytes}
+
+-- Two lists that are equal, each of a first part and a rest, have equal parts where the first parts are equally long.
+pub parts_agree : {X : Type 0} (a b x y : List X) → length a ≡ length b → a ++ x ≡ b ++ y → (a ≡ b) × (x ≡ y)
+parts_agree a b x y same e = (
+  sym (take-append_seam a x) ∙ ap (take (length a)) e ∙ ap (λ n. take n (b ++ y)) same ∙ take-append_seam b y,
+  sym (drop-append_seam a x) ∙ ap (drop (length a)) e ∙ ap (λ n. drop n (b ++ y)) same ∙ drop-append_seam b y,
+)
+
+-- The second of three lists is the slice of the whole that begins where the first ends.
+pub slice-append : (a b c : List ℕ) → slice (a ++ (b ++ c)) (length a) (length b) ≡ b
+slice-append a b c = ap (take (length b)) (drop-append_seam a (b ++ c)) ∙ take-append_seam b c
+
+-- The first of two lists is the slice of the whole at its beginning.
+pub slice-append_first : (a b : List ℕ) → slice (a ++ b) 0 (length a) ≡ a
+slice-append_first a b = take-append_seam a b
+
+-- A slice is as long as it is asked for, where the file has it all.
+pub length-slice : (file : List ℕ) (at n : ℕ) → at + n ≤ length file → length (slice file at n) ≡ n
+length-slice file at n within = length-take-le n (drop at file) (simp length-drop (omega arith))
+
+-- An element of a slice is that of the file, counted from the slice's beginning.
+pub get_or-slice : (file : List ℕ) (at n i : ℕ) → i < n → get_or (slice file at n) i 0 ≡ get_or file (at + i) 0
+get_or-slice file at n i within = get_or-take n (drop at file) i 0 within ∙ get_or-drop at file i 0
+
+-- A slice of bytes has bytes only.
+pub AreBytes-slice : (file : List ℕ) (at n : ℕ) → AreBytes file → AreBytes (slice file at n)
+AreBytes-slice file at n bytes = record {
+  each = λ i. elim (cases_lt i n) as (λ _. get_or (slice file at n) i 0 < 2 ^ 8) [
+    | inl within ↦ rw (get_or-slice file at n i within) (bytes.each (at + i))
+    | inr past ↦ rw (get_or_past (slice file at n) i 0 (simp length-take (omega arith))) (omega arith)
+  ];
+}
+
+-- A cell is four bytes.
+pub length-cell : (n : ℕ) → length (cell n) ≡ 4
+unfolding cell
+length-cell n = refl
+
+-- Two numbers of 32 bits with one cell are one number.
+pub cell_agree : (m n : ℕ) → m < 2 ^ 32 → n < 2 ^ 32 → cell m ≡ cell n → m ≡ n
+unfolding cell
+cell_agree m n m_fits n_fits e =
+    sym (from_be_bytes-to_be_bytes_4 m m_fits) ∙ ap (from_be_bytes w32) e ∙ from_be_bytes-to_be_bytes_4 n n_fits
 
 -- A cell of a file is the bytes that it is read from.
 pub cell-u32_at : (file : List ℕ) (at : ℕ) → AreBytes file → at + 4 ≤ length file → cell (u32_at file at) ≡ slice file at 4
 unfolding cell u32_at
-cell-u32_at file at bytes within = be_bytes_4 (slice file at 4) (from_be_bytes w32 (slice file at 4)) ? ? refl
+cell-u32_at file at bytes within =
+    be_bytes_4 (slice file at 4) (from_be_bytes w32 (slice file at 4)) (length-slice file at 4 within) (AreBytes-slice file at 4 bytes).each refl
+
+-- A cell that was written is read as its number.
+pub u32_at-cell : (a b : List ℕ) (n : ℕ) → n < 2 ^ 32 → u32_at (a ++ (cell n ++ b)) (length a) ≡ n
+unfolding cell u32_at
+u32_at-cell a b n fits = ap (from_be_bytes w32) (slice-append a (to_be_bytes w32 n) b) ∙ from_be_bytes-to_be_bytes_4 n fits

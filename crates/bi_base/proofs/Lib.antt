@@ -1,3 +1,5 @@
 pub mod CellLaws
 pub mod TextFacts
 pub mod HeaderFacts
+pub mod CrcLaws
+pub mod FirstFault

@@ -1,4 +1,4 @@
-use Rattle.std.specs.Prelude.{ℕ, ◌-◌, ◌/◌, ◌%◌, ◌==◌, List, [], ◌∷◌, if◌then◌else◌, fold, zero, suc}
+use Rattle.std.specs.Prelude.{◌≡◌, ℕ, ◌-◌, ◌/◌, ◌%◌, ◌==◌, List, [], ◌∷◌, ◌++◌, if◌then◌else◌, fold, zero, suc}
 use Rattle.std.specs.Int.Bits.{bit_xor}
 use Rattle.std.specs.List.{flat_map}
 
@@ -25,3 +25,8 @@ crc_after register bytes = fold crc_bit register (message_bits bytes)
 -- The CRC-32 of these bytes: the register begins with all bits set, and the result is its complement.
 unfoldable pub crc32 : List ℕ → ℕ
 crc32 bytes = 0xFFFFFFFF - crc_after 0xFFFFFFFF bytes
+
+-- The law that the register after two pieces in turn is that after both together.
+abbrev pub SameForEveryCut : Type 0
+SameForEveryCut =
+    (register : ℕ) (first second : List ℕ) → crc_after register (first ++ second) ≡ crc_after (crc_after register first) second

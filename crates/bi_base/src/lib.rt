@@ -3,9 +3,16 @@
 #![tactic(auto)]
 
 mod cells;
+mod checksum;
+mod crc;
 mod fault;
+pub mod laws;
 mod limits;
+mod reading;
 
 pub use cells::be32_at;
+pub use checksum::crc32;
+pub use crc::Crc32;
 pub use fault::{Cause, Error, Fault};
 pub use limits::Limits;
+pub use reading::{ReaderSource, Source, read_all, read_source};

@@ -1,0 +1,16 @@
+//! The CRC-32 of bytes that stand together.
+#![tactic(auto, unfolding(crate::specs::Crc::crc32))]
+
+ghost use Rattle.std.specs.Prelude.{◌≡◌};
+ghost use Rattle.bi_base.specs.Crc.{crc32 as crc32_of};
+
+use crate::crc::Crc32;
+
+/// The CRC-32 of these bytes (ISO/IEC 3309, RFC 1952 section 8).
+pub fn crc32(bytes: &[u8]) -> u32
+    ensures { result ≡ crc32_of bytes.now }
+{
+    let mut sum = Crc32::new();
+    sum.update(bytes);
+    sum.finish()
+}
