@@ -3,3 +3,5 @@ pub mod TextFacts
 pub mod HeaderFacts
 pub mod CrcLaws
 pub mod FirstFault
+pub mod LayoutMembers
+pub mod LayoutNames
