@@ -1,6 +1,7 @@
-use Rattle.std.proofs.Common.{◌≡◌, ◌⊎◌, zero, suc, Bool, true, false, List, [], ◌∷◌, Contains, filter, inl, inr, refl, ap, ◌∙◌, sym, arith, true≢false}
+use Rattle.std.specs.List.{AllByRecursion}
+use Rattle.std.proofs.Common.{◌≡◌, ◌⊎◌, zero, suc, Bool, true, false, List, [], ◌++◌, map, subst, ◌∷◌, Contains, filter, inl, inr, refl, ap, ◌∙◌, sym, arith, true≢false}
 
--- What is among the elements of a list, one element at a time.
+-- What is among the elements of a list, and what holds of each, one element at a time.
 
 -- Nothing is among no elements.
 pub Contains-none : {X : Type 0} (x : X) → Contains [] x → ⊥
@@ -44,3 +45,37 @@ Contains-from_filter {X = X} test (first ∷ others) x has =
         where_here (inl same) = rw (← same) (Contains-first first others)
         where_here (inr has) = Contains-others first others x (among has)
     where_first false is has among = Contains-others first others x (among (rw is at has))
+
+-- What holds of each element holds of each that passes a test.
+pub each-filter : {X : Type 0} (P : X → Type 0) (test : X → Bool) (xs : List X) → AllByRecursion P xs → AllByRecursion P (filter test xs)
+each-filter P test [] each = each
+each-filter {X = X} P test (first ∷ others) each = where_first (test first) refl (each-filter P test others each.1)
+  where
+    where_first : (b : Bool) → test first ≡ b → AllByRecursion P (filter test others) → AllByRecursion P (filter test (first ∷ others))
+    where_first true is rest = rw is (each.0, rest)
+    where_first false is rest = rw is rest
+
+-- What holds of each element of two lists holds of each of both together.
+pub each-append : {X : Type 0} (P : X → Type 0) (xs ys : List X) → AllByRecursion P xs → AllByRecursion P ys → AllByRecursion P (xs ++ ys)
+each-append P [] ys front rest = rest
+each-append P (first ∷ others) ys front rest = (front.0, each-append P others ys front.1 rest)
+
+-- What holds of the image of each element holds of each image.
+pub each-map : {X Y : Type 0} (P : Y → Type 0) (f : X → Y) (xs : List X) → AllByRecursion (λ x. P (f x)) xs → AllByRecursion P (map f xs)
+each-map P f [] each = each
+each-map P f (first ∷ others) each = (each.0, each-map P f others each.1)
+
+-- What follows from what holds of each element holds of each.
+pub each-weaker : {X : Type 0} (P Q : X → Type 0) → ((x : X) → P x → Q x) → (xs : List X) → AllByRecursion P xs → AllByRecursion Q xs
+each-weaker P Q follows [] each = each
+each-weaker P Q follows (first ∷ others) each = (follows first each.0, each-weaker P Q follows others each.1)
+
+-- What holds of each element holds of what is among them.
+pub each-contains : {X : Type 0} (P : X → Type 0) (xs : List X) (x : X) → AllByRecursion P xs → Contains xs x → P x
+each-contains P [] x each has = absurd (Contains-none x has)
+each-contains {X = X} P (first ∷ others) x each has =
+    where_first (Contains-cases first others x has) (λ has. each-contains P others x each.1 has)
+  where
+    where_first : (first ≡ x) ⊎ Contains others x → (Contains others x → P x) → P x
+    where_first (inl same) among = subst P same each.0
+    where_first (inr has) among = among has

@@ -1,11 +1,10 @@
 use Rattle.std.proofs.Common.{◌≡◌, ◌≢◌, ◌⊎◌, ℕ, ◌+◌, Bool, true, false, not, List, [], ◌∷◌, ◌++◌, length, drop, Contains, filter, bytes_eq, inl, inr, refl, ap, ◌∙◌, sym, append_assoc, true≢false, drop-drop}
-use Rattle.std.specs.List.{AllByRecursion}
 use Rattle.std.proofs.lemmas.Slice.Eq.{bytes_eq-Decides}
 use Rattle.std.proofs.lemmas.List.{drop_at, length_push}
 use Rattle.bi_base.specs.Tree.{IsNew, AreDistinct}
 use Rattle.bi_base.specs.Layout.{used, firsts, strings_of, offset_in}
 use Rattle.bi_base.specs.TextLaws.{EachNameIsThereOnce, EachNameStands}
-use Rattle.bi_base.proofs.LayoutMembers.{Contains-none, Contains-cases, Contains-first, Contains-others, Contains-filter, Contains-from_filter}
+use Rattle.bi_base.proofs.LayoutMembers.{Contains-none, Contains-cases, Contains-first, Contains-others, Contains-filter, Contains-from_filter, each-filter}
 
 -- The names in a strings block: each once, and each at its offset.
 
@@ -58,15 +57,6 @@ firsts-only (first ∷ others) name has =
     where_first (inl same) among = rw (← same) (Contains-first first others)
     where_first (inr has) among =
         Contains-others first others name (among (Contains-from_filter (λ other. not (bytes_eq first other)) (firsts others) name has))
-
--- What holds of each element holds of each that passes a test.
-pub each-filter : {X : Type 0} (P : X → Type 0) (test : X → Bool) (xs : List X) → AllByRecursion P xs → AllByRecursion P (filter test xs)
-each-filter P test [] each = each
-each-filter {X = X} P test (first ∷ others) each = where_first (test first) refl (each-filter P test others each.1)
-  where
-    where_first : (b : Bool) → test first ≡ b → AllByRecursion P (filter test others) → AllByRecursion P (filter test (first ∷ others))
-    where_first true is rest = rw is (each.0, rest)
-    where_first false is rest = rw is rest
 
 -- Distinct names stay so where some are left out.
 distinct-filter : (test : List ℕ → Bool) (names : List (List ℕ)) → AreDistinct names → AreDistinct (filter test names)

@@ -5,3 +5,9 @@ pub mod CrcLaws
 pub mod FirstFault
 pub mod LayoutMembers
 pub mod LayoutNames
+pub mod LayoutSpelling
+pub mod LayoutPlaces
+pub mod LayoutTree
+pub mod LayoutSays
+pub mod LayoutLength
+pub mod LayoutStructure
