@@ -3,3 +3,4 @@ pub mod TextFacts
 pub mod HeaderFacts
 pub mod CrcLaws
 pub mod FirstFault
+pub mod Blobs
