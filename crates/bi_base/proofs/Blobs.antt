@@ -2,3 +2,8 @@
 pub mod Names
 pub mod Cells
 pub mod Tokens
+pub mod Spelling
+pub mod Saying
+pub mod Trees
+pub mod Ranges
+pub mod OneBlob

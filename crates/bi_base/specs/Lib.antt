@@ -13,3 +13,4 @@ pub mod Stages
 pub mod Blob
 pub mod BlobFaults
 pub mod Layout
+pub mod BlobLaws
