@@ -7,3 +7,4 @@ pub mod Saying
 pub mod Trees
 pub mod Ranges
 pub mod OneBlob
+pub mod Growing

@@ -14,3 +14,4 @@ pub mod Blob
 pub mod BlobFaults
 pub mod Layout
 pub mod BlobLaws
+pub mod OpenNodes
