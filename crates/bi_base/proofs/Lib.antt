@@ -3,11 +3,5 @@ pub mod TextFacts
 pub mod HeaderFacts
 pub mod CrcLaws
 pub mod FirstFault
-pub mod LayoutMembers
-pub mod LayoutNames
-pub mod LayoutSpelling
-pub mod LayoutPlaces
-pub mod LayoutTree
-pub mod LayoutSays
-pub mod LayoutLength
-pub mod LayoutStructure
+pub mod Blobs
+pub mod Texts

@@ -13,4 +13,6 @@ pub mod Stages
 pub mod Blob
 pub mod BlobFaults
 pub mod Layout
+pub mod BlobLaws
+pub mod OpenNodes
 pub mod TextLaws

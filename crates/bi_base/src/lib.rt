@@ -2,6 +2,7 @@
 //! that bytes are written to.
 #![tactic(auto)]
 
+pub mod blob_laws;
 mod cells;
 mod checksum;
 mod crc;

@@ -4,11 +4,11 @@ use Rattle.std.specs.List.{AllByRecursion}
 use Rattle.bi_base.specs.Tokens.{Prop, unpadded, IsToken, NameAt}
 use Rattle.bi_base.specs.Marks.{Mark, Opens, Has, Closes, Say}
 use Rattle.bi_base.specs.Layout.{used, strings_of, offset_in, filling, spelling, token_of, mark_width}
-use Rattle.bi_base.proofs.LayoutMembers.{Contains-first, Contains-others}
-use Rattle.bi_base.proofs.LayoutNames.{stands_among}
-use Rattle.bi_base.proofs.LayoutTree.{HasGoodName}
-use Rattle.bi_base.proofs.LayoutSpelling.{width-token, length_unpadded-prop}
-use Rattle.bi_base.proofs.LayoutPlaces.{placed_from}
+use Rattle.bi_base.proofs.Texts.Members.{Contains-first, Contains-others}
+use Rattle.bi_base.proofs.Texts.Names.{stands_among}
+use Rattle.bi_base.proofs.Texts.Trees.{HasGoodName}
+use Rattle.bi_base.proofs.Texts.Spelling.{width-token, length_unpadded-prop}
+use Rattle.bi_base.proofs.Texts.Places.{placed_from}
 
 -- The tokens of a normal text are tokens, and say its marks.
 

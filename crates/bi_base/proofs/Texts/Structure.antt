@@ -6,13 +6,13 @@ use Rattle.bi_base.specs.Marks.{Mark, marks_of, Say}
 use Rattle.bi_base.specs.Blob.{Range, reserved_block}
 use Rattle.bi_base.specs.Layout.{used, firsts, spelling, tokens_of, structure_block, strings_block, structure_place, tree_text, unfilled}
 use Rattle.bi_base.specs.TextLaws.{TextSaysItsTree}
-use Rattle.bi_base.proofs.LayoutMembers.{each-append}
-use Rattle.bi_base.proofs.LayoutNames.{firsts-all}
-use Rattle.bi_base.proofs.LayoutTree.{good-tree}
-use Rattle.bi_base.proofs.LayoutSpelling.{spelled}
-use Rattle.bi_base.proofs.LayoutPlaces.{placed-tree}
-use Rattle.bi_base.proofs.LayoutSays.{named_in, says, are_tokens}
-use Rattle.bi_base.proofs.LayoutLength.{length-tree_text, up4-le}
+use Rattle.bi_base.proofs.Texts.Members.{each-append}
+use Rattle.bi_base.proofs.Texts.Names.{firsts-all}
+use Rattle.bi_base.proofs.Texts.Trees.{good-tree}
+use Rattle.bi_base.proofs.Texts.Spelling.{spelled}
+use Rattle.bi_base.proofs.Texts.Places.{placed-tree}
+use Rattle.bi_base.proofs.Texts.Saying.{named_in, says, are_tokens}
+use Rattle.bi_base.proofs.Texts.Length.{length-tree_text, up4-le}
 
 -- The structure block of a normal text says its tree.
 

@@ -4,7 +4,7 @@ use Rattle.std.proofs.lemmas.List.{drop_at, length_push}
 use Rattle.bi_base.specs.Tree.{IsNew, AreDistinct}
 use Rattle.bi_base.specs.Layout.{used, firsts, strings_of, offset_in}
 use Rattle.bi_base.specs.TextLaws.{EachNameIsThereOnce, EachNameStands}
-use Rattle.bi_base.proofs.LayoutMembers.{Contains-none, Contains-cases, Contains-first, Contains-others, Contains-filter, Contains-from_filter, each-filter}
+use Rattle.bi_base.proofs.Texts.Members.{Contains-none, Contains-cases, Contains-first, Contains-others, Contains-filter, Contains-from_filter, each-filter}
 
 -- The names in a strings block: each once, and each at its offset.
 

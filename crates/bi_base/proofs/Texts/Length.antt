@@ -5,7 +5,7 @@ use Rattle.bi_base.specs.Marks.{marks_of}
 use Rattle.bi_base.specs.Blob.{Range, reserved_block}
 use Rattle.bi_base.specs.Layout.{header, filling, unfilled, text_of, blob_text, tree_text, structure_block, strings_block}
 use Rattle.bi_base.proofs.CellLaws.{length-cell}
-use Rattle.bi_base.proofs.LayoutSpelling.{length-filling}
+use Rattle.bi_base.proofs.Texts.Spelling.{length-filling}
 
 -- How long a normal text is.
 

@@ -3,7 +3,7 @@ use Rattle.std.proofs.Common.{ℕ, List, [], ◌∷◌, ◌++◌, map}
 use Rattle.std.specs.List.{AllByRecursion}
 use Rattle.bi_base.specs.Tree.{Nodes, none, node, Root, Property, HasNoZero, IsPropertyName, AreProperties, AreNodes, IsTree}
 use Rattle.bi_base.specs.Marks.{Mark, Opens, Has, Closes, marks, marks_of}
-use Rattle.bi_base.proofs.LayoutMembers.{each-append, each-map, each-weaker}
+use Rattle.bi_base.proofs.Texts.Members.{each-append, each-map, each-weaker}
 
 -- The names in the marks of a tree have no zero byte.
 

@@ -1,0 +1,10 @@
+-- Lemmas on blobs: their names, tokens, trees, faults and texts.
+pub mod Names
+pub mod Cells
+pub mod Tokens
+pub mod Spelling
+pub mod Saying
+pub mod Trees
+pub mod Ranges
+pub mod OneBlob
+pub mod Growing
