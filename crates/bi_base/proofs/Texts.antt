@@ -7,3 +7,10 @@ pub mod Trees
 pub mod Saying
 pub mod Length
 pub mod Structure
+pub mod Header
+pub mod Blocks
+pub mod Bytes
+pub mod TextBytes
+pub mod TextBlob
+pub mod SaidBytes
+pub mod Content

@@ -1,9 +1,11 @@
-use Rattle.std.specs.Prelude.{ℕ, ◌≤◌, List, [], ◌∷◌, ◌++◌, length, Contains, ◌↔◌}
+use Rattle.std.specs.Prelude.{◌≡◌, ℕ, ◌%◌, ◌≤◌, List, [], ◌∷◌, ◌++◌, length, Contains, ◌↔◌}
+use Rattle.bi_base.specs.Cells.{up4, AreBytes}
 use Rattle.bi_base.specs.Tokens.{End, Spelled, NameAt}
-use Rattle.bi_base.specs.Tree.{Root, Property, HasNoZero, AreDistinct}
+use Rattle.bi_base.specs.Tree.{Root, Property, Located, HasNoZero, AreDistinct, plain_tree, depth_of}
 use Rattle.bi_base.specs.Marks.{Mark, marks_of, placed_marks_of, Say}
-use Rattle.bi_base.specs.Blob.{Range}
-use Rattle.bi_base.specs.Layout.{used, firsts, offset_in, tokens_of, structure_block, strings_block, tree_text, structure_place, located_tree, IsContent, longest_text}
+use Rattle.bi_base.specs.Blob.{Range, reserved_block, Blob, totalsize}
+use Rattle.bi_base.specs.BlobLaws.{AreSameContent}
+use Rattle.bi_base.specs.Layout.{used, firsts, offset_in, tokens_of, structure_block, strings_block, tree_text, unfilled, structure_place, located_tree, IsContent, longest_text}
 
 -- Laws of the normal text of a blob. Each is the contract of a function in `text_laws`.
 
@@ -32,3 +34,52 @@ abbrev pub TextSaysItsTree : Type 0
 TextSaysItsTree =
     (cpu : ℕ) (ranges : List Range) (root : Root (List Property)) → IsContent cpu ranges root
     → length (tree_text cpu ranges root) ≤ longest_text → SaysTree ranges root
+
+-- This file is a blob of these alone, as their normal text is one.
+pub record IsBlobOf (file : List ℕ) (cpu : ℕ) (ranges : List Range) (root : Root (List Property)) : Type 0 where
+  pub blob : Blob file cpu ranges (located_tree ranges root)
+  pub same_tree : plain_tree (located_tree ranges root) ≡ root
+  pub same_depth : depth_of (located_tree ranges root) ≡ depth_of root
+  pub only : (other_cpu : ℕ) (other_ranges : List Range) (other_root : Root Located)
+      → Blob file other_cpu other_ranges other_root
+      → AreSameContent cpu other_cpu ranges other_ranges (located_tree ranges root) other_root
+  pub is_total : totalsize file ≡ length (tree_text cpu ranges root)
+
+-- A text that is not too long, with any bytes behind it, is a blob of exactly what it was made from. Its tree stands at the
+-- places of the layout, and its total size is the length of the text.
+abbrev pub TextIsBlob : Type 0
+TextIsBlob =
+    (cpu : ℕ) (ranges : List Range) (root : Root (List Property)) (rest : List ℕ) → IsContent cpu ranges root
+    → length (tree_text cpu ranges root) ≤ longest_text → AreBytes rest
+    → IsBlobOf (tree_text cpu ranges root ++ rest) cpu ranges root
+
+-- How long a text is.
+pub record HasTextLength (cpu : ℕ) (ranges : List Range) (root : Root (List Property)) : Type 0 where
+  pub is_length : length (tree_text cpu ranges root)
+      ≡ up4 (unfilled (length (reserved_block ranges)) (length (structure_block (marks_of root))) (length (strings_block (marks_of root))))
+  pub is_whole : length (tree_text cpu ranges root) % 4 ≡ 0
+
+-- Each text is as long as its header and its blocks, filled up to a multiple of four.
+abbrev pub EachTextHasItsLength : Type 0
+EachTextHasItsLength = (cpu : ℕ) (ranges : List Range) (root : Root (List Property)) → HasTextLength cpu ranges root
+
+-- What a file says as a blob is content: it can be written again.
+abbrev pub BlobHasContent : Type 0
+BlobHasContent =
+    (file : List ℕ) (cpu : ℕ) (ranges : List Range) (root : Root Located) → Blob file cpu ranges root
+    → IsContent cpu ranges (plain_tree root)
+
+-- Two boot processors, lists of reserved ranges and trees without places are the same.
+pub record AreSame (cpu other_cpu : ℕ) (ranges other_ranges : List Range) (root other_root : Root (List Property)) : Type 0 where
+  pub same_cpu : cpu ≡ other_cpu
+  pub same_ranges : ranges ≡ other_ranges
+  pub same_root : root ≡ other_root
+
+-- Contents with one text, which is not too long, are the same: distinct ones have distinct texts.
+abbrev pub TextHasOneContent : Type 0
+TextHasOneContent =
+    (cpu other_cpu : ℕ) (ranges other_ranges : List Range) (root other_root : Root (List Property))
+    → IsContent cpu ranges root → IsContent other_cpu other_ranges other_root
+    → length (tree_text cpu ranges root) ≤ longest_text
+    → tree_text cpu ranges root ≡ tree_text other_cpu other_ranges other_root
+    → AreSame cpu other_cpu ranges other_ranges root other_root

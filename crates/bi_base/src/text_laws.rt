@@ -1,6 +1,6 @@
 //! Laws of the normal text of a blob. Their functions do nothing: what each of them ensures is the law.
 
-ghost use Rattle.bi_base.specs.TextLaws.{EachNameIsThereOnce, EachNameStands, TextSaysItsTree};
+ghost use Rattle.bi_base.specs.TextLaws.{EachNameIsThereOnce, EachNameStands, TextSaysItsTree, EachTextHasItsLength, TextIsBlob, BlobHasContent, TextHasOneContent};
 
 /// The strings block of a normal text has each name that the marks use once, and no other name (profile of this project;
 /// Devicetree Specification, 5.5).
@@ -18,4 +18,29 @@ pub fn each_name_stands()
 /// strings block these tokens say the tree, each at the place that the layout gives it (Devicetree Specification, 5.4).
 pub fn text_says_its_tree()
     ensures { TextSaysItsTree }
+{}
+
+/// A normal text is as long as its header, reservation block, structure block and strings block together, filled up to a
+/// multiple of four (profile of this project).
+pub fn each_text_has_its_length()
+    ensures { EachTextHasItsLength }
+{}
+
+/// The normal text of a boot processor, reserved ranges and a tree, if it has at most 0x7fffffff bytes, and with any bytes
+/// behind it, is a blob of exactly these, whatever the order of the properties. The tree stands at the places that the
+/// layout gives it and is as deep, and `totalsize` is the length of the text (Devicetree Specification, chapter 5).
+pub fn text_is_a_blob()
+    ensures { TextIsBlob }
+{}
+
+/// The boot processor, the reserved ranges and the tree that a file says as a blob can be written as a normal text:
+/// numbers, names and values are in their ranges.
+pub fn blob_has_content()
+    ensures { BlobHasContent }
+{}
+
+/// Boot processors, reserved ranges and trees that differ have normal texts that differ, if one of the texts has at most
+/// 0x7fffffff bytes.
+pub fn text_has_one_content()
+    ensures { TextHasOneContent }
 {}

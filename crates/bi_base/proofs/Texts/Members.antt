@@ -79,3 +79,8 @@ each-contains {X = X} P (first ∷ others) x each has =
     where_first : (first ≡ x) ⊎ Contains others x → (Contains others x → P x) → P x
     where_first (inl same) among = subst P same each.0
     where_first (inr has) among = among has
+
+-- What holds of each element of two lists together holds of each of the first.
+pub each-front : {X : Type 0} (P : X → Type 0) (xs ys : List X) → AllByRecursion P (xs ++ ys) → AllByRecursion P xs
+each-front P [] ys each = tt
+each-front P (first ∷ others) ys each = (each.0, each-front P others ys each.1)
