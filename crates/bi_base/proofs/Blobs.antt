@@ -8,3 +8,5 @@ pub mod Trees
 pub mod Ranges
 pub mod OneBlob
 pub mod Growing
+pub mod Walking
+pub mod Steps
