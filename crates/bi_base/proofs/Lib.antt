@@ -4,3 +4,4 @@ pub mod HeaderFacts
 pub mod CrcLaws
 pub mod FirstFault
 pub mod Blobs
+pub mod Texts

@@ -1,8 +1,8 @@
-use Rattle.std.specs.Prelude.{◌≡◌, ℕ, ◌+◌, ◌-◌, ◌^◌, ◌<◌, ◌≤◌, List, [], ◌∷◌, ◌++◌, map, length, replicate, filter, flat_map, sum_by, not, bytes_eq, if◌then◌else◌}
+use Rattle.std.specs.Prelude.{ℕ, ◌+◌, ◌-◌, ◌^◌, ◌<◌, List, [], ◌∷◌, ◌++◌, map, length, replicate, filter, flat_map, sum_by, not, bytes_eq, if◌then◌else◌}
 use Rattle.std.specs.List.{AllByRecursion}
 use Rattle.bi_base.specs.Cells.{cell, up4, AreBytes}
-use Rattle.bi_base.specs.Tokens.{Token, BeginNode, EndNode, Prop, Nop, End, unpadded, width}
-use Rattle.bi_base.specs.Tree.{Nodes, none, node, Root, Property, Placed, Located, as_nodes, IsTree, AreProperties}
+use Rattle.bi_base.specs.Tokens.{Token, BeginNode, EndNode, Prop, End, unpadded, width}
+use Rattle.bi_base.specs.Tree.{Nodes, none, node, Root, Property, Placed, Located, IsTree, AreProperties}
 use Rattle.bi_base.specs.Marks.{Mark, Opens, Has, Closes, marks, marks_of}
 use Rattle.bi_base.specs.Blob.{Range, IsRange, reserved_block, blob_magic}
 

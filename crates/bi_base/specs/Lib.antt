@@ -15,3 +15,4 @@ pub mod BlobFaults
 pub mod Layout
 pub mod BlobLaws
 pub mod OpenNodes
+pub mod TextLaws

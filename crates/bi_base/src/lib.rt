@@ -10,6 +10,7 @@ mod fault;
 pub mod laws;
 mod limits;
 mod reading;
+pub mod text_laws;
 
 pub use cells::be32_at;
 pub use checksum::crc32;
