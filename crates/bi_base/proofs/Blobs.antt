@@ -5,7 +5,7 @@ pub mod Tokens
 pub mod Spelling
 pub mod Saying
 pub mod Trees
-pub mod Ranges
+pub mod Reservations
 pub mod OneBlob
 pub mod Growing
 pub mod Walking

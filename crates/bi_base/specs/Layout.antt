@@ -4,7 +4,7 @@ use Rattle.bi_base.specs.Cells.{cell, up4, AreBytes}
 use Rattle.bi_base.specs.Tokens.{Token, BeginNode, EndNode, Prop, End, unpadded, width}
 use Rattle.bi_base.specs.Tree.{Nodes, none, node, Root, Property, Placed, Located, IsTree, AreProperties}
 use Rattle.bi_base.specs.Marks.{Mark, Opens, Has, Closes, marks, marks_of}
-use Rattle.bi_base.specs.Blob.{Range, IsRange, reserved_block, blob_magic}
+use Rattle.bi_base.specs.Blob.{Reservation, IsReservation, reserved_block, blob_magic}
 
 -- The normal text of a blob (profile of this project): the header of version 17, the reservation block, the structure block
 -- and the strings block stand one behind the other, there is no FDT_NOP, what fills up is zero, and each name stands
@@ -83,13 +83,13 @@ text_of cpu reserved structure strings =
     header cpu (length reserved) (length structure) (length strings)
     ++ (reserved ++ (structure ++ (strings ++ filling (unfilled (length reserved) (length structure) (length strings)))))
 
--- The normal text of a boot processor, reserved ranges and marks.
-unfoldable pub blob_text : ℕ → List Range → List Mark → List ℕ
-blob_text cpu ranges marks = text_of cpu (reserved_block ranges) (structure_block marks) (strings_block marks)
+-- The normal text of a boot processor, memory reservations and marks.
+unfoldable pub blob_text : ℕ → List Reservation → List Mark → List ℕ
+blob_text cpu reservations marks = text_of cpu (reserved_block reservations) (structure_block marks) (strings_block marks)
 
--- The normal text of a boot processor, reserved ranges and a tree.
-abbrev pub tree_text : ℕ → List Range → Root (List Property) → List ℕ
-tree_text cpu ranges root = blob_text cpu ranges (marks_of root)
+-- The normal text of a boot processor, memory reservations and a tree.
+abbrev pub tree_text : ℕ → List Reservation → Root (List Property) → List ℕ
+tree_text cpu reservations root = blob_text cpu reservations (marks_of root)
 
 -- How many bytes the token of a mark takes.
 abbrev pub mark_width : Mark → ℕ
@@ -117,18 +117,18 @@ located at (node name properties children later) =
     (located (behind (at + mark_width (Opens name)) (map Has properties)) children)
     (located (behind at (marks (node name properties children none))) later)
 
--- Where the structure block stands in a text with these ranges.
-abbrev pub structure_place : List Range → ℕ
-structure_place ranges = 40 + length (reserved_block ranges)
+-- Where the structure block stands in a text with these reservations.
+abbrev pub structure_place : List Reservation → ℕ
+structure_place reservations = 40 + length (reserved_block reservations)
 
 -- The tree of a text with the places of its tokens.
-abbrev pub located_tree : List Range → Root (List Property) → Root Located
-located_tree ranges root = record {
+abbrev pub located_tree : List Reservation → Root (List Property) → Root Located
+located_tree reservations root = record {
   own = record {
-    place = structure_place ranges;
-    properties = located_properties (structure_place ranges + mark_width (Opens [])) root.own;
+    place = structure_place reservations;
+    properties = located_properties (structure_place reservations + mark_width (Opens [])) root.own;
   };
-  children = located (behind (structure_place ranges + mark_width (Opens [])) (map Has root.own)) root.children;
+  children = located (behind (structure_place reservations + mark_width (Opens [])) (map Has root.own)) root.children;
 }
 
 -- The names and values of a mark are bytes.
@@ -137,10 +137,10 @@ HasBytes (Opens name) = AreBytes name
 HasBytes (Has property) = AreBytes property.0 × AreBytes property.1
 HasBytes Closes = Unit {0}
 
--- What a blob may say: a boot processor, reserved ranges and a tree within their ranges of numbers, with good names.
-pub record IsContent (cpu : ℕ) (ranges : List Range) (root : Root (List Property)) : Type 0 where
+-- What a blob may say: a boot processor, memory reservations and a tree within their ranges of numbers, with good names.
+pub record IsContent (cpu : ℕ) (reservations : List Reservation) (root : Root (List Property)) : Type 0 where
   pub cpu_fits : cpu < 2 ^ 32
-  pub are_ranges : AllByRecursion IsRange ranges
+  pub are_reservations : AllByRecursion IsReservation reservations
   pub is_tree : IsTree AreProperties root
   pub bytes : AllByRecursion HasBytes (marks_of root)
 

@@ -2,7 +2,7 @@ use Rattle.std.specs.Prelude.{ℕ, ◌≤◌, List, [], ◌∷◌, ◌++◌, len
 use Rattle.bi_base.specs.Tokens.{End, Spelled, NameAt}
 use Rattle.bi_base.specs.Tree.{Root, Property, HasNoZero, AreDistinct}
 use Rattle.bi_base.specs.Marks.{Mark, marks_of, placed_marks_of, Say}
-use Rattle.bi_base.specs.Blob.{Range}
+use Rattle.bi_base.specs.Blob.{Reservation}
 use Rattle.bi_base.specs.Layout.{used, firsts, offset_in, tokens_of, structure_block, strings_block, tree_text, structure_place, located_tree, IsContent, longest_text}
 
 -- Laws of the normal text of a blob. Each is the contract of a function in `text_laws`.
@@ -23,12 +23,12 @@ EachNameStands =
     → NameAt (strings_block marks) (offset_in (firsts (used marks)) name) name
 
 -- The structure block of a text spells tokens and FDT_END, and these say the tree over the strings block, at its places.
-pub record SaysTree (ranges : List Range) (root : Root (List Property)) : Type 0 where
+pub record SaysTree (reservations : List Reservation) (root : Root (List Property)) : Type 0 where
   pub spelled : Spelled (tokens_of (marks_of root) ++ End ∷ []) (structure_block (marks_of root))
-  pub say : Say (strings_block (marks_of root)) (structure_place ranges) (tokens_of (marks_of root)) (placed_marks_of (located_tree ranges root))
+  pub say : Say (strings_block (marks_of root)) (structure_place reservations) (tokens_of (marks_of root)) (placed_marks_of (located_tree reservations root))
 
 -- The blocks of a text that is not too long say its tree.
 abbrev pub TextSaysItsTree : Type 0
 TextSaysItsTree =
-    (cpu : ℕ) (ranges : List Range) (root : Root (List Property)) → IsContent cpu ranges root
-    → length (tree_text cpu ranges root) ≤ longest_text → SaysTree ranges root
+    (cpu : ℕ) (reservations : List Reservation) (root : Root (List Property)) → IsContent cpu reservations root
+    → length (tree_text cpu reservations root) ≤ longest_text → SaysTree reservations root

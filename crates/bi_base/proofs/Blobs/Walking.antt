@@ -7,7 +7,7 @@ use Rattle.bi_base.specs.Checks.{HasNoFault}
 use Rattle.bi_base.specs.Tokens.{Token, BeginNode, EndNode, Prop, Nop, End, unpadded, width, Spells, Spelled, StandsAt, nop_number, end_node_number, end_number}
 use Rattle.bi_base.specs.Marks.{PlacedMark, Say}
 use Rattle.bi_base.specs.Stages.{Stage, after}
-use Rattle.bi_base.specs.Blob.{Block}
+use Rattle.bi_base.specs.Blob.{TreeBlocks}
 use Rattle.bi_base.specs.BlobFaults.{TokenPasses, token_checks, said, opened, place_after, IsPassed, Walked}
 use Rattle.bi_base.specs.OpenNodes.{Growth, stage_of, said_so_far, IsGrowth, Standing}
 use Rattle.bi_base.proofs.CellLaws.{length-cell, length-slice}
@@ -31,12 +31,12 @@ pub reverse-cons : (t : Token) (before : List Token) → reverse (t ∷ before) 
 reverse-cons t before = reverse-append (t ∷ []) before
 
 -- Where the token behind tokens stands, the newest first, is where it stands with the oldest first.
-pub behind_all-reverse : (block : Block) (tokens : List Token) → behind_all block.begin (reverse tokens) ≡ place_after block tokens
-behind_all-reverse block [] = refl
-behind_all-reverse block (t ∷ before) =
-    ap (behind_all block.begin) (reverse-cons t before)
-    ∙ behind_all-append block.begin (reverse before) (t ∷ [])
-    ∙ ap (λ p. p + width t) (behind_all-reverse block before)
+pub behind_all-reverse : (blocks : TreeBlocks) (tokens : List Token) → behind_all blocks.begin (reverse tokens) ≡ place_after blocks tokens
+behind_all-reverse blocks [] = refl
+behind_all-reverse blocks (t ∷ before) =
+    ap (behind_all blocks.begin) (reverse-cons t before)
+    ∙ behind_all-append blocks.begin (reverse before) (t ∷ [])
+    ∙ ap (λ p. p + width t) (behind_all-reverse blocks before)
 
 -- Tokens that stand one behind the other stand so with one more behind them.
 AllStand-push : (file : List ℕ) (at : ℕ) (tokens : List Token) (t : Token) → AllStand file at tokens → StandsAt file (behind_all at tokens) t → AllStand file at (tokens ++ t ∷ [])
@@ -44,18 +44,18 @@ AllStand-push file at [] t all last = (last, tt)
 AllStand-push file at (u ∷ tokens) t all last = (all.0, AllStand-push file (at + width u) tokens t all.1 last)
 
 -- Tokens that pass stand one behind the other, with one more behind them.
-pub Walked-stand : (block : Block) (depth_limit : ℕ) (tokens : List Token) → Walked block depth_limit tokens → AllStand block.file block.begin (reverse tokens)
-Walked-stand block depth_limit [] walked = tt
-Walked-stand block depth_limit (t ∷ before) walked =
-    subst (AllStand block.file block.begin) (sym (reverse-cons t before))
-        (AllStand-push block.file block.begin (reverse before) t (Walked-stand block depth_limit before walked.1)
-            (subst (λ p. StandsAt block.file p t) (sym (behind_all-reverse block before)) walked.0.stands))
+pub Walked-stand : (blocks : TreeBlocks) (depth_limit : ℕ) (tokens : List Token) → Walked blocks depth_limit tokens → AllStand blocks.file blocks.begin (reverse tokens)
+Walked-stand blocks depth_limit [] walked = tt
+Walked-stand blocks depth_limit (t ∷ before) walked =
+    subst (AllStand blocks.file blocks.begin) (sym (reverse-cons t before))
+    (AllStand-push blocks.file blocks.begin (reverse before) t (Walked-stand blocks depth_limit before walked.1)
+    (subst (λ p. StandsAt blocks.file p t) (sym (behind_all-reverse blocks before)) walked.0.stands))
 
 -- The same with a token behind them.
-pub Walked-stand-push : (block : Block) (depth_limit : ℕ) (tokens : List Token) (t : Token) → Walked block depth_limit tokens → StandsAt block.file (place_after block tokens) t → AllStand block.file block.begin (reverse tokens ++ t ∷ [])
-Walked-stand-push block depth_limit tokens t walked last =
-    AllStand-push block.file block.begin (reverse tokens) t (Walked-stand block depth_limit tokens walked)
-        (subst (λ p. StandsAt block.file p t) (sym (behind_all-reverse block tokens)) last)
+pub Walked-stand-push : (blocks : TreeBlocks) (depth_limit : ℕ) (tokens : List Token) (t : Token) → Walked blocks depth_limit tokens → StandsAt blocks.file (place_after blocks tokens) t → AllStand blocks.file blocks.begin (reverse tokens ++ t ∷ [])
+Walked-stand-push blocks depth_limit tokens t walked last =
+    AllStand-push blocks.file blocks.begin (reverse tokens) t (Walked-stand blocks depth_limit tokens walked)
+    (subst (λ p. StandsAt blocks.file p t) (sym (behind_all-reverse blocks tokens)) last)
 
 -- What stands behind tokens does not stand before them.
 pub behind_all-past : (at : ℕ) (tokens : List Token) → at ≤ behind_all at tokens
@@ -97,33 +97,32 @@ stand_Spelled file at (t ∷ later) stand within =
     let within_here : end ≤ length file = within in
     let room : w ≤ end - at = omega arith in
     let sum : end - at ≡ w + (end - (at + w)) = omega arith in
-    let fits : at + w ≤ length file = omega arith in
-    (
+    let fits : at + w ≤ length file = omega arith in (
       subst (Spells t) (sym (slice-first file at w (end - at) room)) (stand_Spells file at t stand.0 fits),
       subst (Spelled later) (sym (slice-rest file at w (end - at) (end - (at + w)) sum))
           (stand_Spelled file (at + w) later stand.1 within_here),
     )
 
 -- A reader that stands at a token which passes stands behind it, where what was read grows by what the token says.
-pub stand_more : (block : Block) (depth_limit place : ℕ) (old new : Growth) (t : Token) (more : List PlacedMark) → Standing block depth_limit place old → t ≢ End → StandsAt block.file place t → HasNoFault (TokenPasses block depth_limit place (stage_of old)) (token_checks (u32_at block.file place)) → Say block.strings place (t ∷ []) more → said_so_far new ≡ said_so_far old ++ more → fold after (stage_of old) (said block.strings t) ≡ stage_of new → IsGrowth depth_limit new → Standing block depth_limit (place + width t) new
-stand_more block depth_limit place old new t more standing follows stands passes says grown staged is_growth = record {
+pub stand_more : (blocks : TreeBlocks) (depth_limit place : ℕ) (old new : Growth) (t : Token) (more : List PlacedMark) → Standing blocks depth_limit place old → t ≢ End → StandsAt blocks.file place t → HasNoFault (TokenPasses blocks depth_limit place (stage_of old)) (token_checks (u32_at blocks.file place)) → Say blocks.strings place (t ∷ []) more → said_so_far new ≡ said_so_far old ++ more → fold after (stage_of old) (said blocks.strings t) ≡ stage_of new → IsGrowth depth_limit new → Standing blocks depth_limit (place + width t) new
+stand_more blocks depth_limit place old new t more standing no_end stands passes says grown staged is_growth = record {
   readable = standing.readable;
   tokens = t ∷ standing.tokens;
   walked = (
     record {
-      follows = follows;
-      stands = subst (λ p. StandsAt block.file p t) (sym standing.is_place) stands;
-      passes = subst (λ p. HasNoFault (TokenPasses block depth_limit p (opened block.strings standing.tokens)) (token_checks (u32_at block.file p)))
+      no_end = no_end;
+      stands = subst (λ p. StandsAt blocks.file p t) (sym standing.is_place) stands;
+      passes = subst (λ p. HasNoFault (TokenPasses blocks depth_limit p (opened blocks.strings standing.tokens)) (token_checks (u32_at blocks.file p)))
           (sym standing.is_place)
-          (subst (λ stage. HasNoFault (TokenPasses block depth_limit place stage) (token_checks (u32_at block.file place))) (sym standing.is_stage) passes);
+          (subst (λ stage. HasNoFault (TokenPasses blocks depth_limit place stage) (token_checks (u32_at blocks.file place))) (sym standing.is_stage) passes);
     },
     standing.walked,
   );
   is_place = ap (λ p. p + width t) standing.is_place;
-  is_stage = ap (λ stage. fold after stage (said block.strings t)) standing.is_stage ∙ staged;
-  say = subst (λ ts. Say block.strings block.begin ts (said_so_far new)) (sym (reverse-cons t standing.tokens))
-      (subst (Say block.strings block.begin (reverse standing.tokens ++ t ∷ [])) (sym grown)
-          (Say-append block.strings block.begin (reverse standing.tokens) (t ∷ []) (said_so_far old) more standing.say
-              (subst (λ p. Say block.strings p (t ∷ []) more) (sym (behind_all-reverse block standing.tokens ∙ standing.is_place)) says)));
+  is_stage = ap (λ stage. fold after stage (said blocks.strings t)) standing.is_stage ∙ staged;
+  say = subst (λ ts. Say blocks.strings blocks.begin ts (said_so_far new)) (sym (reverse-cons t standing.tokens))
+      (subst (Say blocks.strings blocks.begin (reverse standing.tokens ++ t ∷ [])) (sym grown)
+      (Say-append blocks.strings blocks.begin (reverse standing.tokens) (t ∷ []) (said_so_far old) more standing.say
+      (subst (λ p. Say blocks.strings p (t ∷ []) more) (sym (behind_all-reverse blocks standing.tokens ∙ standing.is_place)) says)));
   is_growth = is_growth;
 }

@@ -2,7 +2,7 @@ use Rattle.std.proofs.Common.{◌≡◌, ℕ, ◌+◌, max, List, [], ◌∷◌,
 use Rattle.std.proofs.lemmas.List.Sums.{sum_by-cons, sum_by-append}
 use Rattle.bi_base.specs.Tree.{Nodes, none, node, Root, Property, as_nodes, with_each, plain, plain_tree, property_of, depth, depth_of}
 use Rattle.bi_base.specs.Marks.{Mark, Opens, Has, Closes, marks, marks_of, PlacedMark, OpensAt, HasAt, ClosesAt, placed_marks, placed_marks_of}
-use Rattle.bi_base.specs.Blob.{Range}
+use Rattle.bi_base.specs.Blob.{Reservation}
 use Rattle.bi_base.specs.Layout.{mark_width, behind, located_properties, located, structure_place, located_tree}
 
 -- The places of a normal text's tokens, and the tree that has them.
@@ -74,8 +74,8 @@ placed-nodes at (node name properties children later) =
     below = behind (at + mark_width (Opens name)) (map Has properties)
 
 -- A tree with its places says what its marks with theirs say.
-pub placed-tree : (ranges : List Range) (root : Root (List Property)) → placed_marks_of (located_tree ranges root) ≡ placed_from (structure_place ranges) (marks_of root)
-placed-tree ranges root = placed-nodes (structure_place ranges) (as_nodes root)
+pub placed-tree : (reservations : List Reservation) (root : Root (List Property)) → placed_marks_of (located_tree reservations root) ≡ placed_from (structure_place reservations) (marks_of root)
+placed-tree reservations root = placed-nodes (structure_place reservations) (as_nodes root)
 
 -- Properties with their places are the same properties.
 pub plain-properties : (at : ℕ) (properties : List Property) → map property_of (located_properties at properties) ≡ properties
@@ -96,11 +96,11 @@ plain-nodes at (node name properties children later) =
     next = behind at (marks (node name properties children none))
 
 -- A tree with its places is the same tree.
-pub plain-tree : (ranges : List Range) (root : Root (List Property)) → plain_tree (located_tree ranges root) ≡ root
-plain-tree ranges root =
+pub plain-tree : (reservations : List Reservation) (root : Root (List Property)) → plain_tree (located_tree reservations root) ≡ root
+plain-tree reservations root =
     ap₂ (λ own children. record { own = own; children = children })
-    (plain-properties (structure_place ranges + mark_width (Opens [])) root.own)
-    (plain-nodes (behind (structure_place ranges + mark_width (Opens [])) (map Has root.own)) root.children)
+    (plain-properties (structure_place reservations + mark_width (Opens [])) root.own)
+    (plain-nodes (behind (structure_place reservations + mark_width (Opens [])) (map Has root.own)) root.children)
 
 -- Nodes with their places are as deep.
 pub depth-nodes : (at : ℕ) (nodes : Nodes (List Property)) → depth (located at nodes) ≡ depth nodes
@@ -111,5 +111,5 @@ depth-nodes at (node name properties children later) =
     (depth-nodes (behind at (marks (node name properties children none))) later)
 
 -- A tree with its places is as deep.
-pub depth-tree : (ranges : List Range) (root : Root (List Property)) → depth_of (located_tree ranges root) ≡ depth_of root
-depth-tree ranges root = depth-nodes (structure_place ranges) (as_nodes root)
+pub depth-tree : (reservations : List Reservation) (root : Root (List Property)) → depth_of (located_tree reservations root) ≡ depth_of root
+depth-tree reservations root = depth-nodes (structure_place reservations) (as_nodes root)
