@@ -10,3 +10,6 @@ pub mod OneBlob
 pub mod Growing
 pub mod Walking
 pub mod Steps
+pub mod Ending
+pub mod Decided
+pub mod Whole

@@ -27,7 +27,7 @@ passes_there blocks depth_limit place number stage next =
     subst (λ n. HasNoFault (TokenPasses blocks depth_limit place stage) (token_checks n)) (sym next.is_number) next.passes
 
 -- The token's number is within the file.
-word_within : (blocks : TreeBlocks) (depth_limit place number : ℕ) (stage : Stage) → IsReadable blocks → IsNext blocks depth_limit place stage number → place + 4 ≤ length blocks.file
+pub word_within : (blocks : TreeBlocks) (depth_limit place number : ℕ) (stage : Stage) → IsReadable blocks → IsNext blocks depth_limit place stage number → place + 4 ≤ length blocks.file
 word_within blocks depth_limit place number stage readable next =
     let word : place + 4 ≤ blocks.end = next.passes.0 in
     let within : blocks.end ≤ length blocks.file = readable.within in
@@ -112,8 +112,12 @@ property_at blocks place = record {
   place = place;
 }
 
+-- The token that says it.
+abbrev pub property_token : TreeBlocks → ℕ → Token
+property_token blocks place = Prop (u32_at blocks.file (place + 8)) (slice blocks.file (place + 12) (u32_at blocks.file (place + 4)))
+
 -- FDT_PROP adds a property to the innermost node.
-pub next_property : (blocks : TreeBlocks) (depth_limit place : ℕ) (o : OpenNode) (outer : List OpenNode) → Standing blocks depth_limit place (Growing o outer) → IsNext blocks depth_limit place (stage_of (Growing o outer)) prop_number → Standing blocks depth_limit (place + width (Prop (u32_at blocks.file (place + 8)) (slice blocks.file (place + 12) (u32_at blocks.file (place + 4))))) (Growing (with_one_property o (property_at blocks place)) outer)
+pub next_property : (blocks : TreeBlocks) (depth_limit place : ℕ) (o : OpenNode) (outer : List OpenNode) → Standing blocks depth_limit place (Growing o outer) → IsNext blocks depth_limit place (stage_of (Growing o outer)) prop_number → Standing blocks depth_limit (place + width (property_token blocks place)) (Growing (with_one_property o (property_at blocks place)) outer)
 next_property blocks depth_limit place o outer standing next =
     let p : Placed = property_at blocks place in
     let offset : ℕ = u32_at blocks.file (place + 8) in
