@@ -5,6 +5,11 @@ pub mod Tokens
 pub mod Spelling
 pub mod Saying
 pub mod Trees
-pub mod Ranges
+pub mod Reservations
 pub mod OneBlob
 pub mod Growing
+pub mod Walking
+pub mod Steps
+pub mod Ending
+pub mod Decided
+pub mod Whole

@@ -7,7 +7,7 @@ use Rattle.bi_base.specs.Tree.{Root, Located, IsTree, AreProperties, plain_tree,
 use Rattle.bi_base.specs.Marks.{Say, placed_marks_of}
 
 -- What a file says as a devicetree blob (Devicetree Specification, chapter 5): the number of the boot processor, the
--- reserved ranges of memory, and the tree. A file may be longer than its blob.
+-- memory reservations, and the tree. A file may be longer than its blob.
 
 -- The cells of the header, by their names in the standard (5.2).
 abbrev pub magic : List ℕ → ℕ
@@ -48,9 +48,9 @@ blob_magic = 0xd00dfeed
 abbrev pub least_version : ℕ
 least_version = 17
 
--- The greatest version that a blob may have to be understood as (profile of this project).
-abbrev pub greatest_version : ℕ
-greatest_version = 17
+-- The version that a reader here is of: `last_comp_version` may be this at most (5.1).
+abbrev pub reader_version : ℕ
+reader_version = 17
 
 -- How many bytes the header has (5.2).
 abbrev pub header_length : List ℕ → ℕ
@@ -65,12 +65,13 @@ abbrev pub strings_end : List ℕ → ℕ
 strings_end file = off_dt_strings file + size_dt_strings file
 
 -- The header of a blob (5.2, 5.6). The three blocks stand behind the header and before `totalsize`, in any order, and may
--- overlap (profile of this project).
+-- overlap (profile of this project). That the structure block does not end before it begins (`structure_ordered`) asks for
+-- something only where its end is not told by its size.
 pub record Header (file : List ℕ) : Type 0 where
   pub whole : header_length file ≤ length file
   pub is_magic : magic file ≡ blob_magic
   pub is_read : least_version ≤ version file
-  pub is_understood : last_comp_version file ≤ greatest_version
+  pub is_understood : last_comp_version file ≤ reader_version
   pub total_holds_header : header_length file ≤ totalsize file
   pub file_holds_total : totalsize file ≤ length file
   pub reservations_behind_header : header_length file ≤ off_mem_rsvmap file
@@ -83,68 +84,71 @@ pub record Header (file : List ℕ) : Type 0 where
   pub strings_behind_header : header_length file ≤ off_dt_strings file
   pub strings_within : strings_end file ≤ totalsize file
 
--- A reserved range of memory (5.3).
-pub record Range : Type 0 where
+-- A memory reservation: a range of memory (5.3).
+pub record Reservation : Type 0 where
   pub address : ℕ
   pub size : ℕ
 
 -- The bytes of a pair of the reservation block (5.3.2).
-abbrev pub range_bytes : Range → List ℕ
-range_bytes range = cell8 range.address ++ cell8 range.size
+abbrev pub pair_bytes : Reservation → List ℕ
+pair_bytes reservation = cell8 reservation.address ++ cell8 reservation.size
 
 -- The pair of two zeros that ends the reservation block (5.3.2).
-abbrev pub end_pair : Range
+abbrev pub end_pair : Reservation
 end_pair = record { address = 0; size = 0 }
 
--- A range that the reservation block can hold: not both numbers are zero.
-pub record IsRange (range : Range) : Type 0 where
-  pub address_fits : range.address < 2 ^ 64
-  pub size_fits : range.size < 2 ^ 64
-  pub some : 0 < range.address + range.size
+-- A reservation that the reservation block can hold: not both numbers are zero (5.3.2; that one of size zero counts is
+-- profile of this project).
+pub record IsReservation (reservation : Reservation) : Type 0 where
+  pub address_fits : reservation.address < 2 ^ 64
+  pub size_fits : reservation.size < 2 ^ 64
+  pub some : 0 < reservation.address + reservation.size
 
--- The reservation block with these ranges (5.3.2).
-abbrev pub reserved_block : List Range → List ℕ
-reserved_block ranges = flat_map range_bytes ranges ++ range_bytes end_pair
+-- The reservation block with these reservations (5.3.2).
+abbrev pub reserved_block : List Reservation → List ℕ
+reserved_block reservations = flat_map pair_bytes reservations ++ pair_bytes end_pair
 
--- These bytes begin with the reservation block that has these ranges.
-pub record Reserved (bytes : List ℕ) (ranges : List Range) : Type 0 where
-  pub are_ranges : AllByRecursion IsRange ranges
+-- These bytes begin with the reservation block that has these reservations.
+pub record Reserved (bytes : List ℕ) (reservations : List Reservation) : Type 0 where
+  pub are_reservations : AllByRecursion IsReservation reservations
   pub behind : List ℕ
-  pub stands : bytes ≡ reserved_block ranges ++ behind
+  pub stands : bytes ≡ reserved_block reservations ++ behind
 
 -- Where a file has its tree: the structure block from `begin` on and before `end`, and the strings block.
-pub record Block : Type 0 where
+pub record TreeBlocks : Type 0 where
   pub file : List ℕ
   pub begin : ℕ
   pub end : ℕ
   pub strings : List ℕ
 
 -- Where a blob has its tree.
-abbrev pub block_of : List ℕ → Block
-block_of file = record {
+abbrev pub tree_blocks : List ℕ → TreeBlocks
+tree_blocks file = record {
   file = file;
   begin = off_dt_struct file;
   end = structure_end file;
   strings = slice file (off_dt_strings file) (size_dt_strings file);
 }
 
--- The structure block holds this tree: it begins with tokens that say the tree, and FDT_END behind them (5.4.2).
-pub record HoldsTree (block : Block) (root : Root Located) : Type 0 where
+-- The structure block holds this tree: it begins with tokens that say the tree, and FDT_END behind them (5.4.2; that bytes
+-- may stand behind FDT_END is profile of this project).
+pub record HoldsTree (blocks : TreeBlocks) (root : Root Located) : Type 0 where
   pub tokens : List Token
   pub structure : List ℕ
   pub behind : List ℕ
-  pub stands : slice block.file block.begin (block.end - block.begin) ≡ structure ++ behind
+  pub stands : slice blocks.file blocks.begin (blocks.end - blocks.begin) ≡ structure ++ behind
   pub spelled : Spelled (tokens ++ End ∷ []) structure
-  pub say : Say block.strings block.begin tokens (placed_marks_of root)
+  pub say : Say blocks.strings blocks.begin tokens (placed_marks_of root)
   pub is_tree : IsTree AreProperties (plain_tree root)
 
--- This file begins with a blob that has this boot processor, these reserved ranges and this tree (chapter 5).
-pub record Blob (file : List ℕ) (cpu : ℕ) (ranges : List Range) (root : Root Located) : Type 0 where
+-- This file begins with a blob that has this boot processor, these memory reservations and this tree (chapter 5; that a
+-- file may be longer than its blob is profile of this project).
+pub record Blob (file : List ℕ) (cpu : ℕ) (reservations : List Reservation) (root : Root Located) : Type 0 where
   pub bytes : AreBytes file
   pub header : Header file
   pub is_cpu : boot_cpuid_phys file ≡ cpu
-  pub reserved : Reserved (slice file (off_mem_rsvmap file) (totalsize file - off_mem_rsvmap file)) ranges
-  pub holds : HoldsTree (block_of file) root
+  pub reserved : Reserved (slice file (off_mem_rsvmap file) (totalsize file - off_mem_rsvmap file)) reservations
+  pub holds : HoldsTree (tree_blocks file) root
 
 -- A file and its tree are no larger than the limits allow (profile of this project).
 pub record IsWithin (bounds : Bounds) (file : List ℕ) (root : Root Located) : Type 0 where
@@ -154,7 +158,7 @@ pub record IsWithin (bounds : Bounds) (file : List ℕ) (root : Root Located) : 
 -- The file is a blob within the limits.
 pub record IsBlobWithin (bounds : Bounds) (file : List ℕ) : Type 0 where
   pub cpu : ℕ
-  pub ranges : List Range
+  pub reservations : List Reservation
   pub root : Root Located
-  pub blob : Blob file cpu ranges root
+  pub blob : Blob file cpu reservations root
   pub within : IsWithin bounds file root

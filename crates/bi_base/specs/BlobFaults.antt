@@ -9,7 +9,7 @@ use Rattle.bi_base.specs.Tokens.{Token, BeginNode, EndNode, Prop, Nop, End, widt
 use Rattle.bi_base.specs.Tree.{HasNoZero, IsChildName, IsPropertyName, IsNew}
 use Rattle.bi_base.specs.Marks.{Mark, Opens, Has, Closes}
 use Rattle.bi_base.specs.Stages.{Stage, BeforeRoot, Inside, AfterRoot, after, open_nodes, child_names, property_names, may_stand}
-use Rattle.bi_base.specs.Blob.{magic, totalsize, off_dt_struct, off_dt_strings, off_mem_rsvmap, version, last_comp_version, blob_magic, least_version, greatest_version, header_length, structure_end, strings_end, Block, block_of}
+use Rattle.bi_base.specs.Blob.{magic, totalsize, off_dt_struct, off_dt_strings, off_mem_rsvmap, version, last_comp_version, blob_magic, least_version, reader_version, header_length, structure_end, strings_end, TreeBlocks, tree_blocks}
 
 -- Why a file is no blob within limits, and at which offset: the first check that fails (profile of this project, with
 -- the requirements of the Devicetree Specification, chapter 5). The header's checks come first, then the pairs of the
@@ -18,7 +18,7 @@ use Rattle.bi_base.specs.Blob.{magic, totalsize, off_dt_struct, off_dt_strings, 
 -- The checks of the header (5.2).
 pub data HeaderCheck : Type 0 where
   IsWithinLimit : HeaderCheck
-  HasFirstWord : HeaderCheck
+  HasMagicCell : HeaderCheck
   HasMagic : HeaderCheck
   HasHeader : HeaderCheck
   HasVersion : HeaderCheck
@@ -32,17 +32,17 @@ pub data HeaderCheck : Type 0 where
 -- The order in which they are made.
 abbrev pub header_checks : List HeaderCheck
 header_checks =
-    IsWithinLimit ∷ HasFirstWord ∷ HasMagic ∷ HasHeader ∷ HasVersion ∷ HasCompatibleVersion ∷ TotalHoldsHeader
+    IsWithinLimit ∷ HasMagicCell ∷ HasMagic ∷ HasHeader ∷ HasVersion ∷ HasCompatibleVersion ∷ TotalHoldsHeader
     ∷ FileHoldsTotal ∷ PlacesReservations ∷ PlacesStructure ∷ PlacesStrings ∷ []
 
 -- What each of them asks for.
 abbrev pub HeaderPasses : Bounds → List ℕ → HeaderCheck → Type 0
 HeaderPasses bounds file IsWithinLimit = length file ≤ bounds.file
-HeaderPasses bounds file HasFirstWord = 4 ≤ length file
+HeaderPasses bounds file HasMagicCell = 4 ≤ length file
 HeaderPasses bounds file HasMagic = magic file ≡ blob_magic
 HeaderPasses bounds file HasHeader = header_length file ≤ length file
 HeaderPasses bounds file HasVersion = least_version ≤ version file
-HeaderPasses bounds file HasCompatibleVersion = last_comp_version file ≤ greatest_version
+HeaderPasses bounds file HasCompatibleVersion = last_comp_version file ≤ reader_version
 HeaderPasses bounds file TotalHoldsHeader = header_length file ≤ totalsize file
 HeaderPasses bounds file FileHoldsTotal = totalsize file ≤ length file
 HeaderPasses bounds file PlacesReservations =
@@ -56,7 +56,7 @@ HeaderPasses bounds file PlacesStrings =
 -- The fault that each of them gives.
 abbrev pub header_fault : Bounds → HeaderCheck → Fault
 header_fault bounds IsWithinLimit = record { cause = TooLarge; offset = bounds.file }
-header_fault bounds HasFirstWord = record { cause = Truncated; offset = 0 }
+header_fault bounds HasMagicCell = record { cause = Truncated; offset = 0 }
 header_fault bounds HasMagic = record { cause = BadMagic; offset = 0 }
 header_fault bounds HasHeader = record { cause = Truncated; offset = 0 }
 header_fault bounds HasVersion = record { cause = BadVersion; offset = 20 }
@@ -80,14 +80,14 @@ pub record IsEndPair (file : List ℕ) (at : ℕ) : Type 0 where
   pub address : u64_at file at ≡ 0
   pub size : u64_at file (at + 8) ≡ 0
 
--- The reservation block at this offset has this many ranges and ends before `total`.
-pub record HasRanges (file : List ℕ) (at total count : ℕ) : Type 0 where
+-- The reservation block at this offset has this many reservations, and its end pair ends at `total` or before.
+pub record HasReservations (file : List ℕ) (at total count : ℕ) : Type 0 where
   pub before : (index : ℕ) → index < count → ¬ (IsEndPair file (at + 16 * index))
   pub end : IsEndPair file (at + 16 * count)
   pub within : at + 16 * count + 16 ≤ total
 
--- The pairs of the reservation block reach past `total` before one ends it: the first pair that does gives the fault.
-pub record RangesFault (file : List ℕ) (at total : ℕ) (fault : Fault) : Type 0 where
+-- Of the pairs of the reservation block, up to and with its end pair, the first that reaches past `total` gives the fault.
+pub record ReservationsFault (file : List ℕ) (at total : ℕ) (fault : Fault) : Type 0 where
   pub index : ℕ
   pub before : (earlier : ℕ) → earlier < index → ¬ (IsEndPair file (at + 16 * earlier))
   pub fits : at + 16 * index ≤ total
@@ -124,33 +124,33 @@ token_checks number =
     else if number == prop_number then property_checks
     else [])
 
--- What the name of a node may be: empty for the root, and for no other node (2.2.1, 2.2.3).
+-- What the name of a node may be: empty for the root, and for no other node (2.2.1).
 abbrev pub MayBeNamed : Stage → List ℕ → Type 0
 MayBeNamed BeforeRoot name = name ≡ []
 MayBeNamed (Inside innermost outer) name = IsChildName name
 MayBeNamed AfterRoot name = ⊥
 
--- The bytes of the file from this offset on have a zero byte before `end`, and so a name.
+-- These bytes have a zero byte from offset `at` on and before `end`, and so a name.
 abbrev pub HasName : List ℕ → ℕ → ℕ → Type 0
 HasName bytes at end = at + length (name_from bytes at) < end
 
 -- What each of them asks of the token at offset `place` of the file, at this stage. A node's name stands behind the token's
 -- number; a property's number is followed by the length of its value, the offset of its name, and its value.
-abbrev pub TokenPasses : Block → (depth_limit place : ℕ) → Stage → TokenCheck → Type 0
-TokenPasses block depth_limit place stage HasWord = place + 4 ≤ block.end
-TokenPasses block depth_limit place stage MayStand = IsTrue (may_stand stage (u32_at block.file place))
-TokenPasses block depth_limit place stage IsWithinDepth = length (open_nodes stage) < depth_limit
-TokenPasses block depth_limit place stage HasNodeName = HasName block.file (place + 4) block.end
-TokenPasses block depth_limit place stage MayNameNode = MayBeNamed stage (name_from block.file (place + 4))
-TokenPasses block depth_limit place stage IsNewNode = IsNew (name_from block.file (place + 4)) (child_names stage)
-TokenPasses block depth_limit place stage IsBeforeChildren = child_names stage ≡ []
-TokenPasses block depth_limit place stage HasValue = place + 12 + u32_at block.file (place + 4) ≤ block.end
-TokenPasses block depth_limit place stage HasPropertyName =
-    HasName block.strings (u32_at block.file (place + 8)) (length block.strings)
-TokenPasses block depth_limit place stage MayNameProperty =
-    IsPropertyName (name_from block.strings (u32_at block.file (place + 8)))
-TokenPasses block depth_limit place stage IsNewProperty =
-    IsNew (name_from block.strings (u32_at block.file (place + 8))) (property_names stage)
+abbrev pub TokenPasses : TreeBlocks → (depth_limit place : ℕ) → Stage → TokenCheck → Type 0
+TokenPasses blocks depth_limit place stage HasWord = place + 4 ≤ blocks.end
+TokenPasses blocks depth_limit place stage MayStand = IsTrue (may_stand stage (u32_at blocks.file place))
+TokenPasses blocks depth_limit place stage IsWithinDepth = length (open_nodes stage) < depth_limit
+TokenPasses blocks depth_limit place stage HasNodeName = HasName blocks.file (place + 4) blocks.end
+TokenPasses blocks depth_limit place stage MayNameNode = MayBeNamed stage (name_from blocks.file (place + 4))
+TokenPasses blocks depth_limit place stage IsNewNode = IsNew (name_from blocks.file (place + 4)) (child_names stage)
+TokenPasses blocks depth_limit place stage IsBeforeChildren = child_names stage ≡ []
+TokenPasses blocks depth_limit place stage HasValue = place + 12 + u32_at blocks.file (place + 4) ≤ blocks.end
+TokenPasses blocks depth_limit place stage HasPropertyName =
+    HasName blocks.strings (u32_at blocks.file (place + 8)) (length blocks.strings)
+TokenPasses blocks depth_limit place stage MayNameProperty =
+    IsPropertyName (name_from blocks.strings (u32_at blocks.file (place + 8)))
+TokenPasses blocks depth_limit place stage IsNewProperty =
+    IsNew (name_from blocks.strings (u32_at blocks.file (place + 8))) (property_names stage)
 
 -- The cause that each of them gives.
 abbrev pub token_cause : TokenCheck → Cause
@@ -183,38 +183,38 @@ opened strings [] = BeforeRoot
 opened strings (token ∷ before) = fold after (opened strings before) (said strings token)
 
 -- Where the token after these stands, the newest first.
-abbrev pub place_after : Block → List Token → ℕ
-place_after block [] = block.begin
-place_after block (token ∷ before) = place_after block before + width token
+abbrev pub place_after : TreeBlocks → List Token → ℕ
+place_after blocks [] = blocks.begin
+place_after blocks (token ∷ before) = place_after blocks before + width token
 
--- This token stands after these, the newest first; it passes its checks, and another token follows it.
-pub record IsPassed (block : Block) (depth_limit : ℕ) (before : List Token) (token : Token) : Type 0 where
-  pub follows : token ≢ End
-  pub stands : StandsAt block.file (place_after block before) token
-  pub passes : HasNoFault (TokenPasses block depth_limit (place_after block before) (opened block.strings before))
-      (token_checks (u32_at block.file (place_after block before)))
+-- This token stands after these, the newest first; it passes its checks, and it is not FDT_END.
+pub record IsPassed (blocks : TreeBlocks) (depth_limit : ℕ) (before : List Token) (token : Token) : Type 0 where
+  pub no_end : token ≢ End
+  pub stands : StandsAt blocks.file (place_after blocks before) token
+  pub passes : HasNoFault (TokenPasses blocks depth_limit (place_after blocks before) (opened blocks.strings before))
+      (token_checks (u32_at blocks.file (place_after blocks before)))
 
--- The structure block begins with these tokens, the newest first, and each of them passes its checks.
-abbrev pub Walked : Block → ℕ → List Token → Type 0
-Walked block depth_limit [] = Unit {0}
-Walked block depth_limit (token ∷ before) = IsPassed block depth_limit before token × Walked block depth_limit before
+-- The structure block begins with these tokens, the newest first; each of them passes its checks, and none is FDT_END.
+abbrev pub Walked : TreeBlocks → ℕ → List Token → Type 0
+Walked blocks depth_limit [] = Unit {0}
+Walked blocks depth_limit (token ∷ before) = IsPassed blocks depth_limit before token × Walked blocks depth_limit before
 
 -- Some tokens of the structure block pass, and of the checks of the token after them the first that fails gives this fault.
-pub record StructureFault (block : Block) (depth_limit : ℕ) (fault : Fault) : Type 0 where
+pub record StructureFault (blocks : TreeBlocks) (depth_limit : ℕ) (fault : Fault) : Type 0 where
   pub before : List Token
-  pub walked : Walked block depth_limit before
+  pub walked : Walked blocks depth_limit before
   pub first : IsFirstFault
-      (TokenPasses block depth_limit (place_after block before) (opened block.strings before))
-      (token_fault (place_after block before))
-      (token_checks (u32_at block.file (place_after block before)))
+      (TokenPasses blocks depth_limit (place_after blocks before) (opened blocks.strings before))
+      (token_fault (place_after blocks before))
+      (token_checks (u32_at blocks.file (place_after blocks before)))
       fault
 
 -- The fault of a file as a blob within limits.
 pub data BlobFault (bounds : Bounds) (file : List ℕ) (fault : Fault) : Type 0 where
   InHeader : HeaderFault bounds file fault → BlobFault bounds file fault
-  InReservations : HeaderIsFine bounds file → RangesFault file (off_mem_rsvmap file) (totalsize file) fault
+  InReservations : HeaderIsFine bounds file → ReservationsFault file (off_mem_rsvmap file) (totalsize file) fault
       → BlobFault bounds file fault
   InStructure : HeaderIsFine bounds file
-      → (count : ℕ) → HasRanges file (off_mem_rsvmap file) (totalsize file) count
-      → StructureFault (block_of file) bounds.depth fault
+      → (count : ℕ) → HasReservations file (off_mem_rsvmap file) (totalsize file) count
+      → StructureFault (tree_blocks file) bounds.depth fault
       → BlobFault bounds file fault

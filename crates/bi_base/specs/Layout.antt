@@ -1,14 +1,15 @@
-use Rattle.std.specs.Prelude.{ℕ, ◌+◌, ◌-◌, ◌^◌, ◌<◌, List, [], ◌∷◌, ◌++◌, map, length, replicate, filter, flat_map, sum_by, not, bytes_eq, if◌then◌else◌}
+use Rattle.std.specs.Prelude.{◌≡◌, ℕ, ◌+◌, ◌-◌, ◌^◌, ◌<◌, List, [], ◌∷◌, ◌++◌, map, length, replicate, filter, flat_map, sum_by, not, bytes_eq, if◌then◌else◌}
 use Rattle.std.specs.List.{AllByRecursion}
 use Rattle.bi_base.specs.Cells.{cell, up4, AreBytes}
 use Rattle.bi_base.specs.Tokens.{Token, BeginNode, EndNode, Prop, End, unpadded, width}
-use Rattle.bi_base.specs.Tree.{Nodes, none, node, Root, Property, Placed, Located, IsTree, AreProperties}
+use Rattle.bi_base.specs.Tree.{Nodes, none, node, Root, Property, Placed, Located, IsTree, AreProperties, IsNormal}
 use Rattle.bi_base.specs.Marks.{Mark, Opens, Has, Closes, marks, marks_of}
-use Rattle.bi_base.specs.Blob.{Range, IsRange, reserved_block, blob_magic}
+use Rattle.bi_base.specs.Blob.{Reservation, IsReservation, reserved_block, blob_magic}
 
--- The normal text of a blob (profile of this project): the header of version 17, the reservation block, the structure block
--- and the strings block stand one behind the other, there is no FDT_NOP, what fills up is zero, and each name stands
--- once in the strings block.
+-- The text of a blob as this project lays it out (profile of this project): the header of version 17, the reservation block,
+-- the structure block and the strings block stand one behind the other, there is no FDT_NOP, what fills up is zero, and
+-- each name of a property stands once in the strings block, without bytes of another name. Properties and children stand
+-- in the order of the tree. The text is the normal one where the properties of each node stand in byte order.
 
 -- The names of properties that a mark uses.
 abbrev pub names_in : Mark → List (List ℕ)
@@ -63,9 +64,9 @@ strings_block marks = strings_of (firsts (used marks))
 abbrev pub unfilled : (reserved structure strings : ℕ) → ℕ
 unfilled reserved structure strings = 40 + reserved + structure + strings
 
--- The header of a text with blocks of these lengths: version 17, which version 16 may be understood as (5.2).
-abbrev pub header : (cpu reserved structure strings : ℕ) → List ℕ
-header cpu reserved structure strings =
+-- The header of a text with blocks of these lengths: version 17, and a reader of version 16 can read it (5.1, 5.2).
+abbrev pub blob_header : (cpu reserved structure strings : ℕ) → List ℕ
+blob_header cpu reserved structure strings =
     cell blob_magic
     ++ (cell (up4 (unfilled reserved structure strings))
     ++ (cell (40 + reserved)
@@ -80,16 +81,22 @@ header cpu reserved structure strings =
 -- A text of a boot processor and three blocks.
 unfoldable pub text_of : ℕ → (reserved structure strings : List ℕ) → List ℕ
 text_of cpu reserved structure strings =
-    header cpu (length reserved) (length structure) (length strings)
+    blob_header cpu (length reserved) (length structure) (length strings)
     ++ (reserved ++ (structure ++ (strings ++ filling (unfilled (length reserved) (length structure) (length strings)))))
 
--- The normal text of a boot processor, reserved ranges and marks.
-unfoldable pub blob_text : ℕ → List Range → List Mark → List ℕ
-blob_text cpu ranges marks = text_of cpu (reserved_block ranges) (structure_block marks) (strings_block marks)
+-- The text of a boot processor, memory reservations and marks.
+unfoldable pub blob_text : ℕ → List Reservation → List Mark → List ℕ
+blob_text cpu reservations marks = text_of cpu (reserved_block reservations) (structure_block marks) (strings_block marks)
 
--- The normal text of a boot processor, reserved ranges and a tree.
-abbrev pub tree_text : ℕ → List Range → Root (List Property) → List ℕ
-tree_text cpu ranges root = blob_text cpu ranges (marks_of root)
+-- The text of a boot processor, memory reservations and a tree, with its properties in their order.
+abbrev pub tree_text : ℕ → List Reservation → Root (List Property) → List ℕ
+tree_text cpu reservations root = blob_text cpu reservations (marks_of root)
+
+-- This is the normal text of a boot processor, memory reservations and a tree: the properties of each node stand by their
+-- names in byte order (profile of this project).
+pub record IsNormalText (cpu : ℕ) (reservations : List Reservation) (root : Root (List Property)) (text : List ℕ) : Type 0 where
+  pub is_normal : IsNormal root
+  pub is_text : text ≡ tree_text cpu reservations root
 
 -- How many bytes the token of a mark takes.
 abbrev pub mark_width : Mark → ℕ
@@ -98,8 +105,8 @@ mark_width (Has property) = width (Prop 0 property.1)
 mark_width Closes = width EndNode
 
 -- Where the token behind those of these marks stands, if theirs stand from this offset on.
-abbrev pub behind : ℕ → List Mark → ℕ
-behind at marks = at + sum_by mark_width marks
+abbrev pub place_behind : ℕ → List Mark → ℕ
+place_behind at marks = at + sum_by mark_width marks
 
 -- Properties with the places of their tokens, if these stand from this offset on.
 abbrev pub located_properties : ℕ → List Property → List Placed
@@ -114,21 +121,21 @@ located at none = none
 located at (node name properties children later) =
     node name
     (record { place = at; properties = located_properties (at + mark_width (Opens name)) properties })
-    (located (behind (at + mark_width (Opens name)) (map Has properties)) children)
-    (located (behind at (marks (node name properties children none))) later)
+    (located (place_behind (at + mark_width (Opens name)) (map Has properties)) children)
+    (located (place_behind at (marks (node name properties children none))) later)
 
--- Where the structure block stands in a text with these ranges.
-abbrev pub structure_place : List Range → ℕ
-structure_place ranges = 40 + length (reserved_block ranges)
+-- Where the structure block stands in a text with these reservations.
+abbrev pub structure_place : List Reservation → ℕ
+structure_place reservations = 40 + length (reserved_block reservations)
 
 -- The tree of a text with the places of its tokens.
-abbrev pub located_tree : List Range → Root (List Property) → Root Located
-located_tree ranges root = record {
+abbrev pub located_tree : List Reservation → Root (List Property) → Root Located
+located_tree reservations root = record {
   own = record {
-    place = structure_place ranges;
-    properties = located_properties (structure_place ranges + mark_width (Opens [])) root.own;
+    place = structure_place reservations;
+    properties = located_properties (structure_place reservations + mark_width (Opens [])) root.own;
   };
-  children = located (behind (structure_place ranges + mark_width (Opens [])) (map Has root.own)) root.children;
+  children = located (place_behind (structure_place reservations + mark_width (Opens [])) (map Has root.own)) root.children;
 }
 
 -- The names and values of a mark are bytes.
@@ -137,10 +144,11 @@ HasBytes (Opens name) = AreBytes name
 HasBytes (Has property) = AreBytes property.0 × AreBytes property.1
 HasBytes Closes = Unit {0}
 
--- What a blob may say: a boot processor, reserved ranges and a tree within their ranges of numbers, with good names.
-pub record IsContent (cpu : ℕ) (ranges : List Range) (root : Root (List Property)) : Type 0 where
+-- What may be laid out: a boot processor and memory reservations within their ranges of numbers, and a tree with good names,
+-- all of whose names and values are bytes. How long values may be is bounded by the length of the text alone.
+pub record IsContent (cpu : ℕ) (reservations : List Reservation) (root : Root (List Property)) : Type 0 where
   pub cpu_fits : cpu < 2 ^ 32
-  pub are_ranges : AllByRecursion IsRange ranges
+  pub are_reservations : AllByRecursion IsReservation reservations
   pub is_tree : IsTree AreProperties root
   pub bytes : AllByRecursion HasBytes (marks_of root)
 

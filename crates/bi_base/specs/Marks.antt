@@ -49,7 +49,7 @@ pub record SaysNode (at : ℕ) (token_name : List ℕ) (place : ℕ) (name : Lis
   pub same_place : at ≡ place
 
 -- These tokens, the first of which stands at this offset, say this: one token for each mark in order, and FDT_NOP anywhere
--- (5.4.2).
+-- (5.4.1, 5.4.2).
 abbrev pub Say : List ℕ → ℕ → List Token → List PlacedMark → Type 0
 Say strings at [] [] = Unit {0}
 Say strings at (Nop ∷ tokens) said = Say strings (at + width Nop) tokens said

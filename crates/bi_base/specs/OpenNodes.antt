@@ -4,7 +4,7 @@ use Rattle.bi_base.specs.Tokens.{Token}
 use Rattle.bi_base.specs.Tree.{Nodes, none, node, Root, Placed, Located, names, with_each, depth, depth_of, property_of, plain, plain_tree, IsTree, AreNodes, AreProperties, IsChildName, IsNew}
 use Rattle.bi_base.specs.Marks.{PlacedMark, OpensAt, HasAt, placed_marks, placed_marks_of, Say}
 use Rattle.bi_base.specs.Stages.{Stage, BeforeRoot, Inside, AfterRoot, Open, with_child}
-use Rattle.bi_base.specs.Blob.{Block}
+use Rattle.bi_base.specs.Blob.{TreeBlocks}
 use Rattle.bi_base.specs.BlobFaults.{opened, Walked, place_after}
 
 -- What is known of a tree while the structure block that holds it is read, token by token.
@@ -109,17 +109,17 @@ IsGrowth depth_limit (Growing innermost outer) = AreOpenNodes depth_limit innerm
 IsGrowth depth_limit (Grown root) = IsWholeTree depth_limit root
 
 -- A block whose bytes a file has.
-pub record IsReadable (block : Block) : Type 0 where
-  pub bytes : AreBytes block.file
-  pub within : block.end ≤ length block.file
+pub record IsReadable (blocks : TreeBlocks) : Type 0 where
+  pub bytes : AreBytes blocks.file
+  pub within : blocks.end ≤ length blocks.file
 
 -- A reader stands at this offset of a structure block: tokens that pass their checks, the newest first here, stand before it,
 -- and they say what has been read.
-pub record Standing (block : Block) (depth_limit place : ℕ) (growth : Growth) : Type 0 where
-  pub readable : IsReadable block
+pub record Standing (blocks : TreeBlocks) (depth_limit place : ℕ) (growth : Growth) : Type 0 where
+  pub readable : IsReadable blocks
   pub tokens : List Token
-  pub walked : Walked block depth_limit tokens
-  pub is_place : place_after block tokens ≡ place
-  pub is_stage : opened block.strings tokens ≡ stage_of growth
-  pub say : Say block.strings block.begin (reverse tokens) (said_so_far growth)
+  pub walked : Walked blocks depth_limit tokens
+  pub is_place : place_after blocks tokens ≡ place
+  pub is_stage : opened blocks.strings tokens ≡ stage_of growth
+  pub say : Say blocks.strings blocks.begin (reverse tokens) (said_so_far growth)
   pub is_growth : IsGrowth depth_limit growth

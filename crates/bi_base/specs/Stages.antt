@@ -28,7 +28,7 @@ with_property innermost name = record innermost { properties = innermost.propert
 abbrev pub with_child : Open → List ℕ → Open
 with_child innermost name = record innermost { children = innermost.children ++ name ∷ [] }
 
--- The stage after one more mark. A mark that may not stand there changes nothing, but a node always opens.
+-- The stage after one more mark. Outside a node a property and a close change nothing; a node opens always.
 abbrev pub after : Stage → Mark → Stage
 after (Inside innermost outer) (Opens name) = Inside fresh (with_child innermost name ∷ outer)
 after stage (Opens name) = Inside fresh []

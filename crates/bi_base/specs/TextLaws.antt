@@ -3,7 +3,7 @@ use Rattle.bi_base.specs.Cells.{up4, AreBytes}
 use Rattle.bi_base.specs.Tokens.{End, Spelled, NameAt}
 use Rattle.bi_base.specs.Tree.{Root, Property, Located, HasNoZero, AreDistinct, plain_tree, depth_of}
 use Rattle.bi_base.specs.Marks.{Mark, marks_of, placed_marks_of, Say}
-use Rattle.bi_base.specs.Blob.{Range, reserved_block, Blob, totalsize}
+use Rattle.bi_base.specs.Blob.{Reservation, reserved_block, Blob, totalsize}
 use Rattle.bi_base.specs.BlobLaws.{AreSameContent}
 use Rattle.bi_base.specs.Layout.{used, firsts, offset_in, tokens_of, structure_block, strings_block, tree_text, unfilled, structure_place, located_tree, IsContent, longest_text}
 
@@ -25,61 +25,61 @@ EachNameStands =
     → NameAt (strings_block marks) (offset_in (firsts (used marks)) name) name
 
 -- The structure block of a text spells tokens and FDT_END, and these say the tree over the strings block, at its places.
-pub record SaysTree (ranges : List Range) (root : Root (List Property)) : Type 0 where
+pub record SaysTree (reservations : List Reservation) (root : Root (List Property)) : Type 0 where
   pub spelled : Spelled (tokens_of (marks_of root) ++ End ∷ []) (structure_block (marks_of root))
-  pub say : Say (strings_block (marks_of root)) (structure_place ranges) (tokens_of (marks_of root)) (placed_marks_of (located_tree ranges root))
+  pub say : Say (strings_block (marks_of root)) (structure_place reservations) (tokens_of (marks_of root)) (placed_marks_of (located_tree reservations root))
 
 -- The blocks of a text that is not too long say its tree.
 abbrev pub TextSaysItsTree : Type 0
 TextSaysItsTree =
-    (cpu : ℕ) (ranges : List Range) (root : Root (List Property)) → IsContent cpu ranges root
-    → length (tree_text cpu ranges root) ≤ longest_text → SaysTree ranges root
+    (cpu : ℕ) (reservations : List Reservation) (root : Root (List Property)) → IsContent cpu reservations root
+    → length (tree_text cpu reservations root) ≤ longest_text → SaysTree reservations root
 
 -- This file is a blob of these alone, as their normal text is one.
-pub record IsBlobOf (file : List ℕ) (cpu : ℕ) (ranges : List Range) (root : Root (List Property)) : Type 0 where
-  pub blob : Blob file cpu ranges (located_tree ranges root)
-  pub same_tree : plain_tree (located_tree ranges root) ≡ root
-  pub same_depth : depth_of (located_tree ranges root) ≡ depth_of root
-  pub only : (other_cpu : ℕ) (other_ranges : List Range) (other_root : Root Located)
-      → Blob file other_cpu other_ranges other_root
-      → AreSameContent cpu other_cpu ranges other_ranges (located_tree ranges root) other_root
-  pub is_total : totalsize file ≡ length (tree_text cpu ranges root)
+pub record IsBlobOf (file : List ℕ) (cpu : ℕ) (reservations : List Reservation) (root : Root (List Property)) : Type 0 where
+  pub blob : Blob file cpu reservations (located_tree reservations root)
+  pub same_tree : plain_tree (located_tree reservations root) ≡ root
+  pub same_depth : depth_of (located_tree reservations root) ≡ depth_of root
+  pub only : (other_cpu : ℕ) (other_reservations : List Reservation) (other_root : Root Located)
+      → Blob file other_cpu other_reservations other_root
+      → AreSameContent cpu other_cpu reservations other_reservations (located_tree reservations root) other_root
+  pub is_total : totalsize file ≡ length (tree_text cpu reservations root)
 
 -- A text that is not too long, with any bytes behind it, is a blob of exactly what it was made from. Its tree stands at the
 -- places of the layout, and its total size is the length of the text.
 abbrev pub TextIsBlob : Type 0
 TextIsBlob =
-    (cpu : ℕ) (ranges : List Range) (root : Root (List Property)) (rest : List ℕ) → IsContent cpu ranges root
-    → length (tree_text cpu ranges root) ≤ longest_text → AreBytes rest
-    → IsBlobOf (tree_text cpu ranges root ++ rest) cpu ranges root
+    (cpu : ℕ) (reservations : List Reservation) (root : Root (List Property)) (rest : List ℕ) → IsContent cpu reservations root
+    → length (tree_text cpu reservations root) ≤ longest_text → AreBytes rest
+    → IsBlobOf (tree_text cpu reservations root ++ rest) cpu reservations root
 
 -- How long a text is.
-pub record HasTextLength (cpu : ℕ) (ranges : List Range) (root : Root (List Property)) : Type 0 where
-  pub is_length : length (tree_text cpu ranges root)
-      ≡ up4 (unfilled (length (reserved_block ranges)) (length (structure_block (marks_of root))) (length (strings_block (marks_of root))))
-  pub is_whole : length (tree_text cpu ranges root) % 4 ≡ 0
+pub record HasTextLength (cpu : ℕ) (reservations : List Reservation) (root : Root (List Property)) : Type 0 where
+  pub is_length : length (tree_text cpu reservations root)
+      ≡ up4 (unfilled (length (reserved_block reservations)) (length (structure_block (marks_of root))) (length (strings_block (marks_of root))))
+  pub is_whole : length (tree_text cpu reservations root) % 4 ≡ 0
 
 -- Each text is as long as its header and its blocks, filled up to a multiple of four.
 abbrev pub EachTextHasItsLength : Type 0
-EachTextHasItsLength = (cpu : ℕ) (ranges : List Range) (root : Root (List Property)) → HasTextLength cpu ranges root
+EachTextHasItsLength = (cpu : ℕ) (reservations : List Reservation) (root : Root (List Property)) → HasTextLength cpu reservations root
 
 -- What a file says as a blob is content: it can be written again.
 abbrev pub BlobHasContent : Type 0
 BlobHasContent =
-    (file : List ℕ) (cpu : ℕ) (ranges : List Range) (root : Root Located) → Blob file cpu ranges root
-    → IsContent cpu ranges (plain_tree root)
+    (file : List ℕ) (cpu : ℕ) (reservations : List Reservation) (root : Root Located) → Blob file cpu reservations root
+    → IsContent cpu reservations (plain_tree root)
 
--- Two boot processors, lists of reserved ranges and trees without places are the same.
-pub record AreSame (cpu other_cpu : ℕ) (ranges other_ranges : List Range) (root other_root : Root (List Property)) : Type 0 where
+-- Two boot processors, lists of memory reservations and trees without places are the same.
+pub record AreSame (cpu other_cpu : ℕ) (reservations other_reservations : List Reservation) (root other_root : Root (List Property)) : Type 0 where
   pub same_cpu : cpu ≡ other_cpu
-  pub same_ranges : ranges ≡ other_ranges
+  pub same_reservations : reservations ≡ other_reservations
   pub same_root : root ≡ other_root
 
 -- Contents with one text, which is not too long, are the same: distinct ones have distinct texts.
 abbrev pub TextHasOneContent : Type 0
 TextHasOneContent =
-    (cpu other_cpu : ℕ) (ranges other_ranges : List Range) (root other_root : Root (List Property))
-    → IsContent cpu ranges root → IsContent other_cpu other_ranges other_root
-    → length (tree_text cpu ranges root) ≤ longest_text
-    → tree_text cpu ranges root ≡ tree_text other_cpu other_ranges other_root
-    → AreSame cpu other_cpu ranges other_ranges root other_root
+    (cpu other_cpu : ℕ) (reservations other_reservations : List Reservation) (root other_root : Root (List Property))
+    → IsContent cpu reservations root → IsContent other_cpu other_reservations other_root
+    → length (tree_text cpu reservations root) ≤ longest_text
+    → tree_text cpu reservations root ≡ tree_text other_cpu other_reservations other_root
+    → AreSame cpu other_cpu reservations other_reservations root other_root

@@ -47,7 +47,8 @@ IsToken (BeginNode name) = HasNoZero name
 IsToken (Prop name_offset value) = (name_offset < 2 ^ 32) × (length value < 2 ^ 32)
 IsToken token = Unit {0}
 
--- These bytes are a token with its padding, which may hold anything.
+-- These bytes are a token with its padding (that the padding may hold anything, and not zeros alone, is profile of this
+-- project).
 pub record Spells (token : Token) (bytes : List ℕ) : Type 0 where
   pub is_token : IsToken token
   pub padding : List ℕ

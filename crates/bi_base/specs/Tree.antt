@@ -12,7 +12,7 @@ pub data Nodes (Own : Type 0) : Type 0 where
   none : Nodes Own
   node : (name : List ℕ) → (own : Own) → (children : Nodes Own) → (later : Nodes Own) → Nodes Own
 
--- The node that no node has as a child. Its name is empty (2.2.3).
+-- The node that no node has as a child. Its name is empty (2.2.1, 5.4.1).
 pub record Root (Own : Type 0) : Type 0 where
   pub own : Own
   pub children : Nodes Own

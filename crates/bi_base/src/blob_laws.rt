@@ -2,7 +2,7 @@
 
 ghost use Rattle.bi_base.specs.BlobLaws.{OneBlob};
 
-/// A file is a blob of at most one boot processor, one list of reserved ranges and one tree.
+/// A file is a blob of at most one boot processor, one list of memory reservations and one tree.
 pub fn a_file_is_one_blob()
     ensures { OneBlob }
 {}

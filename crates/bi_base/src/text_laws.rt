@@ -26,20 +26,20 @@ pub fn each_text_has_its_length()
     ensures { EachTextHasItsLength }
 {}
 
-/// The normal text of a boot processor, reserved ranges and a tree, if it has at most 0x7fffffff bytes, and with any bytes
+/// The normal text of a boot processor, memory reservations and a tree, if it has at most 0x7fffffff bytes, and with any bytes
 /// behind it, is a blob of exactly these, whatever the order of the properties. The tree stands at the places that the
 /// layout gives it and is as deep, and `totalsize` is the length of the text (Devicetree Specification, chapter 5).
 pub fn text_is_a_blob()
     ensures { TextIsBlob }
 {}
 
-/// The boot processor, the reserved ranges and the tree that a file says as a blob can be written as a normal text:
-/// numbers, names and values are in their ranges.
+/// The boot processor, the memory reservations and the tree that a file says as a blob can be written as a normal text:
+/// numbers, names and values are in their reservations.
 pub fn blob_has_content()
     ensures { BlobHasContent }
 {}
 
-/// Boot processors, reserved ranges and trees that differ have normal texts that differ, if one of the texts has at most
+/// Boot processors, memory reservations and trees that differ have normal texts that differ, if one of the texts has at most
 /// 0x7fffffff bytes.
 pub fn text_has_one_content()
     ensures { TextHasOneContent }

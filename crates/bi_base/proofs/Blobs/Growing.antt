@@ -33,7 +33,7 @@ AreProperties-push ps p are is_name is_new =
       named = All-push (λ (q : Property). IsPropertyName q.0) (map property_of ps) (property_of p) are.named is_name;
       distinct = subst AreDistinct (sym (map_push (λ (q : Property). q.0) (map property_of ps) (property_of p)))
           (AreDistinct-push (map (λ (q : Property). q.0) (map property_of ps)) p.name are.distinct
-              (subst (IsNew p.name) (sym (names_of_properties ps)) is_new));
+          (subst (IsNew p.name) (sym (names_of_properties ps)) is_new));
     })
 
 pub names-with_last : {Own : Type 0} (nodes : Nodes Own) (name : List ℕ) (own : Own) (children : Nodes Own) → names (with_last nodes name own children) ≡ names nodes ++ name ∷ []
@@ -50,8 +50,8 @@ placed_marks-with_last none name located children = refl
 placed_marks-with_last (node n l cs later) name located children =
     ap (λ x. OpensAt l.place n ∷ (map HasAt l.properties ++ (placed_marks cs ++ (ClosesAt ∷ x)))) (placed_marks-with_last later name located children)
     ∙ ap (λ x. OpensAt l.place n ∷ x)
-        (ap (λ x. map HasAt l.properties ++ x) (sym (append_assoc (placed_marks cs) (ClosesAt ∷ placed_marks later) (placed_marks (node name located children none))))
-        ∙ sym (append_assoc (map HasAt l.properties) (placed_marks cs ++ (ClosesAt ∷ placed_marks later)) (placed_marks (node name located children none))))
+    (ap (λ x. map HasAt l.properties ++ x) (sym (append_assoc (placed_marks cs) (ClosesAt ∷ placed_marks later) (placed_marks (node name located children none))))
+    ∙ sym (append_assoc (map HasAt l.properties) (placed_marks cs ++ (ClosesAt ∷ placed_marks later)) (placed_marks (node name located children none))))
 
 -- A list of nodes is as deep as what it had, or as its last node.
 pub depth-with_last : {Own : Type 0} (nodes : Nodes Own) (name : List ℕ) (own : Own) (children : Nodes Own) (limit : ℕ) → depth nodes ≤ limit → depth children + 1 ≤ limit → depth (with_last nodes name own children) ≤ limit
@@ -94,10 +94,10 @@ said_of-property : (o : OpenNode) (p : Placed) → names o.children ≡ [] → s
 said_of-property o p childless =
     let bare : o.children ≡ none = no_children o.children childless in
     ap (λ l. OpensAt o.place o.name ∷ l)
-        (ap (λ c. map HasAt (o.properties ++ p ∷ []) ++ placed_marks c) bare
-        ∙ append-nil (map HasAt (o.properties ++ p ∷ []))
-        ∙ map_push HasAt o.properties p
-        ∙ ap (λ l. l ++ HasAt p ∷ []) (sym (append-nil (map HasAt o.properties)) ∙ ap (λ c. map HasAt o.properties ++ placed_marks c) (sym bare)))
+    (ap (λ c. map HasAt (o.properties ++ p ∷ []) ++ placed_marks c) bare
+    ∙ append-nil (map HasAt (o.properties ++ p ∷ []))
+    ∙ map_push HasAt o.properties p
+    ∙ ap (λ l. l ++ HasAt p ∷ []) (sym (append-nil (map HasAt o.properties)) ∙ ap (λ c. map HasAt o.properties ++ placed_marks c) (sym bare)))
 
 -- What all open nodes say after one more property of the innermost.
 pub said_by-property : (o : OpenNode) (outer : List OpenNode) (p : Placed) → names o.children ≡ [] → said_by (with_one_property o p) outer ≡ said_by o outer ++ HasAt p ∷ []
@@ -113,7 +113,7 @@ said_of-closed child =
 said_of-child : (parent child : OpenNode) → said_of (with_one_child parent child) ≡ said_of parent ++ (said_of child ++ ClosesAt ∷ [])
 said_of-child parent child =
     ap (λ l. OpensAt parent.place parent.name ∷ (map HasAt parent.properties ++ l))
-        (placed_marks-with_last parent.children child.name (located_of child) child.children ∙ ap (λ l. placed_marks parent.children ++ l) (said_of-closed child))
+    (placed_marks-with_last parent.children child.name (located_of child) child.children ∙ ap (λ l. placed_marks parent.children ++ l) (said_of-closed child))
     ∙ ap (λ l. OpensAt parent.place parent.name ∷ l) (sym (append_assoc (map HasAt parent.properties) (placed_marks parent.children) (said_of child ++ ClosesAt ∷ [])))
 
 -- What all open nodes say after the innermost is closed.

@@ -2,8 +2,8 @@ use Rattle.std.proofs.Common.{◌≡◌, ℕ, ◌+◌, ◌-◌, ◌*◌, ◌%◌
 use Rattle.std.proofs.lemmas.List.{take_at, drop_at}
 use Rattle.std.proofs.Math.Seq.{take-append-add}
 use Rattle.bi_base.specs.Cells.{slice, up4}
-use Rattle.bi_base.specs.Blob.{Header, Range, range_bytes, end_pair, reserved_block}
-use Rattle.bi_base.specs.Layout.{header, filling, unfilled, text_of}
+use Rattle.bi_base.specs.Blob.{Header, Reservation, pair_bytes, end_pair, reserved_block}
+use Rattle.bi_base.specs.Layout.{blob_header, filling, unfilled, text_of}
 use Rattle.bi_base.proofs.Blobs.Cells.{length-cell8}
 use Rattle.bi_base.proofs.Texts.Header.{HasCells}
 
@@ -37,27 +37,27 @@ pub behind_five : (a b c d e rest : List ℕ) → (a ++ (b ++ (c ++ (d ++ e)))) 
 behind_five a b c d e rest = simp append_assoc
 
 -- A text with any bytes behind it: its header and its three blocks in turn.
-pub text_parts : (cpu : ℕ) (reserved structure strings rest : List ℕ) → text_of cpu reserved structure strings ++ rest ≡ header cpu (length reserved) (length structure) (length strings) ++ (reserved ++ (structure ++ (strings ++ (filling (unfilled (length reserved) (length structure) (length strings)) ++ rest))))
+pub text_parts : (cpu : ℕ) (reserved structure strings rest : List ℕ) → text_of cpu reserved structure strings ++ rest ≡ blob_header cpu (length reserved) (length structure) (length strings) ++ (reserved ++ (structure ++ (strings ++ (filling (unfilled (length reserved) (length structure) (length strings)) ++ rest))))
 unfolding text_of
 text_parts cpu reserved structure strings rest =
-    behind_five (header cpu (length reserved) (length structure) (length strings)) reserved structure strings (filling (unfilled (length reserved) (length structure) (length strings))) rest
+    behind_five (blob_header cpu (length reserved) (length structure) (length strings)) reserved structure strings (filling (unfilled (length reserved) (length structure) (length strings))) rest
 
 -- The reservation block is a whole number of pairs.
-pub length-ranges : (ranges : List Range) → length (flat_map range_bytes ranges) ≡ 16 * length ranges
-length-ranges [] = refl
-length-ranges (range ∷ later) =
-    length-append (range_bytes range) (flat_map range_bytes later)
-    ∙ (omega (arith, length-pair range, length-ranges later))
+pub length-reservations : (reservations : List Reservation) → length (flat_map pair_bytes reservations) ≡ 16 * length reservations
+length-reservations [] = refl
+length-reservations (reservation ∷ later) =
+    length-append (pair_bytes reservation) (flat_map pair_bytes later)
+    ∙ (omega (arith, length-pair reservation, length-reservations later))
   where
-    length-pair : (range : Range) → length (range_bytes range) ≡ 16
-    length-pair range = simp (length-append, length-cell8)
+    length-pair : (reservation : Reservation) → length (pair_bytes reservation) ≡ 16
+    length-pair reservation = simp (length-append, length-cell8)
 
 -- So it ends at a multiple of eight.
-pub reserved-aligned : (ranges : List Range) → length (reserved_block ranges) % 8 ≡ 0
-reserved-aligned ranges =
-    omega (arith, length-append (flat_map range_bytes ranges) (range_bytes end_pair), length-ranges ranges, length-pair)
+pub reserved-aligned : (reservations : List Reservation) → length (reserved_block reservations) % 8 ≡ 0
+reserved-aligned reservations =
+    omega (arith, length-append (flat_map pair_bytes reservations) (pair_bytes end_pair), length-reservations reservations, length-pair)
   where
-    length-pair : length (range_bytes end_pair) ≡ 16
+    length-pair : length (pair_bytes end_pair) ≡ 16
     length-pair = simp (length-append, length-cell8)
 
 -- What has the cells of a text, and is as long at least, has the header of a blob.

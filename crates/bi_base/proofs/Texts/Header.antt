@@ -2,7 +2,7 @@ use Rattle.std.proofs.Common.{◌≡◌, ℕ, ◌+◌, ◌^◌, ◌<◌, List, �
 use Rattle.std.proofs.lemmas.Nat.{from_be_bytes-to_be_bytes_4}
 use Rattle.bi_base.specs.Cells.{cell, u32_at, up4}
 use Rattle.bi_base.specs.Blob.{magic, totalsize, off_dt_struct, off_dt_strings, off_mem_rsvmap, version, last_comp_version, boot_cpuid_phys, size_dt_strings, size_dt_struct, blob_magic}
-use Rattle.bi_base.specs.Layout.{header, unfilled}
+use Rattle.bi_base.specs.Layout.{blob_header, unfilled}
 
 -- The cells of the header of a normal text.
 
@@ -20,7 +20,7 @@ pub record HasCells (file : List ℕ) (cpu reserved structure strings : ℕ) : T
   pub is_size_struct : size_dt_struct file ≡ structure
 
 -- What begins with the header of a normal text has its numbers, where they are cells.
-pub has_cells : (cpu reserved structure strings : ℕ) (behind : List ℕ) → cpu < 2 ^ 32 → up4 (unfilled reserved structure strings) < 2 ^ 32 → HasCells (header cpu reserved structure strings ++ behind) cpu reserved structure strings
+pub has_cells : (cpu reserved structure strings : ℕ) (behind : List ℕ) → cpu < 2 ^ 32 → up4 (unfilled reserved structure strings) < 2 ^ 32 → HasCells (blob_header cpu reserved structure strings ++ behind) cpu reserved structure strings
 unfolding cell u32_at
 has_cells cpu reserved structure strings behind cpu_fits fits = record {
   is_magic = refl;

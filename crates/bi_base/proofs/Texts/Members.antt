@@ -67,8 +67,8 @@ each-map P f (first ∷ others) each = (each.0, each-map P f others each.1)
 
 -- What follows from what holds of each element holds of each.
 pub each-weaker : {X : Type 0} (P Q : X → Type 0) → ((x : X) → P x → Q x) → (xs : List X) → AllByRecursion P xs → AllByRecursion Q xs
-each-weaker P Q follows [] each = each
-each-weaker P Q follows (first ∷ others) each = (follows first each.0, each-weaker P Q follows others each.1)
+each-weaker P Q weaker [] each = each
+each-weaker P Q weaker (first ∷ others) each = (weaker first each.0, each-weaker P Q weaker others each.1)
 
 -- What holds of each element holds of what is among them.
 pub each-contains : {X : Type 0} (P : X → Type 0) (xs : List X) (x : X) → AllByRecursion P xs → Contains xs x → P x

@@ -2,8 +2,8 @@ use Rattle.std.proofs.Common.{◌≡◌, ℕ, ◌+◌, max, List, [], ◌∷◌,
 use Rattle.std.proofs.lemmas.List.Sums.{sum_by-cons, sum_by-append}
 use Rattle.bi_base.specs.Tree.{Nodes, none, node, Root, Property, as_nodes, with_each, plain, plain_tree, property_of, depth, depth_of}
 use Rattle.bi_base.specs.Marks.{Mark, Opens, Has, Closes, marks, marks_of, PlacedMark, OpensAt, HasAt, ClosesAt, placed_marks, placed_marks_of}
-use Rattle.bi_base.specs.Blob.{Range}
-use Rattle.bi_base.specs.Layout.{mark_width, behind, located_properties, located, structure_place, located_tree}
+use Rattle.bi_base.specs.Blob.{Reservation}
+use Rattle.bi_base.specs.Layout.{mark_width, place_behind, located_properties, located, structure_place, located_tree}
 
 -- The places of a normal text's tokens, and the tree that has them.
 
@@ -19,24 +19,24 @@ placed_from at [] = []
 placed_from at (mark ∷ later) = placed_mark at mark ∷ placed_from (at + mark_width mark) later
 
 -- Behind no tokens is where they begin.
-pub behind-none : (at : ℕ) → behind at [] ≡ at
-behind-none at = omega arith
+pub place_behind-none : (at : ℕ) → place_behind at [] ≡ at
+place_behind-none at = omega arith
 
 -- The tokens behind a first one stand behind it.
-pub behind-cons : (at : ℕ) (mark : Mark) (later : List Mark) → behind at (mark ∷ later) ≡ behind (at + mark_width mark) later
-behind-cons at mark later = omega (arith, sum_by-cons mark_width mark later)
+pub place_behind-cons : (at : ℕ) (mark : Mark) (later : List Mark) → place_behind at (mark ∷ later) ≡ place_behind (at + mark_width mark) later
+place_behind-cons at mark later = omega (arith, sum_by-cons mark_width mark later)
 
 -- The tokens behind some others stand behind them.
-pub behind-append : (at : ℕ) (front later : List Mark) → behind at (front ++ later) ≡ behind (behind at front) later
-behind-append at front later = omega (arith, sum_by-append mark_width front later)
+pub place_behind-append : (at : ℕ) (front later : List Mark) → place_behind at (front ++ later) ≡ place_behind (place_behind at front) later
+place_behind-append at front later = omega (arith, sum_by-append mark_width front later)
 
 -- Marks in two parts have their places part by part.
-pub placed_from-append : (at : ℕ) (front later : List Mark) → placed_from at (front ++ later) ≡ placed_from at front ++ placed_from (behind at front) later
+pub placed_from-append : (at : ℕ) (front later : List Mark) → placed_from at (front ++ later) ≡ placed_from at front ++ placed_from (place_behind at front) later
 placed_from-append at [] later = ap (λ place. placed_from place later) (omega arith)
 placed_from-append at (mark ∷ front) later =
     ap (λ l. placed_mark at mark ∷ l)
     (placed_from-append (at + mark_width mark) front later
-    ∙ ap (λ place. placed_from (at + mark_width mark) front ++ placed_from place later) (sym (behind-cons at mark front)))
+    ∙ ap (λ place. placed_from (at + mark_width mark) front ++ placed_from place later) (sym (place_behind-cons at mark front)))
 
 -- The properties of a node have the places of their marks.
 pub placed-properties : (at : ℕ) (properties : List Property) → map HasAt (located_properties at properties) ≡ placed_from at (map Has properties)
@@ -45,13 +45,13 @@ placed-properties at (property ∷ later) =
     ap (λ l. placed_mark at (Has property) ∷ l) (placed-properties (at + mark_width (Has property)) later)
 
 -- Where the nodes behind a first one begin.
-pub behind-node : (at : ℕ) (name : List ℕ) (properties : List Property) (children : Nodes (List Property)) → behind at (marks (node name properties children none)) ≡ behind (behind (at + mark_width (Opens name)) (map Has properties)) (marks children) + mark_width Closes
-behind-node at name properties children =
-    behind-cons at (Opens name) (map Has properties ++ (marks children ++ (Closes ∷ [])))
-    ∙ behind-append (at + mark_width (Opens name)) (map Has properties) (marks children ++ (Closes ∷ []))
-    ∙ behind-append (behind (at + mark_width (Opens name)) (map Has properties)) (marks children) (Closes ∷ [])
-    ∙ behind-cons (behind (behind (at + mark_width (Opens name)) (map Has properties)) (marks children)) Closes []
-    ∙ behind-none (behind (behind (at + mark_width (Opens name)) (map Has properties)) (marks children) + mark_width Closes)
+pub place_behind-node : (at : ℕ) (name : List ℕ) (properties : List Property) (children : Nodes (List Property)) → place_behind at (marks (node name properties children none)) ≡ place_behind (place_behind (at + mark_width (Opens name)) (map Has properties)) (marks children) + mark_width Closes
+place_behind-node at name properties children =
+    place_behind-cons at (Opens name) (map Has properties ++ (marks children ++ (Closes ∷ [])))
+    ∙ place_behind-append (at + mark_width (Opens name)) (map Has properties) (marks children ++ (Closes ∷ []))
+    ∙ place_behind-append (place_behind (at + mark_width (Opens name)) (map Has properties)) (marks children) (Closes ∷ [])
+    ∙ place_behind-cons (place_behind (place_behind (at + mark_width (Opens name)) (map Has properties)) (marks children)) Closes []
+    ∙ place_behind-none (place_behind (place_behind (at + mark_width (Opens name)) (map Has properties)) (marks children) + mark_width Closes)
 
 -- Nodes with their places say what the marks with theirs say.
 pub placed-nodes : (at : ℕ) (nodes : Nodes (List Property)) → placed_marks (located at nodes) ≡ placed_from at (marks nodes)
@@ -62,8 +62,8 @@ placed-nodes at (node name properties children later) =
     (placed-properties inside properties)
     (ap₂ (λ l m. l ++ (ClosesAt ∷ m))
     (placed-nodes below children)
-    (placed-nodes (behind at (marks (node name properties children none))) later
-    ∙ ap (λ place. placed_from place (marks later)) (behind-node at name properties children))
+    (placed-nodes (place_behind at (marks (node name properties children none))) later
+    ∙ ap (λ place. placed_from place (marks later)) (place_behind-node at name properties children))
     ∙ sym (placed_from-append below (marks children) (Closes ∷ marks later)))
     ∙ sym (placed_from-append inside (map Has properties) (marks children ++ (Closes ∷ marks later))))
   where
@@ -71,11 +71,11 @@ placed-nodes at (node name properties children later) =
     inside = at + mark_width (Opens name)
 
     below : ℕ
-    below = behind (at + mark_width (Opens name)) (map Has properties)
+    below = place_behind (at + mark_width (Opens name)) (map Has properties)
 
 -- A tree with its places says what its marks with theirs say.
-pub placed-tree : (ranges : List Range) (root : Root (List Property)) → placed_marks_of (located_tree ranges root) ≡ placed_from (structure_place ranges) (marks_of root)
-placed-tree ranges root = placed-nodes (structure_place ranges) (as_nodes root)
+pub placed-tree : (reservations : List Reservation) (root : Root (List Property)) → placed_marks_of (located_tree reservations root) ≡ placed_from (structure_place reservations) (marks_of root)
+placed-tree reservations root = placed-nodes (structure_place reservations) (as_nodes root)
 
 -- Properties with their places are the same properties.
 pub plain-properties : (at : ℕ) (properties : List Property) → map property_of (located_properties at properties) ≡ properties
@@ -90,26 +90,26 @@ plain-nodes at (node name properties children later) =
     ∙ ap₂ (λ inner outer. node name properties inner outer) (plain-nodes below children) (plain-nodes next later)
   where
     below : ℕ
-    below = behind (at + mark_width (Opens name)) (map Has properties)
+    below = place_behind (at + mark_width (Opens name)) (map Has properties)
 
     next : ℕ
-    next = behind at (marks (node name properties children none))
+    next = place_behind at (marks (node name properties children none))
 
 -- A tree with its places is the same tree.
-pub plain-tree : (ranges : List Range) (root : Root (List Property)) → plain_tree (located_tree ranges root) ≡ root
-plain-tree ranges root =
+pub plain-tree : (reservations : List Reservation) (root : Root (List Property)) → plain_tree (located_tree reservations root) ≡ root
+plain-tree reservations root =
     ap₂ (λ own children. record { own = own; children = children })
-    (plain-properties (structure_place ranges + mark_width (Opens [])) root.own)
-    (plain-nodes (behind (structure_place ranges + mark_width (Opens [])) (map Has root.own)) root.children)
+    (plain-properties (structure_place reservations + mark_width (Opens [])) root.own)
+    (plain-nodes (place_behind (structure_place reservations + mark_width (Opens [])) (map Has root.own)) root.children)
 
 -- Nodes with their places are as deep.
 pub depth-nodes : (at : ℕ) (nodes : Nodes (List Property)) → depth (located at nodes) ≡ depth nodes
 depth-nodes at none = refl
 depth-nodes at (node name properties children later) =
     ap₂ (λ inner outer. max (inner + 1) outer)
-    (depth-nodes (behind (at + mark_width (Opens name)) (map Has properties)) children)
-    (depth-nodes (behind at (marks (node name properties children none))) later)
+    (depth-nodes (place_behind (at + mark_width (Opens name)) (map Has properties)) children)
+    (depth-nodes (place_behind at (marks (node name properties children none))) later)
 
 -- A tree with its places is as deep.
-pub depth-tree : (ranges : List Range) (root : Root (List Property)) → depth_of (located_tree ranges root) ≡ depth_of root
-depth-tree ranges root = depth-nodes (structure_place ranges) (as_nodes root)
+pub depth-tree : (reservations : List Reservation) (root : Root (List Property)) → depth_of (located_tree reservations root) ≡ depth_of root
+depth-tree reservations root = depth-nodes (structure_place reservations) (as_nodes root)

@@ -4,15 +4,15 @@ use Rattle.bi_base.specs.Cells.{cell, up4, AreBytes}
 use Rattle.bi_base.specs.Tokens.{Token, End, unpadded, begin_node_number, end_node_number, prop_number, end_number}
 use Rattle.bi_base.specs.Tree.{Root, Property}
 use Rattle.bi_base.specs.Marks.{Mark, Opens, Has, Closes, marks_of}
-use Rattle.bi_base.specs.Blob.{Range, range_bytes, end_pair, reserved_block, blob_magic}
-use Rattle.bi_base.specs.Layout.{used, firsts, strings_of, offset_in, filling, spelling, token_of, structure_block, strings_block, unfilled, header, text_of, blob_text, tree_text, HasBytes, IsContent}
+use Rattle.bi_base.specs.Blob.{Reservation, pair_bytes, end_pair, reserved_block, blob_magic}
+use Rattle.bi_base.specs.Layout.{used, firsts, strings_of, offset_in, filling, spelling, token_of, structure_block, strings_block, unfilled, blob_header, text_of, blob_text, tree_text, HasBytes, IsContent}
 use Rattle.bi_base.proofs.Texts.Members.{each-append, each-filter}
 use Rattle.bi_base.proofs.Texts.Bytes.{AreBytes-none, AreBytes-append, AreBytes-zeros, AreBytes-cell, AreBytes-cell8, AreBytes-flat_map}
 
 -- A normal text is bytes, where its names and values are.
 
 -- The header is.
-pub AreBytes-header : (cpu reserved structure strings : ℕ) → AreBytes (header cpu reserved structure strings)
+pub AreBytes-header : (cpu reserved structure strings : ℕ) → AreBytes (blob_header cpu reserved structure strings)
 AreBytes-header cpu reserved structure strings =
     then blob_magic (then (up4 (unfilled reserved structure strings)) (then (40 + reserved) (then (40 + reserved + structure) (then 40
     (then 17 (then 16 (then cpu (then strings (AreBytes-cell structure)))))))))
@@ -21,16 +21,16 @@ AreBytes-header cpu reserved structure strings =
     then {behind = behind} n bytes = AreBytes-append (cell n) behind (AreBytes-cell n) bytes
 
 -- A pair of the reservation block is.
-pub AreBytes-range : (range : Range) → AreBytes (range_bytes range)
-AreBytes-range range = AreBytes-append _ _ (AreBytes-cell8 range.address) (AreBytes-cell8 range.size)
+pub AreBytes-reservation : (reservation : Reservation) → AreBytes (pair_bytes reservation)
+AreBytes-reservation reservation = AreBytes-append _ _ (AreBytes-cell8 reservation.address) (AreBytes-cell8 reservation.size)
 
 -- The reservation block is.
-pub AreBytes-reserved : (ranges : List Range) → AreBytes (reserved_block ranges)
-AreBytes-reserved ranges = AreBytes-append (flat_map range_bytes ranges) (range_bytes end_pair) (AreBytes-flat_map range_bytes ranges (each ranges)) (AreBytes-range end_pair)
+pub AreBytes-reserved : (reservations : List Reservation) → AreBytes (reserved_block reservations)
+AreBytes-reserved reservations = AreBytes-append (flat_map pair_bytes reservations) (pair_bytes end_pair) (AreBytes-flat_map pair_bytes reservations (each reservations)) (AreBytes-reservation end_pair)
   where
-    each : (ranges : List Range) → AllByRecursion (λ range. AreBytes (range_bytes range)) ranges
+    each : (reservations : List Reservation) → AllByRecursion (λ reservation. AreBytes (pair_bytes reservation)) reservations
     each [] = tt
-    each (range ∷ later) = (AreBytes-range range, each later)
+    each (reservation ∷ later) = (AreBytes-reservation reservation, each later)
 
 -- What a token of a mark holds, without its padding, is.
 pub AreBytes-unpadded : (names : List (List ℕ)) (mark : Mark) → HasBytes mark → AreBytes (unpadded (token_of names mark))
@@ -89,8 +89,8 @@ AreBytes-text_of cpu reserved structure strings first second third =
     (AreBytes-append _ _ first (AreBytes-append _ _ second (AreBytes-append _ _ third (AreBytes-zeros _))))
 
 -- The normal text of content is.
-pub AreBytes-text : (cpu : ℕ) (ranges : List Range) (root : Root (List Property)) → IsContent cpu ranges root → AreBytes (tree_text cpu ranges root)
+pub AreBytes-text : (cpu : ℕ) (reservations : List Reservation) (root : Root (List Property)) → IsContent cpu reservations root → AreBytes (tree_text cpu reservations root)
 unfolding blob_text
-AreBytes-text cpu ranges root is =
-    AreBytes-text_of cpu (reserved_block ranges) (structure_block (marks_of root)) (strings_block (marks_of root))
-    (AreBytes-reserved ranges) (AreBytes-structure (marks_of root) is.bytes) (AreBytes-strings (marks_of root) is.bytes)
+AreBytes-text cpu reservations root is =
+    AreBytes-text_of cpu (reserved_block reservations) (structure_block (marks_of root)) (strings_block (marks_of root))
+    (AreBytes-reserved reservations) (AreBytes-structure (marks_of root) is.bytes) (AreBytes-strings (marks_of root) is.bytes)
