@@ -1,4 +1,4 @@
--- Lemmas on the normal text of a blob: its names, its tokens and their places, and its blocks.
+-- Lemmas on the text that a blob is laid out as: its names, its tokens and their places, and its blocks.
 pub mod Members
 pub mod Names
 pub mod Spelling
@@ -14,3 +14,4 @@ pub mod TextBytes
 pub mod TextBlob
 pub mod SaidBytes
 pub mod Content
+pub mod Normal

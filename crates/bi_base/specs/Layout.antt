@@ -1,8 +1,9 @@
 use Rattle.std.specs.Prelude.{◌≡◌, ℕ, ◌+◌, ◌-◌, ◌^◌, ◌<◌, List, [], ◌∷◌, ◌++◌, map, length, replicate, filter, flat_map, sum_by, not, bytes_eq, if◌then◌else◌}
 use Rattle.std.specs.List.{AllByRecursion}
+use Rattle.std.specs.FinMap.{entries}
 use Rattle.bi_base.specs.Cells.{cell, up4, AreBytes}
 use Rattle.bi_base.specs.Tokens.{Token, BeginNode, EndNode, Prop, End, unpadded, width}
-use Rattle.bi_base.specs.Tree.{Nodes, none, node, Root, Property, Placed, Located, IsTree, AreProperties, IsNormal}
+use Rattle.bi_base.specs.Tree.{Nodes, none, node, Root, Property, PropertyMap, Placed, Located, with_each_node, IsTree, AreProperties, IsNormal}
 use Rattle.bi_base.specs.Marks.{Mark, Opens, Has, Closes, marks, marks_of}
 use Rattle.bi_base.specs.Blob.{Reservation, IsReservation, reserved_block, blob_magic}
 
@@ -97,6 +98,10 @@ tree_text cpu reservations root = blob_text cpu reservations (marks_of root)
 pub record IsNormalText (cpu : ℕ) (reservations : List Reservation) (root : Root (List Property)) (text : List ℕ) : Type 0 where
   pub is_normal : IsNormal root
   pub is_text : text ≡ tree_text cpu reservations root
+
+-- The tree with these properties by name whose properties stand in byte order: there is one (profile of this project).
+abbrev pub in_order : Root PropertyMap → Root (List Property)
+in_order root = with_each_node entries root
 
 -- How many bytes the token of a mark takes.
 abbrev pub mark_width : Mark → ℕ

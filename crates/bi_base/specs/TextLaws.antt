@@ -1,13 +1,13 @@
 use Rattle.std.specs.Prelude.{◌≡◌, ℕ, ◌%◌, ◌≤◌, List, [], ◌∷◌, ◌++◌, length, Contains, ◌↔◌}
 use Rattle.bi_base.specs.Cells.{up4, AreBytes}
 use Rattle.bi_base.specs.Tokens.{End, Spelled, NameAt}
-use Rattle.bi_base.specs.Tree.{Root, Property, Located, HasNoZero, AreDistinct, plain_tree, depth_of}
+use Rattle.bi_base.specs.Tree.{Root, Property, PropertyMap, Located, HasNoZero, AreDistinct, IsNormal, plain_tree, forget, depth_of}
 use Rattle.bi_base.specs.Marks.{Mark, marks_of, placed_marks_of, Say}
 use Rattle.bi_base.specs.Blob.{Reservation, reserved_block, Blob, totalsize}
 use Rattle.bi_base.specs.BlobLaws.{AreSameContent}
-use Rattle.bi_base.specs.Layout.{used, firsts, offset_in, tokens_of, structure_block, strings_block, tree_text, unfilled, structure_place, located_tree, IsContent, longest_text}
+use Rattle.bi_base.specs.Layout.{used, firsts, offset_in, tokens_of, structure_block, strings_block, tree_text, unfilled, structure_place, located_tree, in_order, IsContent, IsNormalText, longest_text}
 
--- Laws of the normal text of a blob. Each is the contract of a function in `text_laws`.
+-- Laws of the text that a blob is laid out as. Each is the contract of a function in `text_laws`.
 
 -- The strings block of these marks has the names that they use, each once.
 pub record HasNamesOnce (marks : List Mark) : Type 0 where
@@ -35,7 +35,8 @@ TextSaysItsTree =
     (cpu : ℕ) (reservations : List Reservation) (root : Root (List Property)) → IsContent cpu reservations root
     → length (tree_text cpu reservations root) ≤ longest_text → SaysTree reservations root
 
--- This file is a blob of these alone, as their normal text is one.
+-- This file is a blob of these and of nothing else. Its tree stands at the places of the layout and is as deep, and its
+-- total size is the length of the text.
 pub record IsBlobOf (file : List ℕ) (cpu : ℕ) (reservations : List Reservation) (root : Root (List Property)) : Type 0 where
   pub blob : Blob file cpu reservations (located_tree reservations root)
   pub same_tree : plain_tree (located_tree reservations root) ≡ root
@@ -45,13 +46,20 @@ pub record IsBlobOf (file : List ℕ) (cpu : ℕ) (reservations : List Reservati
       → AreSameContent cpu other_cpu reservations other_reservations (located_tree reservations root) other_root
   pub is_total : totalsize file ≡ length (tree_text cpu reservations root)
 
--- A text that is not too long, with any bytes behind it, is a blob of exactly what it was made from. Its tree stands at the
--- places of the layout, and its total size is the length of the text.
+-- A text that is not too long, with any bytes behind it, is a blob of exactly what it was made from.
 abbrev pub TextIsBlob : Type 0
 TextIsBlob =
     (cpu : ℕ) (reservations : List Reservation) (root : Root (List Property)) (rest : List ℕ) → IsContent cpu reservations root
     → length (tree_text cpu reservations root) ≤ longest_text → AreBytes rest
     → IsBlobOf (tree_text cpu reservations root ++ rest) cpu reservations root
+
+-- A normal text is one, for it is the text of a tree whose properties have an order of their own.
+abbrev pub NormalTextIsBlob : Type 0
+NormalTextIsBlob =
+    (cpu : ℕ) (reservations : List Reservation) (root : Root (List Property)) (text rest : List ℕ)
+    → IsContent cpu reservations root → IsNormalText cpu reservations root text
+    → length text ≤ longest_text → AreBytes rest
+    → IsBlobOf (text ++ rest) cpu reservations root
 
 -- How long a text is.
 pub record HasTextLength (cpu : ℕ) (reservations : List Reservation) (root : Root (List Property)) : Type 0 where
@@ -69,8 +77,8 @@ BlobHasContent =
     (file : List ℕ) (cpu : ℕ) (reservations : List Reservation) (root : Root Located) → Blob file cpu reservations root
     → IsContent cpu reservations (plain_tree root)
 
--- Two boot processors, lists of memory reservations and trees without places are the same.
-pub record AreSame (cpu other_cpu : ℕ) (reservations other_reservations : List Reservation) (root other_root : Root (List Property)) : Type 0 where
+-- Two boot processors, lists of memory reservations and trees are the same.
+pub record AreSame {Own : Type 0} (cpu other_cpu : ℕ) (reservations other_reservations : List Reservation) (root other_root : Root Own) : Type 0 where
   pub same_cpu : cpu ≡ other_cpu
   pub same_reservations : reservations ≡ other_reservations
   pub same_root : root ≡ other_root
@@ -83,3 +91,24 @@ TextHasOneContent =
     → length (tree_text cpu reservations root) ≤ longest_text
     → tree_text cpu reservations root ≡ tree_text other_cpu other_reservations other_root
     → AreSame cpu other_cpu reservations other_reservations root other_root
+
+-- A tree of properties by name has one order of them that is normal.
+pub record HasOneOrder (root : Root PropertyMap) : Type 0 where
+  pub is_normal : IsNormal (in_order root)
+  pub is_same : forget (in_order root) ≡ root
+  pub only : (other : Root (List Property)) → IsNormal other → forget other ≡ root → other ≡ in_order root
+
+-- Each tree has.
+abbrev pub EachTreeHasOneOrder : Type 0
+EachTreeHasOneOrder = (root : Root PropertyMap) → HasOneOrder root
+
+-- Normal texts, one of which is not too long, are the same exactly where they were made from the same boot processor, memory
+-- reservations and tree, the properties taken by name.
+abbrev pub NormalTextTellsContent : Type 0
+NormalTextTellsContent =
+    (cpu other_cpu : ℕ) (reservations other_reservations : List Reservation) (root other_root : Root (List Property))
+    → (text other_text : List ℕ)
+    → IsContent cpu reservations root → IsContent other_cpu other_reservations other_root
+    → IsNormalText cpu reservations root text → IsNormalText other_cpu other_reservations other_root other_text
+    → length text ≤ longest_text
+    → (text ≡ other_text) ↔ AreSame cpu other_cpu reservations other_reservations (forget root) (forget other_root)

@@ -7,7 +7,7 @@ use Rattle.bi_base.specs.Layout.{blob_header, filling, unfilled, text_of}
 use Rattle.bi_base.proofs.Blobs.Cells.{length-cell8}
 use Rattle.bi_base.proofs.Texts.Header.{HasCells}
 
--- The blocks of a normal text are the slices that its header names.
+-- The blocks of a text are the slices that its header names.
 
 -- The second of three lists is the slice where the first ends.
 pub second_slice : (a b c : List ℕ) (at n : ℕ) → length a ≡ at → length b ≡ n → slice (a ++ (b ++ c)) at n ≡ b

@@ -4,9 +4,9 @@ use Rattle.bi_base.specs.Cells.{cell, u32_at, up4}
 use Rattle.bi_base.specs.Blob.{magic, totalsize, off_dt_struct, off_dt_strings, off_mem_rsvmap, version, last_comp_version, boot_cpuid_phys, size_dt_strings, size_dt_struct, blob_magic}
 use Rattle.bi_base.specs.Layout.{blob_header, unfilled}
 
--- The cells of the header of a normal text.
+-- The cells of the header of a text.
 
--- The numbers that a file's header has, where they are those of a normal text with blocks of these lengths.
+-- The numbers that a file's header has, where they are those of a text with blocks of these lengths.
 pub record HasCells (file : List ℕ) (cpu reserved structure strings : ℕ) : Type 0 where
   pub is_magic : magic file ≡ blob_magic
   pub is_total : totalsize file ≡ up4 (unfilled reserved structure strings)
@@ -19,7 +19,7 @@ pub record HasCells (file : List ℕ) (cpu reserved structure strings : ℕ) : T
   pub is_size_strings : size_dt_strings file ≡ strings
   pub is_size_struct : size_dt_struct file ≡ structure
 
--- What begins with the header of a normal text has its numbers, where they are cells.
+-- What begins with the header of a text has its numbers, where they are cells.
 pub has_cells : (cpu reserved structure strings : ℕ) (behind : List ℕ) → cpu < 2 ^ 32 → up4 (unfilled reserved structure strings) < 2 ^ 32 → HasCells (blob_header cpu reserved structure strings ++ behind) cpu reserved structure strings
 unfolding cell u32_at
 has_cells cpu reserved structure strings behind cpu_fits fits = record {

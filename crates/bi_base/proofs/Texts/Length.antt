@@ -7,7 +7,7 @@ use Rattle.bi_base.specs.Layout.{blob_header, filling, unfilled, text_of, blob_t
 use Rattle.bi_base.proofs.CellLaws.{length-cell}
 use Rattle.bi_base.proofs.Texts.Spelling.{length-filling}
 
--- How long a normal text is.
+-- How long a text is.
 
 -- A header has 40 bytes.
 pub length-header : (cpu reserved structure strings : ℕ) → length (blob_header cpu reserved structure strings) ≡ 40

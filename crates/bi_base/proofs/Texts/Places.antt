@@ -5,7 +5,7 @@ use Rattle.bi_base.specs.Marks.{Mark, Opens, Has, Closes, marks, marks_of, Place
 use Rattle.bi_base.specs.Blob.{Reservation}
 use Rattle.bi_base.specs.Layout.{mark_width, place_behind, located_properties, located, structure_place, located_tree}
 
--- The places of a normal text's tokens, and the tree that has them.
+-- The places of a text's tokens, and the tree that has them.
 
 -- A mark with the place of its token.
 abbrev pub placed_mark : ℕ → Mark → PlacedMark

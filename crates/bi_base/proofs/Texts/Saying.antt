@@ -10,7 +10,7 @@ use Rattle.bi_base.proofs.Texts.Trees.{HasGoodName}
 use Rattle.bi_base.proofs.Texts.Spelling.{width-token, length_unpadded-prop}
 use Rattle.bi_base.proofs.Texts.Places.{placed_from}
 
--- The tokens of a normal text are tokens, and say its marks.
+-- The tokens of a text are tokens, and say its marks.
 
 -- The name of a property stands in these strings where these names have it.
 abbrev pub IsNamedIn : List ℕ → List (List ℕ) → Mark → Type 0

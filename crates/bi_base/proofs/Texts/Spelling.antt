@@ -7,7 +7,7 @@ use Rattle.bi_base.specs.Marks.{Mark, Opens, Has, Closes}
 use Rattle.bi_base.specs.Layout.{filling, spelling, token_of, mark_width, offset_in}
 use Rattle.bi_base.proofs.CellLaws.{length-cell}
 
--- How tokens are spelled in a normal text.
+-- How tokens are spelled in a text, with zeros as their padding.
 
 -- What fills up is as long as is missing to a multiple of four.
 pub length-filling : (n : ℕ) → n + length (filling n) ≡ up4 n
@@ -17,7 +17,7 @@ length-filling n = simp (length-replicate) (omega arith)
 pub length-spelling : (token : Token) → length (spelling token) ≡ width token
 length-spelling token = length-append (unpadded token) (filling (length (unpadded token))) ∙ length-filling (length (unpadded token))
 
--- The normal bytes of a token spell it.
+-- A token with zeros as its padding is spelled.
 pub spells : (token : Token) → IsToken token → Spells token (spelling token)
 spells token is = record {
   is_token = is;
@@ -26,7 +26,7 @@ spells token is = record {
   whole = length-spelling token;
 }
 
--- The normal bytes of tokens spell them.
+-- Tokens with zeros as their padding are spelled.
 pub spelled : (tokens : List Token) → AllByRecursion IsToken tokens → Spelled tokens (flat_map spelling tokens)
 spelled [] each = refl
 spelled (token ∷ later) each = (

@@ -14,7 +14,7 @@ use Rattle.bi_base.proofs.Texts.Places.{placed-tree}
 use Rattle.bi_base.proofs.Texts.Saying.{named_in, says, are_tokens}
 use Rattle.bi_base.proofs.Texts.Length.{length-tree_text, up4-le}
 
--- The structure block of a normal text says its tree.
+-- The structure block of a text says its tree.
 
 -- The tokens of marks take no more than the structure block.
 pub tokens-le : (marks : List Mark) → length (flat_map spelling (tokens_of marks)) ≤ length (structure_block marks)

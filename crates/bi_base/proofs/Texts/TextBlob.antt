@@ -14,7 +14,7 @@ use Rattle.bi_base.proofs.Texts.Blocks.{text_parts, slice_from_second, third_sli
 use Rattle.bi_base.proofs.Texts.Bytes.{AreBytes-append}
 use Rattle.bi_base.proofs.Texts.TextBytes.{AreBytes-text}
 
--- A normal text, with any bytes behind it, is a blob of what it was made from.
+-- A text, with any bytes behind it, is a blob of what it was made from.
 
 -- A file that has the cells and the blocks of a text.
 pub record HasParts (file : List ℕ) (cpu : ℕ) (reserved structure strings : List ℕ) : Type 0 where

@@ -9,7 +9,7 @@ use Rattle.bi_base.specs.Layout.{used, firsts, strings_of, offset_in, filling, s
 use Rattle.bi_base.proofs.Texts.Members.{each-append, each-filter}
 use Rattle.bi_base.proofs.Texts.Bytes.{AreBytes-none, AreBytes-append, AreBytes-zeros, AreBytes-cell, AreBytes-cell8, AreBytes-flat_map}
 
--- A normal text is bytes, where its names and values are.
+-- A text is bytes, where its names and values are.
 
 -- The header is.
 pub AreBytes-header : (cpu reserved structure strings : ℕ) → AreBytes (blob_header cpu reserved structure strings)
@@ -42,7 +42,7 @@ AreBytes-unpadded names (Has property) bytes =
     (AreBytes-append _ _ (AreBytes-cell (offset_in names property.0)) bytes.1))
 AreBytes-unpadded names Closes bytes = AreBytes-cell end_node_number
 
--- A token's normal bytes are, where those without its padding are.
+-- A token with zeros as its padding is, where it is without its padding.
 pub AreBytes-spelling : (token : Token) → AreBytes (unpadded token) → AreBytes (spelling token)
 AreBytes-spelling token bytes = AreBytes-append (unpadded token) (filling (length (unpadded token))) bytes (AreBytes-zeros _)
 
@@ -88,7 +88,7 @@ AreBytes-text_of cpu reserved structure strings first second third =
     AreBytes-append _ _ (AreBytes-header cpu (length reserved) (length structure) (length strings))
     (AreBytes-append _ _ first (AreBytes-append _ _ second (AreBytes-append _ _ third (AreBytes-zeros _))))
 
--- The normal text of content is.
+-- The text of content is.
 pub AreBytes-text : (cpu : ℕ) (reservations : List Reservation) (root : Root (List Property)) → IsContent cpu reservations root → AreBytes (tree_text cpu reservations root)
 unfolding blob_text
 AreBytes-text cpu reservations root is =
