@@ -15,3 +15,5 @@ pub mod Decided
 pub mod Whole
 pub mod OneFault
 pub mod Following
+pub mod Passing
+pub mod Complete
