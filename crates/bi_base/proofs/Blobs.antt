@@ -13,3 +13,7 @@ pub mod Steps
 pub mod Ending
 pub mod Decided
 pub mod Whole
+pub mod OneFault
+pub mod Following
+pub mod Passing
+pub mod Complete

@@ -34,7 +34,7 @@ unfolding IsEndOfProperties
 ended_properties none x = tt
 ended_properties (node name located children later) x = tt
 
-regrouped : {A : Type 0} (a b c x : List A) → (a ++ (b ++ c)) ++ x ≡ a ++ (b ++ (c ++ x))
+pub regrouped : {A : Type 0} (a b c x : List A) → (a ++ (b ++ c)) ++ x ≡ a ++ (b ++ (c ++ x))
 regrouped a b c x = append_assoc a (b ++ c) x ∙ ap (λ l. a ++ l) (append_assoc b c x)
 
 -- Two lists of nodes that say the same, before what does not go on with them, are the same.
