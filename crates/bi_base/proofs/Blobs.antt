@@ -17,3 +17,4 @@ pub mod OneFault
 pub mod Following
 pub mod Passing
 pub mod Complete
+pub mod ReservationFaults
