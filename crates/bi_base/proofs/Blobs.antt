@@ -18,3 +18,5 @@ pub mod Following
 pub mod Passing
 pub mod Complete
 pub mod ReservationFaults
+pub mod Headers
+pub mod Faults

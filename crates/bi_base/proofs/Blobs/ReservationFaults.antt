@@ -28,7 +28,7 @@ length-reserved_block (pair ∷ later) =
     let rest : length (reserved_block later) ≡ 16 * length later + 16 = length-reserved_block later in
     let first : length (pair_bytes pair) ≡ 16 = length-pair_bytes pair in
     let whole : length (reserved_block (pair ∷ later)) ≡ length (pair_bytes pair) + length (reserved_block later) =
-        ap length (reserved_block-first pair later) ∙ length-append (pair_bytes pair) (reserved_block later) in
+    ap length (reserved_block-first pair later) ∙ length-append (pair_bytes pair) (reserved_block later) in
     omega arith
 
 -- The pair that is read at an offset.
@@ -39,9 +39,9 @@ pair_at file at = record { address = u64_at file at; size = u64_at file (at + 8)
 pair_stands : (file : List ℕ) (at : ℕ) → AreBytes file → at + 16 ≤ length file → BytesAt file at (pair_bytes (pair_at file at))
 pair_stands file at bytes within =
     BytesAt-join file at (cell8 (u64_at file at)) (cell8 (u64_at file (at + 8)))
-        (BytesAt-cell8 file at bytes (omega arith))
-        (subst (λ n. BytesAt file (at + n) (cell8 (u64_at file (at + 8)))) (sym (length-cell8 (u64_at file at)))
-            (BytesAt-cell8 file (at + 8) bytes (omega arith)))
+    (BytesAt-cell8 file at bytes (omega arith))
+    (subst (λ n. BytesAt file (at + n) (cell8 (u64_at file (at + 8)))) (sym (length-cell8 (u64_at file at)))
+    (BytesAt-cell8 file (at + 8) bytes (omega arith)))
 
 -- A pair that stands at an offset is read there.
 pub pair_read : (file : List ℕ) (at : ℕ) (pair : Reservation) → pair.address < 2 ^ 64 → pair.size < 2 ^ 64 → BytesAt file at (pair_bytes pair) → (u64_at file at ≡ pair.address) × (u64_at file (at + 8) ≡ pair.size)
@@ -151,12 +151,13 @@ found_from : (steps : ℕ) (file : List ℕ) (at total : ℕ) → at ≤ total �
 found_from zero file at total fits left = inr (record { cause = Truncated; offset = at }, past_here file at total fits (omega arith))
 found_from (suc steps) file at total fits left =
     by_room (cases_lt total (at + 16)) (λ room. found_from steps file (at + 16) total room (omega arith)) where
-  by_pair : at + 16 ≤ total → IsEndPair file at ⊎ ¬ (IsEndPair file at) → (at + 16 ≤ total → Found file (at + 16) total) → Found file at total
-  by_pair room (inl end) later = inl (record { count = 0; has = ends_here file at total room end })
-  by_pair room (inr other) later = found_behind file at total other (later room)
-  by_room : (total < at + 16) ⊎ (at + 16 ≤ total) → (at + 16 ≤ total → Found file (at + 16) total) → Found file at total
-  by_room (inl past) later = inr (record { cause = Truncated; offset = at }, past_here file at total fits past)
-  by_room (inr room) later = by_pair room (IsEndPair_decided file at) later
+      by_pair : at + 16 ≤ total → IsEndPair file at ⊎ ¬ (IsEndPair file at) → (at + 16 ≤ total → Found file (at + 16) total) → Found file at total
+      by_pair room (inl end) later = inl (record { count = 0; has = ends_here file at total room end })
+      by_pair room (inr other) later = found_behind file at total other (later room)
+
+      by_room : (total < at + 16) ⊎ (at + 16 ≤ total) → (at + 16 ≤ total → Found file (at + 16) total) → Found file at total
+      by_room (inl past) later = inr (record { cause = Truncated; offset = at }, past_here file at total fits past)
+      by_room (inr room) later = by_pair room (IsEndPair_decided file at) later
 
 -- From an offset on there are reservations and an end pair, or a fault.
 pub reservations_or_fault : (file : List ℕ) (at total : ℕ) → at ≤ total → Found file at total
@@ -201,8 +202,7 @@ HasReservations-later file at total count has =
 are_reservations_at : (file : List ℕ) (at total count : ℕ) → AreBytes file → HasReservations file at total count → AllByRecursion IsReservation (reservations_at file at count)
 are_reservations_at file at total zero bytes has = tt
 are_reservations_at file at total (suc count) bytes has =
-    let first : 0 < suc count = omega arith in
-    (
+    let first : 0 < suc count = omega arith in (
       pair_is file at bytes (λ is. has.before 0 first (at_first (IsEndPair file) at is)),
       are_reservations_at file (at + 16) total count bytes (HasReservations-later file at total count has),
     )
@@ -220,10 +220,10 @@ reservations_stand file at total zero bytes inside has =
 reservations_stand file at total (suc count) bytes inside has =
     let within : at + 16 * suc count + 16 ≤ total = has.within in
     subst (BytesAt file at) (sym (reserved_block-first (pair_at file at) (reservations_at file (at + 16) count)))
-        (BytesAt-join file at (pair_bytes (pair_at file at)) (reserved_block (reservations_at file (at + 16) count))
-            (pair_stands file at bytes (omega arith))
-            (subst (λ n. BytesAt file (at + n) (reserved_block (reservations_at file (at + 16) count))) (sym (length-pair_bytes (pair_at file at)))
-                (reservations_stand file (at + 16) total count bytes inside (HasReservations-later file at total count has))))
+    (BytesAt-join file at (pair_bytes (pair_at file at)) (reserved_block (reservations_at file (at + 16) count))
+    (pair_stands file at bytes (omega arith))
+    (subst (λ n. BytesAt file (at + n) (reserved_block (reservations_at file (at + 16) count))) (sym (length-pair_bytes (pair_at file at)))
+    (reservations_stand file (at + 16) total count bytes inside (HasReservations-later file at total count has))))
 
 length-reservations_at : (file : List ℕ) (at count : ℕ) → length (reservations_at file at count) ≡ count
 length-reservations_at file at zero = refl
@@ -235,8 +235,8 @@ begins file at total bytes stands fits =
     ap (λ n. take n (drop at file)) sum
     ∙ take-add (length bytes) ((total - at) - length bytes) (drop at file)
     ∙ ap (λ l. l ++ take ((total - at) - length bytes) (drop (length bytes) (drop at file))) stands where
-  sum : total - at ≡ length bytes + ((total - at) - length bytes)
-  sum = omega arith
+      sum : total - at ≡ length bytes + ((total - at) - length bytes)
+      sum = omega arith
 
 -- A block of reservations is one, byte by byte.
 pub HasReservations-Reserved : (file : List ℕ) (at total count : ℕ) → AreBytes file → total ≤ length file → HasReservations file at total count → Reserved (slice file at (total - at)) (reservations_at file at count)
@@ -259,16 +259,17 @@ block_has file at total [] are stands fits =
 block_has file at total (pair ∷ later) are stands fits =
     let split : BytesAt file at (pair_bytes pair ++ reserved_block later) = subst (BytesAt file at) (reserved_block-first pair later) stands in
     let read : (u64_at file at ≡ pair.address) × (u64_at file (at + 8) ≡ pair.size) =
-        pair_read file at pair are.0.address_fits are.0.size_fits (BytesAt-left file at (pair_bytes pair) (reserved_block later) split) in
+    pair_read file at pair are.0.address_fits are.0.size_fits (BytesAt-left file at (pair_bytes pair) (reserved_block later) split) in
     let some : 0 < pair.address + pair.size = are.0.some in
     let rest : HasReservations file (at + 16) total (length later) =
-        block_has file (at + 16) total later are.1
-            (subst (λ n. BytesAt file (at + n) (reserved_block later)) (length-pair_bytes pair) (BytesAt-right file at (pair_bytes pair) (reserved_block later) split))
-            (omega arith) in
+    block_has file (at + 16) total later are.1
+    (subst (λ n. BytesAt file (at + n) (reserved_block later)) (length-pair_bytes pair) (BytesAt-right file at (pair_bytes pair) (reserved_block later) split))
+    (omega arith) in
     subst (HasReservations file at total) (one_more (length later))
-        (HasReservations-cons file at total (length later) (λ is. not_end is read some) rest) where
+    (HasReservations-cons file at total (length later) (λ is. not_end is read some) rest) where
       one_more : (n : ℕ) → n + 1 ≡ suc n
       one_more n = omega arith
+
       not_end : IsEndPair file at → (u64_at file at ≡ pair.address) × (u64_at file (at + 8) ≡ pair.size) → 0 < pair.address + pair.size → ⊥
       not_end is read some =
           let address : u64_at file at ≡ 0 = is.address in
@@ -283,10 +284,10 @@ Reserved-HasReservations file at total all ordered inside reserved =
     let size : ℕ = total - at in
     let long : length (slice file at size) ≡ size = length-slice file at size (omega arith) in
     let parts : length (slice file at size) ≡ length (reserved_block all) + length reserved.behind =
-        ap length reserved.stands ∙ length-append (reserved_block all) reserved.behind in
+    ap length reserved.stands ∙ length-append (reserved_block all) reserved.behind in
     let block : length (reserved_block all) ≡ 16 * length all + 16 = length-reserved_block all in
     block_has file at total all reserved.are_reservations
-        (BytesAt-from file at (reserved_block all) (reserved.behind ++ drop size (drop at file))
-            (sym (take-append-drop size (drop at file)) ∙ ap (λ l. l ++ drop size (drop at file)) reserved.stands
-            ∙ append_assoc (reserved_block all) reserved.behind (drop size (drop at file))))
-        (omega arith)
+    (BytesAt-from file at (reserved_block all) (reserved.behind ++ drop size (drop at file))
+    (sym (take-append-drop size (drop at file)) ∙ ap (λ l. l ++ drop size (drop at file)) reserved.stands
+    ∙ append_assoc (reserved_block all) reserved.behind (drop size (drop at file))))
+    (omega arith)
