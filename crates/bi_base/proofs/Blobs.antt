@@ -17,3 +17,6 @@ pub mod OneFault
 pub mod Following
 pub mod Passing
 pub mod Complete
+pub mod ReservationFaults
+pub mod Headers
+pub mod Faults

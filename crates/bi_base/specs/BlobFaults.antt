@@ -35,7 +35,7 @@ header_checks =
     IsWithinLimit ∷ HasMagicCell ∷ HasMagic ∷ HasHeader ∷ HasVersion ∷ HasCompatibleVersion ∷ TotalHoldsHeader
     ∷ FileHoldsTotal ∷ PlacesReservations ∷ PlacesStructure ∷ PlacesStrings ∷ []
 
--- What each of them asks for.
+-- What each of them asks for. A check may read cells that a short file lacks; an earlier check fails there.
 abbrev pub HeaderPasses : Bounds → List ℕ → HeaderCheck → Type 0
 HeaderPasses bounds file IsWithinLimit = length file ≤ bounds.file
 HeaderPasses bounds file HasMagicCell = 4 ≤ length file
@@ -116,7 +116,8 @@ begin_checks = IsWithinDepth ∷ HasNodeName ∷ MayNameNode ∷ IsNewNode ∷ [
 abbrev pub property_checks : List TokenCheck
 property_checks = IsBeforeChildren ∷ HasValue ∷ HasPropertyName ∷ MayNameProperty ∷ IsNewProperty ∷ []
 
--- The checks of the token of this number, in order.
+-- The checks of the token of this number, in order. Where the block has no whole number at an offset, `HasWord` fails, whatever
+-- is read there.
 abbrev pub token_checks : ℕ → List TokenCheck
 token_checks number =
     HasWord ∷ MayStand

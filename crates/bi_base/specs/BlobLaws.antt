@@ -1,4 +1,4 @@
-use Rattle.std.specs.Prelude.{◌≡◌, ◌⊎◌, ℕ, List}
+use Rattle.std.specs.Prelude.{◌≡◌, ◌⊎◌, ◌↔◌, ℕ, List}
 use Rattle.bi_base.specs.declared.fault.Fault.{Fault}
 use Rattle.bi_base.specs.Cells.{AreBytes}
 use Rattle.bi_base.specs.Limits.{Bounds}
@@ -19,3 +19,20 @@ abbrev pub OneBlob : Type 0
 OneBlob = (file : List ℕ) (cpu other_cpu : ℕ) (reservations other_reservations : List Reservation) (root other_root : Root Located)
     → Blob file cpu reservations root → Blob file other_cpu other_reservations other_root
     → AreSameContent cpu other_cpu reservations other_reservations root other_root
+
+-- A file that is a blob within limits has no fault under them.
+abbrev pub BlobHasNoFault : Type 0
+BlobHasNoFault = (bounds : Bounds) (file : List ℕ) (fault : Fault) → IsBlobWithin bounds file → ¬ (BlobFault bounds file fault)
+
+-- A file has at most one fault under limits.
+abbrev pub OneFault : Type 0
+OneFault = (bounds : Bounds) (file : List ℕ) (one other : Fault) → BlobFault bounds file one → BlobFault bounds file other → one ≡ other
+
+-- A file of bytes is a blob within limits, or it has a fault under them.
+abbrev pub BlobOrFault : Type 0
+BlobOrFault = (bounds : Bounds) (file : List ℕ) → AreBytes file → IsBlobWithin bounds file ⊎ ((fault : Fault) × BlobFault bounds file fault)
+
+-- A file of bytes is a blob within limits exactly where it has no fault under them.
+abbrev pub BlobWhereNoFault : Type 0
+BlobWhereNoFault = (bounds : Bounds) (file : List ℕ) → AreBytes file
+    → IsBlobWithin bounds file ↔ ((fault : Fault) → ¬ (BlobFault bounds file fault))

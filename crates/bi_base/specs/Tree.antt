@@ -36,7 +36,7 @@ with_each change (node name own children later) =
 abbrev pub with_each_node : {A B : Type 0} → (A → B) → Root A → Root B
 with_each_node change root = record { own = change root.own; children = with_each change root.children }
 
--- How many of these nodes are open at once where most are: the length of the longest line of descent.
+-- How many of these nodes are open at once where most are: how many nodes the longest line of descent has.
 abbrev pub depth : {Own : Type 0} → Nodes Own → ℕ
 depth none = 0
 depth (node name own children later) = max (depth children + 1) (depth later)

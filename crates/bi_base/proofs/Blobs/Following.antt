@@ -66,15 +66,16 @@ module _ (depth_limit : ℕ) where
       let round : List Open = open_with ns (cs ++ name ∷ []) ∷ outer in
       let behind : List Mark = Closes ∷ (marks siblings ++ later) in
       let after_all : AllFollow depth_limit (Inside (open_with ns ((cs ++ name ∷ []) ++ names siblings)) outer) later =
-          subst (λ l. AllFollow depth_limit (Inside (open_with ns l) outer) later) (sym (append_assoc cs (name ∷ []) (names siblings))) follow in
-      let closed : AllFollow depth_limit (Inside (open_with (property_names_of ps) (names children)) round) behind =
-          (refl, nodes_follow siblings ns (cs ++ name ∷ []) outer later are.2
-              (new_to_more name cs (names siblings) are_new.1 are.0.is_new) (omega arith) after_all) in
+      subst (λ l. AllFollow depth_limit (Inside (open_with ns l) outer) later) (sym (append_assoc cs (name ∷ []) (names siblings))) follow in
+      let closed : AllFollow depth_limit (Inside (open_with (property_names_of ps) (names children)) round) behind = (
+        refl,
+        nodes_follow siblings ns (cs ++ name ∷ []) outer later are.2
+            (new_to_more name cs (names siblings) are_new.1 are.0.is_new) (omega arith) after_all,
+      ) in
       let inner : AllFollow depth_limit (Inside (open_with (property_names_of ps) []) round) (marks children ++ behind) =
-          nodes_follow children (property_names_of ps) [] round behind are.1 (new_to_none (names children)) (omega arith) closed in
+      nodes_follow children (property_names_of ps) [] round behind are.1 (new_to_none (names children)) (omega arith) closed in
       let opened : AllFollow depth_limit (Inside (open_with [] []) round) (map Has ps ++ (marks children ++ behind)) =
-          properties_follow ps [] round (marks children ++ behind) are.0.is_own.named are.0.is_own.distinct (new_to_none (property_names_of ps)) inner in
-      (
+      properties_follow ps [] round (marks children ++ behind) are.0.is_own.named are.0.is_own.distinct (new_to_none (property_names_of ps)) inner in (
         (refl, omega arith, are.0.is_name, are_new.0),
         subst (AllFollow depth_limit (Inside (open_with [] []) round)) (sym (regrouped (map Has ps) (marks children) (Closes ∷ marks siblings) later)) opened,
       )
@@ -84,8 +85,7 @@ module _ (depth_limit : ℕ) where
   tree_follows root is shallow =
       let closed : AllFollow depth_limit (Inside (open_with (property_names_of root.own) (names root.children)) []) (Closes ∷ []) = (refl, refl) in
       let inner : AllFollow depth_limit (Inside (open_with (property_names_of root.own) []) []) (marks root.children ++ Closes ∷ []) =
-          nodes_follow root.children (property_names_of root.own) [] [] (Closes ∷ []) is.children (new_to_none (names root.children)) (omega arith) closed in
-      (
+      nodes_follow root.children (property_names_of root.own) [] [] (Closes ∷ []) is.children (new_to_none (names root.children)) (omega arith) closed in (
         (refl, omega arith, refl, tt),
         properties_follow root.own [] [] (marks root.children ++ Closes ∷ []) is.is_own.named is.is_own.distinct (new_to_none (property_names_of root.own)) inner,
       )

@@ -16,15 +16,15 @@ module _ (blocks : TreeBlocks) (depth_limit : ℕ) where
   abbrev pub TokenIsFine : List Token → Type 0
   TokenIsFine before =
       HasNoFault (TokenPasses blocks depth_limit (place_after blocks before) (opened blocks.strings before))
-          (token_checks (u32_at blocks.file (place_after blocks before)))
+      (token_checks (u32_at blocks.file (place_after blocks before)))
 
   -- The first check that fails of the token behind these gives this fault.
   abbrev pub TokenFault : List Token → Fault → Type 0
   TokenFault before fault =
       IsFirstFault (TokenPasses blocks depth_limit (place_after blocks before) (opened blocks.strings before))
-          (token_fault (place_after blocks before))
-          (token_checks (u32_at blocks.file (place_after blocks before)))
-          fault
+      (token_fault (place_after blocks before))
+      (token_checks (u32_at blocks.file (place_after blocks before)))
+      fault
 
   -- Two equally long lists of tokens that pass are one.
   pub same_walk : (ts us : List Token) → Walked blocks depth_limit ts → Walked blocks depth_limit us → length ts ≡ length us → ts ≡ us
@@ -34,7 +34,7 @@ module _ (blocks : TreeBlocks) (depth_limit : ℕ) where
   same_walk (t ∷ ts) (u ∷ us) one other e =
       let before : ts ≡ us = same_walk ts us one.1 other.1 (omega arith) in
       let same : t ≡ u = one_token blocks.file (place_after blocks us) t u
-          (subst (λ vs. StandsAt blocks.file (place_after blocks vs) t) before one.0.stands) other.0.stands in
+      (subst (λ vs. StandsAt blocks.file (place_after blocks vs) t) before one.0.stands) other.0.stands in
       λ i. same i ∷ before i
 
   -- A list of tokens that pass goes on with one that passes, where a longer list passes.
@@ -62,7 +62,7 @@ module _ (blocks : TreeBlocks) (depth_limit : ℕ) where
         | inl same ↦
             let before : one.before ≡ other.before = same_walk one.before other.before one.walked other.walked same in
             one_fault _ _ (token_checks (u32_at blocks.file (place_after blocks other.before))) f g
-                (subst (λ ts. TokenFault ts f) before one.first) other.first
+            (subst (λ ts. TokenFault ts f) before one.first) other.first
         | inr unequal ↦ elim unequal [
           | inl shorter ↦ absurd (no_fault_before one.before other.before f one.walked other.walked shorter one.first)
           | inr longer ↦ absurd (no_fault_before other.before one.before g other.walked one.walked longer other.first)
@@ -82,7 +82,7 @@ module _ (blocks : TreeBlocks) (depth_limit : ℕ) where
         | inl same ↦
             let before : other.before ≡ tokens = same_walk other.before tokens other.walked ended.walked same in
             not_both _ _ (token_checks (u32_at blocks.file (place_after blocks tokens))) fault ended.passes
-                (subst (λ ts. TokenFault ts fault) before other.first)
+            (subst (λ ts. TokenFault ts fault) before other.first)
         | inr unequal ↦ elim unequal [
           | inl shorter ↦ no_fault_before other.before tokens fault other.walked ended.walked shorter other.first
           | inr longer ↦ past_end (passed_behind tokens other.before ended.walked other.walked longer)

@@ -57,23 +57,34 @@ module _ (blocks : TreeBlocks) (depth_limit place : ℕ) (stage : Stage) where
   pub end_passes : StandsAt blocks.file place End → place + width End ≤ blocks.end → stage ≡ AfterRoot → HasNoFault (TokenPasses blocks depth_limit place stage) (token_checks (u32_at blocks.file place))
   end_passes stands within ended =
       let word : (place + 4 ≤ blocks.end) × IsTrue (may_stand stage (u32_at blocks.file place)) =
-          word_passes End stands within (subst (λ s. IsTrue (may_stand s end_number)) (sym ended) refl) in
+      word_passes End stands within (subst (λ s. IsTrue (may_stand s end_number)) (sym ended) refl) in
       by_number End stands (word.0, (word.1, tt))
 
   pub begin_passes : (name : List ℕ) → StandsAt blocks.file place (BeginNode name) → place + width (BeginNode name) ≤ blocks.end → MayFollow depth_limit stage (Opens name) → HasNoFault (TokenPasses blocks depth_limit place stage) (token_checks (u32_at blocks.file place))
   begin_passes name stands within may =
       let word : (place + 4 ≤ blocks.end) × IsTrue (may_stand stage (u32_at blocks.file place)) = word_passes (BeginNode name) stands within may.0 in
       let read : name_from blocks.file (place + 4) ≡ name =
-          name_from-NameAt blocks.file (place + 4) name (BeginNode-name blocks.file place name stands) in
+      name_from-NameAt blocks.file (place + 4) name (BeginNode-name blocks.file place name stands) in
       let long : length (unpadded (BeginNode name)) ≡ 4 + length (name ++ 0 ∷ []) = length-unpadded (BeginNode name) in
       let longer : length (name ++ 0 ∷ []) ≡ length name + 1 = length-append name (0 ∷ []) in
       let wide : length (unpadded (BeginNode name)) ≤ width (BeginNode name) = (width-at_least (BeginNode name)).1 in
       let ends : place + 4 + length name < blocks.end = omega arith in
-      by_number (BeginNode name) stands
-          (word.0, (word.1, (may.1,
-              (subst (λ n. place + 4 + length n < blocks.end) (sym read) ends,
-              (subst (MayBeNamed stage) (sym read) may.2,
-              (subst (λ n. IsNew n (child_names stage)) (sym read) may.3, tt))))))
+      by_number (BeginNode name) stands (
+        word.0,
+        (
+          word.1,
+          (
+            may.1,
+            (
+              subst (λ n. place + 4 + length n < blocks.end) (sym read) ends,
+              (
+                subst (MayBeNamed stage) (sym read) may.2,
+                (subst (λ n. IsNew n (child_names stage)) (sym read) may.3, tt),
+              ),
+            ),
+          ),
+        ),
+      )
 
   pub prop_passes : (offset : ℕ) (value : List ℕ) (property : Property) → StandsAt blocks.file place (Prop offset value) → place + width (Prop offset value) ≤ blocks.end → NameAt blocks.strings offset property.0 → MayFollow depth_limit stage (Has property) → HasNoFault (TokenPasses blocks depth_limit place stage) (token_checks (u32_at blocks.file place))
   prop_passes offset value property stands within named may =
@@ -81,15 +92,28 @@ module _ (blocks : TreeBlocks) (depth_limit place : ℕ) (stage : Stage) where
       let parts : IsPropAt blocks.file place offset value = Prop-parts blocks.file place offset value stands in
       let is_length : u32_at blocks.file (place + 4) ≡ length value = parts.is_length in
       let read : name_from blocks.strings (u32_at blocks.file (place + 8)) ≡ property.0 =
-          ap (name_from blocks.strings) parts.is_offset ∙ name_from-NameAt blocks.strings offset property.0 named in
+      ap (name_from blocks.strings) parts.is_offset ∙ name_from-NameAt blocks.strings offset property.0 named in
       let wide : length (unpadded (Prop offset value)) ≤ width (Prop offset value) = (width-at_least (Prop offset value)).1 in
       let long : length (unpadded (Prop offset value)) ≡ 12 + length value = length-Prop offset value in
-      by_number (Prop offset value) stands
-          (word.0, (word.1, (may.1,
-              (omega arith,
-              (subst (λ o. HasName blocks.strings o (length blocks.strings)) (sym parts.is_offset) (NameAt-HasName blocks.strings offset property.0 named),
-              (subst IsPropertyName (sym read) may.2,
-              (subst (λ n. IsNew n (property_names stage)) (sym read) may.3, tt)))))))
+      by_number (Prop offset value) stands (
+        word.0,
+        (
+          word.1,
+          (
+            may.1,
+            (
+              omega arith,
+              (
+                subst (λ o. HasName blocks.strings o (length blocks.strings)) (sym parts.is_offset) (NameAt-HasName blocks.strings offset property.0 named),
+                (
+                  subst IsPropertyName (sym read) may.2,
+                  (subst (λ n. IsNew n (property_names stage)) (sym read) may.3, tt),
+                ),
+              ),
+            ),
+          ),
+        ),
+      )
 
 -- A mark without its place.
 abbrev pub plain_mark : PlacedMark → Mark
