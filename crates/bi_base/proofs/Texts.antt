@@ -15,3 +15,6 @@ pub mod TextBlob
 pub mod SaidBytes
 pub mod Content
 pub mod Normal
+pub mod Ordering
+pub mod Accepted
+pub mod Ordered

@@ -1,9 +1,12 @@
 use Rattle.std.specs.Prelude.{◌≡◌, ℕ, ◌%◌, ◌≤◌, List, [], ◌∷◌, ◌++◌, length, Contains, ◌↔◌}
+use Rattle.bi_base.specs.declared.fault.Fault.{Fault}
 use Rattle.bi_base.specs.Cells.{up4, AreBytes}
+use Rattle.bi_base.specs.Limits.{Bounds}
 use Rattle.bi_base.specs.Tokens.{End, Spelled, NameAt}
 use Rattle.bi_base.specs.Tree.{Root, Property, PropertyMap, Located, HasNoZero, AreDistinct, IsNormal, plain_tree, forget, depth_of}
 use Rattle.bi_base.specs.Marks.{Mark, marks_of, placed_marks_of, Say}
-use Rattle.bi_base.specs.Blob.{Reservation, reserved_block, Blob, totalsize}
+use Rattle.bi_base.specs.Blob.{Reservation, reserved_block, Blob, IsWithin, totalsize}
+use Rattle.bi_base.specs.BlobFaults.{BlobFault}
 use Rattle.bi_base.specs.BlobLaws.{AreSameContent}
 use Rattle.bi_base.specs.Layout.{used, firsts, offset_in, tokens_of, structure_block, strings_block, tree_text, unfilled, structure_place, located_tree, in_order, IsContent, IsNormalText, longest_text}
 
@@ -53,13 +56,29 @@ TextIsBlob =
     → length (tree_text cpu reservations root) ≤ longest_text → AreBytes rest
     → IsBlobOf (tree_text cpu reservations root ++ rest) cpu reservations root
 
--- A normal text is one, for it is the text of a tree whose properties have an order of their own.
-abbrev pub NormalTextIsBlob : Type 0
-NormalTextIsBlob =
-    (cpu : ℕ) (reservations : List Reservation) (root : Root (List Property)) (text rest : List ℕ)
+-- A file is a blob of these alone within limits, and has no fault under them.
+pub record IsAccepted (bounds : Bounds) (file : List ℕ) (cpu : ℕ) (reservations : List Reservation) (root : Root (List Property)) : Type 0 where
+  pub is_blob : IsBlobOf file cpu reservations root
+  pub is_within : IsWithin bounds file (located_tree reservations root)
+  pub no_fault : (fault : Fault) → ¬ (BlobFault bounds file fault)
+
+-- A text that is not too long, with any bytes behind it, is accepted under limits that hold all of it and its tree.
+abbrev pub TextIsAccepted : Type 0
+TextIsAccepted =
+    (bounds : Bounds) (cpu : ℕ) (reservations : List Reservation) (root : Root (List Property)) (rest : List ℕ)
+    → IsContent cpu reservations root
+    → length (tree_text cpu reservations root) ≤ longest_text → AreBytes rest
+    → length (tree_text cpu reservations root ++ rest) ≤ bounds.file → depth_of root ≤ bounds.depth
+    → IsAccepted bounds (tree_text cpu reservations root ++ rest) cpu reservations root
+
+-- The same of a normal text.
+abbrev pub NormalTextIsAccepted : Type 0
+NormalTextIsAccepted =
+    (bounds : Bounds) (cpu : ℕ) (reservations : List Reservation) (root : Root (List Property)) (text rest : List ℕ)
     → IsContent cpu reservations root → IsNormalText cpu reservations root text
     → length text ≤ longest_text → AreBytes rest
-    → IsBlobOf (text ++ rest) cpu reservations root
+    → length (text ++ rest) ≤ bounds.file → depth_of root ≤ bounds.depth
+    → IsAccepted bounds (text ++ rest) cpu reservations root
 
 -- How long a text is.
 pub record HasTextLength (cpu : ℕ) (reservations : List Reservation) (root : Root (List Property)) : Type 0 where
@@ -101,6 +120,17 @@ pub record HasOneOrder (root : Root PropertyMap) : Type 0 where
 -- Each tree has.
 abbrev pub EachTreeHasOneOrder : Type 0
 EachTreeHasOneOrder = (root : Root PropertyMap) → HasOneOrder root
+
+-- What may be laid out may be so in normal order, and is as deep then.
+pub record MayBeOrdered (cpu : ℕ) (reservations : List Reservation) (root : Root (List Property)) : Type 0 where
+  pub is_content : IsContent cpu reservations (in_order (forget root))
+  pub same_depth : depth_of (in_order (forget root)) ≡ depth_of root
+
+-- All content may.
+abbrev pub ContentMayBeOrdered : Type 0
+ContentMayBeOrdered =
+    (cpu : ℕ) (reservations : List Reservation) (root : Root (List Property)) → IsContent cpu reservations root
+    → MayBeOrdered cpu reservations root
 
 -- Normal texts, one of which is not too long, are the same exactly where they were made from the same boot processor, memory
 -- reservations and tree, the properties taken by name.

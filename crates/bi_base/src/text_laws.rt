@@ -1,7 +1,7 @@
 //! Laws of the text that a blob is laid out as, and of the normal text among these. Their functions do nothing: what each
 //! of them ensures is the law.
 
-ghost use Rattle.bi_base.specs.TextLaws.{EachNameIsThereOnce, EachNameStands, TextSaysItsTree, EachTextHasItsLength, TextIsBlob, NormalTextIsBlob, BlobHasContent, TextHasOneContent, EachTreeHasOneOrder, NormalTextTellsContent};
+ghost use Rattle.bi_base.specs.TextLaws.{EachNameIsThereOnce, EachNameStands, TextSaysItsTree, EachTextHasItsLength, TextIsBlob, TextIsAccepted, NormalTextIsAccepted, BlobHasContent, TextHasOneContent, EachTreeHasOneOrder, ContentMayBeOrdered, NormalTextTellsContent};
 
 /// The strings block of a text has each name that the marks use once, and no other name (profile of this project;
 /// Devicetree Specification, 5.5).
@@ -34,10 +34,18 @@ pub fn text_is_a_blob()
     ensures { TextIsBlob }
 {}
 
+/// The text of a boot processor, memory reservations and a tree, if it has at most 0x7fffffff bytes, and with any bytes
+/// behind it, is within limits that are no less than the length of all of it and the depth of the tree, and has no fault
+/// under them.
+pub fn text_is_accepted()
+    ensures { TextIsAccepted }
+{}
+
 /// The normal text of a boot processor, memory reservations and a tree, if it has at most 0x7fffffff bytes, and with any
-/// bytes behind it, is a blob of exactly these.
-pub fn normal_text_is_a_blob()
-    ensures { NormalTextIsBlob }
+/// bytes behind it, is a blob of exactly these, and has no fault under limits that are no less than the length of all of
+/// it and the depth of the tree.
+pub fn normal_text_is_accepted()
+    ensures { NormalTextIsAccepted }
 {}
 
 /// The boot processor, the memory reservations and the tree that a file says as a blob can be laid out as a text: numbers,
@@ -56,6 +64,11 @@ pub fn text_has_one_content()
 /// project).
 pub fn each_tree_has_one_order()
     ensures { EachTreeHasOneOrder }
+{}
+
+/// What may be laid out as a text may be so in normal order, and is as deep then.
+pub fn content_may_be_ordered()
+    ensures { ContentMayBeOrdered }
 {}
 
 /// Two normal texts, one of which has at most 0x7fffffff bytes, are the same exactly where they are of one boot processor,

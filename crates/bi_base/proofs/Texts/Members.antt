@@ -84,3 +84,13 @@ each-contains {X = X} P (first ∷ others) x each has =
 pub each-front : {X : Type 0} (P : X → Type 0) (xs ys : List X) → AllByRecursion P (xs ++ ys) → AllByRecursion P xs
 each-front P [] ys each = tt
 each-front P (first ∷ others) ys each = (each.0, each-front P others ys each.1)
+
+-- And of each of the second.
+pub each-back : {X : Type 0} (P : X → Type 0) (xs ys : List X) → AllByRecursion P (xs ++ ys) → AllByRecursion P ys
+each-back P [] ys each = each
+each-back P (first ∷ others) ys each = each-back P others ys each.1
+
+-- What holds of each image holds of the image of each element.
+pub each-map_back : {X Y : Type 0} (P : Y → Type 0) (f : X → Y) (xs : List X) → AllByRecursion P (map f xs) → AllByRecursion (λ x. P (f x)) xs
+each-map_back P f [] each = each
+each-map_back P f (first ∷ others) each = (each.0, each-map_back P f others each.1)

@@ -1,19 +1,15 @@
-use Rattle.std.proofs.Common.{◌≡◌, ◌≤◌, T, List, ◌++◌, length, refl, sym, ap, ap₂, subst, ◌∙◌, nat_cmp}
+use Rattle.std.proofs.Common.{◌≡◌, ◌≤◌, T, List, length, refl, sym, ap, ap₂, subst, ◌∙◌, nat_cmp}
 use Rattle.std.specs.Cmp.Lexicographic.{slice_cmp}
-use Rattle.std.specs.FinMap.{entries, from_entries, is_sorted, entries_sorted, get-entries, get-from_entries, same_map, slice_cmp-IsAntisymmetric, nat_cmp-IsAntisymmetric, IsAntisymmetric}
+use Rattle.std.specs.FinMap.{entries, from_entries, is_sorted, entries_sorted, get-entries, get-from_entries, same_map}
 use Rattle.std.specs.FinMap.Entries.{same_entries}
 use Rattle.std.proofs.lemmas.Cmp.{nat_list_cmp_total}
 use Rattle.bi_base.specs.Tree.{Nodes, none, node, Root, Property, PropertyMap, with_each, forget, EachOwn, IsNormal}
 use Rattle.bi_base.specs.Layout.{in_order, tree_text, longest_text}
-use Rattle.bi_base.specs.TextLaws.{EachTreeHasOneOrder, NormalTextIsBlob, NormalTextTellsContent, IsBlobOf}
-use Rattle.bi_base.proofs.Texts.TextBlob.{text_is_blob}
+use Rattle.bi_base.specs.TextLaws.{EachTreeHasOneOrder, NormalTextTellsContent}
+use Rattle.bi_base.proofs.Texts.Ordering.{order_tells}
 use Rattle.bi_base.proofs.Texts.Content.{text_has_one_content}
 
 -- The normal order of properties, and what normal texts tell.
-
--- Names that are in no order are the same.
-order_tells : IsAntisymmetric (slice_cmp nat_cmp)
-order_tells = slice_cmp-IsAntisymmetric nat_cmp-IsAntisymmetric
 
 -- Properties by name, put in order and taken by name again, are the same.
 pub made_again : (properties : PropertyMap) → from_entries (entries properties) ≡ properties
@@ -60,12 +56,6 @@ has_one_order root = record {
   is_same = ap₂ (λ own children. record { own = own; children = children }) (made_again root.own) (same-nodes root.children);
   only = λ other normal same. sym (ordered-tree other normal) ∙ ap in_order same;
 }
-
--- A normal text is a blob of what it was made from.
-pub normal_text_is_blob : NormalTextIsBlob
-normal_text_is_blob cpu reservations root text rest is normal short bytes =
-    subst (λ text. IsBlobOf (text ++ rest) cpu reservations root) (sym normal.is_text)
-    (text_is_blob cpu reservations root rest is (subst (λ text. length text ≤ longest_text) normal.is_text short) bytes)
 
 -- Normal texts tell what they were made from.
 pub normal_text_tells_content : NormalTextTellsContent
