@@ -18,3 +18,4 @@ pub mod Normal
 pub mod Ordering
 pub mod Accepted
 pub mod Ordered
+pub mod FirstUse

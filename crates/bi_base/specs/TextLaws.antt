@@ -4,11 +4,11 @@ use Rattle.bi_base.specs.Cells.{up4, AreBytes}
 use Rattle.bi_base.specs.Limits.{Bounds}
 use Rattle.bi_base.specs.Tokens.{End, Spelled, NameAt}
 use Rattle.bi_base.specs.Tree.{Root, Property, PropertyMap, Located, HasNoZero, AreDistinct, IsNormal, plain_tree, forget, depth_of}
-use Rattle.bi_base.specs.Marks.{Mark, marks_of, placed_marks_of, Say}
+use Rattle.bi_base.specs.Marks.{Mark, Has, marks_of, placed_marks_of, Say}
 use Rattle.bi_base.specs.Blob.{Reservation, reserved_block, Blob, IsWithin, totalsize}
 use Rattle.bi_base.specs.BlobFaults.{BlobFault}
 use Rattle.bi_base.specs.BlobLaws.{AreSameContent}
-use Rattle.bi_base.specs.Layout.{used, firsts, offset_in, tokens_of, structure_block, strings_block, tree_text, unfilled, structure_place, located_tree, in_order, IsContent, IsNormalText, longest_text}
+use Rattle.bi_base.specs.Layout.{names_in, used, firsts, offset_in, tokens_of, structure_block, strings_block, tree_text, unfilled, structure_place, located_tree, in_order, IsContent, IsNormalText, longest_text}
 
 -- Laws of the text that a blob is laid out as. Each is the contract of a function in `text_laws`.
 
@@ -20,6 +20,19 @@ pub record HasNamesOnce (marks : List Mark) : Type 0 where
 -- Any marks have their names once in their strings block.
 abbrev pub EachNameIsThereOnce : Type 0
 EachNameIsThereOnce = (marks : List Mark) → HasNamesOnce marks
+
+-- The strings block of these marks with one more: a name that was not used yet stands behind the others.
+pub record GrowsByUse (marks : List Mark) : Type 0 where
+  pub empty : strings_block [] ≡ []
+  pub other : (mark : Mark) → names_in mark ≡ [] → strings_block (marks ++ mark ∷ []) ≡ strings_block marks
+  pub known : (property : Property) → Contains (used marks) property.0
+      → strings_block (marks ++ Has property ∷ []) ≡ strings_block marks
+  pub new : (property : Property) → ¬ (Contains (used marks) property.0)
+      → strings_block (marks ++ Has property ∷ []) ≡ strings_block marks ++ (property.0 ++ 0 ∷ [])
+
+-- A strings block has names in the order of their first use.
+abbrev pub StringsGrowByUse : Type 0
+StringsGrowByUse = (marks : List Mark) → GrowsByUse marks
 
 -- Each name that marks use stands at its offset of their strings block.
 abbrev pub EachNameStands : Type 0

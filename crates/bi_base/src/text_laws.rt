@@ -1,12 +1,18 @@
 //! Laws of the text that a blob is laid out as, and of the normal text among these. Their functions do nothing: what each
 //! of them ensures is the law.
 
-ghost use Rattle.bi_base.specs.TextLaws.{EachNameIsThereOnce, EachNameStands, TextSaysItsTree, EachTextHasItsLength, TextIsBlob, TextIsAccepted, NormalTextIsAccepted, BlobHasContent, TextHasOneContent, EachTreeHasOneOrder, ContentMayBeOrdered, NormalTextTellsContent};
+ghost use Rattle.bi_base.specs.TextLaws.{EachNameIsThereOnce, StringsGrowByUse, EachNameStands, TextSaysItsTree, EachTextHasItsLength, TextIsBlob, TextIsAccepted, NormalTextIsAccepted, BlobHasContent, TextHasOneContent, EachTreeHasOneOrder, ContentMayBeOrdered, NormalTextTellsContent};
 
 /// The strings block of a text has each name that the marks use once, and no other name (profile of this project;
 /// Devicetree Specification, 5.5).
 pub fn each_name_is_there_once()
     ensures { EachNameIsThereOnce }
+{}
+
+/// The strings block of a text has names in the order of their first use: one more property with a name that was not used
+/// yet puts this name and a zero byte behind the block, and any other mark leaves it as it was (profile of this project).
+pub fn strings_grow_by_use()
+    ensures { StringsGrowByUse }
 {}
 
 /// Each name that marks use, if it has no zero byte, stands in the strings block of their text at its offset, with a zero
