@@ -9,8 +9,9 @@ use Rattle.bi_base.specs.Blob.{Reservation, IsReservation, reserved_block, blob_
 
 -- The text of a blob as this project lays it out (profile of this project): the header of version 17, the reservation block,
 -- the structure block and the strings block stand one behind the other, there is no FDT_NOP, what fills up is zero, and
--- each name of a property stands once in the strings block, without bytes of another name. Properties and children stand
--- in the order of the tree. The text is the normal one where the properties of each node stand in byte order.
+-- each name of a property stands once in the strings block, in the order of first use; names share no bytes. Properties
+-- and children stand in the order of the tree. The text is the normal one where the properties of each node stand by name
+-- in byte order.
 
 -- The names of properties that a mark uses.
 abbrev pub names_in : Mark → List (List ℕ)
