@@ -20,3 +20,4 @@ pub mod Complete
 pub mod ReservationFaults
 pub mod Headers
 pub mod Faults
+pub mod Padding

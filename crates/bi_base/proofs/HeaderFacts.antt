@@ -1,8 +1,7 @@
-use Rattle.std.proofs.Common.{◌≡◌, ℕ, ◌+◌, ◌≤◌, ◌<◌, List, [], ◌∷◌, length, take, refl, inl, inr, lit≤, arith}
+use Rattle.std.proofs.Common.{◌≡◌, ℕ, ◌≤◌, List, [], ◌∷◌, take, refl, inl, inr, lit≤, arith}
 use Rattle.std.specs.Prelude.{slice_set}
-use Rattle.bi_base.specs.declared.fault.Cause.{Cause}
 use Rattle.bi_base.specs.declared.fault.Cause.TheVariants.{Truncated, BadMagic, BadTotalSize, BadVersion, BadOffset}
-use Rattle.bi_base.specs.Cells.{u32_at, u64_at}
+use Rattle.bi_base.specs.Cells.{u32_at}
 use Rattle.bi_base.specs.Limits.{Bounds}
 use Rattle.bi_base.specs.BlobFaults.{HeaderFault, HeaderIsFine, BlobFault, InReservations}
 use Rattle.bi_base.proofs.TextFacts.{smallest_text}

@@ -1,6 +1,7 @@
 pub mod CellLaws
 pub mod TextFacts
 pub mod HeaderFacts
+pub mod StructureFacts
 pub mod CrcLaws
 pub mod FirstFault
 pub mod Blobs

@@ -1,6 +1,6 @@
-use Rattle.std.proofs.Common.{◌≡◌, ℕ, List, [], ◌∷◌, ◌++◌, length, refl, sum}
+use Rattle.std.proofs.Common.{◌≡◌, ℕ, List, [], ◌∷◌, ◌++◌, length, refl}
 use Rattle.bi_base.specs.Cells.{cell, cell8, u32_at}
-use Rattle.bi_base.specs.Tree.{Nodes, none, node, Root, Property}
+use Rattle.bi_base.specs.Tree.{none, node, Root, Property}
 use Rattle.bi_base.specs.Marks.{marks_of}
 use Rattle.bi_base.specs.Layout.{text_of, blob_text, tree_text, structure_block, strings_block, offset_in, firsts, used}
 

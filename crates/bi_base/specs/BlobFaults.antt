@@ -1,12 +1,12 @@
-use Rattle.std.specs.Prelude.{◌≡◌, ◌≢◌, ℕ, ◌+◌, ◌*◌, ◌%◌, ◌<◌, ◌≤◌, List, [], ◌∷◌, ◌++◌, length, ◌==◌, if◌then◌else◌, fold, IsTrue}
+use Rattle.std.specs.Prelude.{◌≡◌, ◌≢◌, ℕ, ◌+◌, ◌*◌, ◌%◌, ◌<◌, ◌≤◌, List, [], ◌∷◌, length, ◌==◌, if◌then◌else◌, fold, IsTrue}
 use Rattle.bi_base.specs.declared.fault.Cause.{Cause}
 use Rattle.bi_base.specs.declared.fault.Cause.TheVariants.{Truncated, BadMagic, BadTotalSize, BadVersion, BadOffset, BadToken, BadName, BadNameOffset, PropertyAfterChild, DuplicateProperty, DuplicateNode, TooDeep, TooLarge}
 use Rattle.bi_base.specs.declared.fault.Fault.{Fault}
 use Rattle.bi_base.specs.Cells.{u32_at, u64_at}
 use Rattle.bi_base.specs.Checks.{IsFirstFault, HasNoFault}
 use Rattle.bi_base.specs.Limits.{Bounds}
-use Rattle.bi_base.specs.Tokens.{Token, BeginNode, EndNode, Prop, Nop, End, width, StandsAt, name_from, begin_node_number, prop_number}
-use Rattle.bi_base.specs.Tree.{HasNoZero, IsChildName, IsPropertyName, IsNew}
+use Rattle.bi_base.specs.Tokens.{Token, BeginNode, EndNode, Prop, End, width, StandsAt, name_from, begin_node_number, prop_number}
+use Rattle.bi_base.specs.Tree.{IsChildName, IsPropertyName, IsNew}
 use Rattle.bi_base.specs.Marks.{Mark, Opens, Has, Closes}
 use Rattle.bi_base.specs.Stages.{Stage, BeforeRoot, Inside, AfterRoot, after, open_nodes, child_names, property_names, may_stand}
 use Rattle.bi_base.specs.Blob.{magic, totalsize, off_dt_struct, off_dt_strings, off_mem_rsvmap, version, last_comp_version, blob_magic, least_version, reader_version, header_length, structure_end, strings_end, TreeBlocks, tree_blocks}

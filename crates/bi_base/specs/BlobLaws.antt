@@ -1,10 +1,13 @@
-use Rattle.std.specs.Prelude.{◌≡◌, ◌⊎◌, ◌↔◌, ℕ, List}
+use Rattle.std.specs.Prelude.{◌≡◌, ◌≢◌, ◌⊎◌, ◌↔◌, ℕ, ◌-◌, List, [], ◌∷◌, ◌++◌, length, reverse}
 use Rattle.bi_base.specs.declared.fault.Fault.{Fault}
-use Rattle.bi_base.specs.Cells.{AreBytes}
+use Rattle.bi_base.specs.Cells.{AreBytes, slice, u32_at}
+use Rattle.bi_base.specs.Checks.{HasNoFault}
 use Rattle.bi_base.specs.Limits.{Bounds}
+use Rattle.bi_base.specs.Tokens.{Token, End, Spelled}
 use Rattle.bi_base.specs.Tree.{Root, Located}
-use Rattle.bi_base.specs.Blob.{Reservation, Blob, IsBlobWithin}
-use Rattle.bi_base.specs.BlobFaults.{BlobFault}
+use Rattle.bi_base.specs.Blob.{Reservation, Blob, IsBlobWithin, TreeBlocks}
+use Rattle.bi_base.specs.BlobFaults.{BlobFault, TokenPasses, token_checks, opened, place_after, Walked}
+use Rattle.bi_base.specs.OpenNodes.{IsReadable}
 
 -- Laws of what a blob is.
 
@@ -36,3 +39,21 @@ BlobOrFault = (bounds : Bounds) (file : List ℕ) → AreBytes file → IsBlobWi
 abbrev pub BlobWhereNoFault : Type 0
 BlobWhereNoFault = (bounds : Bounds) (file : List ℕ) → AreBytes file
     → IsBlobWithin bounds file ↔ ((fault : Fault) → ¬ (BlobFault bounds file fault))
+
+-- Each of these tokens, the newest first, passes its checks at the place behind those before it, and none is FDT_END.
+abbrev pub AllPass : TreeBlocks → ℕ → List Token → Type 0
+AllPass blocks depth_limit [] = Unit {0}
+AllPass blocks depth_limit (token ∷ before) =
+    (token ≢ End)
+    × HasNoFault (TokenPasses blocks depth_limit (place_after blocks before) (opened blocks.strings before))
+    (token_checks (u32_at blocks.file (place_after blocks before)))
+    × AllPass blocks depth_limit before
+
+-- A structure block begins with tokens that pass exactly where these pass and the bytes up to the place behind them spell
+-- them, in the file with any three bytes put behind it, in which the padding of the last token may end.
+abbrev pub WalkedWhereSpelled : Type 0
+WalkedWhereSpelled = (blocks : TreeBlocks) (depth_limit : ℕ) (tokens : List Token) (behind : List ℕ)
+    → IsReadable blocks → length behind ≡ 3
+    → Walked blocks depth_limit tokens
+    ↔ (AllPass blocks depth_limit tokens
+    × Spelled (reverse tokens) (slice (blocks.file ++ behind) blocks.begin (place_after blocks tokens - blocks.begin)))

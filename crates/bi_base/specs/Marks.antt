@@ -1,5 +1,5 @@
-use Rattle.std.specs.Prelude.{◌≡◌, ℕ, ◌+◌, List, [], ◌∷◌, ◌++◌, map, flat_map}
-use Rattle.bi_base.specs.Tokens.{Token, BeginNode, EndNode, Prop, Nop, End, NameAt, width}
+use Rattle.std.specs.Prelude.{◌≡◌, ℕ, ◌+◌, List, [], ◌∷◌, ◌++◌, map}
+use Rattle.bi_base.specs.Tokens.{Token, BeginNode, EndNode, Prop, Nop, NameAt, width}
 use Rattle.bi_base.specs.Tree.{Nodes, none, node, Root, Property, Placed, Located, as_nodes}
 
 -- What a tree says, in the order of the structure block: each node is opened, has its properties, holds its children and is

@@ -1,4 +1,4 @@
-use Rattle.std.specs.Prelude.{ℕ, List, [], ◌∷◌, ◌++◌, Bool, false, ◌||◌, ◌==◌, fold}
+use Rattle.std.specs.Prelude.{ℕ, List, [], ◌∷◌, ◌++◌, Bool, ◌||◌, ◌==◌, fold}
 use Rattle.bi_base.specs.Tokens.{begin_node_number, end_node_number, prop_number, nop_number, end_number}
 use Rattle.bi_base.specs.Marks.{Mark, Opens, Has, Closes}
 

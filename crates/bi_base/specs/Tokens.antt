@@ -1,4 +1,4 @@
-use Rattle.std.specs.Prelude.{◌≡◌, ℕ, ◌+◌, ◌-◌, ◌^◌, ◌<◌, List, [], ◌∷◌, ◌++◌, length, take, drop, replicate, ◌==◌}
+use Rattle.std.specs.Prelude.{◌≡◌, ℕ, ◌^◌, ◌<◌, List, [], ◌∷◌, ◌++◌, length, take, drop, ◌==◌}
 use Rattle.std.specs.List.{before_first}
 use Rattle.bi_base.specs.Cells.{cell, slice, up4}
 use Rattle.bi_base.specs.Tree.{HasNoZero}

@@ -1,11 +1,10 @@
-use Rattle.std.proofs.Common.{◌≡◌, ◌≢◌, ℕ, ◌+◌, ◌-◌, ◌<◌, ◌≤◌, List, [], ◌∷◌, ◌++◌, length, take, drop, map, min, max, refl, sym, ap, subst, ◌∙◌, arith}
-use Rattle.std.specs.Prelude.{fold}
-use Rattle.std.proofs.lemmas.List.{length-append, length-drop, length-take, map-append}
-use Rattle.bi_base.specs.Cells.{u32_at, slice}
-use Rattle.bi_base.specs.Tokens.{Token, BeginNode, EndNode, Prop, Nop, End, width, StandsAt, name_from}
+use Rattle.std.proofs.Common.{◌≡◌, ℕ, ◌+◌, ◌-◌, ◌≤◌, List, [], ◌∷◌, ◌++◌, length, drop, map, min, max, refl, sym, ap, subst, ◌∙◌, arith}
+use Rattle.std.proofs.lemmas.List.{length-append, length-take, map-append}
+use Rattle.bi_base.specs.Cells.{slice}
+use Rattle.bi_base.specs.Tokens.{Token, BeginNode, EndNode, Prop, Nop, End, width, name_from}
 use Rattle.bi_base.specs.Tree.{Nodes, none, node, Root, Property, Placed, Located, property_of, plain, plain_tree, with_each, depth, depth_of}
-use Rattle.bi_base.specs.Marks.{Mark, Opens, Has, Closes, marks, marks_of, PlacedMark, OpensAt, HasAt, ClosesAt, placed_marks, placed_marks_of, Say}
-use Rattle.bi_base.specs.Stages.{Stage, BeforeRoot, AfterRoot, after}
+use Rattle.bi_base.specs.Marks.{Opens, Has, Closes, marks, marks_of, PlacedMark, OpensAt, HasAt, ClosesAt, placed_marks, placed_marks_of, Say}
+use Rattle.bi_base.specs.Stages.{BeforeRoot, after}
 use Rattle.bi_base.specs.Blob.{TreeBlocks, HoldsTree}
 use Rattle.bi_base.specs.BlobFaults.{opened, place_after, Walked}
 use Rattle.bi_base.proofs.Blobs.Names.{name_from-NameAt}

@@ -1,4 +1,4 @@
-use Rattle.std.proofs.Common.{◌≡◌, ◌≢◌, ◌⊎◌, ℕ, ◌+◌, ◌%◌, ◌<◌, ◌≤◌, Bool, true, false, List, [], ◌∷◌, length, refl, sym, ap, subst, ◌∙◌, inl, inr, arith}
+use Rattle.std.proofs.Common.{◌≡◌, ◌≢◌, ◌⊎◌, ℕ, ◌+◌, ◌<◌, ◌≤◌, Bool, true, false, List, [], ◌∷◌, refl, sym, ◌∙◌, inl, inr, arith}
 use Rattle.std.specs.Prelude.{bytes_eq, IsTrue}
 use Rattle.std.specs.List.{AllByRecursion}
 use Rattle.std.specs.Cmp.Lexicographic.{bytes_decides}
@@ -7,8 +7,8 @@ use Rattle.bi_base.specs.Cells.{u32_at, u64_at}
 use Rattle.bi_base.specs.Limits.{Bounds}
 use Rattle.bi_base.specs.Tokens.{name_from}
 use Rattle.bi_base.specs.Tree.{IsChildName, IsPropertyName, IsNew, HasNoZero}
-use Rattle.bi_base.specs.Stages.{Stage, BeforeRoot, Inside, AfterRoot, open_nodes, child_names, property_names, may_stand}
-use Rattle.bi_base.specs.Blob.{TreeBlocks, magic, totalsize, off_dt_struct, off_dt_strings, off_mem_rsvmap, version, last_comp_version, blob_magic, least_version, reader_version, header_length, structure_end, strings_end}
+use Rattle.bi_base.specs.Stages.{Stage, BeforeRoot, Inside, AfterRoot, child_names, property_names, may_stand}
+use Rattle.bi_base.specs.Blob.{TreeBlocks}
 use Rattle.bi_base.specs.BlobFaults.{HeaderCheck, IsWithinLimit, HasMagicCell, HasMagic, HasHeader, HasVersion, HasCompatibleVersion, TotalHoldsHeader, FileHoldsTotal, PlacesReservations, PlacesStructure, PlacesStrings, HeaderPasses, TokenCheck, HasWord, MayStand, IsWithinDepth, HasNodeName, MayNameNode, IsNewNode, IsBeforeChildren, HasValue, HasPropertyName, MayNameProperty, IsNewProperty, TokenPasses, MayBeNamed, IsEndPair}
 
 -- Each check passes or fails.

@@ -1,7 +1,7 @@
-use Rattle.std.proofs.Common.{◌≡◌, ℕ, ◌+◌, ◌-◌, ◌<◌, ◌≤◌, List, [], ◌∷◌, ◌++◌, length, take, drop, reverse, refl, sym, ap, subst, ◌∙◌, arith}
+use Rattle.std.proofs.Common.{◌≡◌, ℕ, ◌+◌, ◌-◌, ◌≤◌, List, [], ◌∷◌, ◌++◌, length, take, drop, reverse, sym, ap, subst, ◌∙◌, arith}
 use Rattle.std.proofs.Math.Seq.{take-add}
-use Rattle.bi_base.specs.Cells.{slice, u32_at}
-use Rattle.bi_base.specs.Tokens.{Token, End, width, Spelled, StandsAt, end_number}
+use Rattle.bi_base.specs.Cells.{slice}
+use Rattle.bi_base.specs.Tokens.{Token, End, width, StandsAt, end_number}
 use Rattle.bi_base.specs.Tree.{Root, Located, depth_of}
 use Rattle.bi_base.specs.Stages.{AfterRoot}
 use Rattle.bi_base.specs.Blob.{TreeBlocks, HoldsTree}

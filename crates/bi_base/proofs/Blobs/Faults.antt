@@ -1,15 +1,15 @@
-use Rattle.std.proofs.Common.{◌≡◌, ◌⊎◌, ℕ, ◌≤◌, List, length, refl, sym, ap, subst, ◌∙◌, inl, inr}
+use Rattle.std.proofs.Common.{◌⊎◌, ℕ, List, length, refl, inl, inr}
 use Rattle.bi_base.specs.declared.fault.Fault.{Fault}
-use Rattle.bi_base.specs.Cells.{u32_at, AreBytes}
+use Rattle.bi_base.specs.Cells.{AreBytes}
 use Rattle.bi_base.specs.Limits.{Bounds}
 use Rattle.bi_base.specs.Tokens.{Token}
-use Rattle.bi_base.specs.Blob.{Header, Blob, IsBlobWithin, tree_blocks, off_mem_rsvmap, totalsize, boot_cpuid_phys}
-use Rattle.bi_base.specs.BlobFaults.{HeaderPasses, header_checks, header_fault, HeaderIsFine, HeaderFault, HasReservations, ReservationsFault, StructureFault, BlobFault, InHeader, InReservations, InStructure}
+use Rattle.bi_base.specs.Blob.{Header, IsBlobWithin, tree_blocks, off_mem_rsvmap, totalsize, boot_cpuid_phys}
+use Rattle.bi_base.specs.BlobFaults.{HeaderPasses, header_checks, header_fault, HeaderIsFine, HeaderFault, HasReservations, StructureFault, BlobFault, InHeader, InReservations, InStructure}
 use Rattle.bi_base.specs.BlobLaws.{BlobHasNoFault, OneFault, BlobOrFault, BlobWhereNoFault}
 use Rattle.bi_base.proofs.FirstFault.{one_fault, not_both, fault_or_none}
 use Rattle.bi_base.proofs.Blobs.Decided.{header_decided}
 use Rattle.bi_base.proofs.Blobs.Headers.{HeaderIsFine-Header, Header-HeaderIsFine, Header-IsReadable}
-use Rattle.bi_base.proofs.Blobs.ReservationFaults.{HasSome, Found, reservations_or_fault, one_reservations_fault, no_reservations_with_fault, reservations_at, HasReservations-Reserved, Reserved-HasReservations}
+use Rattle.bi_base.proofs.Blobs.ReservationFaults.{Found, reservations_or_fault, one_reservations_fault, no_reservations_with_fault, reservations_at, HasReservations-Reserved, Reserved-HasReservations}
 use Rattle.bi_base.proofs.Blobs.Whole.{HasTree, tree_or_fault}
 use Rattle.bi_base.proofs.Blobs.OneFault.{IsEnded, one_structure_fault, no_fault_in_ended}
 use Rattle.bi_base.proofs.Blobs.Complete.{tree_ends}

@@ -1,9 +1,9 @@
-use Rattle.std.proofs.Common.{◌≡◌, ℕ, ◌-◌, List, [], ◌∷◌, ◌++◌, take, drop, refl, sym, ap, subst, ◌∙◌}
+use Rattle.std.proofs.Common.{◌≡◌, ℕ, ◌-◌, List, [], ◌∷◌, ◌++◌, drop, sym, ap, subst, ◌∙◌}
 use Rattle.std.proofs.lemmas.List.{append_assoc, take-append-drop}
 use Rattle.bi_base.specs.Tree.{Root, Located}
 use Rattle.bi_base.specs.Tokens.{Token, End}
-use Rattle.bi_base.specs.Marks.{PlacedMark, Say, placed_marks_of}
-use Rattle.bi_base.specs.Blob.{TreeBlocks, HoldsTree, Blob, Reservation, tree_blocks}
+use Rattle.bi_base.specs.Marks.{Say, placed_marks_of}
+use Rattle.bi_base.specs.Blob.{TreeBlocks, HoldsTree, tree_blocks}
 use Rattle.bi_base.specs.BlobLaws.{OneBlob}
 use Rattle.bi_base.proofs.Blobs.Spelling.{AllStand, Spelled-stand, one_spelling}
 use Rattle.bi_base.proofs.Blobs.Saying.{one_saying, Say-no_end}

@@ -1,9 +1,9 @@
-use Rattle.std.proofs.Common.{◌≡◌, ◌≢◌, ◌⊎◌, ℕ, suc, ◌+◌, ◌<◌, ◌≤◌, List, [], ◌∷◌, length, refl, sym, ap, subst, ◌∙◌, inl, inr, arith}
+use Rattle.std.proofs.Common.{◌≡◌, ℕ, ◌<◌, List, [], ◌∷◌, length, refl, sym, subst, inl, inr, arith}
 use Rattle.std.proofs.lemmas.Bool.{cases_order}
 use Rattle.bi_base.specs.declared.fault.Fault.{Fault}
 use Rattle.bi_base.specs.Cells.{u32_at}
 use Rattle.bi_base.specs.Checks.{IsFirstFault, HasNoFault}
-use Rattle.bi_base.specs.Tokens.{Token, End, width, StandsAt}
+use Rattle.bi_base.specs.Tokens.{Token, End, StandsAt}
 use Rattle.bi_base.specs.Blob.{TreeBlocks}
 use Rattle.bi_base.specs.BlobFaults.{TokenPasses, token_checks, token_fault, opened, place_after, IsPassed, Walked, StructureFault}
 use Rattle.bi_base.proofs.FirstFault.{one_fault, not_both}

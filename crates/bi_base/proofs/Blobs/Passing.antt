@@ -1,24 +1,18 @@
-use Rattle.std.proofs.Common.{◌≡◌, ◌≢◌, ℕ, suc, ◌+◌, ◌-◌, ◌<◌, ◌≤◌, Bool, true, List, [], ◌∷◌, ◌++◌, length, drop, map, refl, sym, ap, subst, ◌∙◌, arith}
-use Rattle.std.specs.Prelude.{IsTrue, fold}
-use Rattle.std.specs.List.{AllByRecursion}
-use Rattle.std.proofs.lemmas.List.{length-append, length-drop, append_assoc, take-append-drop}
-use Rattle.std.proofs.lemmas.Bool.{true≢false}
-use Rattle.bi_base.specs.Cells.{u32_at, slice}
+use Rattle.std.proofs.Common.{◌≡◌, ℕ, ◌+◌, ◌<◌, ◌≤◌, List, [], ◌∷◌, ◌++◌, length, refl, sym, ap, subst, ◌∙◌, arith}
+use Rattle.std.specs.Prelude.{IsTrue}
+use Rattle.std.proofs.lemmas.List.{length-append}
+use Rattle.bi_base.specs.Cells.{u32_at}
 use Rattle.bi_base.specs.Checks.{HasNoFault}
-use Rattle.bi_base.specs.Tokens.{Token, BeginNode, EndNode, Prop, Nop, End, unpadded, width, StandsAt, name_from, NameAt, begin_node_number, end_node_number, prop_number, nop_number, end_number}
-use Rattle.bi_base.specs.Tree.{Nodes, none, node, Root, Property, Placed, Located, property_of, plain, plain_tree, with_each, depth, depth_of, IsNew, IsPropertyName}
-use Rattle.bi_base.specs.Marks.{Mark, Opens, Has, Closes, marks, marks_of, PlacedMark, OpensAt, HasAt, ClosesAt, placed_marks, placed_marks_of, Say}
-use Rattle.bi_base.specs.Stages.{Stage, BeforeRoot, Inside, AfterRoot, after, child_names, property_names, may_stand, open_nodes}
-use Rattle.bi_base.specs.Blob.{TreeBlocks, HoldsTree}
-use Rattle.bi_base.specs.BlobFaults.{TokenPasses, token_checks, MayBeNamed, HasName, opened, place_after, Walked}
+use Rattle.bi_base.specs.Tokens.{Token, BeginNode, EndNode, Prop, Nop, End, unpadded, width, StandsAt, name_from, NameAt, nop_number, end_number}
+use Rattle.bi_base.specs.Tree.{Property, property_of, IsNew, IsPropertyName}
+use Rattle.bi_base.specs.Marks.{Mark, Opens, Has, Closes, PlacedMark, OpensAt, HasAt, ClosesAt}
+use Rattle.bi_base.specs.Stages.{Stage, BeforeRoot, Inside, AfterRoot, child_names, property_names, may_stand}
+use Rattle.bi_base.specs.Blob.{TreeBlocks}
+use Rattle.bi_base.specs.BlobFaults.{TokenPasses, token_checks, MayBeNamed, HasName}
 use Rattle.bi_base.proofs.CellLaws.{length-cell}
 use Rattle.bi_base.proofs.Blobs.Names.{name_from-NameAt, NameAt-HasName}
-use Rattle.bi_base.proofs.Blobs.Tokens.{number, operands, length-unpadded, StandsAt-number, BeginNode-name, IsPropAt, Prop-parts, width-at_least}
-use Rattle.bi_base.proofs.Blobs.Spelling.{behind_all, AllStand, Spelled-length}
-use Rattle.bi_base.proofs.Blobs.OneBlob.{HoldsTree-stand}
-use Rattle.bi_base.proofs.Blobs.OneFault.{IsEnded}
-use Rattle.bi_base.proofs.Blobs.Following.{MayFollow, AllFollow, tree_follows}
-use Rattle.bi_base.proofs.Blobs.Walking.{behind_all-past, width-End}
+use Rattle.bi_base.proofs.Blobs.Tokens.{number, length-unpadded, StandsAt-number, BeginNode-name, IsPropAt, Prop-parts, width-at_least}
+use Rattle.bi_base.proofs.Blobs.Following.{MayFollow}
 
 -- The tokens of a block that holds a tree within the depth limit pass their checks.
 

@@ -1,7 +1,7 @@
-use Rattle.std.proofs.Common.{◌≡◌, ◌≢◌, ◌⊎◌, ℕ, zero, suc, ◌+◌, ◌-◌, ◌*◌, ◌<◌, ◌≤◌, ◌^◌, List, [], ◌∷◌, ◌++◌, length, take, drop, refl, sym, ap, subst, ◌∙◌, inl, inr, arith, lit<}
+use Rattle.std.proofs.Common.{◌≡◌, ◌⊎◌, ℕ, zero, suc, ◌+◌, ◌-◌, ◌*◌, ◌<◌, ◌≤◌, ◌^◌, List, [], ◌∷◌, ◌++◌, length, take, drop, refl, sym, ap, subst, ◌∙◌, inl, inr, arith, lit<}
 use Rattle.std.specs.List.{AllByRecursion, flat_map}
 use Rattle.std.proofs.lemmas.Bool.{cases_lt}
-use Rattle.std.proofs.lemmas.List.{length-append, append_assoc, append-nil, take-append-drop}
+use Rattle.std.proofs.lemmas.List.{length-append, append_assoc, take-append-drop}
 use Rattle.std.proofs.Math.Seq.{take-add}
 use Rattle.bi_base.specs.declared.fault.Cause.TheVariants.{Truncated}
 use Rattle.bi_base.specs.declared.fault.Fault.{Fault}
@@ -10,7 +10,6 @@ use Rattle.bi_base.specs.Blob.{Reservation, IsReservation, pair_bytes, end_pair,
 use Rattle.bi_base.specs.BlobFaults.{IsEndPair, HasReservations, ReservationsFault}
 use Rattle.bi_base.proofs.CellLaws.{length-slice}
 use Rattle.bi_base.proofs.Blobs.Cells.{BytesAt, BytesAt-from, BytesAt-left, BytesAt-right, BytesAt-join, BytesAt-cell8, u64_at-BytesAt, u64_at-fits, length-cell8}
-use Rattle.bi_base.proofs.Blobs.Reservations.{reserved_block-cons}
 use Rattle.bi_base.proofs.Blobs.Decided.{IsEndPair_decided}
 
 -- A reservation block has reservations and an end pair, or a fault.

@@ -1,8 +1,8 @@
-use Rattle.std.proofs.Common.{◌≡◌, ◌≢◌, ℕ, ◌+◌, List, [], ◌∷◌, ◌++◌, refl, sym, ap, subst, ◌∙◌}
+use Rattle.std.proofs.Common.{◌≡◌, ◌≢◌, ℕ, ◌+◌, List, [], ◌∷◌, ◌++◌, refl, sym, ap, ◌∙◌}
 use Rattle.std.specs.List.{AllByRecursion}
 use Rattle.bi_base.specs.Tokens.{Token, BeginNode, EndNode, Prop, Nop, End, width}
 use Rattle.bi_base.specs.Tree.{Placed}
-use Rattle.bi_base.specs.Marks.{PlacedMark, OpensAt, HasAt, ClosesAt, Say, SaysProperty, SaysNode}
+use Rattle.bi_base.specs.Marks.{PlacedMark, OpensAt, HasAt, ClosesAt, Say, SaysProperty}
 use Rattle.bi_base.proofs.Blobs.Names.{one_name}
 use Rattle.bi_base.proofs.Blobs.Spelling.{behind_all}
 

@@ -1,8 +1,7 @@
-use Rattle.std.proofs.Common.{◌≡◌, ◌≢◌, ℕ, ◌+◌, ◌-◌, ◌<◌, ◌≤◌, List, [], ◌∷◌, ◌++◌, length, take, drop, min, reverse, refl, sym, ap, subst, ◌∙◌, arith}
+use Rattle.std.proofs.Common.{◌≡◌, ◌≢◌, ℕ, ◌+◌, ◌-◌, ◌≤◌, List, [], ◌∷◌, ◌++◌, length, take, drop, min, refl, sym, ap, subst, ◌∙◌, arith}
 use Rattle.std.specs.List.{AllByRecursion}
-use Rattle.std.proofs.lemmas.List.{length-append, length-take, length-drop, append_assoc, append-nil, take-append-drop, drop-append-le, drop-drop, take_at, drop_at, nil_from_length}
-use Rattle.bi_base.specs.Cells.{slice}
-use Rattle.bi_base.specs.Tokens.{Token, BeginNode, EndNode, Prop, Nop, End, unpadded, width, Spells, Spelled, StandsAt}
+use Rattle.std.proofs.lemmas.List.{length-take, length-drop, append_assoc, take-append-drop, drop-append-le, drop-drop, take_at, drop_at}
+use Rattle.bi_base.specs.Tokens.{Token, End, unpadded, width, Spells, Spelled, StandsAt}
 use Rattle.bi_base.proofs.Blobs.Cells.{BytesAt-from}
 use Rattle.bi_base.proofs.Blobs.Tokens.{one_token}
 

@@ -1,18 +1,17 @@
-use Rattle.std.proofs.Common.{◌≡◌, ◌≢◌, ℕ, suc, ◌+◌, ◌-◌, ◌<◌, ◌≤◌, List, [], ◌∷◌, ◌++◌, length, take, drop, map, reverse, refl, sym, ap, subst, ◌∙◌, arith}
-use Rattle.std.specs.Prelude.{fold}
+use Rattle.std.proofs.Common.{◌≡◌, ℕ, suc, ◌+◌, ◌-◌, ◌<◌, ◌≤◌, List, [], ◌∷◌, ◌++◌, length, map, refl, sym, ap, subst, arith}
 use Rattle.std.proofs.lemmas.List.{append-nil}
 use Rattle.bi_base.specs.Cells.{slice, u32_at}
 use Rattle.bi_base.specs.Checks.{HasNoFault}
-use Rattle.bi_base.specs.Tokens.{Token, BeginNode, EndNode, Prop, Nop, End, width, StandsAt, NameAt, name_from, begin_node_number, end_node_number, prop_number, nop_number, end_number}
-use Rattle.bi_base.specs.Tree.{Nodes, none, node, Root, Placed, Located, names, with_each, depth, plain, AreNodes, AreProperties, IsNew}
-use Rattle.bi_base.specs.Marks.{PlacedMark, OpensAt, HasAt, ClosesAt, Say}
+use Rattle.bi_base.specs.Tokens.{Token, BeginNode, EndNode, Prop, Nop, End, width, StandsAt, NameAt, name_from, begin_node_number, end_node_number, prop_number, nop_number}
+use Rattle.bi_base.specs.Tree.{Nodes, none, node, Placed, Located, names, with_each, depth, plain, AreNodes, AreProperties, IsNew}
+use Rattle.bi_base.specs.Marks.{OpensAt, HasAt, ClosesAt}
 use Rattle.bi_base.specs.Stages.{Stage, BeforeRoot, Inside}
-use Rattle.bi_base.specs.Blob.{TreeBlocks, HoldsTree}
+use Rattle.bi_base.specs.Blob.{TreeBlocks}
 use Rattle.bi_base.specs.BlobFaults.{TokenPasses, token_checks}
-use Rattle.bi_base.specs.OpenNodes.{OpenNode, Growth, NotBegun, Growing, Grown, begun, with_one_property, with_one_child, with_last, located_of, root_of, open_of, opens_of, stage_of, said_of, said_by, said_so_far, IsOpenNode, AreOpenNodes, MayBeChild, IsReadable, Standing}
+use Rattle.bi_base.specs.OpenNodes.{OpenNode, Growth, NotBegun, Growing, Grown, begun, with_one_property, with_one_child, with_last, located_of, root_of, opens_of, stage_of, said_so_far, IsOpenNode, AreOpenNodes, MayBeChild, IsReadable, Standing}
 use Rattle.bi_base.proofs.Blobs.Names.{HasName-NameAt}
-use Rattle.bi_base.proofs.Blobs.Tokens.{BeginNode-stands, EndNode-stands, Prop-stands, Nop-stands, End-stands}
-use Rattle.bi_base.proofs.Blobs.Growing.{names-with_last, with_each-with_last, depth-with_last, AreNodes-with_last, AreProperties-push, open_of-property, open_of-child, said_by-property, said_by-child, said_by-root}
+use Rattle.bi_base.proofs.Blobs.Tokens.{BeginNode-stands, EndNode-stands, Prop-stands, Nop-stands}
+use Rattle.bi_base.proofs.Blobs.Growing.{with_each-with_last, depth-with_last, AreNodes-with_last, AreProperties-push, open_of-property, open_of-child, said_by-property, said_by-child, said_by-root}
 use Rattle.bi_base.proofs.Blobs.Walking.{stand_more}
 
 -- What one token that passes its checks does to a reader of the structure block, one lemma for each token.

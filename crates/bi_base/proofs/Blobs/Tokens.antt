@@ -1,9 +1,9 @@
-use Rattle.std.proofs.Common.{◌≡◌, ℕ, ◌+◌, ◌-◌, ◌*◌, ◌/◌, ◌<◌, ◌≤◌, ◌^◌, List, [], ◌∷◌, ◌++◌, length, take, drop, refl, sym, ap, subst, ◌∙◌, arith, lit<}
+use Rattle.std.proofs.Common.{◌≡◌, ℕ, ◌+◌, ◌<◌, ◌≤◌, ◌^◌, List, [], ◌∷◌, ◌++◌, length, drop, refl, sym, ap, subst, ◌∙◌, arith, lit<}
 use Rattle.std.proofs.lemmas.List.{length-append, append-nil, append_assoc}
-use Rattle.bi_base.specs.Cells.{cell, slice, u32_at, up4, AreBytes}
-use Rattle.bi_base.specs.Tokens.{Token, BeginNode, EndNode, Prop, Nop, End, unpadded, width, StandsAt, NameAt, name_from, begin_node_number, end_node_number, prop_number, nop_number, end_number}
+use Rattle.bi_base.specs.Cells.{cell, slice, u32_at, AreBytes}
+use Rattle.bi_base.specs.Tokens.{Token, BeginNode, EndNode, Prop, Nop, End, unpadded, width, StandsAt, NameAt, begin_node_number, end_node_number, prop_number, nop_number, end_number}
 use Rattle.bi_base.proofs.CellLaws.{length-cell, length-slice}
-use Rattle.bi_base.proofs.Blobs.Names.{one_name, NameAt-within}
+use Rattle.bi_base.proofs.Blobs.Names.{one_name}
 use Rattle.bi_base.proofs.Blobs.Cells.{BytesAt, BytesAt-from, BytesAt-drop, BytesAt-within, BytesAt-left, BytesAt-right, BytesAt-join, BytesAt-cell, u32_at-BytesAt, u32_at-fits}
 
 -- The number of a token.

@@ -1,4 +1,4 @@
-use Rattle.std.proofs.Common.{◌≡◌, ℕ, List, [], ◌∷◌, ◌++◌, map, refl, sym, ap, subst, ◌∙◌}
+use Rattle.std.proofs.Common.{◌≡◌, List, [], ◌∷◌, ◌++◌, map, refl, sym, ap, subst, ◌∙◌}
 use Rattle.std.proofs.lemmas.List.{append_assoc}
 use Rattle.bi_base.specs.Tree.{Nodes, none, node, Root, Placed, Located, as_nodes}
 use Rattle.bi_base.specs.Marks.{PlacedMark, OpensAt, HasAt, ClosesAt, placed_marks, placed_marks_of}

@@ -1,18 +1,17 @@
-use Rattle.std.proofs.Common.{◌≡◌, ◌≢◌, ℕ, ◌+◌, ◌-◌, ◌<◌, ◌≤◌, List, [], ◌∷◌, ◌++◌, length, take, drop, reverse, refl, sym, ap, subst, ◌∙◌, arith}
+use Rattle.std.proofs.Common.{◌≡◌, ◌≢◌, ℕ, ◌+◌, ◌-◌, ◌≤◌, List, [], ◌∷◌, ◌++◌, length, take, drop, reverse, refl, sym, ap, subst, ◌∙◌, arith}
 use Rattle.std.specs.Prelude.{fold}
-use Rattle.std.proofs.lemmas.List.{append_assoc, append-nil, reverse-append, take-take, drop-take, drop-drop, length-take}
+use Rattle.std.proofs.lemmas.List.{reverse-append, take-take, drop-take, drop-drop}
 use Rattle.std.proofs.Math.Seq.{take-add}
 use Rattle.bi_base.specs.Cells.{slice, u32_at, up4}
 use Rattle.bi_base.specs.Checks.{HasNoFault}
-use Rattle.bi_base.specs.Tokens.{Token, BeginNode, EndNode, Prop, Nop, End, unpadded, width, Spells, Spelled, StandsAt, nop_number, end_node_number, end_number}
+use Rattle.bi_base.specs.Tokens.{Token, EndNode, Nop, End, unpadded, width, Spells, Spelled, StandsAt, nop_number, end_node_number, end_number}
 use Rattle.bi_base.specs.Marks.{PlacedMark, Say}
-use Rattle.bi_base.specs.Stages.{Stage, after}
+use Rattle.bi_base.specs.Stages.{after}
 use Rattle.bi_base.specs.Blob.{TreeBlocks}
-use Rattle.bi_base.specs.BlobFaults.{TokenPasses, token_checks, said, opened, place_after, IsPassed, Walked}
+use Rattle.bi_base.specs.BlobFaults.{TokenPasses, token_checks, said, opened, place_after, Walked}
 use Rattle.bi_base.specs.OpenNodes.{Growth, stage_of, said_so_far, IsGrowth, Standing}
 use Rattle.bi_base.proofs.CellLaws.{length-cell, length-slice}
-use Rattle.bi_base.proofs.Blobs.Cells.{BytesAt, BytesAt-drop}
-use Rattle.bi_base.proofs.Blobs.Tokens.{StandsAt-within, width-at_least}
+use Rattle.bi_base.proofs.Blobs.Tokens.{width-at_least}
 use Rattle.bi_base.proofs.Blobs.Spelling.{behind_all, behind_all-append, AllStand}
 use Rattle.bi_base.proofs.Blobs.Saying.{Say-append}
 

@@ -1,12 +1,12 @@
-use Rattle.std.proofs.Common.{◌≡◌, ◌⊎◌, ℕ, zero, suc, ◌+◌, ◌<◌, ◌≤◌, true, List, [], ◌∷◌, refl, sym, ap, subst, ◌∙◌, inl, inr, arith}
-use Rattle.std.specs.Prelude.{◌==◌, IsTrue}
+use Rattle.std.proofs.Common.{◌≡◌, ◌⊎◌, ℕ, zero, suc, ◌+◌, ◌≤◌, true, List, [], ◌∷◌, refl, sym, subst, inl, inr, arith}
+use Rattle.std.specs.Prelude.{◌==◌}
 use Rattle.std.proofs.lemmas.Bool.{eqb-true, or_cases}
 use Rattle.bi_base.specs.declared.fault.Fault.{Fault}
 use Rattle.bi_base.specs.Cells.{u32_at}
 use Rattle.bi_base.specs.Checks.{IsFirstFault, HasNoFault}
-use Rattle.bi_base.specs.Tokens.{Token, BeginNode, EndNode, Prop, Nop, width, name_from, begin_node_number, end_node_number, prop_number, nop_number, end_number}
+use Rattle.bi_base.specs.Tokens.{Token, BeginNode, EndNode, Nop, width, name_from, begin_node_number, end_node_number, prop_number, nop_number, end_number}
 use Rattle.bi_base.specs.Tree.{Root, Located, depth_of}
-use Rattle.bi_base.specs.Stages.{Stage, BeforeRoot, Inside, AfterRoot, may_stand}
+use Rattle.bi_base.specs.Stages.{Stage, BeforeRoot, AfterRoot}
 use Rattle.bi_base.specs.Blob.{TreeBlocks, HoldsTree}
 use Rattle.bi_base.specs.BlobFaults.{HasWord, TokenPasses, token_checks, token_fault, opened, StructureFault}
 use Rattle.bi_base.specs.OpenNodes.{OpenNode, Growth, NotBegun, Growing, Grown, begun, with_one_property, with_one_child, root_of, stage_of, IsReadable, Standing}
