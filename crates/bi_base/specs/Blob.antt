@@ -7,7 +7,8 @@ use Rattle.bi_base.specs.Tree.{Root, Located, IsTree, AreProperties, plain_tree,
 use Rattle.bi_base.specs.Marks.{Say, placed_marks_of}
 
 -- What a file says as a devicetree blob (Devicetree Specification, chapter 5): the number of the boot processor, the
--- memory reservations, and the tree. A file may be longer than its blob.
+-- memory reservations, and the tree. A file may be longer than its blob
+-- (profile of this project).
 
 -- The cells of the header, by their names in the standard (5.2).
 abbrev pub magic : List ℕ → ℕ
