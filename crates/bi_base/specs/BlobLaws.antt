@@ -12,7 +12,7 @@ use Rattle.bi_base.specs.OpenNodes.{IsReadable}
 -- Laws of what a blob is.
 
 -- Two boot processors, lists of memory reservations and trees are the same.
-pub record AreSameContent (cpu other_cpu : ℕ) (reservations other_reservations : List Reservation) (root other_root : Root Located) : Type 0 where
+pub record AreSame {Own : Type 0} (cpu other_cpu : ℕ) (reservations other_reservations : List Reservation) (root other_root : Root Own) : Type 0 where
   pub same_cpu : cpu ≡ other_cpu
   pub same_reservations : reservations ≡ other_reservations
   pub same_root : root ≡ other_root
@@ -21,7 +21,7 @@ pub record AreSameContent (cpu other_cpu : ℕ) (reservations other_reservations
 abbrev pub OneBlob : Type 0
 OneBlob = (file : List ℕ) (cpu other_cpu : ℕ) (reservations other_reservations : List Reservation) (root other_root : Root Located)
     → Blob file cpu reservations root → Blob file other_cpu other_reservations other_root
-    → AreSameContent cpu other_cpu reservations other_reservations root other_root
+    → AreSame cpu other_cpu reservations other_reservations root other_root
 
 -- A file that is a blob within limits has no fault under them.
 abbrev pub BlobHasNoFault : Type 0

@@ -7,7 +7,7 @@ use Rattle.bi_base.specs.Tree.{Root, Property, PropertyMap, Located, HasNoZero, 
 use Rattle.bi_base.specs.Marks.{Mark, Has, marks_of, placed_marks_of, Say}
 use Rattle.bi_base.specs.Blob.{Reservation, reserved_block, Blob, IsWithin, totalsize}
 use Rattle.bi_base.specs.BlobFaults.{BlobFault}
-use Rattle.bi_base.specs.BlobLaws.{AreSameContent}
+use Rattle.bi_base.specs.BlobLaws.{AreSame}
 use Rattle.bi_base.specs.Layout.{names_in, used, firsts, offset_in, tokens_of, structure_block, strings_block, tree_text, unfilled, structure_place, located_tree, in_order, IsContent, IsNormalText, longest_text}
 
 -- Laws of the text that a blob is laid out as. Each is the contract of a function in `text_laws`.
@@ -59,7 +59,7 @@ pub record IsBlobOf (file : List ℕ) (cpu : ℕ) (reservations : List Reservati
   pub same_depth : depth_of (located_tree reservations root) ≡ depth_of root
   pub only : (other_cpu : ℕ) (other_reservations : List Reservation) (other_root : Root Located)
       → Blob file other_cpu other_reservations other_root
-      → AreSameContent cpu other_cpu reservations other_reservations (located_tree reservations root) other_root
+      → AreSame cpu other_cpu reservations other_reservations (located_tree reservations root) other_root
   pub is_total : totalsize file ≡ length (tree_text cpu reservations root)
 
 -- A text that is not too long, with any bytes behind it, is a blob of exactly what it was made from.
@@ -108,12 +108,6 @@ abbrev pub BlobHasContent : Type 0
 BlobHasContent =
     (file : List ℕ) (cpu : ℕ) (reservations : List Reservation) (root : Root Located) → Blob file cpu reservations root
     → IsContent cpu reservations (plain_tree root)
-
--- Two boot processors, lists of memory reservations and trees are the same.
-pub record AreSame {Own : Type 0} (cpu other_cpu : ℕ) (reservations other_reservations : List Reservation) (root other_root : Root Own) : Type 0 where
-  pub same_cpu : cpu ≡ other_cpu
-  pub same_reservations : reservations ≡ other_reservations
-  pub same_root : root ≡ other_root
 
 -- Contents with one text, which is not too long, are the same: distinct ones have distinct texts.
 abbrev pub TextHasOneContent : Type 0
