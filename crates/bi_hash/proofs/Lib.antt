@@ -1,0 +1,3 @@
+pub mod GoodValues
+pub mod Names
+pub mod Texts
