@@ -1,5 +1,5 @@
-use Rattle.std.specs.Prelude.{ℕ, List}
-use Rattle.bi_base.specs.Cells.{cell}
+use Rattle.std.specs.Prelude.{◌≡◌, ℕ, List, length}
+use Rattle.bi_base.specs.Cells.{cell, AreBytes}
 use Rattle.bi_base.specs.Crc.{crc32}
 use Rattle.md5.specs.Md5.{md5}
 use Rattle.sha1.specs.Sha1.{sha1}
@@ -23,3 +23,8 @@ digest_size Md5 = 16
 digest_size Sha1 = 20
 digest_size Sha256 = 32
 digest_size Sha512 = 64
+
+-- The law that a digest is bytes, as many as its algorithm says.
+abbrev pub DigestsAreBytes : Type 0
+DigestsAreBytes =
+    (algo : Algo) (payload : List ℕ) → AreBytes (digest_of algo payload) × (length (digest_of algo payload) ≡ digest_size algo)
