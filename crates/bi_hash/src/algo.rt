@@ -12,6 +12,9 @@ use md5::{Digest as _, Md5};
 use sha1::Sha1;
 use sha2::{Digest as _, Sha256, Sha512};
 
+#[cfg(test)]
+mod tests;
+
 /// An algorithm that a hash node can name.
 #[derive(Clone, Copy, Debug, PartialEq, Eq)]
 pub enum Algo {

@@ -9,6 +9,9 @@ ghost use Rattle.bi_hash.specs.Verdicts.{text_of, verdict_of};
 use crate::algo::Algo;
 use crate::verdicts::Verdict;
 
+#[cfg(test)]
+mod tests;
+
 /// The verdict on a hash node with these values of its properties `algo` and `value`, and the payload of its image,
 /// each where there is one (Flattened Image Tree Specification, hash nodes). The first of these that holds: Malformed,
 /// where there is no algo, no value, or no zero byte in algo; UnknownAlgo, where the bytes before the first zero of
