@@ -5,8 +5,8 @@ use Rattle.bi_base.proofs.writing.flush.Given as goal
 -- Each call before this one was interrupted.
 abbrev pub invariant-loop : goal.invariant-loop
 invariant-loop g l = record {
-    kept : Keeps (g.T.Target.contents l.initial.target) (g.T.Target.contents l.target);
-    counted : l.counter ≤ g.T.Target.interruptions l.target;
-    not_flushed : 0 < l.counter → ¬ (IsTrue (g.T.Target.flushed l.target));
-    same_writer : g.T.Target.writer l.target ≡ g.T.Target.writer l.initial.target
+  kept : Keeps (g.T.Target.contents l.initial.target) (g.T.Target.contents l.target);
+  counted : l.counter ≤ g.T.Target.interruptions l.target;
+  not_flushed : 0 < l.counter → ¬ (IsTrue (g.T.Target.flushed l.target));
+  same_writer : g.T.Target.writer l.target ≡ g.T.Target.writer l.initial.target;
 }
