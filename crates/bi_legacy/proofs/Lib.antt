@@ -1,5 +1,7 @@
 pub mod ByteLists
 pub mod CheckLists
+pub mod EmitFaults
+pub mod EmitWalk
 pub mod FaultLaws
 pub mod FileCuts
 pub mod HeaderReads
@@ -20,9 +22,11 @@ pub mod PartPieces
 pub mod PartTables
 pub mod PlacedParts
 pub mod ReadAnswers
+pub mod PutSums
 pub mod SizeCells
 pub mod Sizes
 pub mod TableWalk
 pub mod TextMeans
+pub mod TextPuts
 pub mod VectorFacts
 pub mod ZeroEnded

@@ -1,4 +1,4 @@
-use Rattle.std.proofs.Common.{◌≡◌, ℕ, ◌+◌, ◌*◌, ◌<◌, List, [], ◌∷◌, length, map, take, get_or, slice_index, fold, arith, Bool, true, false, if◌then◌else◌, zero-add, refl, sym, ap, ◌∙◌, zero, suc}
+use Rattle.std.proofs.Common.{◌≡◌, ℕ, ◌+◌, ◌*◌, ◌<◌, List, [], ◌∷◌, length, map, take, get_or, slice_index, arith, Bool, true, false, if◌then◌else◌, refl, sym, ap, ◌∙◌, zero, suc}
 use Rattle.bi_base.specs.Cells.{slice, up4}
 use Rattle.bi_base.specs.Limits.{Bounds}
 use Rattle.bi_base.specs.Checks.{HasNoFault}
