@@ -2,13 +2,16 @@
 #![tactic(auto)]
 
 mod cells;
+mod emitting;
 mod fields;
 mod header;
 pub mod laws;
 mod legacy;
 mod parts;
 mod table;
+mod text;
 
+pub use emitting::emit;
 pub use fields::Fields;
 pub use legacy::Legacy;
 pub use parts::{Part, Parts};
