@@ -3,6 +3,7 @@
 
 mod cells;
 mod emitting;
+pub mod codes;
 mod fields;
 mod header;
 pub mod laws;

@@ -1,3 +1,5 @@
 pub mod Kinds
+pub mod Listing
 pub mod Normalising
+pub mod Shown
 pub mod Streams

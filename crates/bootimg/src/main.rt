@@ -3,5 +3,8 @@
 
 mod kind;
 mod normalise;
+mod listing;
+mod open;
+mod shown;
 
 fn main() {}
