@@ -16,3 +16,6 @@ pub use emitting::emit;
 pub use fields::Fields;
 pub use legacy::Legacy;
 pub use parts::{Part, Parts};
+
+#[cfg(test)]
+mod tests;
