@@ -8,6 +8,5 @@ pub mod Vectors
 pub mod Faults
 pub mod Reading
 pub mod Emitting
-pub mod Codes
 pub mod Laws
 pub mod Walk

@@ -2,8 +2,8 @@
 #![tactic(auto)]
 
 mod cells;
-mod emitting;
 pub mod codes;
+mod emitting;
 mod fields;
 mod header;
 pub mod laws;

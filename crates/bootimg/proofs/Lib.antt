@@ -1,5 +1,4 @@
 pub mod Headline
-pub mod FileFaults
 pub mod LegacyForm
 pub mod Hexadecimal
 pub mod Lines

@@ -76,10 +76,3 @@ IsStreamRefusalOf file limits (Refused fault) = IsFileFault file limits fault ×
 IsStreamRefusalOf file limits OutOfMemory = ⊤
 IsStreamRefusalOf file limits ReadFailed = ⊤
 IsStreamRefusalOf file limits WriteFailed = ⊤
-
--- The same of a file that begins as a legacy image.
-abbrev pub IsLegacyRefusalOf : List ℕ → Bounds → Error → Type 0
-IsLegacyRefusalOf file limits (Refused fault) = IsLegacyFault file limits fault
-IsLegacyRefusalOf file limits OutOfMemory = ⊤
-IsLegacyRefusalOf file limits ReadFailed = ⊥
-IsLegacyRefusalOf file limits WriteFailed = ⊥

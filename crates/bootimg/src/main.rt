@@ -2,8 +2,8 @@
 #![tactic(auto)]
 
 mod kind;
-mod normalise;
 mod listing;
+mod normalise;
 mod open;
 mod shown;
 
