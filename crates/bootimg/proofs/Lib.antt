@@ -4,4 +4,5 @@ pub mod Hexadecimal
 pub mod Lines
 pub mod Meaningless
 pub mod PartLines
+pub mod Refusals
 pub mod ShownBytes

@@ -34,6 +34,68 @@ pub fn listing(alloc: Global, file: &[u8], limits: Limits) -> Result<String, Err
     Ok(text)
 }
 
+/// Reads a boot image to its end, and writes its listing and flushes: as `listing`, from a reader to a writer that each tell
+/// the outcome of their calls.
+///
+/// ReadFailed comes only after a read that failed by another error than an interruption, or after 1,024 interrupted reads in
+/// a row; WriteFailed likewise, or after a write that took none of the bytes that were left. After WriteFailed a first part
+/// of the listing was written, the whole of it where only the flush failed; after any other error nothing was written.
+pub fn list_through<S: Source, T: Target>(
+    alloc: Global,
+    source: &mut S,
+    target: &mut T,
+    limits: Limits,
+) -> Result<(), Error>
+    ensures lists { OnOk result (Streamed (S.left source.old) (S.left source.new)
+        (T.contents target.old) (T.contents target.new) (IsListing limits)) }
+    ensures refused_with_the_first_fault { IfErr result (λ error.
+        IfSome (S.left source.old) (λ file. IsStreamRefusalOf file limits error)) }
+    ensures writes_a_prefix { IsErrOf result Error.WriteFailed →
+        StreamedPrefix (S.left source.old) (S.left source.new)
+        (T.contents target.old) (T.contents target.new) (T.flushing target.new) (IsListing limits) }
+    ensures else_writes_nothing { IfErr result (λ error.
+        error ≢ Error.WriteFailed → Keeps (T.contents target.old) (T.contents target.new)) }
+    ensures takes_at_most_one_byte_more { TakesAtMost (S.left source.old) (S.left source.new) (limits.file + 1) }
+    ensures why_read_failed { IsErrOf result Error.ReadFailed →
+        HasToStop (S.failed source.new) (S.interruptions source.new) }
+    ensures why_write_failed { IsErrOf result Error.WriteFailed →
+        CannotGoOn (T.failed target.new) (T.stalled target.new) (T.interruptions target.new) }
+    ensures same_reader { S.reader source.new ≡ S.reader source.old }
+    ensures same_writer { T.writer target.new ≡ T.writer target.old }
+{
+    let file = read_source(alloc, source, limits)?;
+    let text = listing(alloc, &file, limits)?;
+    write_text(target, text.as_bytes())?;
+    Ok(())
+}
+
+/// Reads a boot image to its end, and writes its listing and flushes: as `listing`, from a reader to a writer.
+///
+/// ReadFailed comes only after a read that failed by another error than an interruption, or after 1,024 interrupted reads in
+/// a row; WriteFailed likewise, or after a write that took none of the bytes that were left. After WriteFailed a first part
+/// of the listing was written, the whole of it where only the flush failed; after any other error nothing was written.
+pub fn list_to<R: Read, W: Write>(
+    alloc: Global,
+    reader: &mut R,
+    writer: &mut W,
+    limits: Limits,
+) -> Result<(), Error>
+    ensures lists { OnOk result (Streamed (R.remaining reader.old) (R.remaining reader.new)
+        (W.contents writer.old) (W.contents writer.new) (IsListing limits)) }
+    ensures refused_with_the_first_fault { IfErr result (λ error.
+        IfSome (R.remaining reader.old) (λ file. IsStreamRefusalOf file limits error)) }
+    ensures writes_a_prefix { IsErrOf result Error.WriteFailed →
+        StreamedPrefix (R.remaining reader.old) (R.remaining reader.new)
+        (W.contents writer.old) (W.contents writer.new) false (IsListing limits) }
+    ensures else_writes_nothing { IfErr result (λ error.
+        error ≢ Error.WriteFailed → Keeps (W.contents writer.old) (W.contents writer.new)) }
+    ensures takes_at_most_one_byte_more { TakesAtMost (R.remaining reader.old) (R.remaining reader.new) (limits.file + 1) }
+{
+    let mut source = ReaderSource::new(reader);
+    let mut target = WriterTarget::new(writer);
+    list_through(alloc, &mut source, &mut target, limits)
+}
+
 /// The listing of a legacy image.
 fn legacy_listing(alloc: Global, image: &Legacy) -> Result<String, AllocError>
     ensures { IfOk result (λ text. string_bytes text ≡ listing_of image.now) }
