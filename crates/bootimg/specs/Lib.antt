@@ -1,3 +1,4 @@
 pub mod Kinds
 pub mod Normalising
+pub mod Numbers
 pub mod Streams

@@ -2,5 +2,6 @@
 #![tactic(auto)]
 
 mod kind;
+mod numbers;
 
 fn main() {}
