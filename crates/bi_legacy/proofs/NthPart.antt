@@ -42,7 +42,7 @@ GivesPart-nth items old new index result e gives =
     GivesPart-first old new result gives ∙ ap (λ left. slice_get left 0) e ∙ sym (slice_get-drop items index)
 
 -- The parts with their places are the parts.
-map-bytes : (at : ℕ) (parts : List (List ℕ)) → map (λ (piece : Piece). piece.bytes) (placed_from at parts) ≡ parts
+pub map-bytes : (at : ℕ) (parts : List (List ℕ)) → map (λ (piece : Piece). piece.bytes) (placed_from at parts) ≡ parts
 map-bytes at [] = refl
 map-bytes at (part ∷ parts) = ap (λ later. part ∷ later) (map-bytes (up4 (at + length part)) parts)
 

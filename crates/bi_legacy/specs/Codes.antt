@@ -8,17 +8,20 @@ pub record Named : Type 0 where
   pub code : ℕ
   pub name : List ℕ
 
+-- The operating systems with names (U-Boot, include/image.h: IH_OS_*).
 abbrev pub os_names : List Named
 os_names =
     record { code = 2; name = codes "netbsd" } ∷ record { code = 5; name = codes "linux" }
     ∷ record { code = 14; name = codes "vxworks" } ∷ record { code = 17; name = codes "u-boot" } ∷ []
 
+-- The processor architectures with names (U-Boot, include/image.h: IH_ARCH_*).
 abbrev pub arch_names : List Named
 arch_names =
     record { code = 2; name = codes "arm" } ∷ record { code = 3; name = codes "x86" } ∷ record { code = 5; name = codes "mips" }
     ∷ record { code = 7; name = codes "ppc" } ∷ record { code = 22; name = codes "arm64" }
     ∷ record { code = 24; name = codes "x86_64" } ∷ record { code = 26; name = codes "riscv" } ∷ []
 
+-- The image types with names (U-Boot, include/image.h: IH_TYPE_*).
 abbrev pub type_names : List Named
 type_names =
     record { code = 1; name = codes "standalone" } ∷ record { code = 2; name = codes "kernel" }
@@ -26,6 +29,7 @@ type_names =
     ∷ record { code = 5; name = codes "firmware" } ∷ record { code = 6; name = codes "script" }
     ∷ record { code = 8; name = codes "flat_dt" } ∷ []
 
+-- The compressions with names (U-Boot, include/image.h: IH_COMP_*).
 abbrev pub compression_names : List Named
 compression_names =
     record { code = 0; name = codes "none" } ∷ record { code = 1; name = codes "gzip" } ∷ record { code = 2; name = codes "bzip2" }

@@ -3,6 +3,7 @@
 
 mod cells;
 mod emitting;
+pub mod codes;
 mod fields;
 mod header;
 pub mod laws;
@@ -15,3 +16,6 @@ pub use emitting::emit;
 pub use fields::Fields;
 pub use legacy::Legacy;
 pub use parts::{Part, Parts};
+
+#[cfg(test)]
+mod tests;

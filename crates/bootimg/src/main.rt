@@ -2,6 +2,10 @@
 #![tactic(auto)]
 
 mod kind;
+mod listing;
+mod normalise;
 mod numbers;
+mod open;
+mod shown;
 
 fn main() {}

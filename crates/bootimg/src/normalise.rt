@@ -1,10 +1,10 @@
 //! The normal form of a boot image.
 
-ghost use Rattle.std.specs.Prelude.{◌≡◌, ◌≢◌, ◌+◌, ◌×◌, List, false, IfOk, OnErr, IfErr, IfSome, IsErrOf};
+ghost use Rattle.std.specs.Prelude.{◌≡◌, ◌≢◌, ◌+◌, map, List, false, OnOk, IfOk, IfErr, IfSome, IsErrOf};
 ghost use Rattle.std.specs.Io.KnownBytes.{Keeps};
 ghost use Rattle.bi_base.specs.Outcomes.{HasToStop, CannotGoOn};
 ghost use Rattle.bi_base.specs.Reading.{TakesAtMost};
-ghost use Rattle.bootimg.specs.Normalising.{StandsFor, TellsApart, IsOwnNormalForm, IsRefusalOf, IsStreamRefusalOf};
+ghost use Rattle.bootimg.specs.Normalising.{StandsFor, TellsApart, IsOwnNormalForm, IsRefusalOf, IsLegacyRefusalOf, IsStreamRefusalOf};
 ghost use Rattle.bootimg.specs.Streams.{Streamed, StreamedPrefix};
 
 use std::alloc::Global;
@@ -52,6 +52,8 @@ pub fn normalise(alloc: Global, file: &[u8], form: Form, limits: Limits) -> Resu
 
 /// The normal form of a legacy image.
 fn normalise_legacy(alloc: Global, file: &[u8], limits: Limits) -> Result<Vec<u8>, Error>
+    ensures text { IfOk result (λ text. StandsFor file.now limits text.items) }
+    ensures refused { IfErr result (IsLegacyRefusalOf file.now limits) }
 {
     let image = Legacy::read(file, limits)?;
     let parts = parts_of(alloc, &image)?;
@@ -62,6 +64,8 @@ fn normalise_legacy(alloc: Global, file: &[u8], limits: Limits) -> Result<Vec<u8
 
 /// The parts of a legacy image, in their order.
 fn parts_of<'a>(alloc: Global, image: &Legacy<'a>) -> Result<Vec<&'a [u8]>, Error>
+    ensures parts { IfOk result (λ parts. map (λ part. part.now) parts.items ≡ image.now.image.parts) }
+    ensures error { IfErr result (λ error. error ≡ Error.OutOfMemory) }
 {
     let mut parts = Vec::with_capacity(alloc, image.part_count())?;
     for part in image.parts() {

@@ -1,0 +1,65 @@
+//! The names of the codes in a legacy header, as the commands of U-Boot spell them.
+
+ghost use Rattle.std.specs.Prelude.{◌≡◌, option_map};
+ghost use Rattle.bi_legacy.specs.Codes.{name_in, os_names, arch_names, type_names, compression_names};
+
+/// The name of an operating system's code (U-Boot, include/image.h: `IH_OS_*`). None where the code has no name here.
+pub fn os_name(code: u8) -> Option<&'static str>
+    ensures { option_map (λ name. name.now) result ≡ name_in os_names code }
+{
+    match code {
+        2 => Some("netbsd"),
+        5 => Some("linux"),
+        14 => Some("vxworks"),
+        17 => Some("u-boot"),
+        _ => None,
+    }
+}
+
+/// The name of a processor architecture's code (U-Boot, include/image.h: `IH_ARCH_*`). None where the code has no name here.
+pub fn arch_name(code: u8) -> Option<&'static str>
+    ensures { option_map (λ name. name.now) result ≡ name_in arch_names code }
+{
+    match code {
+        2 => Some("arm"),
+        3 => Some("x86"),
+        5 => Some("mips"),
+        7 => Some("ppc"),
+        22 => Some("arm64"),
+        24 => Some("x86_64"),
+        26 => Some("riscv"),
+        _ => None,
+    }
+}
+
+/// The name of an image type's code (U-Boot, include/image.h: `IH_TYPE_*`). None where the code has no name here.
+pub fn type_name(code: u8) -> Option<&'static str>
+    ensures { option_map (λ name. name.now) result ≡ name_in type_names code }
+{
+    match code {
+        1 => Some("standalone"),
+        2 => Some("kernel"),
+        3 => Some("ramdisk"),
+        4 => Some("multi"),
+        5 => Some("firmware"),
+        6 => Some("script"),
+        8 => Some("flat_dt"),
+        _ => None,
+    }
+}
+
+/// The name of a compression's code (U-Boot, include/image.h: `IH_COMP_*`). None where the code has no name here.
+pub fn compression_name(code: u8) -> Option<&'static str>
+    ensures { option_map (λ name. name.now) result ≡ name_in compression_names code }
+{
+    match code {
+        0 => Some("none"),
+        1 => Some("gzip"),
+        2 => Some("bzip2"),
+        3 => Some("lzma"),
+        4 => Some("lzo"),
+        5 => Some("lz4"),
+        6 => Some("zstd"),
+        _ => None,
+    }
+}

@@ -1,0 +1,25 @@
+use Rattle.std.proofs.Common.{ℕ, List, inl, inr, arith}
+use Rattle.bi_base.specs.declared.fault.Fault.{Fault}
+use Rattle.bi_base.specs.Limits.{Bounds}
+use Rattle.bi_legacy.specs.Meaning.{LegacyImage}
+use Rattle.bi_legacy.specs.File.{LegacyMeans}
+use Rattle.bi_legacy.proofs.MeansNoFault.{means_no_fault}
+use Rattle.bootimg.specs.declared.kind.Kind.TheVariants.{Legacy, Fit}
+use Rattle.bootimg.specs.Kinds.{BeginsAs, IsKindFault}
+use Rattle.bootimg.specs.Normalising.{MeansNothing}
+
+-- A file that means an image has the magic number of a legacy image.
+pub means_legacy : (file : List ℕ) (image : LegacyImage) (limits : Bounds) → LegacyMeans file image limits → BeginsAs file Legacy
+means_legacy file image limits means =
+    let passed = means_no_fault file image limits means in record { whole = passed.1.0; magic = passed.1.1.0 }
+
+-- A file of no known kind means nothing.
+pub kind_fault_means_nothing : (file : List ℕ) (limits : Bounds) (fault : Fault) → IsKindFault file fault → MeansNothing file limits
+kind_fault_means_nothing file limits fault (inl short) image means = short.0 (means_legacy file image limits means).whole
+kind_fault_means_nothing file limits fault (inr (whole, inl unknown)) image means =
+    unknown.0 (inl (means_legacy file image limits means).magic)
+kind_fault_means_nothing file limits fault (inr (whole, inr (known, none))) image means = none
+
+-- A flattened image tree means no legacy image.
+pub tree_means_nothing : (file : List ℕ) (limits : Bounds) → BeginsAs file Fit → MeansNothing file limits
+tree_means_nothing file limits begins image means = omega (arith, begins.magic, (means_legacy file image limits means).magic)
