@@ -1,5 +1,6 @@
 pub mod Kinds
 pub mod Listing
 pub mod Normalising
+pub mod Numbers
 pub mod Shown
 pub mod Streams

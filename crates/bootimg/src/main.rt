@@ -4,6 +4,7 @@
 mod kind;
 mod listing;
 mod normalise;
+mod numbers;
 mod open;
 mod shown;
 
