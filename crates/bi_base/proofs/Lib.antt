@@ -1,4 +1,9 @@
 pub mod CellLaws
+pub mod TextFacts
+pub mod HeaderFacts
+pub mod StructureFacts
 pub mod CrcLaws
 pub mod FirstFault
 pub mod SinkLaws
+pub mod Blobs
+pub mod Texts

@@ -2,6 +2,7 @@
 //! that bytes are written to.
 #![tactic(auto)]
 
+pub mod blob_laws;
 mod cells;
 mod checksum;
 mod crc;
@@ -11,6 +12,7 @@ mod limits;
 mod outcomes;
 mod reading;
 mod sinks;
+pub mod text_laws;
 mod writing;
 
 pub use cells::{be32_at, put_cell, put_cells};

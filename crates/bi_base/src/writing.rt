@@ -169,7 +169,7 @@ pub fn write_whole<T: Target>(target: &mut T, bytes: &[u8]) -> Result<(), Error>
 /// The only error is `WriteFailed`. It comes only after a flush that failed by another error than an interruption, or
 /// after 1,024 interrupted flushes in a row.
 pub fn flush<T: Target>(target: &mut T) -> Result<(), Error>
-    ensures ok { OnOk result (IsFalse (T.failed target.new)) }
+    ensures done { OnOk result (IsFalse (T.failed target.new) × (T.interruptions target.new ≡ 0)) }
     ensures flushing { IsTrue (T.flushing target.new) }
     ensures bytes { Keeps (T.contents target.old) (T.contents target.new) }
     ensures error { IfErr result (λ error. error ≡ Error.WriteFailed) }
@@ -196,7 +196,7 @@ pub fn flush<T: Target>(target: &mut T) -> Result<(), Error>
 /// bytes that were left, or after 1,024 interruptions in a row.
 pub fn write_text<T: Target>(target: &mut T, text: &[u8]) -> Result<(), Error>
     ensures ok { OnOk result (Appends (T.contents target.old) (T.contents target.new) text.now) }
-    ensures flushed { OnOk result (IsTrue (T.flushing target.new) × IsFalse (T.failed target.new)) }
+    ensures flushed { OnOk result (IsTrue (T.flushing target.new) × IsFalse (T.failed target.new) × (T.interruptions target.new ≡ 0)) }
     ensures error { IfErr result (λ error. error ≡ Error.WriteFailed) }
     ensures prefix { OnErr result (TookPrefix (T.contents target.old) (T.contents target.new) (T.flushing target.new) text.now) }
     ensures cause { OnErr result

@@ -2,7 +2,7 @@ use Rattle.std.proofs.Common.{◌≡◌, ℕ, List, [], ◌∷◌, ◌++◌, sli
 use Rattle.bi_base.specs.Checks.{IsFirstFault, HasNoFault}
 use Rattle.bi_base.specs.Limits.{Bounds}
 use Rattle.bi_base.specs.declared.fault.Fault.{Fault}
-use Rattle.bi_legacy.specs.Faults.{Check, Passes, fault_of, header_checks, body_checks, body_of, IsLegacyFault, HasNoLegacyFault}
+use Rattle.bi_legacy.specs.Faults.{Passes, fault_of, header_checks, body_checks, body_of, IsLegacyFault, HasNoLegacyFault}
 
 -- Checks that come in two lists.
 

@@ -51,7 +51,7 @@ image_of_file file image is =
       name_bytes = name_bytes file image is;
       parts = parts;
       parts_bytes = held_bytes (has_table image.image_type) image.parts is.body (body_bytes file image is) is.parts;
-      size = omega (arith, length-normal_body image.image_type image.parts parts, parts_end_in image.image_type image.parts is.body is.parts, is.size);
+      size = omega (arith, length-normal_body image.image_type image.parts, parts_end_in image.image_type image.parts is.body is.parts, is.size);
     }
 
 -- The normal text of what a file means is no longer than the file.
@@ -60,6 +60,6 @@ text_no_longer file image is =
     omega (
       arith,
       length-file file image is,
-      length-legacy_text image is.name.is_name (parts_of_file file image is),
+      length-legacy_text image is.name.is_name,
       parts_end_in image.image_type image.parts is.body is.parts,
     )

@@ -1,5 +1,7 @@
 pub mod ByteLists
 pub mod CheckLists
+pub mod EmitFaults
+pub mod EmitWalk
 pub mod FaultLaws
 pub mod FileCuts
 pub mod HeaderReads
@@ -19,10 +21,12 @@ pub mod PartEnds
 pub mod PartPieces
 pub mod PartTables
 pub mod PlacedParts
+pub mod PutSums
 pub mod ReadAnswers
 pub mod SizeCells
 pub mod Sizes
 pub mod TableWalk
 pub mod TextMeans
+pub mod TextPuts
 pub mod VectorFacts
 pub mod ZeroEnded

@@ -54,5 +54,5 @@ no_emit_fault_image image limits ranges name_bytes parts_bytes fits (name, (coun
       name_bytes = name_bytes;
       parts = are;
       parts_bytes = parts_bytes;
-      size = omega (arith, length-legacy_text image name are, length-normal_body image.image_type image.parts are);
+      size = omega (arith, length-legacy_text image name, length-normal_body image.image_type image.parts);
     }

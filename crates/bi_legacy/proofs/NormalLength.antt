@@ -1,8 +1,7 @@
 use Rattle.std.proofs.Common.{◌≡◌, ℕ, ◌+◌, ◌-◌, ◌≤◌, Bool, true, false, List, ◌++◌, [], ◌∷◌, length, replicate, map, arith, sym, ap, subst, ◌∙◌, MatchBool, if◌then◌else◌}
-use Rattle.std.specs.List.{AllByRecursion}
 use Rattle.std.proofs.lemmas.List.{length-append, length-replicate}
 use Rattle.bi_base.specs.Cells.{up4}
-use Rattle.bi_legacy.specs.Meaning.{LegacyImage, IsListedPart, IsImageName, AreParts, has_table}
+use Rattle.bi_legacy.specs.Meaning.{LegacyImage, IsImageName, has_table}
 use Rattle.bi_legacy.specs.Parts.{size_list, StandFrom, IsTable, HoldsParts, end_from, parts_end}
 use Rattle.bi_legacy.specs.Text.{filled, joined, normal_body, name_field, legacy_text}
 use Rattle.bi_legacy.specs.File.{header}
@@ -39,14 +38,14 @@ pub size_list_aligned : (parts : List (List ℕ)) → up4 (length (size_list par
 size_list_aligned parts = rw (length-size_list parts) (up4_of_four (length parts + 1))
 
 -- The normal data of some parts, with or without a list of sizes, ends where the last part ends.
-normal_end : (table : Bool) (parts : List (List ℕ)) → MatchBool table (AllByRecursion IsListedPart parts) (length parts ≡ 1) → length (if table then size_list parts ++ joined parts else joined parts) ≡ end_from (if table then length (size_list parts) else 0) (map length parts)
-normal_end true parts are =
+normal_end : (table : Bool) (parts : List (List ℕ)) → length (if table then size_list parts ++ joined parts else joined parts) ≡ end_from (if table then length (size_list parts) else 0) (map length parts)
+normal_end true parts =
     length-append (size_list parts) (joined parts) ∙ length-joined (length (size_list parts)) parts (size_list_aligned parts)
-normal_end false parts are = omega (arith, length-joined 0 parts (omega arith))
+normal_end false parts = omega (arith, length-joined 0 parts (omega arith))
 
--- The normal data ends where the last part ends.
-pub length-normal_body : (image_type : ℕ) (parts : List (List ℕ)) → AreParts image_type parts → length (normal_body image_type parts) ≡ parts_end image_type parts
-length-normal_body image_type parts are = normal_end (has_table image_type) parts are
+-- The normal data ends where the last part ends, also where an image cannot have such parts.
+pub length-normal_body : (image_type : ℕ) (parts : List (List ℕ)) → length (normal_body image_type parts) ≡ parts_end image_type parts
+length-normal_body image_type parts = normal_end (has_table image_type) parts
 
 -- Parts that stand in data, the first at the next multiple of four from an end within it, end within it.
 end_within : (end : ℕ) (parts : List (List ℕ)) (body : List ℕ) → end ≤ length body → StandFrom (up4 end) parts body → end_from end (map length parts) ≤ length body
@@ -71,13 +70,13 @@ length-name_field name short =
     ∙ omega (arith, length-replicate {A = ℕ} (32 - length name) 0)
 
 -- The normal text is as long as the header and where the last part ends.
-pub length-legacy_text : (image : LegacyImage) → IsImageName image.name → AreParts image.image_type image.parts → length (legacy_text image) ≡ 64 + parts_end image.image_type image.parts
+pub length-legacy_text : (image : LegacyImage) → IsImageName image.name → length (legacy_text image) ≡ 64 + parts_end image.image_type image.parts
 unfolding legacy_text
-length-legacy_text image name parts =
+length-legacy_text image name =
     let body = normal_body image.image_type image.parts in
     length-append (header image (name_field image.name) body) body
     ∙ omega (
       arith,
       length-header image (name_field image.name) body (length-name_field image.name name.short),
-      length-normal_body image.image_type image.parts parts,
+      length-normal_body image.image_type image.parts,
     )

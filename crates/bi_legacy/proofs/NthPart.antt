@@ -5,7 +5,7 @@ use Rattle.std.proofs.lemmas.List.{length-drop}
 use Rattle.bi_base.specs.Cells.{up4}
 use Rattle.bi_legacy.specs.declared.parts.Part.{Part}
 use Rattle.bi_legacy.specs.Meaning.{LegacyImage}
-use Rattle.bi_legacy.specs.Parts.{places_from, first_place}
+use Rattle.bi_legacy.specs.Parts.{first_place}
 use Rattle.bi_legacy.specs.Pieces.{Piece, GivesPart, piece_of, placed_from, placed_parts}
 use Rattle.bi_legacy.specs.Reading.{file_places}
 
@@ -41,15 +41,10 @@ pub GivesPart-nth : (items old new : List Piece) (index : ℕ) (result : Option 
 GivesPart-nth items old new index result e gives =
     GivesPart-first old new result gives ∙ ap (λ left. slice_get left 0) e ∙ sym (slice_get-drop items index)
 
--- The parts with their places are the parts ..
-map-bytes : (at : ℕ) (parts : List (List ℕ)) → map (λ (piece : Piece). piece.bytes) (placed_from at parts) ≡ parts
+-- The parts with their places are the parts.
+pub map-bytes : (at : ℕ) (parts : List (List ℕ)) → map (λ (piece : Piece). piece.bytes) (placed_from at parts) ≡ parts
 map-bytes at [] = refl
 map-bytes at (part ∷ parts) = ap (λ later. part ∷ later) (map-bytes (up4 (at + length part)) parts)
-
--- .. and their places.
-map-place : (at : ℕ) (parts : List (List ℕ)) → map (λ (piece : Piece). piece.place) (placed_from at parts) ≡ map (λ place. 64 + place) (places_from at (map length parts))
-map-place at [] = refl
-map-place at (part ∷ parts) = ap (λ later. (64 + at) ∷ later) (map-place (up4 (at + length part)) parts)
 
 -- The bytes of what was found.
 found-bytes : (result : Option Part) → option_map (λ (piece : Piece). piece.bytes) (option_map piece_of result) ≡ option_map (λ (part : Part). part.bytes.now) result
@@ -73,4 +68,3 @@ pub nth_place : (image : LegacyImage) (index : ℕ) (result : Option Part) → o
 nth_place image index result e =
     sym (found-place result) ∙ ap (option_map (λ (piece : Piece). piece.place)) e
     ∙ sym (slice_get-map (λ (piece : Piece). piece.place) (placed_parts image) index)
-    ∙ ap (λ (places : List ℕ). slice_get places index) (map-place (first_place image.image_type image.parts) image.parts)

@@ -4,7 +4,7 @@ use Rattle.bi_base.specs.Limits.{Bounds}
 use Rattle.bi_base.specs.Checks.{HasNoFault}
 use Rattle.bi_legacy.specs.Faults.{Passes, HasNoLegacyFault, body_of, listed_sizes, table_checks}
 use Rattle.bi_legacy.specs.Meaning.{has_table}
-use Rattle.bi_legacy.specs.Parts.{size_list, places_from, end_from, part_places, parts_end}
+use Rattle.bi_legacy.specs.Parts.{size_list, end_from, parts_end}
 use Rattle.bi_legacy.specs.Walk.{pieces, parts_in, read_end, FitFrom, first_in, sizes_in}
 use Rattle.bi_legacy.proofs.PartPieces.{length_pieces, ends_checked}
 use Rattle.bi_legacy.proofs.PartTables.{first_listed, listed_parts, length-size_list}
@@ -19,49 +19,15 @@ up4_of_four n = omega arith
 pub up4-up4 : (n : ℕ) → up4 (up4 n) ≡ up4 n
 up4-up4 n = omega arith
 
--- Where pieces end is the same from an end and from the next multiple of four, but for the last's own rounding.
-pub up4-end_from : (end : ℕ) (sizes : List ℕ) → up4 (end_from (up4 end) sizes) ≡ up4 (end_from end sizes)
-up4-end_from end [] = up4-up4 end
-up4-end_from end (size ∷ sizes) = ap (λ at. up4 (end_from (at + size) sizes)) (up4-up4 end)
-
--- There is a place for each size.
-pub length-places_from : (at : ℕ) (sizes : List ℕ) → length (places_from at sizes) ≡ length sizes
-length-places_from at [] = refl
-length-places_from at (size ∷ sizes) = ap suc (length-places_from (up4 (at + size)) sizes)
-
 -- There is a piece for each size.
 pub length-pieces : (body : List ℕ) (at : ℕ) (sizes : List ℕ) → length (pieces body at sizes) ≡ length sizes
 length-pieces body at [] = refl
 length-pieces body at (size ∷ sizes) = ap suc (length-pieces body (up4 (at + size)) sizes)
 
--- Each place is the next multiple of four behind the pieces before it.
-pub get_or-places_from : (at : ℕ) (sizes : List ℕ) (i d : ℕ) → up4 at ≡ at → i < length sizes → get_or (places_from at sizes) i d ≡ up4 (end_from at (take i sizes))
-get_or-places_from at [] i d aligned within = absurd (omega arith)
-get_or-places_from at (size ∷ sizes) zero d aligned within = sym aligned
-get_or-places_from at (size ∷ sizes) (suc i) d aligned within =
-    get_or-places_from (up4 (at + size)) sizes i d (up4-up4 (at + size)) (omega arith)
-    ∙ up4-end_from (at + size) (take i sizes)
-    ∙ ap (λ at. up4 (end_from (at + size) (take i sizes))) (sym aligned)
-
--- Each piece is the slice of its size there.
-pub get_or-pieces : (body : List ℕ) (at : ℕ) (sizes : List ℕ) (i : ℕ) (d : List ℕ) → up4 at ≡ at → i < length sizes → get_or (pieces body at sizes) i d ≡ slice body (up4 (end_from at (take i sizes))) (get_or sizes i 0)
-get_or-pieces body at [] i d aligned within = absurd (omega arith)
-get_or-pieces body at (size ∷ sizes) zero d aligned within = ap (λ at. slice body at size) (sym aligned)
-get_or-pieces body at (size ∷ sizes) (suc i) d aligned within =
-    get_or-pieces body (up4 (at + size)) sizes i d (up4-up4 (at + size)) (omega arith)
-    ∙ ap (λ at. slice body at (get_or sizes i 0)) (up4-end_from (at + size) (take i sizes)
-    ∙ ap (λ at. up4 (end_from (at + size) (take i sizes))) (sym aligned))
-
 -- The lists of sizes that data tells and that its parts have are equally long.
 pub listed_first : (body : List ℕ) → FitFrom (length body) (first_listed body) (listed_sizes body) → length (size_list (listed_parts body)) ≡ first_listed body
 listed_first body ends =
     length-size_list (listed_parts body) ∙ ap (λ n. 4 * (n + 1)) (length-pieces body (first_listed body) (listed_sizes body))
-
--- The places of the parts that data tells are those that the walk over its sizes finds.
-pub listed_places : (body : List ℕ) → FitFrom (length body) (first_listed body) (listed_sizes body) → places_from (length (size_list (listed_parts body))) (map length (listed_parts body)) ≡ places_from (first_listed body) (listed_sizes body)
-listed_places body ends =
-    ap (λ at. places_from at (map length (listed_parts body))) (listed_first body ends)
-    ∙ ap (places_from (first_listed body)) (length_pieces body (first_listed body) (listed_sizes body) ends)
 
 -- The last part that data tells ends where the walk over its sizes ends.
 pub listed_end : (body : List ℕ) → FitFrom (length body) (first_listed body) (listed_sizes body) → end_from (length (size_list (listed_parts body))) (map length (listed_parts body)) ≡ end_from (first_listed body) (listed_sizes body)
@@ -69,20 +35,10 @@ listed_end body ends =
     ap (λ at. end_from at (map length (listed_parts body))) (listed_first body ends)
     ∙ ap (end_from (first_listed body)) (length_pieces body (first_listed body) (listed_sizes body) ends)
 
--- Where the parts of data of a kind with or without a list begin.
-places_found : (table : Bool) (file : List ℕ) (limits : Bounds) → HasNoFault (Passes file limits) (if table then table_checks (body_of file) else []) → let parts = if table then listed_parts (body_of file) else body_of file ∷ [] in places_from (if table then length (size_list parts) else 0) (map length parts) ≡ (if table then places_from (first_listed (body_of file)) (listed_sizes (body_of file)) else 0 ∷ [])
-places_found true file limits none = listed_places (body_of file) (ends_checked file limits 0 _ _ none.1)
-places_found false file limits none = refl
-
 -- Where the last part of data of a kind with or without a list ends.
 end_found : (table : Bool) (file : List ℕ) (limits : Bounds) → HasNoFault (Passes file limits) (if table then table_checks (body_of file) else []) → let parts = if table then listed_parts (body_of file) else body_of file ∷ [] in end_from (if table then length (size_list parts) else 0) (map length parts) ≡ end_from (first_in table (body_of file)) (sizes_in table (body_of file))
 end_found true file limits none = listed_end (body_of file) (ends_checked file limits 0 _ _ none.1)
 end_found false file limits none = refl
-
--- In a file that fails no check, the parts begin where the walk over the sizes that its data tells finds them.
-pub told_places : (file : List ℕ) (limits : Bounds) → HasNoLegacyFault file limits → part_places (slice_index file 30) (parts_in (slice_index file 30) (body_of file)) ≡ (if has_table (slice_index file 30) then places_from (first_listed (body_of file)) (listed_sizes (body_of file)) else 0 ∷ [])
-told_places file limits (short, (cell, (magic, (whole, (header_sum, (whole_data, (data_sum, parts))))))) =
-    places_found (has_table (slice_index file 30)) file limits parts
 
 -- In a file that fails no check, the last part ends where the walk over the sizes that its data tells ends.
 pub told_end : (file : List ℕ) (limits : Bounds) → HasNoLegacyFault file limits → parts_end (slice_index file 30) (parts_in (slice_index file 30) (body_of file)) ≡ read_end file

@@ -35,11 +35,11 @@ told_of file limits (Err fault) bytes none image unused = tt
 -- And the file means nothing else.
 pub one_meaning_of : (file : List ℕ) (limits : Bounds) (r : Result Told Fault) → AreBytes file → OnOk r (HasNoLegacyFault file limits) → IfOk r (λ told. told.image ≡ read_image file) → IfOk r (λ told. (image : LegacyImage) → LegacyMeans file image limits → image ≡ told.image)
 one_meaning_of file limits (Ok told) bytes none image = λ other means.
-  one_meaning file other (read_image file) means.is_file (no_fault_means file limits bytes none).is_file ∙ sym image
+    one_meaning file other (read_image file) means.is_file (no_fault_means file limits bytes none).is_file ∙ sym image
 one_meaning_of file limits (Err fault) bytes none image = tt
 
 -- The fault is the only one.
 pub one_fault_of : (file : List ℕ) (limits : Bounds) (r : Result Told Fault) → IfErr r (IsLegacyFault file limits) → IfErr r (λ fault. (other : Fault) → IsLegacyFault file limits other → other ≡ fault)
 one_fault_of file limits (Ok told) first = tt
 one_fault_of file limits (Err fault) first = λ other another.
-  one_fault (Passes file limits) (fault_of limits) (checks file) other fault another first
+    one_fault (Passes file limits) (fault_of limits) (checks file) other fault another first

@@ -1,12 +1,23 @@
-use Rattle.std.specs.Prelude.{ℕ, ◌+◌, ◌*◌, ◌≤◌, ◌<◌, ◌≡◌, ⊤, List, [], ◌∷◌, ◌++◌, length, MatchBool, if◌then◌else◌}
+use Rattle.std.specs.Prelude.{ℕ, ◌+◌, ◌*◌, ◌≤◌, ◌≡◌, ⊤, List, [], ◌∷◌, length, map, MatchBool, if◌then◌else◌}
+use Rattle.std.specs.Borrow.{Bor}
 use Rattle.bi_base.specs.declared.fault.Fault.{Fault}
 use Rattle.bi_base.specs.declared.fault.Cause.TheVariants.{TooLarge, EmptyPart, BadField}
 use Rattle.bi_base.specs.Limits.{Bounds}
 use Rattle.bi_base.specs.Checks.{IsFirstFault, HasNoFault}
+use Rattle.bi_legacy.specs.declared.fields.Fields.{Fields}
 use Rattle.bi_legacy.specs.Meaning.{LegacyImage, IsImageName, IsListedPart, has_table}
+use Rattle.bi_legacy.specs.Reading.{image_of}
 use Rattle.bi_legacy.specs.Text.{legacy_text}
 
 -- What an image has to be so that it can be written (profile of this project).
+
+-- The bytes of each of these slices.
+abbrev pub bytes_of : List (Bor (List ℕ)) → List (List ℕ)
+bytes_of slices = map (λ slice. slice.now) slices
+
+-- What an image of these header fields and these parts says.
+abbrev pub image_of_parts : Fields → List (Bor (List ℕ)) → LegacyImage
+image_of_parts fields parts = image_of fields (bytes_of parts)
 
 pub data Check : Type 0 where
   HasImageName : Check

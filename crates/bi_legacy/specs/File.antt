@@ -1,16 +1,20 @@
-use Rattle.std.specs.Prelude.{ℕ, ◌^◌, ◌<◌, ◌≤◌, ◌≡◌, List, [], ◌∷◌, ◌++◌, length, MatchOption}
+use Rattle.std.specs.Prelude.{ℕ, ◌^◌, ◌<◌, ◌≤◌, ◌≡◌, List, [], ◌∷◌, ◌++◌, length}
 use Rattle.bi_base.specs.Cells.{cell, AreBytes}
 use Rattle.bi_base.specs.Crc.{crc32}
 use Rattle.bi_base.specs.Limits.{Bounds}
 use Rattle.bi_legacy.specs.Meaning.{LegacyImage, HasRanges, IsImageName}
 use Rattle.bi_legacy.specs.Parts.{HoldsParts}
 
--- The 64 bytes of a header with a given number as its header checksum (U-Boot, include/image.h: struct legacy_img_hdr).
--- `field` is the name's 32 bytes, `body` the data.
+-- The 64 bytes of a header with these numbers as its header checksum, its data size and its data checksum (U-Boot,
+-- include/image.h: struct legacy_img_hdr). `field` is the name's 32 bytes.
+abbrev pub header_cells : ℕ → ℕ → ℕ → LegacyImage → List ℕ → List ℕ
+header_cells checksum size sum image field =
+    cell 0x27051956 ++ (cell checksum ++ (cell image.time ++ (cell size ++ (cell image.load ++ (cell image.entry
+    ++ (cell sum ++ ((image.os ∷ image.arch ∷ image.image_type ∷ image.compression ∷ []) ++ field)))))))
+
+-- The header of this data with a given number as its header checksum.
 abbrev pub header_with : ℕ → LegacyImage → List ℕ → List ℕ → List ℕ
-header_with checksum image field body =
-    cell 0x27051956 ++ (cell checksum ++ (cell image.time ++ (cell (length body) ++ (cell image.load ++ (cell image.entry
-    ++ (cell (crc32 body) ++ ((image.os ∷ image.arch ∷ image.image_type ∷ image.compression ∷ []) ++ field)))))))
+header_with checksum image field body = header_cells checksum (length body) (crc32 body) image field
 
 -- The header: its checksum is that of the header itself with zeros in the checksum's place.
 unfoldable pub header : LegacyImage → List ℕ → List ℕ → List ℕ

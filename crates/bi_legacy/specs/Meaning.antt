@@ -1,4 +1,4 @@
-use Rattle.std.specs.Prelude.{ℕ, ◌^◌, ◌<◌, ◌≤◌, ◌≢◌, ◌≡◌, ◌==◌, ◌||◌, Bool, List, [], ◌∷◌, length, MatchBool}
+use Rattle.std.specs.Prelude.{ℕ, ◌^◌, ◌<◌, ◌≤◌, ◌≢◌, ◌≡◌, ◌==◌, ◌||◌, Bool, List, length, MatchBool}
 use Rattle.std.specs.List.{AllByRecursion}
 
 -- What a legacy image says (U-Boot, include/image.h: struct legacy_img_hdr, and the list of sizes of a multi-file

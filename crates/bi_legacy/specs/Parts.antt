@@ -1,4 +1,4 @@
-use Rattle.std.specs.Prelude.{ℕ, ◌+◌, ◌*◌, ◌-◌, ◌≤◌, ◌≡◌, ◌==◌, List, [], ◌∷◌, ◌++◌, length, map, replicate, MatchBool, if◌then◌else◌}
+use Rattle.std.specs.Prelude.{ℕ, ◌+◌, ◌≤◌, ◌≡◌, List, [], ◌∷◌, ◌++◌, length, map, MatchBool, if◌then◌else◌}
 use Rattle.std.specs.List.{AllByRecursion, flat_map}
 use Rattle.bi_base.specs.Cells.{cell, slice, up4}
 use Rattle.bi_legacy.specs.Meaning.{has_table, IsListedPart}
@@ -10,11 +10,6 @@ use Rattle.bi_legacy.specs.Meaning.{has_table, IsListedPart}
 -- The list of sizes: the length of each part as a cell, and a cell of zero that ends the list.
 abbrev pub size_list : List (List ℕ) → List ℕ
 size_list parts = flat_map (λ part. cell (length part)) parts ++ cell 0
-
--- Where parts of these sizes begin, the first at `at` and each later one at the next multiple of four.
-abbrev pub places_from : ℕ → List ℕ → List ℕ
-places_from at [] = []
-places_from at (size ∷ sizes) = at ∷ places_from (up4 (at + size)) sizes
 
 -- Each part stands in this data, the first at `at` and each later one at the next multiple of four; what lies between
 -- them is free.
@@ -39,9 +34,6 @@ HoldsParts image_type body parts = MatchBool (has_table image_type) (IsTable par
 -- Where the parts begin in the data.
 abbrev pub first_place : ℕ → List (List ℕ) → ℕ
 first_place image_type parts = if has_table image_type then length (size_list parts) else 0
-
-abbrev pub part_places : ℕ → List (List ℕ) → List ℕ
-part_places image_type parts = places_from (first_place image_type parts) (map length parts)
 
 -- Where the last of the pieces of these sizes ends, each of which begins at the next multiple of four from where the one
 -- before it ends, the first from `end` on.

@@ -4,8 +4,9 @@ use Rattle.bi_base.specs.Cells.{slice, u32_at, up4}
 use Rattle.bi_base.specs.Limits.{Bounds}
 use Rattle.bi_legacy.specs.declared.fields.Fields.{Fields}
 use Rattle.bi_legacy.specs.Meaning.{LegacyImage, has_table}
-use Rattle.bi_legacy.specs.Parts.{part_places, parts_end, end_from}
+use Rattle.bi_legacy.specs.Parts.{parts_end}
 use Rattle.bi_legacy.specs.File.{LegacyMeans}
+use Rattle.bi_legacy.specs.Pieces.{Piece, placed_parts}
 use Rattle.bi_legacy.specs.Faults.{listed_sizes, body_of}
 
 -- What an image of these header fields and these parts says.
@@ -29,9 +30,9 @@ pub record Told : Type 0 where
   pub image : LegacyImage
   pub unused : ℕ
 
--- Where the parts of an image begin in its file: the data stands behind the header of 64 bytes.
+-- Where the parts of an image begin in its file.
 abbrev pub file_places : LegacyImage → List ℕ
-file_places image = map (λ place. 64 + place) (part_places image.image_type image.parts)
+file_places image = map (λ (piece : Piece). piece.place) (placed_parts image)
 
 -- The file means this image, and so many of its bytes follow the last part, or the list of sizes where there are no parts.
 pub record IsTold (file : List ℕ) (limits : Bounds) (told : Told) : Type 0 where

@@ -1,5 +1,5 @@
-use Rattle.std.specs.Prelude.{ℕ, ◌+◌, ◌-◌, ◌^◌, ◌<◌, List, [], ◌∷◌, ◌++◌, length, replicate, if◌then◌else◌}
-use Rattle.std.specs.List.{AllByRecursion, concat}
+use Rattle.std.specs.Prelude.{ℕ, ◌-◌, ◌^◌, ◌<◌, List, [], ◌∷◌, ◌++◌, length, replicate, if◌then◌else◌}
+use Rattle.std.specs.List.{AllByRecursion}
 use Rattle.bi_base.specs.Cells.{up4, AreBytes}
 use Rattle.bi_legacy.specs.Meaning.{LegacyImage, HasRanges, IsImageName, AreParts, has_table}
 use Rattle.bi_legacy.specs.Parts.{size_list}

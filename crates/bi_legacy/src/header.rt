@@ -7,15 +7,17 @@ ghost use Rattle.bi_base.specs.Crc.{crc32 as crc32_of};
 ghost use Rattle.bi_base.specs.Checks.{IsFirstFault, HasNoFault};
 ghost use Rattle.bi_legacy.specs.Faults.{Passes, fault_of, header_checks, summed_header};
 
-use bi_base::{Cause, Crc32, Fault, Limits, be32_at, crc32};
-
 use crate::cells::cell_at;
+use bi_base::{Cause, Crc32, Fault, Limits, be32_at, crc32};
 
 /// The magic number of a legacy image.
 pub(crate) const MAGIC: u32 = 0x2705_1956;
 
 /// The bytes of a header.
 pub(crate) const HEADER_SIZE: usize = 64;
+
+/// The bytes of the name's field in a header.
+pub(crate) const NAME_SIZE: usize = 32;
 
 /// Checks header and data checksum, in the order of the format's checks.
 pub(crate) fn check_header(file: &[u8], limits: Limits) -> Result<(), Fault>

@@ -12,15 +12,13 @@ ghost use Rattle.bi_legacy.specs.Pieces.{piece_of, placed_parts};
 ghost use Rattle.bi_legacy.specs.Reading.{Told, IsTold, image_of, file_places};
 ghost use Rattle.bi_legacy.specs.Walk.{IsExtent, parts_in, read_image, read_end};
 
-use std::marker::Model;
-
-use bi_base::{Fault, Limits};
-
 use crate::cells::cell_at;
 use crate::fields::{Fields, has_size_list};
 use crate::header::{HEADER_SIZE, check_header};
 use crate::parts::{Part, Parts};
 use crate::table::extent_of;
+use bi_base::{Fault, Limits};
+use std::marker::Model;
 
 /// A legacy image that was read. It holds slices of its file, and makes no list of the parts.
 #[derive(Drop)]
@@ -35,8 +33,8 @@ impl<'a> Model for Legacy<'a> {
     ghost Value = { Told };
 
     ghost view = { λ legacy. record {
-        image = image_of legacy.fields (parts_in legacy.fields.image_type legacy.body.now);
-        unused = legacy.unused
+      image = image_of legacy.fields (parts_in legacy.fields.image_type legacy.body.now);
+      unused = legacy.unused;
     } };
 
     ghost invariant = { λ legacy. IsExtent (has_table legacy.fields.image_type) legacy.body.now legacy.part_count };

@@ -3,13 +3,19 @@
 
 mod cells;
 pub mod codes;
+mod emitting;
 mod fields;
 mod header;
 pub mod laws;
 mod legacy;
 mod parts;
 mod table;
+mod text;
 
+pub use emitting::emit;
 pub use fields::Fields;
 pub use legacy::Legacy;
 pub use parts::{Part, Parts};
+
+#[cfg(test)]
+mod tests;

@@ -5,10 +5,9 @@ ghost use Rattle.std.specs.Iterator.{at_most};
 ghost use Rattle.bi_legacy.specs.Pieces.{Piece, GivesPart};
 ghost use Rattle.bi_legacy.specs.Walk.{IsPartsState, cut_from, sizes_in, first_in, FitFrom};
 
-use std::marker::Model;
-
 use crate::cells::{cell_at, up4};
 use crate::header::HEADER_SIZE;
+use std::marker::Model;
 
 /// A part of a legacy image.
 #[derive(Clone, Copy, Debug, PartialEq, Eq)]

@@ -9,10 +9,9 @@ ghost use Rattle.bi_legacy.specs.Parts.{end_from};
 ghost use Rattle.bi_legacy.specs.Meaning.{has_table};
 ghost use Rattle.bi_legacy.specs.Walk.{FitFrom, IsExtent, first_in, sizes_in};
 
-use bi_base::{Cause, Fault, be32_at};
-
 use crate::cells::{cell_at, up4};
 use crate::fields::has_size_list;
+use bi_base::{Cause, Fault, be32_at};
 
 /// How many parts some data holds, and where the last one ends in it, or the list of sizes where there are none.
 #[derive(Drop)]

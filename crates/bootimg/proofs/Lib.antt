@@ -1,3 +1,5 @@
+pub mod Headline
+pub mod LegacyForm
 pub mod Hexadecimal
 pub mod Lines
 pub mod Meaningless

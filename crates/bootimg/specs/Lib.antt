@@ -2,5 +2,6 @@ pub mod Extracting
 pub mod Kinds
 pub mod Listing
 pub mod Normalising
+pub mod Numbers
 pub mod Shown
 pub mod Streams

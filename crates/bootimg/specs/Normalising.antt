@@ -22,16 +22,14 @@ pub record StandsFor (file : List ℕ) (limits : Bounds) (text : List ℕ) : Typ
   pub is : text ≡ legacy_text image
 
 -- The text tells meanings apart: of all files, those that mean what this one means have this normal text, and no others.
-abbrev pub TellsApart : List ℕ → Bounds → List ℕ → Type 0
-TellsApart file limits text =
-    (image : LegacyImage) → LegacyMeans file image limits →
-    (other_file : List ℕ) (other : LegacyImage) → LegacyMeans other_file other limits →
-    (legacy_text other ≡ text) ↔ (other ≡ image)
+pub record TellsApart (file : List ℕ) (limits : Bounds) (text : List ℕ) : Type 0 where
+  pub apart : (image : LegacyImage) → LegacyMeans file image limits →
+      (other_file : List ℕ) (other : LegacyImage) → LegacyMeans other_file other limits →
+      (legacy_text other ≡ text) ↔ (other ≡ image)
 
 -- The text is its own normal form: it means what the file means, under the same limits.
-abbrev pub IsOwnNormalForm : List ℕ → Bounds → List ℕ → Type 0
-IsOwnNormalForm file limits text =
-    (image : LegacyImage) → LegacyMeans file image limits → LegacyMeans text image limits
+pub record IsOwnNormalForm (file : List ℕ) (limits : Bounds) (text : List ℕ) : Type 0 where
+  pub again : (image : LegacyImage) → LegacyMeans file image limits → LegacyMeans text image limits
 
 -- The checks of a file that does not begin with the magic number of a legacy image.
 pub data Check : Type 0 where

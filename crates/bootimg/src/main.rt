@@ -4,6 +4,8 @@
 mod extract;
 mod kind;
 mod listing;
+mod normalise;
+mod numbers;
 mod open;
 mod shown;
 

@@ -1,21 +1,21 @@
 //! The normal form of a boot image.
 
-ghost use Rattle.std.specs.Prelude.{◌≡◌, ◌≢◌, ◌+◌, ◌×◌, List, false, IfOk, OnErr, IfErr, IfSome, IsErrOf};
+ghost use Rattle.std.specs.Prelude.{◌≡◌, ◌≢◌, ◌+◌, ℕ, map, List, false, OnOk, IfOk, IfErr, IfSome, IsErrOf};
 ghost use Rattle.std.specs.Io.KnownBytes.{Keeps};
 ghost use Rattle.bi_base.specs.Outcomes.{HasToStop, CannotGoOn};
 ghost use Rattle.bi_base.specs.Reading.{TakesAtMost};
+ghost use Rattle.bi_legacy.specs.Reading.{IsTold};
+ghost use Rattle.bi_legacy.specs.Text.{legacy_text};
 ghost use Rattle.bootimg.specs.Normalising.{StandsFor, TellsApart, IsOwnNormalForm, IsRefusalOf, IsStreamRefusalOf};
 ghost use Rattle.bootimg.specs.Streams.{Streamed, StreamedPrefix};
 
-use std::alloc::Global;
-use std::io::{Read, Write};
-
+use crate::open::read_legacy;
 use bi_base::{
-    Cause, Error, Fault, Limits, ReaderSource, Source, Target, VecSink, WriterTarget, read_source, write_text,
+    Error, Limits, ReaderSource, Source, Target, VecSink, WriterTarget, read_source, write_text,
 };
 use bi_legacy::{Legacy, emit};
-
-use crate::kind::{Kind, kind_of};
+use std::alloc::Global;
+use std::io::{Read, Write};
 
 /// How the payloads of a flattened image tree are held. It has no effect on a legacy image.
 #[derive(Clone, Copy, Debug, PartialEq, Eq)]
@@ -35,26 +35,16 @@ pub fn normalise(alloc: Global, file: &[u8], form: Form, limits: Limits) -> Resu
     ensures is_its_own_normal_form { IfOk result (λ text. IsOwnNormalForm file.now limits text.items) }
     ensures refused_with_the_first_fault { IfErr result (IsRefusalOf file.now limits) }
 {
-    if file.len() > limits.file() as usize {
-        return Err(Error::Refused(Fault {
-            cause: Cause::TooLarge,
-            offset: limits.file(),
-        }));
-    }
-    match kind_of(file)? {
-        Kind::Legacy => normalise_legacy(alloc, file, limits),
-        Kind::Fit => Err(Error::Refused(Fault {
-            cause: Cause::Unsupported,
-            offset: 0,
-        })),
-    }
+    let image = read_legacy(file, limits)?;
+    normal_text(alloc, &image, limits)
 }
 
-/// The normal form of a legacy image.
-fn normalise_legacy(alloc: Global, file: &[u8], limits: Limits) -> Result<Vec<u8>, Error>
+/// The normal text of a legacy image that was read under the limits.
+fn normal_text(alloc: Global, image: &Legacy<'_>, limits: Limits) -> Result<Vec<u8>, Error>
+    ensures text { IfOk result (λ text. (file : List ℕ) → IsTold file limits image.now → text.items ≡ legacy_text image.now.image) }
+    ensures error { IfErr result (λ error. (file : List ℕ) → IsTold file limits image.now → error ≡ Error.OutOfMemory) }
 {
-    let image = Legacy::read(file, limits)?;
-    let parts = parts_of(alloc, &image)?;
+    let parts = parts_of(alloc, image)?;
     let mut sink = VecSink::new(alloc);
     emit(image.fields(), &parts, limits, &mut sink)?;
     Ok(sink.into_vec())
@@ -62,6 +52,8 @@ fn normalise_legacy(alloc: Global, file: &[u8], limits: Limits) -> Result<Vec<u8
 
 /// The parts of a legacy image, in their order.
 fn parts_of<'a>(alloc: Global, image: &Legacy<'a>) -> Result<Vec<&'a [u8]>, Error>
+    ensures parts { IfOk result (λ parts. map (λ part. part.now) parts.items ≡ image.now.image.parts) }
+    ensures error { IfErr result (λ error. error ≡ Error.OutOfMemory) }
 {
     let mut parts = Vec::with_capacity(alloc, image.part_count())?;
     for part in image.parts() {

@@ -105,7 +105,7 @@ fn a_flush_may_be_interrupted_and_may_fail(rt: HostRuntime) {
 fn a_refused_growth_appends_nothing(rt: HostRuntime) {
     let mut sink = VecSink::new(rt.alloc());
     let mut count = 0;
-    for _ in 0..20 {
+    for _ in 0..20u8 {
         match sink.put(b"abcde") {
             Ok(()) => count += 5,
             Err(error) => assert_eq!(rt; error, Error::OutOfMemory),

@@ -1,6 +1,6 @@
-use Rattle.std.proofs.Common.{◌≡◌, ◌+◌, ◌*◌, ◌≤◌, ◌∷◌, ◌∙◌, ap, sym, length, drop, arith}
+use Rattle.std.proofs.Common.{◌≡◌, ◌+◌, ◌*◌, ◌≤◌, ◌∙◌, ap, sym, length, arith}
 use Rattle.bi_base.specs.Cells.{u32_at, up4}
-use Rattle.bi_legacy.specs.Faults.{body_of, listed_sizes}
+use Rattle.bi_legacy.specs.Faults.{body_of}
 use Rattle.bi_legacy.proofs.Sizes.{drop-listed}
 use Rattle.bi_legacy.proofs.TableWalk.{FitFrom-one, end_from-one, first-here, first-later}
 use Rattle.bi_legacy.proofs.table.end_of_parts.Goals as goal
@@ -25,6 +25,6 @@ loop-index-preserved c =
       fit = λ rest. c.loop-index.invariant.fit (FitFrom-one _ _ _ _ _ e fits rest);
       end = c.loop-index.invariant.end ∙ end_from-one _ _ _ _ e;
       fault = λ file limits fault same rest.
-        let long : length body ≡ length (body_of file) = ap length (sym same) in
-        c.loop-index.invariant.fault file limits fault same (first-later file limits index _ _ _ _ fault e (omega arith) rest);
+          let long : length body ≡ length (body_of file) = ap length (sym same) in
+          c.loop-index.invariant.fault file limits fault same (first-later file limits index _ _ _ _ fault e (omega arith) rest);
     }

@@ -18,5 +18,5 @@ invariant-loop-index l =
       fit : FitFrom (length l.body) (up4 l.end) (drop l.index sizes) → FitFrom (length l.body) first sizes;
       end : end_from first sizes ≡ end_from l.end (drop l.index sizes);
       fault : (file : List ℕ) (limits : Bounds) (fault : Fault) → body_of file ≡ l.body → IsFirstFault (Passes file limits) (fault_of limits) (part_checks l.index (up4 l.end) (drop l.index sizes)) fault
-        → IsFirstFault (Passes file limits) (fault_of limits) (part_checks 0 first sizes) fault
+          → IsFirstFault (Passes file limits) (fault_of limits) (part_checks 0 first sizes) fault;
     }

@@ -10,15 +10,16 @@ pub returns-in_err-end-clause-fault : goal.returns-in_err-end-clause-fault
 returns-in_err-end-clause-fault c =
     let P : List ℕ → Type 0 = λ body. Contains (cells_of body) 0 in
     let p = err_from_is_err_and c.from_residual.result c.from_residual.ensures.1 in
-    rw (p.1, p.2) (λ file limits same. inr (subst P (sym same) (c.in-Some.ensures.ends.0 refl),
-    rw (← c.in-Some.ensures.count) (c.in_err-end.ensures.fault file limits same)))
+    rw (p.1, p.2) (λ file limits same. inr (
+      subst P (sym same) (c.in-Some.ensures.ends.0 refl),
+      rw (← c.in-Some.ensures.count) (c.in_err-end.ensures.fault file limits same),
+    ))
 
 pub returns-clause-ok : goal.returns-clause-ok
 returns-clause-ok c file limits same =
     let P : List ℕ → Type 0 = λ body. Contains (cells_of body) 0 in
     let Q : List ℕ → Type 0 = λ body. FitFrom (length body) (4 * (length (listed_sizes c.args.body.now) + 1)) (listed_sizes c.args.body.now) in
-    let R : ℕ → Type 0 = λ count. FitFrom (length c.args.body.now) (4 * (count + 1)) (listed_sizes c.args.body.now) in
-    (
+    let R : ℕ → Type 0 = λ count. FitFrom (length c.args.body.now) (4 * (count + 1)) (listed_sizes c.args.body.now) in (
       subst P (sym same) (c.in-Some.ensures.ends.0 refl),
       ends_pass file limits 0 _ (listed_sizes c.args.body.now) (subst Q (sym same) (subst R c.in-Some.ensures.count c.in_ok-end.ensures.ok)),
     )

@@ -1,6 +1,5 @@
-use Rattle.std.proofs.Common.{ap, sym, ◌∙◌, ◌≡◌, drop, arith}
-use Rattle.std.specs.Option.{option_map}
-use Rattle.bi_legacy.specs.Pieces.{piece_of, placed_parts}
+use Rattle.std.proofs.Common.{ap, sym, ◌∙◌, drop, arith}
+use Rattle.bi_legacy.specs.Pieces.{placed_parts}
 use Rattle.bi_legacy.proofs.NthPart.{drop-one_more, slice_get-none_left, GivesPart-nth}
 use Rattle.bi_legacy.proofs.legacy.Legacy.nth_part.Goals as goal
 

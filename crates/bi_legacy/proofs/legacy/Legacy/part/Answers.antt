@@ -1,6 +1,4 @@
-use Rattle.std.proofs.Common.{Some, None, sym, ap, ◌∙◌}
-use Rattle.std.specs.Option.{option_map}
-use Rattle.bi_legacy.specs.Pieces.{piece_of}
+use Rattle.std.proofs.Common.{Some, None}
 use Rattle.bi_legacy.proofs.NthPart.{nth_bytes}
 use Rattle.bi_legacy.proofs.legacy.Legacy.part.Goals as goal
 

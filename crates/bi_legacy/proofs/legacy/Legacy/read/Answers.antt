@@ -1,5 +1,4 @@
 use Rattle.std.proofs.Common.{arith}
-use Rattle.bi_base.specs.Cells.{AreBytes}
 use Rattle.bi_legacy.proofs.ReadAnswers.{accepts_of, told_of, one_meaning_of, one_fault_of}
 use Rattle.bi_legacy.proofs.legacy.Legacy.read.Goals as goal
 

@@ -1,0 +1,5 @@
+pub mod Bytes
+pub mod DigestBytes
+pub mod GoodValues
+pub mod Names
+pub mod Texts

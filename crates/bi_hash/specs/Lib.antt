@@ -1,0 +1,3 @@
+pub mod Algos
+pub mod Digests
+pub mod Verdicts

@@ -1,0 +1,147 @@
+//! Writing a legacy image.
+
+ghost use Rattle.std.specs.Prelude.{◌≡◌, ◌⊎◌, ◌↔◌, ℕ, ◌+◌, ◌*◌, ◌^◌, ◌<◌, ◌≤◌, List, length, map, IsTrue, OnOk, IfOk, IfErr, MatchOption, MatchBool, ⊤};
+ghost use Rattle.bi_base.specs.Checks.{IsFirstFault, HasNoFault};
+ghost use Rattle.bi_base.specs.Limits.{Bounds};
+ghost use Rattle.bi_base.specs.Sinks.{Wrote};
+ghost use Rattle.bi_base.specs.declared.fault.Fault.{Fault};
+ghost use Rattle.bi_legacy.specs.Meaning.{LegacyImage, IsImageName, has_table};
+ghost use Rattle.bi_legacy.specs.Parts.{end_from, first_place};
+ghost use Rattle.bi_legacy.specs.Text.{normal_body, legacy_text};
+ghost use Rattle.bi_legacy.specs.Emitting.{Passes, fault_of, part_checks, IsEmitFault, HasNoEmitFault, bytes_of, image_of_parts};
+
+use crate::cells::up4;
+use crate::fields::{Fields, has_size_list};
+use crate::header::{HEADER_SIZE, NAME_SIZE};
+use crate::text::put_text;
+use bi_base::{Cause, Error, Fault, Limits, Sink};
+
+/// Appends the normal form of a legacy image with these fields and parts (U-Boot, include/image.h): the header, its name
+/// filled with zeros; for multi and script images the sizes of the parts, a size of zero, and the parts, each but the
+/// last followed by zeros up to a multiple of four bytes; else the one part.
+///
+/// It is refused by the first of these, before anything is appended: BadField at 32 where the name is longer than 32
+/// bytes or has a zero; BadField at 30 where the image is neither multi nor script and the number of parts is not one;
+/// TooLarge at `limits.file()` where the text would be longer than that; EmptyPart at `64 + 4 * index` for the first empty
+/// part of a multi or script image. Any other error is one that the sink names, and a first part of the text was appended
+/// then. It takes no memory but what the sink takes, and time linear in the parts' number and length.
+pub fn emit<S: Sink>(
+    fields: Fields<'_>,
+    parts: &[&[u8]],
+    limits: Limits,
+    sink: &mut S,
+) -> Result<(), Error>
+    ensures refused { let image = image_of_parts fields.entry parts.now in
+        (fault : Fault) → IsEmitFault image limits fault →
+        (result ≡ Err (Error.Refused fault)) × (sink.new ≡ sink.old) }
+    ensures written { let image = image_of_parts fields.entry parts.now in
+        HasNoEmitFault image limits →
+        Wrote S.appends S.names sink.old (legacy_text image) result sink.new }
+    ensures refused_or_written { let image = image_of_parts fields.entry parts.now in
+        HasNoEmitFault image limits ⊎ ((fault : Fault) × IsEmitFault image limits fault) }
+{
+    match check_image(fields, parts, limits) {
+        Ok(data_size) => put_text(fields, parts, data_size, sink),
+        Err(fault) => Err(Error::Refused(fault)),
+    }
+}
+
+/// Makes the checks, and tells the size of the normal data.
+fn check_image(fields: Fields<'_>, parts: &[&[u8]], limits: Limits) -> Result<u32, Fault>
+    ensures ok { OnOk result (HasNoEmitFault (image_of_parts fields.entry parts.now) limits) }
+    ensures size { IfOk result (λ size.
+        size ≡ length (normal_body fields.entry.image_type (bytes_of parts.now))) }
+    ensures fault { IfErr result (IsEmitFault (image_of_parts fields.entry parts.now) limits) }
+{
+    if !is_image_name(fields.name) {
+        return refuse(Cause::BadField, 32);
+    }
+    if !can_have_parts(fields.image_type, parts.len()) {
+        return refuse(Cause::BadField, 30);
+    }
+    let most = limits.file() - HEADER_SIZE as u32;
+    let Some(size) = data_size(fields.image_type, parts, most) else {
+        return refuse(Cause::TooLarge, limits.file());
+    };
+    if has_size_list(fields.image_type) {
+        check_parts(parts)?;
+    }
+    Ok(size)
+}
+
+fn refuse(cause: Cause, offset: u32) -> Result<u32, Fault>
+    ensures { result ≡ Err (record { cause = cause; offset = offset }) }
+{
+    Err(Fault { cause, offset })
+}
+
+/// Whether a header can hold this name.
+fn is_image_name(name: &[u8]) -> bool
+    ensures { IsTrue result ↔ IsImageName name.now }
+{
+    name.len() <= NAME_SIZE && !name.contains(&0)
+}
+
+/// Whether an image of this type can have so many parts.
+fn can_have_parts(image_type: u8, part_count: usize) -> bool
+    ensures { IsTrue result ↔ MatchBool (has_table image_type) ⊤ (part_count ≡ 1) }
+{
+    has_size_list(image_type) || part_count == 1
+}
+
+/// The size of the normal data. None exactly where it is more than `most`.
+fn data_size(image_type: u8, parts: &[&[u8]], most: u32) -> Option<u32>
+    ensures { let size = length (normal_body image_type (bytes_of parts.now)) in
+        MatchOption result (most < size) (λ told. (told ≡ size) × (told ≤ most)) }
+{
+    let start = start_of_parts(image_type, parts);
+    let end = end_within(start, parts, most as usize)?;
+    Some(end as u32)
+}
+
+/// Where the first of these parts begins in the normal data.
+fn start_of_parts(image_type: u8, parts: &[&[u8]]) -> usize
+    ensures { result ≡ first_place image_type (bytes_of parts.now) }
+{
+    if has_size_list(image_type) {
+        4 * (parts.len() + 1)
+    } else {
+        0
+    }
+}
+
+/// Where the last of these parts ends, of which the first begins at `start` and each later one at the next multiple of
+/// four. None exactly where that is after `most`.
+fn end_within(start: usize, parts: &[&[u8]], most: usize) -> Option<usize>
+    requires { most < 2 ^ 32 }
+    ensures { let end = end_from start (map length (bytes_of parts.now)) in
+        MatchOption result (most < end) (λ told. (told ≡ end) × (told ≤ most)) }
+{
+    let mut end = start;
+    for part in parts {
+        if end > most {
+            return None;
+        }
+        end = up4(end).checked_add(part.len())?;
+    }
+    if end > most { None } else { Some(end) }
+}
+
+/// EmptyPart at `64 + 4 * index` for the first part that is empty.
+fn check_parts(parts: &[&[u8]]) -> Result<(), Fault>
+    requires { 64 + 4 * length parts.now < 2 ^ 32 }
+    ensures ok { OnOk result ((image : LegacyImage) (limits : Bounds) →
+        HasNoFault (Passes image limits) (part_checks 0 (bytes_of parts.now))) }
+    ensures fault { IfErr result (λ fault. (image : LegacyImage) (limits : Bounds) →
+        IsFirstFault (Passes image limits) (fault_of limits) (part_checks 0 (bytes_of parts.now)) fault) }
+{
+    for (index, part) in parts.iter().enumerate() {
+        if part.is_empty() {
+            return Err(Fault {
+                cause: Cause::EmptyPart,
+                offset: 64 + 4 * index as u32,
+            });
+        }
+    }
+    Ok(())
+}

@@ -1,0 +1,147 @@
+//! The normal text of an image, header and data, put to a sink.
+
+ghost use Rattle.std.specs.Prelude.{◌≡◌, ℕ, ◌^◌, ◌<◌, ◌≤◌, List, [], length};
+ghost use Rattle.bi_base.specs.Crc.{crc32};
+ghost use Rattle.bi_base.specs.Sinks.{Wrote};
+ghost use Rattle.bi_legacy.specs.File.{header_cells};
+ghost use Rattle.bi_legacy.specs.Parts.{size_list};
+ghost use Rattle.bi_legacy.specs.Reading.{image_of};
+ghost use Rattle.bi_legacy.specs.Text.{filled, joined, normal_body, name_field, legacy_text};
+ghost use Rattle.bi_legacy.specs.Emitting.{bytes_of, image_of_parts};
+
+use crate::fields::{Fields, has_size_list};
+use crate::header::{MAGIC, NAME_SIZE};
+use bi_base::{Crc32, Error, Sink, put_cell, put_cells};
+
+/// What a header tells of the data: its length in bytes, and its CRC-32.
+#[derive(Clone, Copy)]
+struct DataSummary {
+    size: u32,
+    checksum: u32,
+}
+
+/// Appends the normal text of an image with these fields and parts, whose data has this size.
+pub(crate) fn put_text<S: Sink>(
+    fields: Fields<'_>,
+    parts: &[&[u8]],
+    data_size: u32,
+    sink: &mut S,
+) -> Result<(), Error>
+    requires name { length fields.name.now ≤ 32 }
+    requires size { data_size ≡ length (normal_body fields.image_type (bytes_of parts.now)) }
+    ensures { let image = image_of_parts fields.entry parts.now in
+        Wrote S.appends S.names sink.old (legacy_text image) result sink.new }
+{
+    let summary = DataSummary {
+        size: data_size,
+        checksum: data_checksum(fields.image_type, parts),
+    };
+    put_header(fields, header_checksum(fields, summary), summary, sink)?;
+    put_data(fields.image_type, parts, sink)
+}
+
+/// The CRC-32 of the normal data.
+fn data_checksum(image_type: u8, parts: &[&[u8]]) -> u32
+    requires { length (normal_body image_type (bytes_of parts.now)) < 2 ^ 32 }
+    ensures { result ≡ crc32 (normal_body image_type (bytes_of parts.now)) }
+{
+    let mut sum = Crc32::new();
+    put_data(image_type, parts, &mut sum).unwrap();
+    sum.finish()
+}
+
+/// The CRC-32 of the header with zeros in the place of its checksum.
+fn header_checksum(fields: Fields<'_>, summary: DataSummary) -> u32
+    requires { length fields.name.now ≤ 32 }
+    ensures { let field = name_field fields.entry.name.now in
+        result ≡ crc32 (header_cells 0 summary.size summary.checksum (image_of fields.entry []) field) }
+{
+    let mut sum = Crc32::new();
+    put_header(fields, 0, summary, &mut sum).unwrap();
+    sum.finish()
+}
+
+/// Appends a header with these fields, and with this number as its checksum.
+fn put_header<S: Sink>(
+    fields: Fields<'_>,
+    checksum: u32,
+    summary: DataSummary,
+    sink: &mut S,
+) -> Result<(), Error>
+    requires { length fields.name.now ≤ 32 }
+    ensures { let field = name_field fields.entry.name.now in
+        Wrote S.appends S.names sink.old
+        (header_cells checksum summary.size summary.checksum (image_of fields.entry []) field)
+        result sink.new }
+{
+    let cells = [
+        MAGIC,
+        checksum,
+        fields.time,
+        summary.size,
+        fields.load,
+        fields.entry,
+        summary.checksum,
+    ];
+    put_cells(sink, &cells)?;
+    sink.put(&[
+        fields.os,
+        fields.arch,
+        fields.image_type,
+        fields.compression,
+    ])?;
+    put_name(fields.name, sink)
+}
+
+/// Appends a name, and zeros up to the end of its field.
+fn put_name<S: Sink>(name: &[u8], sink: &mut S) -> Result<(), Error>
+    requires { length name.now ≤ 32 }
+    ensures { Wrote S.appends S.names sink.old (name_field name.now) result sink.new }
+{
+    sink.put(name)?;
+    sink.put(&[0; NAME_SIZE][name.len()..])
+}
+
+/// Appends the normal data.
+fn put_data<S: Sink>(image_type: u8, parts: &[&[u8]], sink: &mut S) -> Result<(), Error>
+    requires { length (normal_body image_type (bytes_of parts.now)) < 2 ^ 32 }
+    ensures { let body = normal_body image_type (bytes_of parts.now) in
+        Wrote S.appends S.names sink.old body result sink.new }
+{
+    if has_size_list(image_type) {
+        put_sizes(parts, sink)?;
+    }
+    put_joined(parts, sink)
+}
+
+/// Appends the list of the parts' sizes.
+fn put_sizes<S: Sink>(parts: &[&[u8]], sink: &mut S) -> Result<(), Error>
+    requires { length (joined (bytes_of parts.now)) < 2 ^ 32 }
+    ensures { Wrote S.appends S.names sink.old (size_list (bytes_of parts.now)) result sink.new }
+{
+    for part in parts {
+        put_cell(sink, part.len() as u32)?;
+    }
+    put_cell(sink, 0)
+}
+
+/// Appends the parts, each but the last filled up to a multiple of four bytes.
+fn put_joined<S: Sink>(parts: &[&[u8]], sink: &mut S) -> Result<(), Error>
+    ensures { Wrote S.appends S.names sink.old (joined (bytes_of parts.now)) result sink.new }
+{
+    let Some((last, before)) = parts.split_last() else {
+        return Ok(());
+    };
+    for part in before {
+        put_filled(part, sink)?;
+    }
+    sink.put(last)
+}
+
+/// Appends some bytes, and zeros up to a multiple of four bytes.
+fn put_filled<S: Sink>(bytes: &[u8], sink: &mut S) -> Result<(), Error>
+    ensures { Wrote S.appends S.names sink.old (filled bytes.now) result sink.new }
+{
+    sink.put(bytes)?;
+    sink.put(&[0; 3][..(4 - bytes.len() % 4) % 4])
+}

@@ -1,0 +1,180 @@
+#!/bin/sh
+# Images that U-Boot's mkimage makes, through the program: they come back unchanged, or as mkimage made them where bytes without
+# a meaning were changed; their listings are right; and their parts are those that went in. It needs Debian's u-boot-tools.
+set -u
+
+export LC_ALL=C SOURCE_DATE_EPOCH=1000000000
+root=$(cd "$(dirname "$0")/.." && pwd)
+passed=0
+failed=0
+
+# check NAME COMMAND..: passes where the command ends with status 0.
+check() {
+    name=$1
+    shift
+    if said=$("$@" 2>&1 < /dev/null); then
+        passed=$((passed + 1))
+    else
+        failed=$((failed + 1))
+        echo "FAILED: $name"
+        echo "$said"
+    fi
+}
+
+# finish: the line that ends each script.
+finish() {
+    echo "$passed passed, $failed failed"
+    [ "$failed" = 0 ]
+    exit
+}
+
+if ! command -v mkimage > /dev/null && [ "$(id -u)" = 0 ]; then
+    (apt-get update && apt-get install -y u-boot-tools) >&2
+fi
+for tool in mkimage dumpimage python3; do
+    check "$tool is there (Debian: u-boot-tools, python3)" command -v "$tool"
+done
+[ "$failed" = 0 ] || finish
+"$root/bootimg" --version > /dev/null
+check "the program is there" "$root/bootimg" --version
+[ "$failed" = 0 ] || finish
+
+work=$(mktemp -d)
+trap 'rm -rf "$work"' EXIT
+trap 'exit 1' HUP INT TERM
+cd "$work" || exit 2
+
+# gives WANTED INPUT WORD..: the program with these words, on the file INPUT, writes the file WANTED and says nothing.
+gives() {
+    wanted=$1
+    input=$2
+    shift 2
+    "$root/bootimg" "$@" < "$input" > output 2> errors && [ ! -s errors ] && cmp "$wanted" output
+}
+
+# noise SEED COUNT: so many bytes, the same ones each time.
+noise() {
+    python3 -c 'import random, sys
+seed, count = map(int, sys.argv[1:])
+sys.stdout.buffer.write(random.Random(seed).getrandbits(8 * count).to_bytes(count, "big"))' "$@"
+}
+
+# soil IMAGE PLACE..: the image with other bytes behind the name, behind the data, and at these places, and with the checksums
+# that it has to have then.
+soil() {
+    python3 -c 'import sys, zlib
+image = bytearray(open(sys.argv[1], "rb").read())
+for place in map(int, sys.argv[2:]):
+    assert image[place] == 0
+    image[place] = 0xff
+end = image.index(0, 32, 64)
+image[end + 1:64] = b"\xff" * (63 - end)
+image[24:28] = zlib.crc32(image[64:]).to_bytes(4, "big")
+image[4:8] = bytes(4)
+image[4:8] = zlib.crc32(image[:64]).to_bytes(4, "big")
+sys.stdout.buffer.write(image + b"\xaa" * 1001)' "$@"
+}
+
+# make TYPE NAME FILES IMAGE: an image of these files, joined by colons.
+make() {
+    mkimage -A arm -O linux -T "$1" -C none -a 0x8000 -e 0x8040 -n "$2" -d "$3" "$4" > /dev/null
+}
+
+# listing NAME TYPE PARTS: the listing, whose lines on the parts and behind are on standard input.
+listing() {
+    echo "kind legacy"
+    echo "name $1"
+    echo "time 1000000000"
+    echo "load 0x00008000"
+    echo "entry 0x00008040"
+    echo "os linux"
+    echo "arch arm"
+    echo "type $2"
+    echo "compression none"
+    echo "parts $3"
+    cat
+}
+
+# A kernel image.
+noise 1 3500001 > kernel
+make kernel "Linux 6.1" kernel kernel.image
+soil kernel.image > kernel.soiled
+listing Linux%206.1 kernel 1 > kernel.listing << END
+part 0 size 3500001 at 64
+unused 1001
+END
+check "a kernel image is its own normal form" gives kernel.image kernel.image normalise
+check "the soiled kernel image is longer" test "$(wc -c < kernel.soiled)" = 3501066
+check "mkimage takes the soiled kernel image" mkimage -l kernel.soiled
+check "a soiled kernel image has the same normal form" gives kernel.image kernel.soiled normalise
+check "mkimage takes the normal form" mkimage -l output
+check "the kernel is extracted" gives kernel kernel.soiled extract --part 0
+check "the kernel image is listed" gives kernel.listing kernel.soiled list
+
+# multi COUNT PLACES FILE..: a multi image of these files, with zeros between its parts at these places, and the lines of its
+# listing on the parts on standard input.
+multi() {
+    count=$1
+    places=$2
+    shift 2
+    { cat && echo "unused 1001"; } | listing "of%20$count" multi "$count" > multi.listing
+    make multi "of $count" "$(echo "$*" | tr ' ' ':')" multi.image
+    # shellcheck disable=SC2086
+    soil multi.image $places > multi.soiled
+    check "a multi image of $count parts is its own normal form" gives multi.image multi.image normalise
+    check "mkimage takes a soiled multi image of $count parts" mkimage -l multi.soiled
+    check "a soiled multi image of $count parts has the same normal form" gives multi.image multi.soiled normalise
+    check "mkimage takes the normal form of $count parts" mkimage -l output
+    check "a multi image of $count parts is listed" gives multi.listing multi.soiled list
+    index=0
+    for file in "$@"; do
+        check "part $index of $count is extracted" gives "$file" multi.soiled extract --part "$index"
+        dumpimage -T multi -p "$index" -o multi.dumped multi.soiled > /dev/null
+        check "dumpimage extracts the same part $index of $count" cmp multi.dumped output
+        index=$((index + 1))
+    done
+    check "there is no part $index of $count" refuses "no such part" multi.soiled extract --part "$index"
+}
+
+# refuses LINE INPUT WORD..: the program with these words, on the file INPUT, writes nothing, says this and ends with status 2.
+refuses() {
+    line=$1
+    input=$2
+    shift 2
+    "$root/bootimg" "$@" < "$input" > output 2> errors
+    [ $? = 2 ] && [ ! -s output ] && [ "$(cat errors)" = "bootimg: $line" ]
+}
+
+# Multi images, of parts whose lengths are no multiples of four.
+noise 2 1001 > part0
+noise 3 70003 > part1
+noise 4 5 > part2
+noise 5 131 > part3
+multi 2 "1077 1079" part0 part1 << END
+part 0 size 1001 at 76
+part 1 size 70003 at 1080
+END
+multi 3 "1081 71087" part0 part1 part2 << END
+part 0 size 1001 at 80
+part 1 size 70003 at 1084
+part 2 size 5 at 71088
+END
+multi 4 "1087 71091 71097 71098 71099" part0 part1 part2 part3 << END
+part 0 size 1001 at 84
+part 1 size 70003 at 1088
+part 2 size 5 at 71092
+part 3 size 131 at 71100
+END
+
+# A script image.
+echo "echo hello, world" > script
+make script boot.scr script script.image
+listing boot.scr script 1 > script.listing << END
+part 0 size 18 at 72
+unused 0
+END
+check "a script image is its own normal form" gives script.image script.image normalise
+check "the script is extracted" gives script script.image extract --part 0
+check "the script image is listed" gives script.listing script.image list
+
+finish

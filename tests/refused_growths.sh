@@ -1,0 +1,57 @@
+#!/bin/sh
+# Has each growth of each call that takes memory refused, one in each run, until a run has none to refuse: the call's answer
+# has to be that of ample memory, or OutOfMemory with nothing written. What a call is, and how its answer is judged, stands in
+# crates/bootimg/src/refused_growths.rt. Here a copy of the sources gets a test for each growth, so that all are built at once.
+set -eu
+
+root=$(cd "$(dirname "$0")/.." && pwd)
+copy=$(mktemp -d)
+trap 'rm -rf "$copy"' EXIT
+trap 'exit 1' HUP INT TERM
+
+(cd "$root" && tar cf - --exclude=out crates.txt HANDLES crates) | (cd "$copy" && tar xf -)
+
+# The other tests take more memory than the allocation that is refused.
+for file in $(grep -rl '^mod tests;$' "$copy/crates/bootimg/src"); do
+    sed -i '/^#\[cfg(test)\]$/{N;/\nmod tests;$/d}' "$file"
+done
+find "$copy/crates/bootimg/src" -name tests.rt -delete
+
+# Prints a test for each growth of a call up to one more than it may make, which has to find none to refuse.
+tests_of() {
+    growth=1
+    while [ "$growth" -le "$2" ]; do
+        echo "#[test] fn $1_with_growth_$growth(rt: HostRuntime) -> Result<(), Fail> { $1(&rt, $growth)?; Ok(()) }"
+        growth=$((growth + 1))
+    done
+    echo "#[test] fn $1_with_no_growth(rt: HostRuntime) -> Result<(), Fail> { assert!(rt; !$1(&rt, $growth)?); Ok(()) }"
+}
+
+{
+    tests_of reads 20
+    tests_of puts 5
+    tests_of normalises 20
+    tests_of normalises_through 20
+    tests_of lists 30
+    tests_of extracts 20
+    tests_of runs_normalise 100
+    tests_of runs_list 100
+    tests_of runs_extract 100
+    tests_of runs_help 100
+    tests_of runs_version 100
+    tests_of runs_unknown_word 100
+    tests_of runs_no_selection 100
+} >> "$copy/crates/bootimg/src/refused_growths.rt"
+
+cd "$copy/crates/bootimg"
+rt try --test --fail-alloc 1000 > "$copy/log" 2>&1 || true
+sed -n '/^test .* FAILED$/,/^test /p' "$copy/log"
+passed=$(sed -n 's/^test result: .* \([0-9]*\) passed; .*/\1/p' "$copy/log")
+failed=$(sed -n 's/^test result: .* \([0-9]*\) failed; .*/\1/p' "$copy/log")
+if [ -z "$passed" ]; then
+    cat "$copy/log"
+    passed=0
+    failed=1
+fi
+echo "$passed passed, $failed failed"
+[ "$failed" = 0 ]
