@@ -2,6 +2,8 @@
 #![tactic(auto)]
 
 mod extract;
+#[cfg(test)]
+mod images;
 mod kind;
 mod listing;
 mod normalise;
