@@ -124,12 +124,13 @@ multi() {
     check "a multi image of $count parts is its own normal form" gives multi.image multi.image normalise
     check "mkimage takes a soiled multi image of $count parts" mkimage -l multi.soiled
     check "a soiled multi image of $count parts has the same normal form" gives multi.image multi.soiled normalise
-    check "mkimage takes the normal form of $count parts" mkimage -l output
+    mv output multi.normal
+    check "mkimage takes the normal form of $count parts" mkimage -l multi.normal
     check "a multi image of $count parts is listed" gives multi.listing multi.soiled list
     index=0
     for file in "$@"; do
         check "part $index of $count is extracted" gives "$file" multi.soiled extract --part "$index"
-        dumpimage -T multi -p "$index" -o multi.dumped multi.soiled > /dev/null
+        check "dumpimage extracts part $index of $count" dumpimage -T multi -p "$index" -o multi.dumped multi.normal
         check "dumpimage extracts the same part $index of $count" cmp multi.dumped output
         index=$((index + 1))
     done

@@ -2,7 +2,7 @@ use Rattle.std.specs.Prelude.{◌≡◌, ℕ, ◌-◌, ◌/◌, ◌%◌, ◌==�
 use Rattle.std.specs.Int.Bits.{bit_xor}
 use Rattle.std.specs.List.{flat_map}
 
--- CRC-32 as U-Boot's images use it: the reflected form of the polynomial 0x04C11DB7 (ISO/IEC 3309, RFC 1952 section 8).
+-- CRC-32 as U-Boot's images use it: the reflected form of the polynomial 0x04C11DB7 (ISO/IEC 3309, RFC 1952, chapter 8).
 
 -- The register after one more message bit.
 abbrev pub crc_bit : ℕ → ℕ → ℕ

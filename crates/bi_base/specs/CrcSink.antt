@@ -5,7 +5,7 @@ use Rattle.std.proofs.lemmas.List.Sums.{fold-append}
 use Rattle.bi_base.specs.Crc.{crc_bit, crc_after, low_bits, message_bits}
 use Rattle.bi_base.specs.Sinks.{AppendsNothing, AppendsInTurn}
 
--- A running CRC-32 as a sink, which keeps no bytes (RFC 1952, section 8).
+-- A running CRC-32 as a sink, which keeps no bytes (RFC 1952, chapter 8).
 
 -- Going on over these bytes leads from the one register to the other.
 abbrev pub GoesOn : ℕ → List ℕ → ℕ → Type 0

@@ -9,11 +9,11 @@ use crate::fault::Error;
 use crate::sinks::Sink;
 use std::marker::Model;
 
-/// The polynomial of CRC-32, its bits reflected (RFC 1952, section 8).
+/// The polynomial of CRC-32, its bits reflected (RFC 1952, chapter 8).
 const POLYNOMIAL: u32 = 0xedb8_8320;
 
 /// A running CRC-32, for bytes that come in pieces: the checksum does not depend on where they are cut (ISO/IEC 3309,
-/// RFC 1952 section 8).
+/// RFC 1952, chapter 8).
 #[derive(Clone, Copy, Debug, PartialEq, Eq)]
 pub struct Crc32 {
     register: u32,

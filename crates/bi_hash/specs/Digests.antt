@@ -8,7 +8,7 @@ use Rattle.sha2.specs.Sha512.{sha512}
 use Rattle.bi_hash.specs.declared.algo.Algo.{Algo}
 use Rattle.bi_hash.specs.declared.algo.Algo.TheVariants.{Crc32, Md5, Sha1, Sha256, Sha512}
 
--- The digest of a payload: its CRC-32 as a cell (RFC 1952 section 8), or its digest by RFC 1321 or FIPS 180-4.
+-- The digest of a payload: its CRC-32 as a cell (RFC 1952, chapter 8), or its digest by RFC 1321 or FIPS 180-4.
 unfoldable pub digest_of : Algo → List ℕ → List ℕ
 digest_of Crc32 payload = cell (crc32 payload)
 digest_of Md5 payload = md5 payload
@@ -16,7 +16,7 @@ digest_of Sha1 payload = sha1 payload
 digest_of Sha256 payload = sha256 payload
 digest_of Sha512 payload = sha512 payload
 
--- The number of bytes of a digest (RFC 1321 section 3.5, FIPS 180-4 section 1).
+-- The number of bytes of a digest (RFC 1321, chapter 3.5, FIPS 180-4, chapter 1).
 abbrev pub digest_size : Algo → ℕ
 digest_size Crc32 = 4
 digest_size Md5 = 16

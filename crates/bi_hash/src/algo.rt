@@ -18,15 +18,15 @@ mod tests;
 /// An algorithm that a hash node can name.
 #[derive(Clone, Copy, Debug, PartialEq, Eq)]
 pub enum Algo {
-    /// CRC-32, as four big-endian bytes (ISO/IEC 3309, RFC 1952 section 8).
+    /// CRC-32, as four big-endian bytes (ISO/IEC 3309, RFC 1952, chapter 8).
     Crc32,
     /// MD5 (RFC 1321).
     Md5,
-    /// SHA-1 (FIPS 180-4, section 6.1).
+    /// SHA-1 (FIPS 180-4, chapter 6.1).
     Sha1,
-    /// SHA-256 (FIPS 180-4, section 6.2).
+    /// SHA-256 (FIPS 180-4, chapter 6.2).
     Sha256,
-    /// SHA-512 (FIPS 180-4, section 6.4).
+    /// SHA-512 (FIPS 180-4, chapter 6.4).
     Sha512,
 }
 

@@ -120,3 +120,6 @@ pub fn normalise_to<R: Read, W: Write>(
     let mut target = WriterTarget::new(writer);
     normalise_through(alloc, &mut source, &mut target, form, limits)
 }
+
+#[cfg(test)]
+mod tests;

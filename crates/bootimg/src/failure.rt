@@ -1,0 +1,54 @@
+//! Why the program did not do what it was asked to do, and how it says so.
+
+use crate::extract::ExtractError;
+use bi_base::{Error, Fault};
+use std::fmt;
+
+/// Why the program did not do what it was asked to do. Its `Display` is what the program says of it.
+#[derive(Clone, Copy, Debug, PartialEq, Eq)]
+pub enum Failure {
+    /// The image is refused, or reading, writing or memory failed.
+    Call(Error),
+    /// What was selected is of another kind of image.
+    WrongKind,
+    /// The image has no part of this number.
+    NoPart,
+    /// `extract` was not given exactly one selection.
+    NoSelection,
+    /// An option has a value that it cannot have.
+    BadValue,
+}
+
+impl From<Error> for Failure {
+    fn from(error: Error) -> Failure {
+        Failure::Call(error)
+    }
+}
+
+impl From<ExtractError> for Failure {
+    fn from(error: ExtractError) -> Failure {
+        match error {
+            ExtractError::Failed(error) => Failure::Call(error),
+            ExtractError::WrongKind => Failure::WrongKind,
+            ExtractError::NoPart => Failure::NoPart,
+        }
+    }
+}
+
+impl fmt::Display for Failure {
+    fn fmt<W: fmt::Write>(&self, f: &mut fmt::Formatter<W>) -> fmt::Result {
+        match self {
+            Failure::Call(Error::Refused(Fault { cause, offset })) => {
+                let name = cause.name();
+                write!(f, "{name} at {offset}")
+            }
+            Failure::Call(Error::OutOfMemory) => f.write_str("out of memory"),
+            Failure::Call(Error::ReadFailed) => f.write_str("read failed"),
+            Failure::Call(Error::WriteFailed) => f.write_str("write failed"),
+            Failure::WrongKind => f.write_str("the selection does not fit this kind of image"),
+            Failure::NoPart => f.write_str("no such part"),
+            Failure::NoSelection => f.write_str("usage: give one of --part, --image, --config"),
+            Failure::BadValue => f.write_str("usage: bad value"),
+        }
+    }
+}
