@@ -4,5 +4,5 @@ pub mod Hexadecimal
 pub mod Lines
 pub mod Meaningless
 pub mod PartLines
-pub mod Refusals
+pub mod ExtractRefusals
 pub mod ShownBytes

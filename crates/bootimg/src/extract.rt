@@ -139,3 +139,6 @@ pub fn extract_to<R: Read, W: Write>(
     let mut target = WriterTarget::new(writer);
     extract_through(alloc, &mut source, &mut target, select, limits)
 }
+
+#[cfg(test)]
+mod tests;

@@ -196,3 +196,6 @@ fn put_address(text: &mut String, label: &str, address: u32) -> Result<(), Alloc
 {
     writeln!(text, "{label} 0x{address:08x}")
 }
+
+#[cfg(test)]
+mod tests;

@@ -1,10 +1,14 @@
-use Rattle.bootimg.specs.Normalising.{IsStreamRefusalOf}
-use Rattle.bootimg.proofs.Refusals.{passed_on, stream_refusal}
+use Rattle.std.proofs.Common.{subst}
+use Rattle.std.proofs.lemmas.Result.{err_from_is_err_and}
+use Rattle.bootimg.specs.Normalising.{IsRefusalOf}
+use Rattle.bootimg.proofs.Headline.{of_known}
 use Rattle.bootimg.proofs.listing.list_through.Goals as goal
 
-pub returns-in_err-text-clause-refused_with_the_first_fault : goal.returns-in_err-text-clause-refused_with_the_first_fault
+pub returns-in_err-text-clause-refused_with_the_first_fault :
+    goal.returns-in_err-text-clause-refused_with_the_first_fault
 returns-in_err-text-clause-refused_with_the_first_fault g c =
-    passed_on (λ file error. IsStreamRefusalOf file c.args.limits error) c.from_residual-in_err-text.result
-    (g.S.Source.left c.args.source.now) c.in_ok-file.file.items c.deref.result.now c.in_err-text.field-0.0
-    c.from_residual-in_err-text.ensures.1 c.in_ok-file.ensures.whole c.deref.ensures.value
-    (stream_refusal _ _ _ c.in_err-text.ensures.refused_with_the_first_fault)
+    let error = err_from_is_err_and c.from_residual-in_err-text.result c.from_residual-in_err-text.ensures.1 in
+    let refusal = subst (λ file. IsRefusalOf file c.args.limits c.in_err-text.field-0.0) c.deref.ensures.value
+        c.in_err-text.ensures.refused_with_the_first_fault in
+    rw (error.1, error.2)
+    (of_known c.args.limits c.in_err-text.field-0.0 _ (g.S.Source.left c.args.source.now) c.in_ok-file.ensures.whole refusal)

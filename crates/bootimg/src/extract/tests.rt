@@ -1,0 +1,80 @@
+use super::*;
+use crate::images::{KERNEL, PADDED_KERNEL, PADDED_PARTS, TREE};
+use bi_base::Cause;
+use scripted_io::{Script, ScriptedWriter, Turn};
+use std::test::Fail;
+
+fn limits() -> Limits {
+    Limits::new(0x7fff_ffff, 64).unwrap()
+}
+
+/// What `extract_to` writes of this file to memory.
+fn extract_of(alloc: Global, mut file: &[u8], select: Select) -> Result<Vec<u8>, ExtractError> {
+    let mut bytes = Vec::new(alloc);
+    extract_to(alloc, &mut file, &mut bytes, select, limits())?;
+    Ok(bytes)
+}
+
+#[test]
+fn each_part_is_extracted(rt: HostRuntime) -> Result<(), Fail> {
+    for (file, index, part) in [
+        (PADDED_PARTS.as_slice(), 0, b"hello".as_slice()),
+        (PADDED_PARTS.as_slice(), 1, b"abc".as_slice()),
+        (KERNEL.as_slice(), 0, b"123456789".as_slice()),
+        (PADDED_KERNEL.as_slice(), 0, b"123456789".as_slice()),
+    ] {
+        let bytes = extract_of(rt.alloc(), file, Select::Part(index))?;
+        assert_eq!(rt; bytes.as_slice(), part, "of part {index}");
+    }
+    Ok(())
+}
+
+#[test]
+fn no_part_is_extracted_that_is_not_there(rt: HostRuntime) {
+    for (file, index) in [
+        (KERNEL.as_slice(), 1),
+        (PADDED_PARTS.as_slice(), 2),
+        (PADDED_PARTS.as_slice(), u32::MAX),
+    ] {
+        let answer = extract_of(rt.alloc(), file, Select::Part(index));
+        assert_eq!(rt; answer.err(), Some(ExtractError::NoPart), "of part {index}");
+    }
+}
+
+#[test]
+fn a_legacy_image_has_no_named_images(rt: HostRuntime) {
+    let answer = extract_of(rt.alloc(), KERNEL.as_slice(), Select::Image(b"a"));
+    assert_eq!(rt; answer.err(), Some(ExtractError::WrongKind));
+}
+
+#[test]
+fn a_refused_file_is_told_before_the_selection_is_judged(rt: HostRuntime) {
+    for (file, cause, offset) in [
+        (TREE.as_slice(), Cause::Unsupported, 0),
+        (b"\x01\x02\x03\x04".as_slice(), Cause::BadMagic, 0),
+        (&KERNEL[..64], Cause::Truncated, 12),
+    ] {
+        let refused = ExtractError::Failed(Error::Refused(Fault { cause, offset }));
+        for select in [Select::Part(0), Select::Part(7), Select::Image(b"a")] {
+            assert_eq!(rt; extract_of(rt.alloc(), file, select).err(), Some(refused));
+        }
+    }
+}
+
+#[test]
+fn a_failed_write_leaves_a_first_part_of_the_bytes(rt: HostRuntime) {
+    for taken in [0, 1, 8] {
+        let mut file = KERNEL.as_slice();
+        let writes = Script::failing_among(1, Turn::Takes(taken));
+        let mut writer = ScriptedWriter::new(rt.alloc(), writes, Script::always(Turn::TakesAll));
+        let answer = extract_to(
+            rt.alloc(),
+            &mut file,
+            &mut writer,
+            Select::Part(0),
+            limits(),
+        );
+        assert_eq!(rt; answer, Err(ExtractError::Failed(Error::WriteFailed)));
+        assert_eq!(rt; writer.held.as_slice(), &b"123456789"[..taken]);
+    }
+}

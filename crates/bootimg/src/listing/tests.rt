@@ -1,0 +1,191 @@
+use super::*;
+use crate::images::{KERNEL, NO_PARTS, PADDED_KERNEL, PADDED_PARTS, TREE};
+use bi_base::{Cause, Fault};
+use scripted_io::{Script, ScriptedReader, ScriptedWriter, Turn};
+use std::test::Fail;
+
+// The checksums of these images are those of Python's zlib.
+
+/// As `KERNEL`, with a name of which three bytes are not shown as themselves.
+#[rattlefmt::skip]
+const ODDLY_NAMED: &[u8; 73] =
+    b"\x27\x05\x19\x56\xb1\x38\xc5\x13\x00\x00\x00\x00\x00\x00\x00\x09\
+      \x00\x00\x80\x00\x00\x00\x80\x00\xcb\xf4\x39\x26\x05\x02\x02\x00\
+      a\x20b%\xff\x00\x00\x00\x00\x00\x00\x00\x00\x00\x00\x00\
+      \x00\x00\x00\x00\x00\x00\x00\x00\x00\x00\x00\x00\x00\x00\x00\x00\
+      123456789";
+
+/// As `KERNEL`, with an empty name.
+#[rattlefmt::skip]
+const NAMELESS: &[u8; 73] =
+    b"\x27\x05\x19\x56\xf8\x2f\xf5\x46\x00\x00\x00\x00\x00\x00\x00\x09\
+      \x00\x00\x80\x00\x00\x00\x80\x00\xcb\xf4\x39\x26\x05\x02\x02\x00\
+      \x00\x00\x00\x00\x00\x00\x00\x00\x00\x00\x00\x00\x00\x00\x00\x00\
+      \x00\x00\x00\x00\x00\x00\x00\x00\x00\x00\x00\x00\x00\x00\x00\x00\
+      123456789";
+
+/// As `KERNEL`, with the name that an empty one is shown as.
+#[rattlefmt::skip]
+const NAMED_AS_NAMELESS: &[u8; 73] =
+    b"\x27\x05\x19\x56\xa1\xd9\x03\x40\x00\x00\x00\x00\x00\x00\x00\x09\
+      \x00\x00\x80\x00\x00\x00\x80\x00\xcb\xf4\x39\x26\x05\x02\x02\x00\
+      -\x00\x00\x00\x00\x00\x00\x00\x00\x00\x00\x00\x00\x00\x00\x00\
+      \x00\x00\x00\x00\x00\x00\x00\x00\x00\x00\x00\x00\x00\x00\x00\x00\
+      123456789";
+
+/// An image without data, whose codes have no names.
+#[rattlefmt::skip]
+const UNNAMED_CODES: &[u8; 64] =
+    b"\x27\x05\x19\x56\x66\x78\x6d\xbe\xff\xff\xff\xff\x00\x00\x00\x00\
+      \xde\xad\xbe\xef\x00\x00\x00\x0a\x00\x00\x00\x00\xc9\xca\xc8\xcb\
+      k\x00\x00\x00\x00\x00\x00\x00\x00\x00\x00\x00\x00\x00\x00\x00\
+      \x00\x00\x00\x00\x00\x00\x00\x00\x00\x00\x00\x00\x00\x00\x00\x00";
+
+const KERNEL_LISTING: &[u8] = b"kind legacy\n\
+    name k\n\
+    time 0\n\
+    load 0x00008000\n\
+    entry 0x00008000\n\
+    os linux\n\
+    arch arm\n\
+    type kernel\n\
+    compression none\n\
+    parts 1\n\
+    part 0 size 9 at 64\n\
+    unused 0\n";
+
+fn limits() -> Limits {
+    Limits::new(0x7fff_ffff, 64).unwrap()
+}
+
+/// What `list_to` writes of this file to memory.
+fn list_of(alloc: Global, mut file: &[u8]) -> Result<Vec<u8>, Error> {
+    let mut text = Vec::new(alloc);
+    list_to(alloc, &mut file, &mut text, limits())?;
+    Ok(text)
+}
+
+#[test]
+fn a_kernel_image_is_listed(rt: HostRuntime) -> Result<(), Fail> {
+    let text = list_of(rt.alloc(), KERNEL.as_slice())?;
+    assert_eq!(rt; text.as_slice(), KERNEL_LISTING);
+    Ok(())
+}
+
+#[test]
+fn each_part_is_listed_with_its_place_in_the_file(rt: HostRuntime) -> Result<(), Fail> {
+    let text = list_of(rt.alloc(), PADDED_PARTS.as_slice())?;
+    let end =
+        b"type multi\ncompression none\nparts 2\npart 0 size 5 at 76\npart 1 size 3 at 84\nunused 0\n";
+    assert!(rt; text.as_slice().ends_with(end.as_slice()));
+    Ok(())
+}
+
+#[test]
+fn an_image_without_parts_is_listed(rt: HostRuntime) -> Result<(), Fail> {
+    let text = list_of(rt.alloc(), NO_PARTS.as_slice())?;
+    assert!(rt;
+        text.as_slice()
+            .ends_with(b"\nparts 0\nunused 0\n".as_slice())
+    );
+    Ok(())
+}
+
+#[test]
+fn bytes_behind_the_last_part_are_counted(rt: HostRuntime) -> Result<(), Fail> {
+    let text = list_of(rt.alloc(), PADDED_KERNEL.as_slice())?;
+    assert!(rt;
+        text.as_slice()
+            .ends_with(b"\nparts 1\npart 0 size 9 at 64\nunused 7\n".as_slice())
+    );
+    Ok(())
+}
+
+#[test]
+fn names_are_shown_without_blanks_and_controls(rt: HostRuntime) -> Result<(), Fail> {
+    for (image, start) in [
+        (
+            ODDLY_NAMED,
+            b"kind legacy\nname a%20b%25%FF\ntime 0\n".as_slice(),
+        ),
+        (NAMELESS, b"kind legacy\nname -\ntime 0\n".as_slice()),
+        (
+            NAMED_AS_NAMELESS,
+            b"kind legacy\nname %2D\ntime 0\n".as_slice(),
+        ),
+    ] {
+        let text = list_of(rt.alloc(), image.as_slice())?;
+        assert!(rt; text.as_slice().starts_with(start));
+    }
+    Ok(())
+}
+
+#[test]
+fn codes_without_names_are_listed_as_numbers(rt: HostRuntime) -> Result<(), Fail> {
+    let text = list_of(rt.alloc(), UNNAMED_CODES.as_slice())?;
+    let listing = b"kind legacy\n\
+        name k\n\
+        time 4294967295\n\
+        load 0xdeadbeef\n\
+        entry 0x0000000a\n\
+        os 201\n\
+        arch 202\n\
+        type 200\n\
+        compression 203\n\
+        parts 1\n\
+        part 0 size 0 at 64\n\
+        unused 0\n";
+    assert_eq!(rt; text.as_slice(), listing.as_slice());
+    Ok(())
+}
+
+#[test]
+fn files_that_are_no_legacy_images_are_not_listed(rt: HostRuntime) {
+    for (file, cause, offset) in [
+        (TREE.as_slice(), Cause::Unsupported, 0),
+        (b"\x01\x02\x03\x04".as_slice(), Cause::BadMagic, 0),
+        (&KERNEL[..3], Cause::Truncated, 0),
+        (&KERNEL[..64], Cause::Truncated, 12),
+    ] {
+        let fault = Fault { cause, offset };
+        assert_eq!(rt;
+            list_of(rt.alloc(), file).err(),
+            Some(Error::Refused(fault))
+        );
+    }
+}
+
+#[test]
+fn a_failed_write_leaves_a_first_part_of_the_listing(rt: HostRuntime) -> Result<(), Fail> {
+    for taken in [0, 1, 50, 140] {
+        let mut file = KERNEL.as_slice();
+        let writes = Script::failing_among(1, Turn::Takes(taken));
+        let mut writer = ScriptedWriter::new(rt.alloc(), writes, Script::always(Turn::TakesAll));
+        let answer = list_to(rt.alloc(), &mut file, &mut writer, limits());
+        assert_eq!(rt; answer, Err(Error::WriteFailed));
+        assert_eq!(rt; writer.held.as_slice(), &KERNEL_LISTING[..taken]);
+    }
+    Ok(())
+}
+
+#[test]
+fn a_failed_flush_leaves_the_whole_listing(rt: HostRuntime) {
+    let mut file = KERNEL.as_slice();
+    let flushes = Script::failing_among(0, Turn::TakesAll);
+    let mut writer = ScriptedWriter::new(rt.alloc(), Script::always(Turn::Takes(7)), flushes);
+    let answer = list_to(rt.alloc(), &mut file, &mut writer, limits());
+    assert_eq!(rt; answer, Err(Error::WriteFailed));
+    assert_eq!(rt; writer.held.as_slice(), KERNEL_LISTING);
+}
+
+#[test]
+fn a_failed_read_writes_nothing(rt: HostRuntime) {
+    for number in [0, 1, 73] {
+        let reads = Script::failing_among(number, Turn::Takes(1));
+        let mut reader = ScriptedReader::new(KERNEL.as_slice(), reads);
+        let mut text = Vec::new(rt.alloc());
+        let answer = list_to(rt.alloc(), &mut reader, &mut text, limits());
+        assert_eq!(rt; answer, Err(Error::ReadFailed));
+        assert!(rt; text.is_empty());
+    }
+}
