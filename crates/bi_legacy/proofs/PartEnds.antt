@@ -1,5 +1,5 @@
-use Rattle.std.proofs.Common.{◌≡◌, ℕ, ◌+◌, ◌*◌, ◌<◌, List, [], ◌∷◌, length, map, take, get_or, slice_index, arith, Bool, true, false, if◌then◌else◌, refl, sym, ap, ◌∙◌, zero, suc}
-use Rattle.bi_base.specs.Cells.{slice, up4}
+use Rattle.std.proofs.Common.{◌≡◌, ℕ, ◌+◌, ◌*◌, List, [], ◌∷◌, length, map, slice_index, arith, Bool, true, false, if◌then◌else◌, refl, ap, ◌∙◌, suc}
+use Rattle.bi_base.specs.Cells.{up4}
 use Rattle.bi_base.specs.Limits.{Bounds}
 use Rattle.bi_base.specs.Checks.{HasNoFault}
 use Rattle.bi_legacy.specs.Faults.{Passes, HasNoLegacyFault, body_of, listed_sizes, table_checks}

@@ -1,13 +1,10 @@
-use Rattle.std.specs.Prelude.{ℕ, ◌+◌, ◌*◌, ◌-◌, ◌≡◌, ◌==◌, List, [], ◌∷◌, length, map, slice_index, if◌then◌else◌}
-use Rattle.std.specs.List.{before_first}
-use Rattle.bi_base.specs.Cells.{slice, u32_at, up4}
+use Rattle.std.specs.Prelude.{ℕ, ◌+◌, ◌-◌, ◌≡◌, List, length, map}
 use Rattle.bi_base.specs.Limits.{Bounds}
 use Rattle.bi_legacy.specs.declared.fields.Fields.{Fields}
-use Rattle.bi_legacy.specs.Meaning.{LegacyImage, has_table}
+use Rattle.bi_legacy.specs.Meaning.{LegacyImage}
 use Rattle.bi_legacy.specs.Parts.{parts_end}
 use Rattle.bi_legacy.specs.File.{LegacyMeans}
 use Rattle.bi_legacy.specs.Pieces.{Piece, placed_parts}
-use Rattle.bi_legacy.specs.Faults.{listed_sizes, body_of}
 
 -- What an image of these header fields and these parts says.
 abbrev pub image_of : Fields → List (List ℕ) → LegacyImage

@@ -40,10 +40,8 @@ pub fn emit<S: Sink>(
     ensures refused_or_written { let image = image_of_parts fields.entry parts.now in
         HasNoEmitFault image limits ⊎ ((fault : Fault) × IsEmitFault image limits fault) }
 {
-    match check_image(fields, parts, limits) {
-        Ok(data_size) => put_text(fields, parts, data_size, sink),
-        Err(fault) => Err(Error::Refused(fault)),
-    }
+    let data_size = check_image(fields, parts, limits)?;
+    put_text(fields, parts, data_size, sink)
 }
 
 /// Makes the checks, and tells the size of the normal data.

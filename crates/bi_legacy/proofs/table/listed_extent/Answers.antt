@@ -1,7 +1,7 @@
-use Rattle.std.proofs.Common.{◌≡◌, ◌+◌, ◌*◌, length, List, ℕ, sym, subst, refl, inr}
+use Rattle.std.proofs.Common.{◌+◌, ◌*◌, length, List, ℕ, sym, subst, refl, inr}
 use Rattle.std.proofs.lemmas.Result.{err_from_is_err_and}
 use Rattle.std.specs.List.{Contains}
-use Rattle.bi_legacy.specs.Faults.{body_of, cells_of, listed_sizes}
+use Rattle.bi_legacy.specs.Faults.{cells_of, listed_sizes}
 use Rattle.bi_legacy.specs.Walk.{FitFrom}
 use Rattle.bi_legacy.proofs.PartPieces.{ends_pass}
 use Rattle.bi_legacy.proofs.table.listed_extent.Goals as goal
