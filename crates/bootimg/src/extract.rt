@@ -74,11 +74,11 @@ pub fn extract<'a>(file: &'a [u8], select: Select, limits: Limits) -> Result<&'a
 /// Reads a boot image to its end, and writes the bytes of it that are selected and flushes: as `extract`, from a reader to a
 /// writer that each tell the outcome of their calls.
 ///
-/// Failed with OutOfMemory, where memory was refused, stands in place of any answer but Failed with ReadFailed. ReadFailed
-/// comes only after a read that failed by another error than an interruption, or after 1,024 interrupted reads in a row;
-/// WriteFailed likewise, or after a write that took none of the bytes that were left, and after all other errors. After
-/// WriteFailed a first part of the bytes was written, all of them where only the flush failed; after any other error nothing
-/// was written.
+/// Failed with ReadFailed comes only after a read that failed by another error than an interruption, or after 1,024
+/// interrupted reads in a row; Failed with WriteFailed likewise, or after a write that took none of the bytes that were left,
+/// and only where no other error applies. After that a first part of the bytes was written, all of them where only the flush
+/// failed; after any other error nothing was written. Failed with OutOfMemory may stand in place of any answer that is given
+/// after memory was asked for.
 pub fn extract_through<S: Source, T: Target>(
     alloc: Global,
     source: &mut S,
@@ -112,11 +112,11 @@ pub fn extract_through<S: Source, T: Target>(
 /// Reads a boot image to its end, and writes the bytes of it that are selected and flushes: as `extract`, from a reader to a
 /// writer.
 ///
-/// Failed with OutOfMemory, where memory was refused, stands in place of any answer but Failed with ReadFailed. ReadFailed
-/// comes only after a read that failed by another error than an interruption, or after 1,024 interrupted reads in a row;
-/// WriteFailed likewise, or after a write that took none of the bytes that were left, and after all other errors. After
-/// WriteFailed a first part of the bytes was written, all of them where only the flush failed; after any other error nothing
-/// was written.
+/// Failed with ReadFailed comes only after a read that failed by another error than an interruption, or after 1,024
+/// interrupted reads in a row; Failed with WriteFailed likewise, or after a write that took none of the bytes that were left,
+/// and only where no other error applies. After that a first part of the bytes was written, all of them where only the flush
+/// failed; after any other error nothing was written. Failed with OutOfMemory may stand in place of any answer that is given
+/// after memory was asked for.
 pub fn extract_to<R: Read, W: Write>(
     alloc: Global,
     reader: &mut R,

@@ -24,7 +24,7 @@ use std::io::{Read, Write};
 ///
 /// Refusals, the first that applies: TooLarge at the limit, where the file is longer; Truncated at 0 below four bytes;
 /// BadMagic at 0; for a legacy image those of `Legacy::read`; Unsupported at 0 for a flattened image tree. OutOfMemory may
-/// stand in place of a listing.
+/// stand in place of a listing, and says nothing of the file.
 pub fn listing(alloc: Global, file: &[u8], limits: Limits) -> Result<String, Error>
     ensures lists { IfOk result (λ text. IsListing limits file.now (string_bytes text)) }
     ensures refused_with_the_first_fault { IfErr result (IsRefusalOf file.now limits) }
@@ -40,6 +40,7 @@ pub fn listing(alloc: Global, file: &[u8], limits: Limits) -> Result<String, Err
 /// ReadFailed comes only after a read that failed by another error than an interruption, or after 1,024 interrupted reads in
 /// a row; WriteFailed likewise, or after a write that took none of the bytes that were left. After WriteFailed a first part
 /// of the listing was written, the whole of it where only the flush failed; after any other error nothing was written.
+/// OutOfMemory may stand in place of any answer that is given after memory was asked for.
 pub fn list_through<S: Source, T: Target>(
     alloc: Global,
     source: &mut S,
@@ -74,6 +75,7 @@ pub fn list_through<S: Source, T: Target>(
 /// ReadFailed comes only after a read that failed by another error than an interruption, or after 1,024 interrupted reads in
 /// a row; WriteFailed likewise, or after a write that took none of the bytes that were left. After WriteFailed a first part
 /// of the listing was written, the whole of it where only the flush failed; after any other error nothing was written.
+/// OutOfMemory may stand in place of any answer that is given after memory was asked for.
 pub fn list_to<R: Read, W: Write>(
     alloc: Global,
     reader: &mut R,
