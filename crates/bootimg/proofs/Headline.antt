@@ -63,4 +63,4 @@ text-own file limits (Err error) stands = tt
 pub memory-refusal : (file : List ℕ) (limits : Bounds) (told : Told) (r : Result (Vec ℕ Global) Error) → IsTold file limits told → IfErr r (λ error. (given : List ℕ) → IsTold given limits told → error ≡ OutOfMemory) → IfErr r (IsRefusalOf file limits)
 memory-refusal file limits told (Ok text) is_told error = tt
 memory-refusal file limits told (Err want) is_told error =
-    subst (IsRefusalOf file limits) (sym (error file is_told)) tt
+    subst (IsRefusalOf file limits) (sym (error file is_told)) (told.image, is_told.means)

@@ -44,9 +44,9 @@ IsExtractRefusal select limits file NoPart = IsPastParts select limits file
 
 -- The same of a file that is read and written through: want of memory and failed reads and writes say nothing of it.
 abbrev pub IsStreamExtractRefusal : Select → Bounds → List ℕ → ExtractError → Type 0
-IsStreamExtractRefusal select limits file (Failed (Refused fault)) = IsFileFault file limits fault × MeansNothing file limits
+IsStreamExtractRefusal select limits file (Failed (Refused fault)) = IsExtractRefusal select limits file (Failed (Refused fault))
 IsStreamExtractRefusal select limits file (Failed OutOfMemory) = ⊤
 IsStreamExtractRefusal select limits file (Failed ReadFailed) = ⊤
 IsStreamExtractRefusal select limits file (Failed WriteFailed) = ⊤
-IsStreamExtractRefusal select limits file WrongKind = IsOfOtherKind select limits file
-IsStreamExtractRefusal select limits file NoPart = IsPastParts select limits file
+IsStreamExtractRefusal select limits file WrongKind = IsExtractRefusal select limits file WrongKind
+IsStreamExtractRefusal select limits file NoPart = IsExtractRefusal select limits file NoPart

@@ -1,10 +1,8 @@
-use Rattle.std.specs.Prelude.{ℕ, ◌≤◌, ◌≡◌, ◌≢◌, ◌⊎◌, ◌==◌, List, [], ◌∷◌, length, MatchBool}
+use Rattle.std.specs.Prelude.{ℕ, ◌≤◌, ◌≡◌, ◌⊎◌, List, [], ◌∷◌, length}
 use Rattle.bi_base.specs.declared.fault.Fault.{Fault}
-use Rattle.bi_base.specs.declared.fault.Cause.TheVariants.{Truncated, BadMagic, TooLarge, Unsupported}
+use Rattle.bi_base.specs.declared.fault.Cause.TheVariants.{Truncated, BadMagic}
 use Rattle.bi_base.specs.Cells.{u32_at}
 use Rattle.bi_base.specs.Checks.{IsFirstFault}
-use Rattle.bi_base.specs.Limits.{Bounds}
-use Rattle.bi_legacy.specs.Faults.{IsLegacyFault}
 use Rattle.bootimg.specs.declared.kind.Kind.{Kind}
 use Rattle.bootimg.specs.declared.kind.Kind.TheVariants.{Legacy, Fit}
 

@@ -1,4 +1,4 @@
-use Rattle.std.specs.Prelude.{ℕ, ◌≤◌, ◌≡◌, ◌≢◌, ◌⊎◌, ◌↔◌, ◌==◌, ⊤, List, [], ◌∷◌, length, MatchBool}
+use Rattle.std.specs.Prelude.{ℕ, ◌≤◌, ◌≡◌, ◌↔◌, ◌==◌, ⊤, List, [], ◌∷◌, length, MatchBool}
 use Rattle.bi_base.specs.declared.fault.Fault.{Fault}
 use Rattle.bi_base.specs.declared.fault.Error.{Error}
 use Rattle.bi_base.specs.declared.fault.Error.TheVariants.{Refused, OutOfMemory, ReadFailed, WriteFailed}
@@ -63,16 +63,18 @@ IsFileFault file limits fault =
 abbrev pub MeansNothing : List ℕ → Bounds → Type 0
 MeansNothing file limits = (image : LegacyImage) → ¬ (LegacyMeans file image limits)
 
--- What an error says of the file: a refusal is its first fault, and the file means nothing. Want of memory says nothing.
+-- What an error says of the file: a refusal is its first fault, and the file means nothing. Memory is wanted only for a file
+-- that means something.
 abbrev pub IsRefusalOf : List ℕ → Bounds → Error → Type 0
 IsRefusalOf file limits (Refused fault) = IsFileFault file limits fault × MeansNothing file limits
-IsRefusalOf file limits OutOfMemory = ⊤
+IsRefusalOf file limits OutOfMemory = (image : LegacyImage) × LegacyMeans file image limits
 IsRefusalOf file limits ReadFailed = ⊥
 IsRefusalOf file limits WriteFailed = ⊥
 
--- The same of a file that is read and written through: failed reads and writes say nothing of it.
+-- The same of a file that is read and written through, where memory is wanted for reading too: neither that nor a failed
+-- read or write says anything of the file.
 abbrev pub IsStreamRefusalOf : List ℕ → Bounds → Error → Type 0
-IsStreamRefusalOf file limits (Refused fault) = IsFileFault file limits fault × MeansNothing file limits
+IsStreamRefusalOf file limits (Refused fault) = IsRefusalOf file limits (Refused fault)
 IsStreamRefusalOf file limits OutOfMemory = ⊤
 IsStreamRefusalOf file limits ReadFailed = ⊤
 IsStreamRefusalOf file limits WriteFailed = ⊤

@@ -23,8 +23,8 @@ use std::io::{Read, Write};
 /// The listing of a boot image.
 ///
 /// Refusals, the first that applies: TooLarge at the limit, where the file is longer; Truncated at 0 below four bytes;
-/// BadMagic at 0; for a legacy image those of `Legacy::read`; Unsupported at 0 for a flattened image tree. OutOfMemory may
-/// stand in place of a listing, and says nothing of the file.
+/// BadMagic at 0; for a legacy image those of `Legacy::read`; Unsupported at 0 for a flattened image tree. OutOfMemory stands
+/// in place of a listing alone: a file is refused before memory is asked for.
 pub fn listing(alloc: Global, file: &[u8], limits: Limits) -> Result<String, Error>
     ensures lists { IfOk result (λ text. IsListing limits file.now (string_bytes text)) }
     ensures refused_with_the_first_fault { IfErr result (IsRefusalOf file.now limits) }

@@ -27,8 +27,8 @@ pub enum Form {
 /// The normal form of a boot image: two accepted files of one kind have the same normal form exactly if they mean the same.
 ///
 /// Refusals, the first that applies: TooLarge at the limit, where the file is longer; Truncated at 0 below four bytes;
-/// BadMagic at 0; for a legacy image those of `Legacy::read`; Unsupported at 0 for a flattened image tree. OutOfMemory may
-/// stand in place of any answer that is given after memory was asked for, and says nothing of the file.
+/// BadMagic at 0; for a legacy image those of `Legacy::read`; Unsupported at 0 for a flattened image tree. OutOfMemory stands
+/// in place of a normal form alone: a file is refused before memory is asked for.
 pub fn normalise(alloc: Global, file: &[u8], form: Form, limits: Limits) -> Result<Vec<u8>, Error>
     ensures stands_for_the_file { IfOk result (λ text. StandsFor file.now limits text.items) }
     ensures tells_meanings_apart { IfOk result (λ text. TellsApart file.now limits text.items) }
