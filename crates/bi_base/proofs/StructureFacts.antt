@@ -8,7 +8,7 @@ use Rattle.bi_base.specs.Limits.{Bounds}
 use Rattle.bi_base.specs.Tokens.{Token, BeginNode, EndNode, Prop, End}
 use Rattle.bi_base.specs.Tree.{IsChildName, IsPropertyName}
 use Rattle.bi_base.specs.Blob.{magic, totalsize, off_dt_struct, off_dt_strings, off_mem_rsvmap, version, last_comp_version, blob_magic, least_version, reader_version, header_length, structure_end, strings_end}
-use Rattle.bi_base.specs.BlobFaults.{HeaderCheck, IsWithinLimit, HasMagicCell, HasMagic, HasHeader, HasVersion, HasCompatibleVersion, TotalHoldsHeader, FileHoldsTotal, PlacesReservations, PlacesStructure, PlacesStrings, header_checks, HeaderPasses, HeaderIsFine, IsEndPair, BlobFault, InReservations, InStructure}
+use Rattle.bi_base.specs.BlobFaults.{HeaderCheck, IsWithinLimit, HasMagicCell, HasMagic, HasHeader, HasVersion, HasCompatibleVersion, TotalHoldsHeader, FileHoldsTotal, PlacesReservations, PlacesStructure, PlacesStrings, header_checks, HeaderPasses, HasNoHeaderFault, IsEndPair, IsBlobFault, InReservations, InStructure}
 use Rattle.bi_base.specs.Layout.{text_of, spelling}
 use Rattle.bi_base.proofs.TextFacts.{name_images, smallest_text}
 use Rattle.bi_base.proofs.HeaderFacts.{widest, with_byte}
@@ -81,7 +81,7 @@ all_tested bounds file (check ∷ checks) e =
     (tested bounds file check parts.0, all_tested bounds file checks parts.1)
 
 -- A header whose checks are tested to pass is fine.
-fine_by_test : (bounds : Bounds) (file : List ℕ) → list_all (test bounds file) header_checks ≡ true → HeaderIsFine bounds file
+fine_by_test : (bounds : Bounds) (file : List ℕ) → list_all (test bounds file) header_checks ≡ true → HasNoHeaderFault bounds file
 fine_by_test bounds file e = all_tested bounds file header_checks e
 
 -- A blob without reservations whose structure block is spelled by these tokens, with these strings.
@@ -89,7 +89,7 @@ abbrev pub file_of : List Token → List ℕ → List ℕ
 file_of tokens strings = text_of 0 (replicate 16 0) (flat_map spelling tokens) strings
 
 -- A number in the structure block that is no token.
-pub fault-unknown_token : BlobFault widest (with_byte 59 5) (record { cause = BadToken; offset = 56 })
+pub fault-unknown_token : IsBlobFault widest (with_byte 59 5) (record { cause = BadToken; offset = 56 })
 unfolding u32_at u64_at cell cell8 text_of test
 fault-unknown_token =
     InStructure (fine_by_test widest (with_byte 59 5) refl) 0
@@ -101,7 +101,7 @@ fault-unknown_token =
     })
 
 -- A root with the name `x`.
-pub fault-named_root : BlobFault widest (with_byte 60 0x78) (record { cause = BadName; offset = 56 })
+pub fault-named_root : IsBlobFault widest (with_byte 60 0x78) (record { cause = BadName; offset = 56 })
 unfolding u32_at u64_at cell cell8 text_of test
 fault-named_root =
     InStructure (fine_by_test widest (with_byte 60 0x78) refl) 0
@@ -113,7 +113,7 @@ fault-named_root =
     })
 
 -- A structure block that ends before FDT_END.
-pub fault-short_structure : BlobFault widest (with_byte 39 28) (record { cause = Truncated; offset = 84 })
+pub fault-short_structure : IsBlobFault widest (with_byte 39 28) (record { cause = Truncated; offset = 84 })
 unfolding u32_at u64_at cell cell8 text_of test
 fault-short_structure =
     InStructure (fine_by_test widest (with_byte 39 28) refl) 0
@@ -153,7 +153,7 @@ fault-short_structure =
     })
 
 -- A limit of one open node.
-pub fault-depth_1 : BlobFault (record { file = 0x7fffffff; depth = 1 }) smallest_text (record { cause = TooDeep; offset = 64 })
+pub fault-depth_1 : IsBlobFault (record { file = 0x7fffffff; depth = 1 }) smallest_text (record { cause = TooDeep; offset = 64 })
 unfolding u32_at u64_at cell cell8 text_of test
 fault-depth_1 =
     InStructure (fine_by_test (record { file = 0x7fffffff; depth = 1 }) smallest_text refl) 0
@@ -172,7 +172,7 @@ fault-depth_1 =
     })
 
 -- Two properties of one name, which stands twice in the strings block.
-pub fault-duplicate_property : BlobFault widest (file_of (BeginNode [] ∷ Prop 0 [] ∷ Prop 2 [] ∷ EndNode ∷ End ∷ []) (0x78 ∷ 0 ∷ 0x78 ∷ 0 ∷ [])) (record { cause = DuplicateProperty; offset = 76 })
+pub fault-duplicate_property : IsBlobFault widest (file_of (BeginNode [] ∷ Prop 0 [] ∷ Prop 2 [] ∷ EndNode ∷ End ∷ []) (0x78 ∷ 0 ∷ 0x78 ∷ 0 ∷ [])) (record { cause = DuplicateProperty; offset = 76 })
 unfolding u32_at u64_at cell cell8 text_of test
 fault-duplicate_property =
     InStructure (fine_by_test widest (file_of (BeginNode [] ∷ Prop 0 [] ∷ Prop 2 [] ∷ EndNode ∷ End ∷ []) (0x78 ∷ 0 ∷ 0x78 ∷ 0 ∷ [])) refl) 0
@@ -198,7 +198,7 @@ fault-duplicate_property =
     })
 
 -- Two children of one name.
-pub fault-duplicate_node : BlobFault widest (file_of (BeginNode [] ∷ BeginNode name_images ∷ EndNode ∷ BeginNode name_images ∷ EndNode ∷ EndNode ∷ End ∷ []) []) (record { cause = DuplicateNode; offset = 80 })
+pub fault-duplicate_node : IsBlobFault widest (file_of (BeginNode [] ∷ BeginNode name_images ∷ EndNode ∷ BeginNode name_images ∷ EndNode ∷ EndNode ∷ End ∷ []) []) (record { cause = DuplicateNode; offset = 80 })
 unfolding u32_at u64_at cell cell8 text_of test
 fault-duplicate_node =
     InStructure (fine_by_test widest (file_of (BeginNode [] ∷ BeginNode name_images ∷ EndNode ∷ BeginNode name_images ∷ EndNode ∷ EndNode ∷ End ∷ []) []) refl) 0
@@ -231,7 +231,7 @@ fault-duplicate_node =
     })
 
 -- A property behind a child.
-pub fault-property_after_child : BlobFault widest (file_of (BeginNode [] ∷ BeginNode name_images ∷ EndNode ∷ Prop 0 [] ∷ EndNode ∷ End ∷ []) (0x78 ∷ 0 ∷ [])) (record { cause = PropertyAfterChild; offset = 80 })
+pub fault-property_after_child : IsBlobFault widest (file_of (BeginNode [] ∷ BeginNode name_images ∷ EndNode ∷ Prop 0 [] ∷ EndNode ∷ End ∷ []) (0x78 ∷ 0 ∷ [])) (record { cause = PropertyAfterChild; offset = 80 })
 unfolding u32_at u64_at cell cell8 text_of test
 fault-property_after_child =
     InStructure (fine_by_test widest (file_of (BeginNode [] ∷ BeginNode name_images ∷ EndNode ∷ Prop 0 [] ∷ EndNode ∷ End ∷ []) (0x78 ∷ 0 ∷ [])) refl) 0
@@ -264,7 +264,7 @@ fault-property_after_child =
     })
 
 -- FDT_END in the root.
-pub fault-end_in_root : BlobFault widest (file_of (BeginNode [] ∷ End ∷ []) []) (record { cause = BadToken; offset = 64 })
+pub fault-end_in_root : IsBlobFault widest (file_of (BeginNode [] ∷ End ∷ []) []) (record { cause = BadToken; offset = 64 })
 unfolding u32_at u64_at cell cell8 text_of test
 fault-end_in_root =
     InStructure (fine_by_test widest (file_of (BeginNode [] ∷ End ∷ []) []) refl) 0
@@ -283,7 +283,7 @@ fault-end_in_root =
     })
 
 -- A name offset behind the strings block.
-pub fault-no_property_name : BlobFault widest (file_of (BeginNode [] ∷ Prop 2 [] ∷ EndNode ∷ End ∷ []) (0x78 ∷ 0 ∷ [])) (record { cause = BadNameOffset; offset = 64 })
+pub fault-no_property_name : IsBlobFault widest (file_of (BeginNode [] ∷ Prop 2 [] ∷ EndNode ∷ End ∷ []) (0x78 ∷ 0 ∷ [])) (record { cause = BadNameOffset; offset = 64 })
 unfolding u32_at u64_at cell cell8 text_of test
 fault-no_property_name =
     InStructure (fine_by_test widest (file_of (BeginNode [] ∷ Prop 2 [] ∷ EndNode ∷ End ∷ []) (0x78 ∷ 0 ∷ [])) refl) 0
@@ -302,7 +302,7 @@ fault-no_property_name =
     })
 
 -- A reservation block whose first pair is not two zeros, and that has no end.
-pub fault-endless_reservations : BlobFault widest (with_byte 47 1) (record { cause = Truncated; offset = 88 })
+pub fault-endless_reservations : IsBlobFault widest (with_byte 47 1) (record { cause = Truncated; offset = 88 })
 unfolding u32_at u64_at test
 fault-endless_reservations =
     InReservations (fine_by_test widest (with_byte 47 1) refl) (record { index = 3; before = none; fits = lit≤ tt; past = lit< tt; is = refl }) where

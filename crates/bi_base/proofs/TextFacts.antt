@@ -2,7 +2,7 @@ use Rattle.std.proofs.Common.{◌≡◌, ℕ, List, [], ◌∷◌, ◌++◌, len
 use Rattle.bi_base.specs.Cells.{cell, cell8, u32_at}
 use Rattle.bi_base.specs.Tree.{none, node, Root, Property}
 use Rattle.bi_base.specs.Marks.{marks_of}
-use Rattle.bi_base.specs.Layout.{text_of, blob_text, tree_text, structure_block, strings_block, offset_in, firsts, used}
+use Rattle.bi_base.specs.Layout.{text_of, blob_text, tree_text, structure_block, strings_block, offset_in, distinct_names, used_names}
 
 -- Texts of two small trees, byte by byte.
 
@@ -54,10 +54,10 @@ strings-named = refl
 pub length_strings-named : length (strings_block (marks_of named)) ≡ 14
 length_strings-named = refl
 
-pub offset-filename : offset_in (firsts (used (marks_of named))) name_filename ≡ 0
+pub offset-filename : offset_in (distinct_names (used_names (marks_of named))) name_filename ≡ 0
 offset-filename = refl
 
-pub offset-name : offset_in (firsts (used (marks_of named))) name_name ≡ 9
+pub offset-name : offset_in (distinct_names (used_names (marks_of named))) name_name ≡ 9
 offset-name = refl
 
 pub length-named : length (tree_text 0 [] named) ≡ 136

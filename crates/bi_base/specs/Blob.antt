@@ -144,7 +144,7 @@ pub record HoldsTree (blocks : TreeBlocks) (root : Root Located) : Type 0 where
 
 -- This file begins with a blob that has this boot processor, these memory reservations and this tree (chapter 5; that a
 -- file may be longer than its blob is profile of this project).
-pub record Blob (file : List ℕ) (cpu : ℕ) (reservations : List Reservation) (root : Root Located) : Type 0 where
+pub record IsBlob (file : List ℕ) (cpu : ℕ) (reservations : List Reservation) (root : Root Located) : Type 0 where
   pub bytes : AreBytes file
   pub header : Header file
   pub is_cpu : boot_cpuid_phys file ≡ cpu
@@ -161,5 +161,5 @@ pub record IsBlobWithin (bounds : Bounds) (file : List ℕ) : Type 0 where
   pub cpu : ℕ
   pub reservations : List Reservation
   pub root : Root Located
-  pub blob : Blob file cpu reservations root
+  pub blob : IsBlob file cpu reservations root
   pub within : IsWithin bounds file root
