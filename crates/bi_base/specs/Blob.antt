@@ -131,6 +131,11 @@ tree_blocks file = record {
   strings = slice file (off_dt_strings file) (size_dt_strings file);
 }
 
+-- The file is bytes, and has all of its structure block (5.4).
+pub record IsReadable (blocks : TreeBlocks) : Type 0 where
+  pub bytes : AreBytes blocks.file
+  pub within : blocks.end ≤ length blocks.file
+
 -- The structure block holds this tree: it begins with tokens that say the tree, and FDT_END behind them (5.4.2; that bytes
 -- may stand behind FDT_END is profile of this project).
 pub record HoldsTree (blocks : TreeBlocks) (root : Root Located) : Type 0 where

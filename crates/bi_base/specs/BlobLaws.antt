@@ -5,9 +5,8 @@ use Rattle.bi_base.specs.Checks.{HasNoFault}
 use Rattle.bi_base.specs.Limits.{Bounds}
 use Rattle.bi_base.specs.Tokens.{Token, End, Spelled}
 use Rattle.bi_base.specs.Tree.{Root, Located}
-use Rattle.bi_base.specs.Blob.{Reservation, IsBlob, IsBlobWithin, TreeBlocks}
+use Rattle.bi_base.specs.Blob.{Reservation, IsBlob, IsBlobWithin, TreeBlocks, IsReadable}
 use Rattle.bi_base.specs.BlobFaults.{IsBlobFault, TokenPasses, token_checks, opened, place_after, Walked}
-use Rattle.bi_base.specs.OpenNodes.{IsReadable}
 
 -- Laws of what a blob is.
 

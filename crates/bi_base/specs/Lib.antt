@@ -17,5 +17,4 @@ pub mod Blob
 pub mod BlobFaults
 pub mod Layout
 pub mod BlobLaws
-pub mod OpenNodes
 pub mod TextLaws

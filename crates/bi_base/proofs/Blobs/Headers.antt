@@ -1,9 +1,8 @@
 use Rattle.std.proofs.Common.{ℕ, ◌≤◌, List, length, arith}
 use Rattle.bi_base.specs.Cells.{AreBytes}
 use Rattle.bi_base.specs.Limits.{Bounds}
-use Rattle.bi_base.specs.Blob.{Header, header_length, tree_blocks, totalsize, structure_end}
+use Rattle.bi_base.specs.Blob.{Header, header_length, tree_blocks, totalsize, structure_end, IsReadable}
 use Rattle.bi_base.specs.BlobFaults.{HasNoHeaderFault}
-use Rattle.bi_base.specs.OpenNodes.{IsReadable}
 
 -- The checks of a header and the conditions of a header are the same.
 

@@ -4,10 +4,9 @@ use Rattle.bi_base.specs.Cells.{slice, u32_at}
 use Rattle.bi_base.specs.Checks.{HasNoFault}
 use Rattle.bi_base.specs.Tokens.{Token, BeginNode, EndNode, Prop, Nop, End, unpadded, width, Spelled, StandsAt, NameAt, name_from}
 use Rattle.bi_base.specs.Stages.{Stage}
-use Rattle.bi_base.specs.Blob.{TreeBlocks}
+use Rattle.bi_base.specs.Blob.{TreeBlocks, IsReadable}
 use Rattle.bi_base.specs.BlobFaults.{TokenPasses, token_checks, opened, place_after, Walked}
 use Rattle.bi_base.specs.BlobLaws.{AllTokensPass, WalkedWhereSpelled}
-use Rattle.bi_base.specs.OpenNodes.{IsReadable}
 use Rattle.bi_base.proofs.Blobs.Names.{one_name, HasName-NameAt}
 use Rattle.bi_base.proofs.Blobs.Tokens.{number, length-unpadded, StandsAt-number, StandsAt-within, BeginNode-name, Prop-parts}
 use Rattle.bi_base.proofs.Blobs.Spelling.{behind_all, AllStand, Spelled-stand}

@@ -9,8 +9,8 @@ use Rattle.bi_base.specs.Marks.{PlacedMark, Say}
 use Rattle.bi_base.specs.Stages.{after}
 use Rattle.bi_base.specs.Blob.{TreeBlocks}
 use Rattle.bi_base.specs.BlobFaults.{TokenPasses, token_checks, said, opened, place_after, Walked}
-use Rattle.bi_base.specs.OpenNodes.{Growth, stage_of, said_so_far, IsGrowth, Standing}
 use Rattle.bi_base.proofs.CellLaws.{length-cell, length-slice}
+use Rattle.bi_base.proofs.Blobs.OpenNodes.{Growth, stage_of, said_so_far, IsGrowth, Standing}
 use Rattle.bi_base.proofs.Blobs.Tokens.{width-at_least}
 use Rattle.bi_base.proofs.Blobs.Spelling.{behind_all, behind_all-append, AllStand}
 use Rattle.bi_base.proofs.Blobs.Saying.{Say-append}

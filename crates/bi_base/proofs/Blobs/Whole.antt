@@ -7,10 +7,10 @@ use Rattle.bi_base.specs.Checks.{IsFirstFault, HasNoFault}
 use Rattle.bi_base.specs.Tokens.{Token, BeginNode, EndNode, Nop, width, name_from, begin_node_number, end_node_number, prop_number, nop_number, end_number}
 use Rattle.bi_base.specs.Tree.{Root, Located, depth_of}
 use Rattle.bi_base.specs.Stages.{Stage, BeforeRoot, AfterRoot}
-use Rattle.bi_base.specs.Blob.{TreeBlocks, HoldsTree}
+use Rattle.bi_base.specs.Blob.{TreeBlocks, HoldsTree, IsReadable}
 use Rattle.bi_base.specs.BlobFaults.{HasTokenNumber, TokenPasses, token_checks, token_fault, opened, IsStructureFault}
-use Rattle.bi_base.specs.OpenNodes.{OpenNode, Growth, NotBegun, Growing, Grown, begun, with_one_property, with_one_child, root_of, stage_of, IsReadable, Standing}
 use Rattle.bi_base.proofs.FirstFault.{fault_or_none}
+use Rattle.bi_base.proofs.Blobs.OpenNodes.{OpenNode, Growth, NotBegun, Growing, Grown, begun, with_one_property, with_one_child, root_of, stage_of, Standing}
 use Rattle.bi_base.proofs.Blobs.Tokens.{width-at_least}
 use Rattle.bi_base.proofs.Blobs.Steps.{IsNext, next_nop, next_root, next_child, property_at, property_token, next_property, next_end, next_last}
 use Rattle.bi_base.proofs.Blobs.Ending.{last_token}
