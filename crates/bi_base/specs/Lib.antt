@@ -18,3 +18,5 @@ pub mod BlobFaults
 pub mod Layout
 pub mod BlobLaws
 pub mod TextLaws
+pub mod KnownTexts
+pub mod KnownFaults
