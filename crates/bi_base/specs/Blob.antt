@@ -109,20 +109,20 @@ pub record IsReservation (reservation : Reservation) : Type 0 where
 abbrev pub reserved_block : List Reservation → List ℕ
 reserved_block reservations = flat_map pair_bytes reservations ++ pair_bytes end_pair
 
--- These bytes begin with the reservation block that has these reservations.
+-- These bytes begin with the reservation block that has these reservations (5.3).
 pub record Reserved (bytes : List ℕ) (reservations : List Reservation) : Type 0 where
   pub are_reservations : AllByRecursion IsReservation reservations
   pub behind : List ℕ
   pub stands : bytes ≡ reserved_block reservations ++ behind
 
--- Where a file has its tree: the structure block from `begin` on and before `end`, and the strings block.
+-- Where a file has its tree: the structure block from `begin` on and before `end`, and the strings block (5.4, 5.5).
 pub record TreeBlocks : Type 0 where
   pub file : List ℕ
   pub begin : ℕ
   pub end : ℕ
   pub strings : List ℕ
 
--- Where a blob has its tree.
+-- Where a blob has its tree (5.2).
 abbrev pub tree_blocks : List ℕ → TreeBlocks
 tree_blocks file = record {
   file = file;
@@ -161,7 +161,7 @@ pub record IsWithin (bounds : Bounds) (file : List ℕ) (root : Root Located) : 
   pub short : length file ≤ bounds.file
   pub shallow : depth_of root ≤ bounds.depth
 
--- The file is a blob within the limits.
+-- The file is a blob within the limits (profile of this project).
 pub record IsBlobWithin (bounds : Bounds) (file : List ℕ) : Type 0 where
   pub cpu : ℕ
   pub reservations : List Reservation

@@ -29,7 +29,7 @@ pub data HeaderCheck : Type 0 where
   PlacesStructure : HeaderCheck
   PlacesStrings : HeaderCheck
 
--- The order in which they are made.
+-- The order in which they are made (profile of this project).
 abbrev pub header_checks : List HeaderCheck
 header_checks =
     IsWithinLimit ∷ HasMagicCell ∷ HasMagic ∷ HasHeader ∷ HasVersion ∷ HasCompatibleVersion ∷ TotalHoldsHeader
@@ -80,7 +80,7 @@ pub record IsEndPair (file : List ℕ) (at : ℕ) : Type 0 where
   pub address : u64_at file at ≡ 0
   pub size : u64_at file (at + 8) ≡ 0
 
--- The reservation block at this offset has this many reservations, and its end pair ends at `total` or before.
+-- The reservation block at this offset has this many reservations, and its end pair ends at `total` or before (5.3).
 pub record HasReservations (file : List ℕ) (at total count : ℕ) : Type 0 where
   pub before : (index : ℕ) → index < count → ¬ (IsEndPair file (at + 16 * index))
   pub end : IsEndPair file (at + 16 * count)
@@ -108,16 +108,16 @@ pub data TokenCheck : Type 0 where
   MayNameProperty : TokenCheck
   IsNewProperty : TokenCheck
 
--- The order in which the checks of FDT_BEGIN_NODE alone are made.
+-- The order in which the checks of FDT_BEGIN_NODE alone are made (profile of this project).
 abbrev pub begin_checks : List TokenCheck
 begin_checks = IsWithinDepth ∷ HasNodeName ∷ MayNameNode ∷ IsNewNode ∷ []
 
--- The order in which the checks of FDT_PROP alone are made.
+-- The order in which the checks of FDT_PROP alone are made (profile of this project).
 abbrev pub property_checks : List TokenCheck
 property_checks = IsBeforeChildren ∷ HasValue ∷ HasPropertyName ∷ MayNameProperty ∷ IsNewProperty ∷ []
 
--- The checks of the token of this number, in order. Where the block has no whole number at an offset, `HasTokenNumber` fails, whatever
--- is read there.
+-- The checks of the token of this number, in order. Where the block has no whole number at an offset, `HasTokenNumber`
+-- fails, whatever is read there (5.4.1).
 abbrev pub token_checks : ℕ → List TokenCheck
 token_checks number =
     HasTokenNumber ∷ MayStand
@@ -131,7 +131,7 @@ MayBeNamed BeforeRoot name = name ≡ []
 MayBeNamed (Inside innermost outer) name = IsChildName name
 MayBeNamed AfterRoot name = ⊥
 
--- These bytes have a zero byte from offset `at` on and before `end`, and so a name.
+-- These bytes have a zero byte from offset `at` on and before `end`, and so a name (5.4.1, 5.5).
 abbrev pub HasName : List ℕ → ℕ → ℕ → Type 0
 HasName bytes at end = at + length (name_from bytes at) < end
 

@@ -8,7 +8,7 @@ use Rattle.bi_base.specs.Tree.{Root, Located}
 use Rattle.bi_base.specs.Blob.{Reservation, IsBlob, IsBlobWithin, TreeBlocks, IsReadable}
 use Rattle.bi_base.specs.BlobFaults.{IsBlobFault, TokenPasses, token_checks, opened, place_after, Walked}
 
--- Laws of what a blob is.
+-- Laws of what a blob is (Devicetree Specification, chapter 5), and of its faults (profile of this project).
 
 -- Two boot processors, lists of memory reservations and trees are the same.
 pub record AreSame {Own : Type 0} (cpu other_cpu : ℕ) (reservations other_reservations : List Reservation) (root other_root : Root Own) : Type 0 where

@@ -9,8 +9,8 @@ use Rattle.bi_base.specs.BlobFaults.{IsBlobFault}
 use Rattle.bi_base.specs.Layout.{text_of, spelling}
 use Rattle.bi_base.specs.KnownTexts.{smallest_text}
 
--- Small files that are no blobs, each with its fault, by which a reader can judge the definitions: every check of a header
--- and of a token fails in one of them (profile of this project).
+-- Small files that are refused, each with its fault, by which a reader can judge the definitions: each check of a header
+-- and of a token is the first that fails in one of them (profile of this project).
 
 -- The widest limits.
 abbrev pub widest : Bounds
@@ -25,11 +25,41 @@ with_cell file at number = take at file ++ (cell number ++ drop (at + 4) file)
 abbrev pub file_of : List Token → List ℕ → List ℕ
 file_of tokens strings = text_of 0 (reserved_block []) (flat_map spelling tokens) strings
 
+-- A file whose root holds FDT_END.
+abbrev pub file_with_end_in_root : List ℕ
+file_with_end_in_root = file_of (BeginNode [] ∷ End ∷ []) []
+
+-- A file whose root has two children `images`.
+abbrev pub file_with_two_children : List ℕ
+file_with_two_children =
+    file_of
+    (BeginNode [] ∷ BeginNode (codes "images") ∷ EndNode ∷ BeginNode (codes "images") ∷ EndNode ∷ EndNode ∷ End ∷ [])
+    []
+
+-- A file whose root has a property `x` behind its child.
+abbrev pub file_with_late_property : List ℕ
+file_with_late_property =
+    file_of
+    (BeginNode [] ∷ BeginNode (codes "images") ∷ EndNode ∷ Prop 0 [] ∷ EndNode ∷ End ∷ [])
+    (codes "x" ++ 0 ∷ [])
+
+-- A file whose root has a property with the name at this offset of a strings block that has the name `x` alone.
+abbrev pub file_with_property : ℕ → List ℕ
+file_with_property name_offset = file_of (BeginNode [] ∷ Prop name_offset [] ∷ EndNode ∷ End ∷ []) (codes "x" ++ 0 ∷ [])
+
+-- A file whose root has two properties `x`. The name stands twice in its strings block.
+abbrev pub file_with_two_properties : List ℕ
+file_with_two_properties =
+    file_of
+    (BeginNode [] ∷ Prop 0 [] ∷ Prop 2 [] ∷ EndNode ∷ End ∷ [])
+    (codes "x" ++ (0 ∷ (codes "x" ++ 0 ∷ [])))
+
 -- A file has this fault under these limits.
 abbrev pub HasFault : Bounds → List ℕ → Cause → ℕ → Type 0
 HasFault bounds file cause offset = IsBlobFault bounds file (record { cause = cause; offset = offset })
 
--- Files that are at fault in their headers.
+-- Files that are at fault in their headers. `totalsize` stands at 4, `off_dt_struct` at 8, `off_dt_strings` at 12,
+-- `off_mem_rsvmap` at 16, `version` at 20 and `last_comp_version` at 24 (Devicetree Specification, 5.2).
 pub record HeadersHaveFaults : Type 0 where
   pub past_limit : HasFault (record { file = 87; depth = 64 }) smallest_text TooLarge 87
   pub no_bytes : HasFault widest [] Truncated 0
@@ -52,35 +82,18 @@ pub record ReservationsHaveFaults : Type 0 where
   pub past_end : HasFault widest (with_cell smallest_text 16 80) Truncated 80
   pub endless : HasFault widest (with_cell smallest_text 44 1) Truncated 88
 
--- Files that are at fault in a token.
+-- Files that are at fault in a token. In the smallest text the root's token stands at 56, that of `images` at 64, both
+-- FDT_END_NODE at 76 and 80, and FDT_END at 84; `size_dt_struct` stands at 36 (Devicetree Specification, 5.2, 5.4).
 pub record TokensHaveFaults : Type 0 where
   pub no_number : HasFault widest (with_cell smallest_text 36 28) Truncated 84
   pub unknown_number : HasFault widest (with_cell smallest_text 56 5) BadToken 56
-  pub end_in_root : HasFault widest (file_of (BeginNode [] ∷ End ∷ []) []) BadToken 64
+  pub end_in_root : HasFault widest file_with_end_in_root BadToken 64
   pub too_deep : HasFault (record { file = 0x7fffffff; depth = 1 }) smallest_text TooDeep 64
-  pub endless_name : HasFault widest (with_cell smallest_text 36 18) Truncated 64
+  pub endless_node_name : HasFault widest (with_cell smallest_text 36 18) Truncated 64
   pub named_root : HasFault widest (with_cell smallest_text 60 0x78000000) BadName 56
-  pub second_of_name : HasFault widest
-      (file_of (BeginNode [] ∷ BeginNode (codes "images") ∷ EndNode ∷ BeginNode (codes "images") ∷ EndNode ∷ EndNode ∷ End ∷ []) [])
-      DuplicateNode
-      80
-  pub behind_child : HasFault widest
-      (file_of (BeginNode [] ∷ BeginNode (codes "images") ∷ EndNode ∷ Prop 0 [] ∷ EndNode ∷ End ∷ []) (codes "x" ++ 0 ∷ []))
-      PropertyAfterChild
-      80
-  pub value_past_end : HasFault widest
-      (with_cell (file_of (BeginNode [] ∷ Prop 0 [] ∷ EndNode ∷ End ∷ []) (codes "x" ++ 0 ∷ [])) 68 9)
-      Truncated
-      64
-  pub no_property_name : HasFault widest
-      (file_of (BeginNode [] ∷ Prop 2 [] ∷ EndNode ∷ End ∷ []) (codes "x" ++ 0 ∷ []))
-      BadNameOffset
-      64
-  pub empty_property_name : HasFault widest
-      (file_of (BeginNode [] ∷ Prop 1 [] ∷ EndNode ∷ End ∷ []) (codes "x" ++ 0 ∷ []))
-      BadName
-      64
-  pub second_property : HasFault widest
-      (file_of (BeginNode [] ∷ Prop 0 [] ∷ Prop 2 [] ∷ EndNode ∷ End ∷ []) (codes "x" ++ (0 ∷ (codes "x" ++ 0 ∷ []))))
-      DuplicateProperty
-      76
+  pub second_child_of_name : HasFault widest file_with_two_children DuplicateNode 80
+  pub behind_child : HasFault widest file_with_late_property PropertyAfterChild 80
+  pub value_past_end : HasFault widest (with_cell (file_with_property 0) 68 9) Truncated 64
+  pub no_property_name : HasFault widest (file_with_property 2) BadNameOffset 64
+  pub empty_property_name : HasFault widest (file_with_property 1) BadName 64
+  pub second_property_of_name : HasFault widest file_with_two_properties DuplicateProperty 76

@@ -10,7 +10,7 @@ use Rattle.bi_base.specs.BlobFaults.{IsBlobFault}
 use Rattle.bi_base.specs.BlobLaws.{AreSame}
 use Rattle.bi_base.specs.Layout.{names_in, used_names, distinct_names, offset_in, tokens_of, structure_block, strings_block, tree_text, unfilled, structure_place, located_tree, in_order, IsContent, IsNormalText, longest_text}
 
--- Laws of the text that a blob is laid out as. Each is the contract of a function in `text_laws`.
+-- Laws of the text that a blob is laid out as (profile of this project). Each is the contract of a function in `text_laws`.
 
 -- The strings block of these marks has the names that they use, each once.
 pub record HasNamesOnce (marks : List Mark) : Type 0 where
