@@ -1,15 +1,15 @@
-use Rattle.std.proofs.Common.{◌≡◌, ◌≢◌, ℕ, ◌+◌, ◌*◌, ◌≤◌, ◌<◌, Bool, true, List, [], ◌∷◌, ◌++◌, refl, inl, inr, lit≤, lit<, arith}
+use Rattle.std.proofs.Common.{◌≡◌, ◌≢◌, ℕ, ◌+◌, ◌*◌, ◌≤◌, ◌<◌, true, List, [], ◌∷◌, refl, inl, inr, lit≤, lit<, arith}
 use Rattle.std.specs.Prelude.{not, ◌==◌, codes}
 use Rattle.std.specs.List.{AllByRecursion, list_all}
 use Rattle.std.proofs.lemmas.Bool.{and_parts, not-true, eqb-false, false≢true}
 use Rattle.bi_base.specs.declared.fault.Fault.{Fault}
 use Rattle.bi_base.specs.Cells.{cell, cell8, u32_at, u64_at}
 use Rattle.bi_base.specs.Limits.{Bounds}
-use Rattle.bi_base.specs.Tokens.{Token, BeginNode, EndNode, Prop, End, width, StandsAt}
+use Rattle.bi_base.specs.Tokens.{Token, BeginNode, EndNode, Prop, End, StandsAt}
 use Rattle.bi_base.specs.Tree.{IsChildName, IsPropertyName}
 use Rattle.bi_base.specs.Stages.{BeforeRoot, Inside, Open}
 use Rattle.bi_base.specs.Blob.{TreeBlocks, tree_blocks, off_mem_rsvmap, totalsize}
-use Rattle.bi_base.specs.BlobFaults.{header_checks, IsPassed, Walked, place_after, opened, IsStructureFault, IsBlobFault, InStructure}
+use Rattle.bi_base.specs.BlobFaults.{header_checks, Walked, place_after, opened, IsStructureFault, IsBlobFault, InStructure}
 use Rattle.bi_base.specs.Layout.{text_of}
 use Rattle.bi_base.specs.KnownTexts.{smallest_text}
 use Rattle.bi_base.specs.KnownFaults.{widest, with_cell, file_with_end_in_root, file_with_two_children, file_with_late_property, file_with_property, file_with_two_properties, TokensHaveFaults}
