@@ -7,6 +7,7 @@ pub mod Saying
 pub mod Trees
 pub mod Reservations
 pub mod OneBlob
+pub mod OpenNodes
 pub mod Growing
 pub mod Walking
 pub mod Steps

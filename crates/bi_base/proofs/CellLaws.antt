@@ -1,9 +1,9 @@
 use Rattle.std.proofs.Common.{◌≡◌, ℕ, ◌+◌, ◌<◌, ◌≤◌, ◌^◌, List, ◌++◌, length, take, drop, get_or, arith, refl, sym, ap, ◌∙◌, inl, inr}
-use Rattle.std.specs.Int.{to_be_bytes, from_be_bytes, w32}
+use Rattle.std.specs.Int.{from_be_bytes, w32}
 use Rattle.std.proofs.Math.Seq.{take-append_seam, drop-append_seam}
 use Rattle.std.proofs.lemmas.Bool.{cases_lt}
 use Rattle.std.proofs.lemmas.List.{get_or-take, get_or-drop, get_or_past, length-drop, length-take, length-take-le}
-use Rattle.std.proofs.lemmas.Nat.{be_bytes_4, from_be_bytes-to_be_bytes_4}
+use Rattle.std.proofs.lemmas.Nat.{be_bytes_4}
 use Rattle.bi_base.specs.Cells.{cell, u32_at, slice, AreBytes}
 
 -- Two lists that are equal, each of a first part and a rest, have equal parts where the first parts are equally long.
@@ -16,10 +16,6 @@ parts_agree a b x y same e = (
 -- The second of three lists is the slice of the whole that begins where the first ends.
 pub slice-append : (a b c : List ℕ) → slice (a ++ (b ++ c)) (length a) (length b) ≡ b
 slice-append a b c = ap (take (length b)) (drop-append_seam a (b ++ c)) ∙ take-append_seam b c
-
--- The first of two lists is the slice of the whole at its beginning.
-pub slice-append_first : (a b : List ℕ) → slice (a ++ b) 0 (length a) ≡ a
-slice-append_first a b = take-append_seam a b
 
 -- A slice is as long as it is asked for, where the file has it all.
 pub length-slice : (file : List ℕ) (at n : ℕ) → at + n ≤ length file → length (slice file at n) ≡ n
@@ -43,19 +39,8 @@ pub length-cell : (n : ℕ) → length (cell n) ≡ 4
 unfolding cell
 length-cell n = refl
 
--- Two numbers of 32 bits with one cell are one number.
-pub cell_agree : (m n : ℕ) → m < 2 ^ 32 → n < 2 ^ 32 → cell m ≡ cell n → m ≡ n
-unfolding cell
-cell_agree m n m_fits n_fits e =
-    sym (from_be_bytes-to_be_bytes_4 m m_fits) ∙ ap (from_be_bytes w32) e ∙ from_be_bytes-to_be_bytes_4 n n_fits
-
 -- A cell of a file is the bytes that it is read from.
 pub cell-u32_at : (file : List ℕ) (at : ℕ) → AreBytes file → at + 4 ≤ length file → cell (u32_at file at) ≡ slice file at 4
 unfolding cell u32_at
 cell-u32_at file at bytes within =
     be_bytes_4 (slice file at 4) (from_be_bytes w32 (slice file at 4)) (length-slice file at 4 within) (AreBytes-slice file at 4 bytes).each refl
-
--- A cell that was written is read as its number.
-pub u32_at-cell : (a b : List ℕ) (n : ℕ) → n < 2 ^ 32 → u32_at (a ++ (cell n ++ b)) (length a) ≡ n
-unfolding cell u32_at
-u32_at-cell a b n fits = ap (from_be_bytes w32) (slice-append a (to_be_bytes w32 n) b) ∙ from_be_bytes-to_be_bytes_4 n fits

@@ -1,5 +1,4 @@
-use Rattle.std.proofs.Common.{◌≡◌, ℕ, ◌/◌, ◌%◌, [], ◌∷◌, refl, sym, ap, fold, suc}
-use Rattle.std.proofs.lemmas.List.{append-nil}
+use Rattle.std.proofs.Common.{◌≡◌, ℕ, ◌/◌, ◌%◌, refl, sym, ap, fold, suc}
 use Rattle.bi_base.specs.Crc.{crc_bit, crc_after, low_bits, SameForEveryCut}
 use Rattle.bi_base.specs.CrcSink.{goes_on_in_turn}
 
@@ -7,11 +6,6 @@ use Rattle.bi_base.specs.CrcSink.{goes_on_in_turn}
 pub crc_after-append : SameForEveryCut
 crc_after-append register first second =
     let mid = crc_after register first in sym (goes_on_in_turn register mid (crc_after mid second) first second refl refl)
-
--- The register after one byte is that after its eight bits.
-pub crc_after-byte : (register byte : ℕ) → crc_after register (byte ∷ []) ≡ fold crc_bit register (low_bits 8 byte)
-unfolding crc_after
-crc_after-byte register byte = ap (fold crc_bit register) (append-nil (low_bits 8 byte))
 
 -- The register after the lowest bits of a number is that after its lowest bit and then the others.
 pub fold-low_bits : (n m register number : ℕ) → n ≡ suc m → fold crc_bit register (low_bits n number) ≡ fold crc_bit (crc_bit register (number % 2)) (low_bits m (number / 2))

@@ -1,97 +1,53 @@
-use Rattle.std.proofs.Common.{◌≡◌, ℕ, ◌≤◌, List, [], ◌∷◌, take, refl, inl, inr, lit≤, arith}
-use Rattle.std.specs.Prelude.{slice_set}
-use Rattle.bi_base.specs.declared.fault.Cause.TheVariants.{Truncated, BadMagic, BadTotalSize, BadVersion, BadOffset}
-use Rattle.bi_base.specs.Cells.{u32_at}
-use Rattle.bi_base.specs.Limits.{Bounds}
-use Rattle.bi_base.specs.BlobFaults.{HeaderFault, HeaderIsFine, BlobFault, InReservations}
-use Rattle.bi_base.proofs.TextFacts.{smallest_text}
+use Rattle.std.proofs.Common.{◌≡◌, ℕ, zero, suc, ◌+◌, ◌*◌, ◌≤◌, ◌<◌, refl, inl, inr, lit≤, lit<, arith}
+use Rattle.bi_base.specs.Cells.{cell, u32_at, u64_at}
+use Rattle.bi_base.specs.BlobFaults.{IsEndPair, InHeader, InReservations}
+use Rattle.bi_base.specs.KnownTexts.{smallest_text}
+use Rattle.bi_base.specs.KnownFaults.{widest, with_cell, HeadersHaveFaults, ReservationsHaveFaults}
+use Rattle.bi_base.proofs.HeaderTests.{test, fine_by_test}
 
--- The faults of files that are the text of the smallest tree but for a few bytes.
+-- The faults of small files before their structure blocks.
 
--- The widest limits.
-abbrev pub widest : Bounds
-widest = record { file = 0x7fffffff; depth = 64 }
+-- In each header, the checks up to the one that fails.
+pub headers_have_faults : HeadersHaveFaults
+unfolding u32_at cell
+headers_have_faults = record {
+  past_limit = InHeader (inl ((λ (wrong : 88 ≤ 87). omega arith), refl));
+  no_bytes = InHeader (inr (lit≤ tt, inl ((λ (wrong : 4 ≤ 0). omega arith), refl)));
+  three_bytes = InHeader (inr (lit≤ tt, inl ((λ (wrong : 4 ≤ 3). omega arith), refl)));
+  other_magic = InHeader (inr (lit≤ tt, inr (lit≤ tt, inl ((λ (wrong : 0x01020304 ≡ 0xd00dfeed). omega arith), refl))));
+  short_header = InHeader (inr (lit≤ tt, inr (lit≤ tt, inr (refl, inl ((λ (wrong : 40 ≤ 39). omega arith), refl)))));
+  version_15 = InHeader (inr (lit≤ tt, inr (lit≤ tt, inr (refl, inr (lit≤ tt, inl ((λ (wrong : 17 ≤ 15). omega arith), refl))))));
+  version_16 = InHeader (inr (lit≤ tt, inr (lit≤ tt, inr (refl, inr (lit≤ tt, inl ((λ (wrong : 17 ≤ 16). omega arith), refl))))));
+  compatible_18 = InHeader (inr (lit≤ tt, inr (lit≤ tt, inr (refl, inr (lit≤ tt, inr (lit≤ tt, inl ((λ (wrong : 18 ≤ 17). omega arith), refl)))))));
+  total_39 = InHeader (inr (lit≤ tt, inr (lit≤ tt, inr (refl, inr (lit≤ tt, inr (lit≤ tt, inr (lit≤ tt, inl ((λ (wrong : 40 ≤ 39). omega arith), refl))))))));
+  total_past_end = InHeader (inr (lit≤ tt, inr (lit≤ tt, inr (refl, inr (lit≤ tt, inr (lit≤ tt, inr (lit≤ tt, inr (lit≤ tt, inl ((λ (wrong : 89 ≤ 88). omega arith), refl)))))))));
+  reservations_unaligned = InHeader (inr (lit≤ tt, inr (lit≤ tt, inr (refl, inr (lit≤ tt, inr (lit≤ tt, inr (lit≤ tt, inr (lit≤ tt, inr (lit≤ tt, inl ((λ wrong. let unaligned : 4 ≡ 0 = wrong.1 in omega arith), refl))))))))));
+  structure_past_end = InHeader (inr (lit≤ tt, inr (lit≤ tt, inr (refl, inr (lit≤ tt, inr (lit≤ tt, inr (lit≤ tt, inr (lit≤ tt, inr (lit≤ tt, inr ((lit≤ tt, refl, lit≤ tt), inl ((λ wrong. let past : 0x10000001c ≤ 88 = wrong.3 in omega arith), refl)))))))))));
+  strings_in_header = InHeader (inr (lit≤ tt, inr (lit≤ tt, inr (refl, inr (lit≤ tt, inr (lit≤ tt, inr (lit≤ tt, inr (lit≤ tt, inr (lit≤ tt, inr ((lit≤ tt, refl, lit≤ tt), inr ((lit≤ tt, refl, lit≤ tt, lit≤ tt), inl ((λ wrong. let inside : 40 ≤ 39 = wrong.0 in omega arith), refl))))))))))));
+  strings_past_end = InHeader (inr (lit≤ tt, inr (lit≤ tt, inr (refl, inr (lit≤ tt, inr (lit≤ tt, inr (lit≤ tt, inr (lit≤ tt, inr (lit≤ tt, inr ((lit≤ tt, refl, lit≤ tt), inr ((lit≤ tt, refl, lit≤ tt, lit≤ tt), inl ((λ wrong. let past : 0xffffffff ≤ 88 = wrong.1 in omega arith), refl))))))))))));
+}
 
--- The smallest text with another byte at this offset.
-abbrev pub with_byte : ℕ → ℕ → List ℕ
-with_byte at byte = slice_set smallest_text at byte
-
--- No bytes.
-pub fault-empty : HeaderFault widest ([]) (record { cause = Truncated; offset = 0 })
-unfolding u32_at
-fault-empty = inr (lit≤ tt, inl ((λ (wrong : 4 ≤ 0). omega arith), refl))
-
--- Three bytes.
-pub fault-three_bytes : HeaderFault widest (take 3 smallest_text) (record { cause = Truncated; offset = 0 })
-unfolding u32_at
-fault-three_bytes = inr (lit≤ tt, inl ((λ (wrong : 4 ≤ 3). omega arith), refl))
-
--- Another first word.
-pub fault-other_word : HeaderFault widest (1 ∷ 2 ∷ 3 ∷ 4 ∷ []) (record { cause = BadMagic; offset = 0 })
-unfolding u32_at
-fault-other_word = inr (lit≤ tt, inr (lit≤ tt, inl ((λ (wrong : 0x01020304 ≡ 0xd00dfeed). omega arith), refl)))
-
--- A header without its last byte.
-pub fault-short_header : HeaderFault widest (take 39 smallest_text) (record { cause = Truncated; offset = 0 })
-unfolding u32_at
-fault-short_header = inr (lit≤ tt, inr (lit≤ tt, inr (refl, inl ((λ (wrong : 40 ≤ 39). omega arith), refl))))
-
--- Version 15.
-pub fault-version_15 : HeaderFault widest (with_byte 23 15) (record { cause = BadVersion; offset = 20 })
-unfolding u32_at
-fault-version_15 = inr (lit≤ tt, inr (lit≤ tt, inr (refl, inr (lit≤ tt, inl ((λ (wrong : 17 ≤ 15). omega arith), refl)))))
-
--- Version 16.
-pub fault-version_16 : HeaderFault widest (with_byte 23 16) (record { cause = BadVersion; offset = 20 })
-unfolding u32_at
-fault-version_16 = inr (lit≤ tt, inr (lit≤ tt, inr (refl, inr (lit≤ tt, inl ((λ (wrong : 17 ≤ 16). omega arith), refl)))))
-
--- Last compatible version 18.
-pub fault-compatible_18 : HeaderFault widest (with_byte 27 18) (record { cause = BadVersion; offset = 24 })
-unfolding u32_at
-fault-compatible_18 = inr (lit≤ tt, inr (lit≤ tt, inr (refl, inr (lit≤ tt, inr (lit≤ tt, inl ((λ (wrong : 18 ≤ 17). omega arith), refl))))))
-
--- A total size less than the header.
-pub fault-total_39 : HeaderFault widest (with_byte 7 39) (record { cause = BadTotalSize; offset = 4 })
-unfolding u32_at
-fault-total_39 = inr (lit≤ tt, inr (lit≤ tt, inr (refl, inr (lit≤ tt, inr (lit≤ tt, inr (lit≤ tt, inl ((λ (wrong : 40 ≤ 39). omega arith), refl)))))))
-
--- A total size past the file.
-pub fault-total_89 : HeaderFault widest (with_byte 7 89) (record { cause = Truncated; offset = 4 })
-unfolding u32_at
-fault-total_89 = inr (lit≤ tt, inr (lit≤ tt, inr (refl, inr (lit≤ tt, inr (lit≤ tt, inr (lit≤ tt, inr (lit≤ tt, inl ((λ (wrong : 89 ≤ 88). omega arith), refl))))))))
-
--- A reservation block that is not aligned.
-pub fault-reservations_84 : HeaderFault widest (with_byte 19 84) (record { cause = BadOffset; offset = 16 })
-unfolding u32_at
-fault-reservations_84 = inr (lit≤ tt, inr (lit≤ tt, inr (refl, inr (lit≤ tt, inr (lit≤ tt, inr (lit≤ tt, inr (lit≤ tt, inr (lit≤ tt, inl ((λ wrong. let unaligned : 4 ≡ 0 = wrong.1 in omega arith), refl)))))))))
-
--- A structure block far past the end.
-pub fault-structure_past_end : HeaderFault widest (slice_set (slice_set (slice_set (with_byte 8 0xff) 9 0xff) 10 0xff) 11 0xfc) (record { cause = BadOffset; offset = 8 })
-unfolding u32_at
-fault-structure_past_end = inr (lit≤ tt, inr (lit≤ tt, inr (refl, inr (lit≤ tt, inr (lit≤ tt, inr (lit≤ tt, inr (lit≤ tt, inr (lit≤ tt, inr ((lit≤ tt, refl, lit≤ tt), inl ((λ wrong. let past : 0x10000001c ≤ 88 = wrong.3 in omega arith), refl))))))))))
-
--- A strings block inside the header.
-pub fault-strings_39 : HeaderFault widest (with_byte 15 39) (record { cause = BadOffset; offset = 12 })
-unfolding u32_at
-fault-strings_39 = inr (lit≤ tt, inr (lit≤ tt, inr (refl, inr (lit≤ tt, inr (lit≤ tt, inr (lit≤ tt, inr (lit≤ tt, inr (lit≤ tt, inr ((lit≤ tt, refl, lit≤ tt), inr ((lit≤ tt, refl, lit≤ tt, lit≤ tt), inl ((λ wrong. let inside : 40 ≤ 39 = wrong.0 in omega arith), refl)))))))))))
-
--- A strings block far past the end.
-pub fault-strings_past_end : HeaderFault widest (slice_set (slice_set (slice_set (with_byte 12 0xff) 13 0xff) 14 0xff) 15 0xff) (record { cause = BadOffset; offset = 12 })
-unfolding u32_at
-fault-strings_past_end = inr (lit≤ tt, inr (lit≤ tt, inr (refl, inr (lit≤ tt, inr (lit≤ tt, inr (lit≤ tt, inr (lit≤ tt, inr (lit≤ tt, inr ((lit≤ tt, refl, lit≤ tt), inr ((lit≤ tt, refl, lit≤ tt, lit≤ tt), inl ((λ wrong. let past : 0xffffffff ≤ 88 = wrong.1 in omega arith), refl)))))))))))
-
--- A reservation block whose first pair reaches past the total size: its header is fine, and the pair is truncated.
-pub fine-reservations_80 : HeaderIsFine widest (with_byte 19 80)
-unfolding u32_at
-fine-reservations_80 = (lit≤ tt, (lit≤ tt, (refl, (lit≤ tt, (lit≤ tt, (lit≤ tt, (lit≤ tt, (lit≤ tt, ((lit≤ tt, refl, lit≤ tt), ((lit≤ tt, refl, lit≤ tt, lit≤ tt), ((lit≤ tt, lit≤ tt), tt)))))))))))
-
-pub fault-reservations_80 : BlobFault widest (with_byte 19 80) (record { cause = Truncated; offset = 80 })
-unfolding u32_at
-fault-reservations_80 = InReservations fine-reservations_80 (record {
-  index = 0;
-  before = λ earlier below. omega arith;
-  fits = lit≤ tt;
-  past = lit≤ tt;
-  is = refl;
-})
+-- In each reservation block, the pairs up to the one that reaches past its end.
+pub reservations_have_faults : ReservationsHaveFaults
+unfolding u32_at u64_at cell test
+reservations_have_faults = record {
+  past_end = InReservations (fine_by_test widest (with_cell smallest_text 16 80) refl) (record {
+    index = 0;
+    before = λ earlier below. omega arith;
+    fits = lit≤ tt;
+    past = lit< tt;
+    is = refl;
+  });
+  endless = InReservations (fine_by_test widest (with_cell smallest_text 44 1) refl) (record {
+    index = 3;
+    before = none;
+    fits = lit≤ tt;
+    past = lit< tt;
+    is = refl;
+  });
+} where
+  none : (earlier : ℕ) → earlier < 3 → ¬ (IsEndPair (with_cell smallest_text 44 1) (40 + 16 * earlier))
+  none zero below = λ is. let wrong : ◌≡◌ {A = ℕ} 1 0 = is.address in omega arith
+  none (suc zero) below = λ is. let wrong : ◌≡◌ {A = ℕ} 0x100000000 0 = is.address in omega arith
+  none (suc (suc zero)) below = λ is. let wrong : ◌≡◌ {A = ℕ} 0x6573000000000002 0 = is.address in omega arith
+  none (suc (suc (suc earlier))) below = absurd (omega arith)

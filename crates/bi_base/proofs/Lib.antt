@@ -1,5 +1,6 @@
 pub mod CellLaws
 pub mod TextFacts
+pub mod HeaderTests
 pub mod HeaderFacts
 pub mod StructureFacts
 pub mod CrcLaws

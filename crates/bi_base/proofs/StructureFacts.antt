@@ -1,19 +1,22 @@
-use Rattle.std.proofs.Common.{◌≡◌, ◌≢◌, ℕ, zero, suc, ◌+◌, ◌*◌, ◌≤◌, ◌<◌, Bool, true, List, [], ◌∷◌, replicate, refl, inl, inr, lit≤, lit<, arith}
-use Rattle.std.specs.Prelude.{flat_map, not, ◌==◌, ◌&&◌, nat_le, length, ◌%◌}
+use Rattle.std.proofs.Common.{◌≡◌, ◌≢◌, ℕ, ◌+◌, ◌*◌, ◌≤◌, ◌<◌, true, List, [], ◌∷◌, refl, inl, inr, lit≤, lit<, arith}
+use Rattle.std.specs.Prelude.{not, ◌==◌, codes}
 use Rattle.std.specs.List.{AllByRecursion, list_all}
-use Rattle.std.proofs.lemmas.Bool.{and_parts, not-true, eqb-true, eqb-false, leb-true, false≢true}
-use Rattle.bi_base.specs.declared.fault.Cause.TheVariants.{Truncated, BadToken, BadName, BadNameOffset, PropertyAfterChild, DuplicateProperty, DuplicateNode, TooDeep}
+use Rattle.std.proofs.lemmas.Bool.{and_parts, not-true, eqb-false, false≢true}
+use Rattle.bi_base.specs.declared.fault.Fault.{Fault}
 use Rattle.bi_base.specs.Cells.{cell, cell8, u32_at, u64_at}
 use Rattle.bi_base.specs.Limits.{Bounds}
-use Rattle.bi_base.specs.Tokens.{Token, BeginNode, EndNode, Prop, End}
+use Rattle.bi_base.specs.Tokens.{Token, BeginNode, EndNode, Prop, End, StandsAt}
 use Rattle.bi_base.specs.Tree.{IsChildName, IsPropertyName}
-use Rattle.bi_base.specs.Blob.{magic, totalsize, off_dt_struct, off_dt_strings, off_mem_rsvmap, version, last_comp_version, blob_magic, least_version, reader_version, header_length, structure_end, strings_end}
-use Rattle.bi_base.specs.BlobFaults.{HeaderCheck, IsWithinLimit, HasMagicCell, HasMagic, HasHeader, HasVersion, HasCompatibleVersion, TotalHoldsHeader, FileHoldsTotal, PlacesReservations, PlacesStructure, PlacesStrings, header_checks, HeaderPasses, HeaderIsFine, IsEndPair, BlobFault, InReservations, InStructure}
-use Rattle.bi_base.specs.Layout.{text_of, spelling}
-use Rattle.bi_base.proofs.TextFacts.{name_images, smallest_text}
-use Rattle.bi_base.proofs.HeaderFacts.{widest, with_byte}
+use Rattle.bi_base.specs.Stages.{BeforeRoot, Inside, Open}
+use Rattle.bi_base.specs.Blob.{TreeBlocks, tree_blocks, off_mem_rsvmap, totalsize}
+use Rattle.bi_base.specs.BlobFaults.{header_checks, Walked, place_after, opened, IsStructureFault, IsBlobFault, InStructure}
+use Rattle.bi_base.specs.Layout.{text_of}
+use Rattle.bi_base.specs.KnownTexts.{smallest_text}
+use Rattle.bi_base.specs.KnownFaults.{widest, with_cell, file_with_end_in_root, file_with_two_children, file_with_late_property, file_with_property, file_with_two_properties, TokensHaveFaults}
+use Rattle.bi_base.proofs.HeaderTests.{test, fine_by_test}
+use Rattle.bi_base.proofs.Blobs.Passing.{begin_passes, end_node_passes}
 
--- The faults of small files whose headers are fine.
+-- The faults of small files in their structure blocks.
 
 -- Bytes that a test tells from another byte are other bytes.
 other_bytes : (byte : ℕ) (name : List ℕ) → list_all (λ b. not (b == byte)) name ≡ true → AllByRecursion (λ b. b ≢ byte) name
@@ -23,291 +26,143 @@ other_bytes byte (b ∷ name) test =
     (eqb-false b byte (not-true (b == byte) both.0), other_bytes byte name both.1)
 
 -- `images` may name a child.
-images_is : IsChildName name_images
+images_is : IsChildName (codes "images")
 images_is = record {
-  some = λ (e : name_images ≡ []). absurd cc;
-  no_zero = other_bytes 0 name_images refl;
-  no_slash = other_bytes 47 name_images refl;
+  some = λ (e : codes "images" ≡ []). absurd cc;
+  no_zero = other_bytes 0 (codes "images") refl;
+  no_slash = other_bytes 47 (codes "images") refl;
 }
 
 -- `x` may name a property.
-x_is : IsPropertyName (0x78 ∷ [])
-x_is = record { some = λ (e : ◌≡◌ {A = List ℕ} (0x78 ∷ []) []). absurd cc; no_zero = other_bytes 0 (0x78 ∷ []) refl }
+x_is : IsPropertyName (codes "x")
+x_is = record { some = λ (e : codes "x" ≡ []). absurd cc; no_zero = other_bytes 0 (codes "x") refl }
 
--- Whether a check of a header passes.
-test : Bounds → List ℕ → HeaderCheck → Bool
-test bounds file IsWithinLimit = nat_le (length file) bounds.file
-test bounds file HasMagicCell = nat_le 4 (length file)
-test bounds file HasMagic = magic file == blob_magic
-test bounds file HasHeader = nat_le (header_length file) (length file)
-test bounds file HasVersion = nat_le least_version (version file)
-test bounds file HasCompatibleVersion = nat_le (last_comp_version file) reader_version
-test bounds file TotalHoldsHeader = nat_le (header_length file) (totalsize file)
-test bounds file FileHoldsTotal = nat_le (totalsize file) (length file)
-test bounds file PlacesReservations =
-    nat_le (header_length file) (off_mem_rsvmap file) && (off_mem_rsvmap file % 8 == 0 && nat_le (off_mem_rsvmap file) (totalsize file))
-test bounds file PlacesStructure =
-    nat_le (header_length file) (off_dt_struct file)
-    && (off_dt_struct file % 4 == 0 && (nat_le (off_dt_struct file) (structure_end file) && nat_le (structure_end file) (totalsize file)))
-test bounds file PlacesStrings = nat_le (header_length file) (off_dt_strings file) && nat_le (strings_end file) (totalsize file)
+-- A file whose header is tested to be fine, which has no memory reservations and whose structure block has a fault.
+in_structure : (bounds : Bounds) (file : List ℕ) (fault : Fault) → list_all (test bounds file) header_checks ≡ true → u64_at file (off_mem_rsvmap file + 16 * 0) ≡ 0 → u64_at file (off_mem_rsvmap file + 16 * 0 + 8) ≡ 0 → off_mem_rsvmap file + 16 * 0 + 16 ≤ totalsize file → IsStructureFault (tree_blocks file) bounds.depth fault → IsBlobFault bounds file fault
+in_structure bounds file fault fine address size within first =
+    InStructure (fine_by_test bounds file fine) 0
+    (record { before = λ index below. absurd (omega arith); end = record { address = address; size = size }; within = within })
+    first
 
-tested : (bounds : Bounds) (file : List ℕ) (check : HeaderCheck) → test bounds file check ≡ true → HeaderPasses bounds file check
-unfolding test
-tested bounds file IsWithinLimit e = leb-true _ _ e
-tested bounds file HasMagicCell e = leb-true _ _ e
-tested bounds file HasMagic e = eqb-true _ _ e
-tested bounds file HasHeader e = leb-true _ _ e
-tested bounds file HasVersion e = leb-true _ _ e
-tested bounds file HasCompatibleVersion e = leb-true _ _ e
-tested bounds file TotalHoldsHeader e = leb-true _ _ e
-tested bounds file FileHoldsTotal e = leb-true _ _ e
-tested bounds file PlacesReservations e =
-    let first = and_parts _ _ e in
-    let rest = and_parts _ _ first.1 in
-    (leb-true _ _ first.0, eqb-true _ _ rest.0, leb-true _ _ rest.1)
-tested bounds file PlacesStructure e =
-    let first = and_parts _ _ e in
-    let second = and_parts _ _ first.1 in
-    let rest = and_parts _ _ second.1 in
-    (leb-true _ _ first.0, eqb-true _ _ second.0, leb-true _ _ rest.0, leb-true _ _ rest.1)
-tested bounds file PlacesStrings e =
-    let parts = and_parts _ _ e in
-    (leb-true _ _ parts.0, leb-true _ _ parts.1)
+-- The tokens up to and with that of the root, the newest first.
+abbrev to_root : List Token
+to_root = BeginNode [] ∷ []
 
-all_tested : (bounds : Bounds) (file : List ℕ) (checks : List HeaderCheck) → list_all (test bounds file) checks ≡ true → AllByRecursion (HeaderPasses bounds file) checks
-all_tested bounds file [] e = tt
-all_tested bounds file (check ∷ checks) e =
-    let parts = and_parts (test bounds file check) (list_all (test bounds file) checks) e in
-    (tested bounds file check parts.0, all_tested bounds file checks parts.1)
+-- The tokens up to and with that of the child `images`.
+abbrev to_images : List Token
+to_images = BeginNode (codes "images") ∷ to_root
 
--- A header whose checks are tested to pass is fine.
-fine_by_test : (bounds : Bounds) (file : List ℕ) → list_all (test bounds file) header_checks ≡ true → HeaderIsFine bounds file
-fine_by_test bounds file e = all_tested bounds file header_checks e
+module _ (blocks : TreeBlocks) (depth_limit : ℕ) where
+  -- The root's token passes at the beginning of a structure block.
+  root_passes : 0 < depth_limit → StandsAt blocks.file blocks.begin (BeginNode []) → place_after blocks to_root ≤ blocks.end → Walked blocks depth_limit to_root
+  root_passes shallow stands within = (
+    record {
+      no_end = λ (e : BeginNode [] ≡ End). absurd cc;
+      stands = stands;
+      passes = begin_passes blocks depth_limit blocks.begin BeforeRoot [] stands within (refl, shallow, refl, tt);
+    },
+    tt,
+  )
 
--- A blob without reservations whose structure block is spelled by these tokens, with these strings.
-abbrev pub file_of : List Token → List ℕ → List ℕ
-file_of tokens strings = text_of 0 (replicate 16 0) (flat_map spelling tokens) strings
+  -- The token of `images` passes behind the root's.
+  images_passes : 1 < depth_limit → StandsAt blocks.file (place_after blocks to_root) (BeginNode (codes "images")) → place_after blocks to_images ≤ blocks.end → Walked blocks depth_limit to_root → Walked blocks depth_limit to_images
+  images_passes shallow stands within walked = (
+    record {
+      no_end = λ (e : BeginNode (codes "images") ≡ End). absurd cc;
+      stands = stands;
+      passes = begin_passes blocks depth_limit (place_after blocks to_root) (opened blocks.strings to_root) (codes "images") stands within
+          (refl, shallow, images_is, tt);
+    },
+    walked,
+  )
 
--- A number in the structure block that is no token.
-pub fault-unknown_token : BlobFault widest (with_byte 59 5) (record { cause = BadToken; offset = 56 })
+  -- FDT_END_NODE passes inside a node.
+  end_passes : (before : List Token) (innermost : Open) (outer : List Open) → opened blocks.strings before ≡ Inside innermost outer → StandsAt blocks.file (place_after blocks before) EndNode → place_after blocks (EndNode ∷ before) ≤ blocks.end → Walked blocks depth_limit before → Walked blocks depth_limit (EndNode ∷ before)
+  end_passes before innermost outer inside stands within walked = (
+    record {
+      no_end = λ (e : EndNode ≡ End). absurd cc;
+      stands = stands;
+      passes = end_node_passes blocks depth_limit (place_after blocks before) (opened blocks.strings before) stands within (rw inside refl);
+    },
+    walked,
+  )
+
+-- The tokens of a file with the child `images`, up to its FDT_END_NODE, pass where they stand.
+images_end : (blocks : TreeBlocks) → StandsAt blocks.file blocks.begin (BeginNode []) → StandsAt blocks.file (place_after blocks to_root) (BeginNode (codes "images")) → StandsAt blocks.file (place_after blocks to_images) EndNode → place_after blocks to_root ≤ blocks.end → place_after blocks to_images ≤ blocks.end → place_after blocks (EndNode ∷ to_images) ≤ blocks.end → Walked blocks 64 (EndNode ∷ to_images)
+images_end blocks root images end root_within images_within end_within =
+    end_passes blocks 64 to_images _ _ refl end end_within
+    (images_passes blocks 64 (lit< tt) images images_within (root_passes blocks 64 (lit< tt) root root_within))
+
+-- The tokens that stand before the one at fault, and its checks up to the one that fails.
+pub tokens_have_faults : TokensHaveFaults
 unfolding u32_at u64_at cell cell8 text_of test
-fault-unknown_token =
-    InStructure (fine_by_test widest (with_byte 59 5) refl) 0
-    (record { before = λ index below. absurd (omega arith); end = record { address = refl; size = refl }; within = lit≤ tt })
-    (record {
-      before = [];
-      walked = tt;
-      first = inr (lit≤ tt, inl (false≢true, refl));
-    })
-
--- A root with the name `x`.
-pub fault-named_root : BlobFault widest (with_byte 60 0x78) (record { cause = BadName; offset = 56 })
-unfolding u32_at u64_at cell cell8 text_of test
-fault-named_root =
-    InStructure (fine_by_test widest (with_byte 60 0x78) refl) 0
-    (record { before = λ index below. absurd (omega arith); end = record { address = refl; size = refl }; within = lit≤ tt })
-    (record {
-      before = [];
-      walked = tt;
-      first = inr (lit≤ tt, inr (refl, inr (lit< tt, inr (lit< tt, inl ((λ (e : ◌≡◌ {A = List ℕ} (0x78 ∷ []) []). absurd cc), refl)))));
-    })
-
--- A structure block that ends before FDT_END.
-pub fault-short_structure : BlobFault widest (with_byte 39 28) (record { cause = Truncated; offset = 84 })
-unfolding u32_at u64_at cell cell8 text_of test
-fault-short_structure =
-    InStructure (fine_by_test widest (with_byte 39 28) refl) 0
-    (record { before = λ index below. absurd (omega arith); end = record { address = refl; size = refl }; within = lit≤ tt })
-    (record {
-      before = EndNode ∷ EndNode ∷ BeginNode name_images ∷ BeginNode [] ∷ [];
-      walked = (
-        record {
-          no_end = λ (e : EndNode ≡ End). absurd cc;
-          stands = record { is_token = tt; stands = refl };
-          passes = (lit≤ tt, (refl, tt));
-        },
-        (
-          record {
-            no_end = λ (e : EndNode ≡ End). absurd cc;
-            stands = record { is_token = tt; stands = refl };
-            passes = (lit≤ tt, (refl, tt));
-          },
-          (
-            record {
-              no_end = λ (e : BeginNode name_images ≡ End). absurd cc;
-              stands = record { is_token = images_is.no_zero; stands = refl };
-              passes = (lit≤ tt, (refl, (lit< tt, (lit< tt, (images_is, (tt, tt))))));
-            },
-            (
-              record {
-                no_end = λ (e : BeginNode [] ≡ End). absurd cc;
-                stands = record { is_token = tt; stands = refl };
-                passes = (lit≤ tt, (refl, (lit< tt, (lit< tt, (refl, (tt, tt))))));
-              },
-              tt,
-            ),
-          ),
-        ),
-      );
-      first = inl ((λ (within : 88 ≤ 84). omega arith), refl);
-    })
-
--- A limit of one open node.
-pub fault-depth_1 : BlobFault (record { file = 0x7fffffff; depth = 1 }) smallest_text (record { cause = TooDeep; offset = 64 })
-unfolding u32_at u64_at cell cell8 text_of test
-fault-depth_1 =
-    InStructure (fine_by_test (record { file = 0x7fffffff; depth = 1 }) smallest_text refl) 0
-    (record { before = λ index below. absurd (omega arith); end = record { address = refl; size = refl }; within = lit≤ tt })
-    (record {
-      before = BeginNode [] ∷ [];
-      walked = (
-        record {
-          no_end = λ (e : BeginNode [] ≡ End). absurd cc;
-          stands = record { is_token = tt; stands = refl };
-          passes = (lit≤ tt, (refl, (lit< tt, (lit< tt, (refl, (tt, tt))))));
-        },
-        tt,
-      );
-      first = inr (lit≤ tt, inr (refl, inl ((λ (few : 1 < 1). omega arith), refl)));
-    })
-
--- Two properties of one name, which stands twice in the strings block.
-pub fault-duplicate_property : BlobFault widest (file_of (BeginNode [] ∷ Prop 0 [] ∷ Prop 2 [] ∷ EndNode ∷ End ∷ []) (0x78 ∷ 0 ∷ 0x78 ∷ 0 ∷ [])) (record { cause = DuplicateProperty; offset = 76 })
-unfolding u32_at u64_at cell cell8 text_of test
-fault-duplicate_property =
-    InStructure (fine_by_test widest (file_of (BeginNode [] ∷ Prop 0 [] ∷ Prop 2 [] ∷ EndNode ∷ End ∷ []) (0x78 ∷ 0 ∷ 0x78 ∷ 0 ∷ [])) refl) 0
-    (record { before = λ index below. absurd (omega arith); end = record { address = refl; size = refl }; within = lit≤ tt })
-    (record {
-      before = Prop 0 [] ∷ BeginNode [] ∷ [];
-      walked = (
-        record {
-          no_end = λ (e : Prop 0 [] ≡ End). absurd cc;
-          stands = record { is_token = (lit< tt, lit< tt); stands = refl };
-          passes = (lit≤ tt, (refl, (refl, (lit≤ tt, (lit< tt, (x_is, (tt, tt)))))));
-        },
-        (
-          record {
-            no_end = λ (e : BeginNode [] ≡ End). absurd cc;
-            stands = record { is_token = tt; stands = refl };
-            passes = (lit≤ tt, (refl, (lit< tt, (lit< tt, (refl, (tt, tt))))));
-          },
-          tt,
-        ),
-      );
-      first = inr (lit≤ tt, inr (refl, inr (refl, inr (lit≤ tt, inr (lit< tt, inr (x_is, inl ((λ is_new. is_new.0 refl), refl)))))));
-    })
-
--- Two children of one name.
-pub fault-duplicate_node : BlobFault widest (file_of (BeginNode [] ∷ BeginNode name_images ∷ EndNode ∷ BeginNode name_images ∷ EndNode ∷ EndNode ∷ End ∷ []) []) (record { cause = DuplicateNode; offset = 80 })
-unfolding u32_at u64_at cell cell8 text_of test
-fault-duplicate_node =
-    InStructure (fine_by_test widest (file_of (BeginNode [] ∷ BeginNode name_images ∷ EndNode ∷ BeginNode name_images ∷ EndNode ∷ EndNode ∷ End ∷ []) []) refl) 0
-    (record { before = λ index below. absurd (omega arith); end = record { address = refl; size = refl }; within = lit≤ tt })
-    (record {
-      before = EndNode ∷ BeginNode name_images ∷ BeginNode [] ∷ [];
-      walked = (
-        record {
-          no_end = λ (e : EndNode ≡ End). absurd cc;
-          stands = record { is_token = tt; stands = refl };
-          passes = (lit≤ tt, (refl, tt));
-        },
-        (
-          record {
-            no_end = λ (e : BeginNode name_images ≡ End). absurd cc;
-            stands = record { is_token = images_is.no_zero; stands = refl };
-            passes = (lit≤ tt, (refl, (lit< tt, (lit< tt, (images_is, (tt, tt))))));
-          },
-          (
-            record {
-              no_end = λ (e : BeginNode [] ≡ End). absurd cc;
-              stands = record { is_token = tt; stands = refl };
-              passes = (lit≤ tt, (refl, (lit< tt, (lit< tt, (refl, (tt, tt))))));
-            },
-            tt,
-          ),
-        ),
-      );
-      first = inr (lit≤ tt, inr (refl, inr (lit< tt, inr (lit< tt, inr (images_is, inl ((λ is_new. is_new.0 refl), refl))))));
-    })
-
--- A property behind a child.
-pub fault-property_after_child : BlobFault widest (file_of (BeginNode [] ∷ BeginNode name_images ∷ EndNode ∷ Prop 0 [] ∷ EndNode ∷ End ∷ []) (0x78 ∷ 0 ∷ [])) (record { cause = PropertyAfterChild; offset = 80 })
-unfolding u32_at u64_at cell cell8 text_of test
-fault-property_after_child =
-    InStructure (fine_by_test widest (file_of (BeginNode [] ∷ BeginNode name_images ∷ EndNode ∷ Prop 0 [] ∷ EndNode ∷ End ∷ []) (0x78 ∷ 0 ∷ [])) refl) 0
-    (record { before = λ index below. absurd (omega arith); end = record { address = refl; size = refl }; within = lit≤ tt })
-    (record {
-      before = EndNode ∷ BeginNode name_images ∷ BeginNode [] ∷ [];
-      walked = (
-        record {
-          no_end = λ (e : EndNode ≡ End). absurd cc;
-          stands = record { is_token = tt; stands = refl };
-          passes = (lit≤ tt, (refl, tt));
-        },
-        (
-          record {
-            no_end = λ (e : BeginNode name_images ≡ End). absurd cc;
-            stands = record { is_token = images_is.no_zero; stands = refl };
-            passes = (lit≤ tt, (refl, (lit< tt, (lit< tt, (images_is, (tt, tt))))));
-          },
-          (
-            record {
-              no_end = λ (e : BeginNode [] ≡ End). absurd cc;
-              stands = record { is_token = tt; stands = refl };
-              passes = (lit≤ tt, (refl, (lit< tt, (lit< tt, (refl, (tt, tt))))));
-            },
-            tt,
-          ),
-        ),
-      );
-      first = inr (lit≤ tt, inr (refl, inl ((λ (childless : ◌≡◌ {A = List (List ℕ)} (name_images ∷ []) []). absurd cc), refl)));
-    })
-
--- FDT_END in the root.
-pub fault-end_in_root : BlobFault widest (file_of (BeginNode [] ∷ End ∷ []) []) (record { cause = BadToken; offset = 64 })
-unfolding u32_at u64_at cell cell8 text_of test
-fault-end_in_root =
-    InStructure (fine_by_test widest (file_of (BeginNode [] ∷ End ∷ []) []) refl) 0
-    (record { before = λ index below. absurd (omega arith); end = record { address = refl; size = refl }; within = lit≤ tt })
-    (record {
-      before = BeginNode [] ∷ [];
-      walked = (
-        record {
-          no_end = λ (e : BeginNode [] ≡ End). absurd cc;
-          stands = record { is_token = tt; stands = refl };
-          passes = (lit≤ tt, (refl, (lit< tt, (lit< tt, (refl, (tt, tt))))));
-        },
-        tt,
-      );
-      first = inr (lit≤ tt, inl (false≢true, refl));
-    })
-
--- A name offset behind the strings block.
-pub fault-no_property_name : BlobFault widest (file_of (BeginNode [] ∷ Prop 2 [] ∷ EndNode ∷ End ∷ []) (0x78 ∷ 0 ∷ [])) (record { cause = BadNameOffset; offset = 64 })
-unfolding u32_at u64_at cell cell8 text_of test
-fault-no_property_name =
-    InStructure (fine_by_test widest (file_of (BeginNode [] ∷ Prop 2 [] ∷ EndNode ∷ End ∷ []) (0x78 ∷ 0 ∷ [])) refl) 0
-    (record { before = λ index below. absurd (omega arith); end = record { address = refl; size = refl }; within = lit≤ tt })
-    (record {
-      before = BeginNode [] ∷ [];
-      walked = (
-        record {
-          no_end = λ (e : BeginNode [] ≡ End). absurd cc;
-          stands = record { is_token = tt; stands = refl };
-          passes = (lit≤ tt, (refl, (lit< tt, (lit< tt, (refl, (tt, tt))))));
-        },
-        tt,
-      );
-      first = inr (lit≤ tt, inr (refl, inr (refl, inr (lit≤ tt, inl ((λ (ends : 2 < 2). omega arith), refl)))));
-    })
-
--- A reservation block whose first pair is not two zeros, and that has no end.
-pub fault-endless_reservations : BlobFault widest (with_byte 47 1) (record { cause = Truncated; offset = 88 })
-unfolding u32_at u64_at test
-fault-endless_reservations =
-    InReservations (fine_by_test widest (with_byte 47 1) refl) (record { index = 3; before = none; fits = lit≤ tt; past = lit< tt; is = refl }) where
-      none : (earlier : ℕ) → earlier < 3 → ¬ (IsEndPair (with_byte 47 1) (40 + 16 * earlier))
-      none zero below = λ is. let wrong : ◌≡◌ {A = ℕ} 1 0 = is.address in omega arith
-      none (suc zero) below = λ is. let wrong : ◌≡◌ {A = ℕ} 0x100000000 0 = is.address in omega arith
-      none (suc (suc zero)) below = λ is. let wrong : ◌≡◌ {A = ℕ} 0x6573000000000002 0 = is.address in omega arith
-      none (suc (suc (suc earlier))) below = absurd (omega arith)
+tokens_have_faults = record {
+  no_number = in_structure widest (with_cell smallest_text 36 28) _ refl refl refl (lit≤ tt) (record {
+    before = EndNode ∷ EndNode ∷ to_images;
+    walked = end_passes (tree_blocks (with_cell smallest_text 36 28)) 64 (EndNode ∷ to_images) _ _ refl (record { is_token = tt; stands = refl }) (lit≤ tt)
+        (images_end (tree_blocks (with_cell smallest_text 36 28)) (record { is_token = tt; stands = refl }) (record { is_token = images_is.no_zero; stands = refl }) (record { is_token = tt; stands = refl }) (lit≤ tt) (lit≤ tt) (lit≤ tt));
+    first = inl ((λ (within : 88 ≤ 84). omega arith), refl);
+  });
+  unknown_number = in_structure widest (with_cell smallest_text 56 5) _ refl refl refl (lit≤ tt) (record {
+    before = [];
+    walked = tt;
+    first = inr (lit≤ tt, inl (false≢true, refl));
+  });
+  end_in_root = in_structure widest file_with_end_in_root _ refl refl refl (lit≤ tt) (record {
+    before = to_root;
+    walked = root_passes (tree_blocks file_with_end_in_root) 64 (lit< tt) (record { is_token = tt; stands = refl }) (lit≤ tt);
+    first = inr (lit≤ tt, inl (false≢true, refl));
+  });
+  too_deep = in_structure (record { file = 0x7fffffff; depth = 1 }) smallest_text _ refl refl refl (lit≤ tt) (record {
+    before = to_root;
+    walked = root_passes (tree_blocks smallest_text) 1 (lit< tt) (record { is_token = tt; stands = refl }) (lit≤ tt);
+    first = inr (lit≤ tt, inr (refl, inl ((λ (few : 1 < 1). omega arith), refl)));
+  });
+  endless_node_name = in_structure widest (with_cell smallest_text 36 18) _ refl refl refl (lit≤ tt) (record {
+    before = to_root;
+    walked = root_passes (tree_blocks (with_cell smallest_text 36 18)) 64 (lit< tt) (record { is_token = tt; stands = refl }) (lit≤ tt);
+    first = inr (lit≤ tt, inr (refl, inr (lit< tt, inl ((λ (ends : 74 < 74). omega arith), refl))));
+  });
+  named_root = in_structure widest (with_cell smallest_text 60 0x78000000) _ refl refl refl (lit≤ tt) (record {
+    before = [];
+    walked = tt;
+    first = inr (lit≤ tt, inr (refl, inr (lit< tt, inr (lit< tt, inl ((λ (e : codes "x" ≡ []). absurd cc), refl)))));
+  });
+  second_child_of_name = in_structure widest file_with_two_children _ refl refl refl (lit≤ tt) (record {
+    before = EndNode ∷ to_images;
+    walked = images_end (tree_blocks file_with_two_children) (record { is_token = tt; stands = refl }) (record { is_token = images_is.no_zero; stands = refl }) (record { is_token = tt; stands = refl }) (lit≤ tt) (lit≤ tt) (lit≤ tt);
+    first = inr (lit≤ tt, inr (refl, inr (lit< tt, inr (lit< tt, inr (images_is, inl ((λ is_new. is_new.0 refl), refl))))));
+  });
+  behind_child = in_structure widest file_with_late_property _ refl refl refl (lit≤ tt) (record {
+    before = EndNode ∷ to_images;
+    walked = images_end (tree_blocks file_with_late_property) (record { is_token = tt; stands = refl }) (record { is_token = images_is.no_zero; stands = refl }) (record { is_token = tt; stands = refl }) (lit≤ tt) (lit≤ tt) (lit≤ tt);
+    first = inr (lit≤ tt, inr (refl, inl ((λ (childless : ◌≡◌ {A = List (List ℕ)} (codes "images" ∷ []) []). absurd cc), refl)));
+  });
+  value_past_end = in_structure widest (with_cell (file_with_property 0) 68 9) _ refl refl refl (lit≤ tt) (record {
+    before = to_root;
+    walked = root_passes (tree_blocks (with_cell (file_with_property 0) 68 9)) 64 (lit< tt) (record { is_token = tt; stands = refl }) (lit≤ tt);
+    first = inr (lit≤ tt, inr (refl, inr (refl, inl ((λ (within : 85 ≤ 84). omega arith), refl))));
+  });
+  no_property_name = in_structure widest (file_with_property 2) _ refl refl refl (lit≤ tt) (record {
+    before = to_root;
+    walked = root_passes (tree_blocks (file_with_property 2)) 64 (lit< tt) (record { is_token = tt; stands = refl }) (lit≤ tt);
+    first = inr (lit≤ tt, inr (refl, inr (refl, inr (lit≤ tt, inl ((λ (ends : 2 < 2). omega arith), refl)))));
+  });
+  empty_property_name = in_structure widest (file_with_property 1) _ refl refl refl (lit≤ tt) (record {
+    before = to_root;
+    walked = root_passes (tree_blocks (file_with_property 1)) 64 (lit< tt) (record { is_token = tt; stands = refl }) (lit≤ tt);
+    first = inr (lit≤ tt, inr (refl, inr (refl, inr (lit≤ tt, inr (lit< tt, inl ((λ is. is.some refl), refl))))));
+  });
+  second_property_of_name = in_structure widest file_with_two_properties _ refl refl refl (lit≤ tt) (record {
+    before = Prop 0 [] ∷ to_root;
+    walked = (
+      record {
+        no_end = λ (e : Prop 0 [] ≡ End). absurd cc;
+        stands = record { is_token = (lit< tt, lit< tt); stands = refl };
+        passes = (lit≤ tt, (refl, (refl, (lit≤ tt, (lit< tt, (x_is, (tt, tt)))))));
+      },
+      root_passes (tree_blocks file_with_two_properties) 64 (lit< tt) (record { is_token = tt; stands = refl }) (lit≤ tt),
+    );
+    first = inr (lit≤ tt, inr (refl, inr (refl, inr (lit≤ tt, inr (lit< tt, inr (x_is, inl ((λ is_new. is_new.0 refl), refl)))))));
+  });
+}

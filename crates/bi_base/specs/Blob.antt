@@ -109,20 +109,20 @@ pub record IsReservation (reservation : Reservation) : Type 0 where
 abbrev pub reserved_block : List Reservation → List ℕ
 reserved_block reservations = flat_map pair_bytes reservations ++ pair_bytes end_pair
 
--- These bytes begin with the reservation block that has these reservations.
+-- These bytes begin with the reservation block that has these reservations (5.3).
 pub record Reserved (bytes : List ℕ) (reservations : List Reservation) : Type 0 where
   pub are_reservations : AllByRecursion IsReservation reservations
   pub behind : List ℕ
   pub stands : bytes ≡ reserved_block reservations ++ behind
 
--- Where a file has its tree: the structure block from `begin` on and before `end`, and the strings block.
+-- Where a file has its tree: the structure block from `begin` on and before `end`, and the strings block (5.4, 5.5).
 pub record TreeBlocks : Type 0 where
   pub file : List ℕ
   pub begin : ℕ
   pub end : ℕ
   pub strings : List ℕ
 
--- Where a blob has its tree.
+-- Where a blob has its tree (5.2).
 abbrev pub tree_blocks : List ℕ → TreeBlocks
 tree_blocks file = record {
   file = file;
@@ -130,6 +130,11 @@ tree_blocks file = record {
   end = structure_end file;
   strings = slice file (off_dt_strings file) (size_dt_strings file);
 }
+
+-- The file is bytes, and has all of its structure block (5.4).
+pub record IsReadable (blocks : TreeBlocks) : Type 0 where
+  pub bytes : AreBytes blocks.file
+  pub within : blocks.end ≤ length blocks.file
 
 -- The structure block holds this tree: it begins with tokens that say the tree, and FDT_END behind them (5.4.2; that bytes
 -- may stand behind FDT_END is profile of this project).
@@ -144,7 +149,7 @@ pub record HoldsTree (blocks : TreeBlocks) (root : Root Located) : Type 0 where
 
 -- This file begins with a blob that has this boot processor, these memory reservations and this tree (chapter 5; that a
 -- file may be longer than its blob is profile of this project).
-pub record Blob (file : List ℕ) (cpu : ℕ) (reservations : List Reservation) (root : Root Located) : Type 0 where
+pub record IsBlob (file : List ℕ) (cpu : ℕ) (reservations : List Reservation) (root : Root Located) : Type 0 where
   pub bytes : AreBytes file
   pub header : Header file
   pub is_cpu : boot_cpuid_phys file ≡ cpu
@@ -156,10 +161,10 @@ pub record IsWithin (bounds : Bounds) (file : List ℕ) (root : Root Located) : 
   pub short : length file ≤ bounds.file
   pub shallow : depth_of root ≤ bounds.depth
 
--- The file is a blob within the limits.
+-- The file is a blob within the limits (profile of this project).
 pub record IsBlobWithin (bounds : Bounds) (file : List ℕ) : Type 0 where
   pub cpu : ℕ
   pub reservations : List Reservation
   pub root : Root Located
-  pub blob : Blob file cpu reservations root
+  pub blob : IsBlob file cpu reservations root
   pub within : IsWithin bounds file root

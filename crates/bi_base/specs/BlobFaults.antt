@@ -29,7 +29,7 @@ pub data HeaderCheck : Type 0 where
   PlacesStructure : HeaderCheck
   PlacesStrings : HeaderCheck
 
--- The order in which they are made.
+-- The order in which they are made (profile of this project).
 abbrev pub header_checks : List HeaderCheck
 header_checks =
     IsWithinLimit ∷ HasMagicCell ∷ HasMagic ∷ HasHeader ∷ HasVersion ∷ HasCompatibleVersion ∷ TotalHoldsHeader
@@ -68,19 +68,19 @@ header_fault bounds PlacesStructure = record { cause = BadOffset; offset = 8 }
 header_fault bounds PlacesStrings = record { cause = BadOffset; offset = 12 }
 
 -- Each check of the header passes.
-abbrev pub HeaderIsFine : Bounds → List ℕ → Type 0
-HeaderIsFine bounds file = HasNoFault (HeaderPasses bounds file) header_checks
+abbrev pub HasNoHeaderFault : Bounds → List ℕ → Type 0
+HasNoHeaderFault bounds file = HasNoFault (HeaderPasses bounds file) header_checks
 
 -- The first check of the header that fails gives this fault.
-abbrev pub HeaderFault : Bounds → List ℕ → Fault → Type 0
-HeaderFault bounds file fault = IsFirstFault (HeaderPasses bounds file) (header_fault bounds) header_checks fault
+abbrev pub IsHeaderFault : Bounds → List ℕ → Fault → Type 0
+IsHeaderFault bounds file fault = IsFirstFault (HeaderPasses bounds file) (header_fault bounds) header_checks fault
 
 -- The pair of two zeros that ends the reservation block stands at this offset (5.3.2).
 pub record IsEndPair (file : List ℕ) (at : ℕ) : Type 0 where
   pub address : u64_at file at ≡ 0
   pub size : u64_at file (at + 8) ≡ 0
 
--- The reservation block at this offset has this many reservations, and its end pair ends at `total` or before.
+-- The reservation block at this offset has this many reservations, and its end pair ends at `total` or before (5.3).
 pub record HasReservations (file : List ℕ) (at total count : ℕ) : Type 0 where
   pub before : (index : ℕ) → index < count → ¬ (IsEndPair file (at + 16 * index))
   pub end : IsEndPair file (at + 16 * count)
@@ -96,7 +96,7 @@ pub record ReservationsFault (file : List ℕ) (at total : ℕ) (fault : Fault) 
 
 -- The checks of one token (5.4.1, 5.4.2).
 pub data TokenCheck : Type 0 where
-  HasWord : TokenCheck
+  HasTokenNumber : TokenCheck
   MayStand : TokenCheck
   IsWithinDepth : TokenCheck
   HasNodeName : TokenCheck
@@ -108,19 +108,19 @@ pub data TokenCheck : Type 0 where
   MayNameProperty : TokenCheck
   IsNewProperty : TokenCheck
 
--- The order in which the checks of FDT_BEGIN_NODE alone are made.
+-- The order in which the checks of FDT_BEGIN_NODE alone are made (profile of this project).
 abbrev pub begin_checks : List TokenCheck
 begin_checks = IsWithinDepth ∷ HasNodeName ∷ MayNameNode ∷ IsNewNode ∷ []
 
--- The order in which the checks of FDT_PROP alone are made.
+-- The order in which the checks of FDT_PROP alone are made (profile of this project).
 abbrev pub property_checks : List TokenCheck
 property_checks = IsBeforeChildren ∷ HasValue ∷ HasPropertyName ∷ MayNameProperty ∷ IsNewProperty ∷ []
 
--- The checks of the token of this number, in order. Where the block has no whole number at an offset, `HasWord` fails, whatever
--- is read there.
+-- The checks of the token of this number, in order. Where the block has no whole number at an offset, `HasTokenNumber`
+-- fails, whatever is read there (5.4.1).
 abbrev pub token_checks : ℕ → List TokenCheck
 token_checks number =
-    HasWord ∷ MayStand
+    HasTokenNumber ∷ MayStand
     ∷ (if number == begin_node_number then begin_checks
     else if number == prop_number then property_checks
     else [])
@@ -131,14 +131,14 @@ MayBeNamed BeforeRoot name = name ≡ []
 MayBeNamed (Inside innermost outer) name = IsChildName name
 MayBeNamed AfterRoot name = ⊥
 
--- These bytes have a zero byte from offset `at` on and before `end`, and so a name.
+-- These bytes have a zero byte from offset `at` on and before `end`, and so a name (5.4.1, 5.5).
 abbrev pub HasName : List ℕ → ℕ → ℕ → Type 0
 HasName bytes at end = at + length (name_from bytes at) < end
 
 -- What each of them asks of the token at offset `place` of the file, at this stage. A node's name stands behind the token's
 -- number; a property's number is followed by the length of its value, the offset of its name, and its value.
 abbrev pub TokenPasses : TreeBlocks → (depth_limit place : ℕ) → Stage → TokenCheck → Type 0
-TokenPasses blocks depth_limit place stage HasWord = place + 4 ≤ blocks.end
+TokenPasses blocks depth_limit place stage HasTokenNumber = place + 4 ≤ blocks.end
 TokenPasses blocks depth_limit place stage MayStand = IsTrue (may_stand stage (u32_at blocks.file place))
 TokenPasses blocks depth_limit place stage IsWithinDepth = length (open_nodes stage) < depth_limit
 TokenPasses blocks depth_limit place stage HasNodeName = HasName blocks.file (place + 4) blocks.end
@@ -155,7 +155,7 @@ TokenPasses blocks depth_limit place stage IsNewProperty =
 
 -- The cause that each of them gives.
 abbrev pub token_cause : TokenCheck → Cause
-token_cause HasWord = Truncated
+token_cause HasTokenNumber = Truncated
 token_cause MayStand = BadToken
 token_cause IsWithinDepth = TooDeep
 token_cause HasNodeName = Truncated
@@ -201,7 +201,7 @@ Walked blocks depth_limit [] = Unit {0}
 Walked blocks depth_limit (token ∷ before) = IsPassed blocks depth_limit before token × Walked blocks depth_limit before
 
 -- Some tokens of the structure block pass, and of the checks of the token after them the first that fails gives this fault.
-pub record StructureFault (blocks : TreeBlocks) (depth_limit : ℕ) (fault : Fault) : Type 0 where
+pub record IsStructureFault (blocks : TreeBlocks) (depth_limit : ℕ) (fault : Fault) : Type 0 where
   pub before : List Token
   pub walked : Walked blocks depth_limit before
   pub first : IsFirstFault
@@ -211,11 +211,11 @@ pub record StructureFault (blocks : TreeBlocks) (depth_limit : ℕ) (fault : Fau
       fault
 
 -- The fault of a file as a blob within limits.
-pub data BlobFault (bounds : Bounds) (file : List ℕ) (fault : Fault) : Type 0 where
-  InHeader : HeaderFault bounds file fault → BlobFault bounds file fault
-  InReservations : HeaderIsFine bounds file → ReservationsFault file (off_mem_rsvmap file) (totalsize file) fault
-      → BlobFault bounds file fault
-  InStructure : HeaderIsFine bounds file
+pub data IsBlobFault (bounds : Bounds) (file : List ℕ) (fault : Fault) : Type 0 where
+  InHeader : IsHeaderFault bounds file fault → IsBlobFault bounds file fault
+  InReservations : HasNoHeaderFault bounds file → ReservationsFault file (off_mem_rsvmap file) (totalsize file) fault
+      → IsBlobFault bounds file fault
+  InStructure : HasNoHeaderFault bounds file
       → (count : ℕ) → HasReservations file (off_mem_rsvmap file) (totalsize file) count
-      → StructureFault (tree_blocks file) bounds.depth fault
-      → BlobFault bounds file fault
+      → IsStructureFault (tree_blocks file) bounds.depth fault
+      → IsBlobFault bounds file fault

@@ -9,7 +9,7 @@ cell n = to_be_bytes w32 n
 unfoldable pub cell8 : ℕ → List ℕ
 cell8 n = to_be_bytes w64 n
 
--- The `n` bytes of a file from offset `at`, used only where the file has them all.
+-- The `n` bytes of a file from offset `at`, or as many of them as it has.
 abbrev pub slice : List ℕ → ℕ → ℕ → List ℕ
 slice file at n = take n (drop at file)
 

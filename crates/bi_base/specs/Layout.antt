@@ -19,13 +19,13 @@ names_in (Has property) = property.0 ∷ []
 names_in mark = []
 
 -- The names of properties in the order of their use.
-abbrev pub used : List Mark → List (List ℕ)
-used marks = flat_map names_in marks
+abbrev pub used_names : List Mark → List (List ℕ)
+used_names marks = flat_map names_in marks
 
 -- Each of these names once, where it stands first.
-abbrev pub firsts : List (List ℕ) → List (List ℕ)
-firsts [] = []
-firsts (name ∷ later) = name ∷ filter (λ other. not (bytes_eq name other)) (firsts later)
+abbrev pub distinct_names : List (List ℕ) → List (List ℕ)
+distinct_names [] = []
+distinct_names (name ∷ later) = name ∷ filter (λ other. not (bytes_eq name other)) (distinct_names later)
 
 -- These names one behind the other, a zero byte after each (Devicetree Specification, 5.5).
 abbrev pub strings_of : List (List ℕ) → List ℕ
@@ -52,7 +52,7 @@ token_of names Closes = EndNode
 
 -- The tokens of these marks, but for FDT_END.
 abbrev pub tokens_of : List Mark → List Token
-tokens_of marks = map (token_of (firsts (used marks))) marks
+tokens_of marks = map (token_of (distinct_names (used_names marks))) marks
 
 -- The structure block of these marks (5.4).
 abbrev pub structure_block : List Mark → List ℕ
@@ -60,7 +60,7 @@ structure_block marks = flat_map spelling (tokens_of marks ++ End ∷ [])
 
 -- The strings block of these marks (5.5).
 abbrev pub strings_block : List Mark → List ℕ
-strings_block marks = strings_of (firsts (used marks))
+strings_block marks = strings_of (distinct_names (used_names marks))
 
 -- The length of a text before it is filled up, with blocks of these lengths behind a header of 40 bytes.
 abbrev pub unfilled : (reserved structure strings : ℕ) → ℕ

@@ -17,5 +17,6 @@ pub mod Blob
 pub mod BlobFaults
 pub mod Layout
 pub mod BlobLaws
-pub mod OpenNodes
 pub mod TextLaws
+pub mod KnownTexts
+pub mod KnownFaults

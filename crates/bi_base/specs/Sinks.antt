@@ -1,8 +1,8 @@
 use Rattle.std.specs.Prelude.{ℕ, ◌≤◌, ◌++◌, List, [], length, take, Result, MatchResult}
 use Rattle.bi_base.specs.declared.fault.Error.{Error}
 
--- What a sink is: something to which bytes are appended. A sink's `appends` relates the sink before, a list of
--- bytes, and the sink after; its `names` are the errors that it may answer.
+-- What a sink is: something to which bytes are appended. A sink's `appends` relates the sink before, a list of bytes, and
+-- the sink after; its `names` are the errors that it may answer (profile of this project).
 
 -- Some first part of these bytes was appended.
 abbrev pub AppendsPrefix : {S : Type 0} → (S → List ℕ → S → Type 0) → S → List ℕ → S → Type 0

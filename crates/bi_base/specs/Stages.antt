@@ -1,4 +1,4 @@
-use Rattle.std.specs.Prelude.{ℕ, List, [], ◌∷◌, ◌++◌, Bool, ◌||◌, ◌==◌, fold}
+use Rattle.std.specs.Prelude.{ℕ, List, [], ◌∷◌, ◌++◌, Bool, ◌||◌, ◌==◌}
 use Rattle.bi_base.specs.Tokens.{begin_node_number, end_node_number, prop_number, nop_number, end_number}
 use Rattle.bi_base.specs.Marks.{Mark, Opens, Has, Closes}
 
@@ -36,10 +36,6 @@ after (Inside innermost outer) (Has property) = Inside (with_property innermost 
 after (Inside innermost (parent ∷ outer)) Closes = Inside parent outer
 after (Inside innermost []) Closes = AfterRoot
 after stage mark = stage
-
--- The stage after these marks.
-abbrev pub stage_after : List Mark → Stage
-stage_after marks = fold after BeforeRoot marks
 
 -- The open nodes, the innermost first.
 abbrev pub open_nodes : Stage → List Open

@@ -5,17 +5,17 @@ use Rattle.bi_base.specs.Limits.{Bounds}
 use Rattle.bi_base.specs.Tokens.{End, Spelled, NameAt}
 use Rattle.bi_base.specs.Tree.{Root, Property, PropertyMap, Located, HasNoZero, AreDistinct, IsNormal, plain_tree, forget, depth_of}
 use Rattle.bi_base.specs.Marks.{Mark, Has, marks_of, placed_marks_of, Say}
-use Rattle.bi_base.specs.Blob.{Reservation, reserved_block, Blob, IsWithin, totalsize}
-use Rattle.bi_base.specs.BlobFaults.{BlobFault}
+use Rattle.bi_base.specs.Blob.{Reservation, reserved_block, IsBlob, IsWithin, totalsize}
+use Rattle.bi_base.specs.BlobFaults.{IsBlobFault}
 use Rattle.bi_base.specs.BlobLaws.{AreSame}
-use Rattle.bi_base.specs.Layout.{names_in, used, firsts, offset_in, tokens_of, structure_block, strings_block, tree_text, unfilled, structure_place, located_tree, in_order, IsContent, IsNormalText, longest_text}
+use Rattle.bi_base.specs.Layout.{names_in, used_names, distinct_names, offset_in, tokens_of, structure_block, strings_block, tree_text, unfilled, structure_place, located_tree, in_order, IsContent, IsNormalText, longest_text}
 
--- Laws of the text that a blob is laid out as. Each is the contract of a function in `text_laws`.
+-- Laws of the text that a blob is laid out as (profile of this project). Each is the contract of a function in `text_laws`.
 
 -- The strings block of these marks has the names that they use, each once.
 pub record HasNamesOnce (marks : List Mark) : Type 0 where
-  pub same : (name : List ℕ) → Contains (firsts (used marks)) name ↔ Contains (used marks) name
-  pub distinct : AreDistinct (firsts (used marks))
+  pub same : (name : List ℕ) → Contains (distinct_names (used_names marks)) name ↔ Contains (used_names marks) name
+  pub distinct : AreDistinct (distinct_names (used_names marks))
 
 -- Any marks have their names once in their strings block.
 abbrev pub EachNameIsThereOnce : Type 0
@@ -25,9 +25,9 @@ EachNameIsThereOnce = (marks : List Mark) → HasNamesOnce marks
 pub record GrowsByUse (marks : List Mark) : Type 0 where
   pub empty : strings_block [] ≡ []
   pub other : (mark : Mark) → names_in mark ≡ [] → strings_block (marks ++ mark ∷ []) ≡ strings_block marks
-  pub known : (property : Property) → Contains (used marks) property.0
+  pub known : (property : Property) → Contains (used_names marks) property.0
       → strings_block (marks ++ Has property ∷ []) ≡ strings_block marks
-  pub new : (property : Property) → ¬ (Contains (used marks) property.0)
+  pub new : (property : Property) → ¬ (Contains (used_names marks) property.0)
       → strings_block (marks ++ Has property ∷ []) ≡ strings_block marks ++ (property.0 ++ 0 ∷ [])
 
 -- A strings block has names in the order of their first use.
@@ -37,8 +37,8 @@ StringsGrowByUse = (marks : List Mark) → GrowsByUse marks
 -- Each name that marks use stands at its offset of their strings block.
 abbrev pub EachNameStands : Type 0
 EachNameStands =
-    (marks : List Mark) (name : List ℕ) → Contains (used marks) name → HasNoZero name
-    → NameAt (strings_block marks) (offset_in (firsts (used marks)) name) name
+    (marks : List Mark) (name : List ℕ) → Contains (used_names marks) name → HasNoZero name
+    → NameAt (strings_block marks) (offset_in (distinct_names (used_names marks)) name) name
 
 -- The structure block of a text spells tokens and FDT_END, and these say the tree over the strings block, at its places.
 pub record SaysTree (reservations : List Reservation) (root : Root (List Property)) : Type 0 where
@@ -54,11 +54,11 @@ TextSaysItsTree =
 -- This file is a blob of these and of nothing else. Its tree stands at the places of the layout and is as deep, and its
 -- total size is the length of the text.
 pub record IsBlobOf (file : List ℕ) (cpu : ℕ) (reservations : List Reservation) (root : Root (List Property)) : Type 0 where
-  pub blob : Blob file cpu reservations (located_tree reservations root)
+  pub blob : IsBlob file cpu reservations (located_tree reservations root)
   pub same_tree : plain_tree (located_tree reservations root) ≡ root
   pub same_depth : depth_of (located_tree reservations root) ≡ depth_of root
   pub only : (other_cpu : ℕ) (other_reservations : List Reservation) (other_root : Root Located)
-      → Blob file other_cpu other_reservations other_root
+      → IsBlob file other_cpu other_reservations other_root
       → AreSame cpu other_cpu reservations other_reservations (located_tree reservations root) other_root
   pub is_total : totalsize file ≡ length (tree_text cpu reservations root)
 
@@ -73,7 +73,7 @@ TextIsBlob =
 pub record IsAccepted (bounds : Bounds) (file : List ℕ) (cpu : ℕ) (reservations : List Reservation) (root : Root (List Property)) : Type 0 where
   pub is_blob : IsBlobOf file cpu reservations root
   pub is_within : IsWithin bounds file (located_tree reservations root)
-  pub no_fault : (fault : Fault) → ¬ (BlobFault bounds file fault)
+  pub no_fault : (fault : Fault) → ¬ (IsBlobFault bounds file fault)
 
 -- A text that is not too long, with any bytes behind it, is accepted under limits that hold all of it and its tree.
 abbrev pub TextIsAccepted : Type 0
@@ -106,7 +106,7 @@ EachTextHasItsLength = (cpu : ℕ) (reservations : List Reservation) (root : Roo
 -- What a file says as a blob is content: it can be written again.
 abbrev pub BlobHasContent : Type 0
 BlobHasContent =
-    (file : List ℕ) (cpu : ℕ) (reservations : List Reservation) (root : Root Located) → Blob file cpu reservations root
+    (file : List ℕ) (cpu : ℕ) (reservations : List Reservation) (root : Root Located) → IsBlob file cpu reservations root
     → IsContent cpu reservations (plain_tree root)
 
 -- Contents with one text, which is not too long, are the same: distinct ones have distinct texts.

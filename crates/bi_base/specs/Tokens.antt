@@ -13,7 +13,7 @@ pub data Token : Type 0 where
   Nop : Token
   End : Token
 
--- The number of each token: FDT_BEGIN_NODE, FDT_END_NODE, FDT_PROP, FDT_NOP and FDT_END.
+-- The number of each token (5.4.1): FDT_BEGIN_NODE, FDT_END_NODE, FDT_PROP, FDT_NOP and FDT_END.
 abbrev pub begin_node_number : ℕ
 begin_node_number = 1
 
@@ -71,6 +71,7 @@ pub record NameAt (strings : List ℕ) (offset : ℕ) (name : List ℕ) : Type 0
   pub behind : List ℕ
   pub stands : drop offset strings ≡ name ++ 0 ∷ behind
 
--- The bytes from this offset on and before the first zero byte, or all of them where none is zero.
+-- The bytes from this offset on and before the first zero byte, or all of them where none is zero: the name of a node
+-- (5.4.1) or of a property (5.5).
 abbrev pub name_from : List ℕ → ℕ → List ℕ
 name_from bytes offset = before_first (λ byte. byte == 0) (drop offset bytes)

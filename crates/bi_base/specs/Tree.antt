@@ -4,10 +4,10 @@ use Rattle.std.specs.Ordering.{nat_cmp}
 use Rattle.std.specs.Cmp.Lexicographic.{slice_cmp}
 use Rattle.std.specs.FinMap.{FinMap, from_entries, is_sorted}
 
--- The tree of a devicetree. `Own` is what a node has itself, beside its name and its children: a list of properties, a
--- finite map of them, or both the properties and the places of their tokens in a file.
+-- The tree of a devicetree (Devicetree Specification, 2.2). `Own` is what a node has itself, beside its name and its
+-- children: a list of properties, a finite map of them, or both the properties and the places of their tokens in a file.
 
--- A list of nodes: none, or a first node and the nodes after it (Devicetree Specification, 2.2).
+-- A list of nodes: none, or a first node and the nodes after it (2.2).
 pub data Nodes (Own : Type 0) : Type 0 where
   none : Nodes Own
   node : (name : List ℕ) → (own : Own) → (children : Nodes Own) → (later : Nodes Own) → Nodes Own
@@ -80,7 +80,7 @@ plain_tree root = with_each_node plain root
 abbrev pub forget : Root (List Property) → Root PropertyMap
 forget root = with_each_node from_entries root
 
--- No byte of this name is zero, so a zero byte ends it.
+-- No byte of this name is zero, so a zero byte ends it (5.4.1, 5.5).
 abbrev pub HasNoZero : List ℕ → Type 0
 HasNoZero name = AllByRecursion (λ byte. byte ≢ 0) name
 

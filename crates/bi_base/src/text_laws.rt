@@ -2,6 +2,7 @@
 //! of them ensures is the law.
 
 ghost use Rattle.bi_base.specs.TextLaws.{EachNameIsThereOnce, StringsGrowByUse, EachNameStands, TextSaysItsTree, EachTextHasItsLength, TextIsBlob, TextIsAccepted, NormalTextIsAccepted, BlobHasContent, TextHasOneContent, EachTreeHasOneOrder, ContentMayBeOrdered, NormalTextTellsContent};
+ghost use Rattle.bi_base.specs.KnownTexts.{HasSmallestText, IsLaidOut};
 
 /// The strings block of a text has each name that the marks use once, and no other name (profile of this project;
 /// Devicetree Specification, 5.5).
@@ -81,4 +82,15 @@ pub fn content_may_be_ordered()
 /// the same memory reservations and one tree, its nodes in order and its properties by name.
 pub fn normal_text_tells_content()
     ensures { NormalTextTellsContent }
+{}
+
+/// The normal text of the smallest tree, a root with one child `images`, is 88 known bytes.
+pub fn smallest_text()
+    ensures text { HasSmallestText }
+{}
+
+/// The normal text of a tree with two properties has blocks of known sizes at known offsets, and its names stand at known
+/// offsets of the strings block.
+pub fn text_with_properties()
+    ensures layout { IsLaidOut }
 {}

@@ -6,7 +6,7 @@ use Rattle.bi_base.specs.Tree.{Root, Located, depth_of}
 use Rattle.bi_base.specs.Stages.{AfterRoot}
 use Rattle.bi_base.specs.Blob.{TreeBlocks, HoldsTree}
 use Rattle.bi_base.specs.BlobFaults.{place_after}
-use Rattle.bi_base.specs.OpenNodes.{Grown, Standing}
+use Rattle.bi_base.proofs.Blobs.OpenNodes.{Grown, Standing}
 use Rattle.bi_base.proofs.Blobs.Tokens.{End-stands}
 use Rattle.bi_base.proofs.Blobs.Spelling.{behind_all, behind_all-append, AllStand}
 use Rattle.bi_base.proofs.Blobs.Walking.{width-End, behind_all-reverse, behind_all-past, Walked-stand-push, stand_Spelled}

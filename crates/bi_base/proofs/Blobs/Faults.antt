@@ -4,11 +4,11 @@ use Rattle.bi_base.specs.Cells.{AreBytes}
 use Rattle.bi_base.specs.Limits.{Bounds}
 use Rattle.bi_base.specs.Tokens.{Token}
 use Rattle.bi_base.specs.Blob.{Header, IsBlobWithin, tree_blocks, off_mem_rsvmap, totalsize, boot_cpuid_phys}
-use Rattle.bi_base.specs.BlobFaults.{HeaderPasses, header_checks, header_fault, HeaderIsFine, HeaderFault, HasReservations, StructureFault, BlobFault, InHeader, InReservations, InStructure}
+use Rattle.bi_base.specs.BlobFaults.{HeaderPasses, header_checks, header_fault, HasNoHeaderFault, IsHeaderFault, HasReservations, IsStructureFault, IsBlobFault, InHeader, InReservations, InStructure}
 use Rattle.bi_base.specs.BlobLaws.{BlobHasNoFault, OneFault, BlobOrFault, BlobWhereNoFault}
 use Rattle.bi_base.proofs.FirstFault.{one_fault, not_both, fault_or_none}
 use Rattle.bi_base.proofs.Blobs.Decided.{header_decided}
-use Rattle.bi_base.proofs.Blobs.Headers.{HeaderIsFine-Header, Header-HeaderIsFine, Header-IsReadable}
+use Rattle.bi_base.proofs.Blobs.Headers.{HasNoHeaderFault-Header, Header-HasNoHeaderFault, Header-IsReadable}
 use Rattle.bi_base.proofs.Blobs.ReservationFaults.{Found, reservations_or_fault, one_reservations_fault, no_reservations_with_fault, reservations_at, HasReservations-Reserved, Reserved-HasReservations}
 use Rattle.bi_base.proofs.Blobs.Whole.{HasTree, tree_or_fault}
 use Rattle.bi_base.proofs.Blobs.OneFault.{IsEnded, one_structure_fault, no_fault_in_ended}
@@ -18,7 +18,7 @@ use Rattle.bi_base.proofs.Blobs.Complete.{tree_ends}
 pub blob_has_no_fault : BlobHasNoFault
 blob_has_no_fault bounds file fault within (InHeader first) =
     not_both (HeaderPasses bounds file) (header_fault bounds) header_checks fault
-    (Header-HeaderIsFine bounds file within.within.short within.blob.header) first
+    (Header-HasNoHeaderFault bounds file within.within.short within.blob.header) first
 blob_has_no_fault bounds file fault within (InReservations fine faulty) =
     let header : Header file = within.blob.header in
     no_reservations_with_fault file (off_mem_rsvmap file) (totalsize file) (length within.reservations) fault
@@ -30,7 +30,7 @@ blob_has_no_fault bounds file fault within (InStructure fine count has faulty) =
     no_fault_in_ended (tree_blocks file) bounds.depth ends.0 fault ends.1 faulty
 
 -- A header has no fault where its checks pass.
-fine_or_faulty : (bounds : Bounds) (file : List ℕ) (fault : Fault) → HeaderIsFine bounds file → HeaderFault bounds file fault → ⊥
+fine_or_faulty : (bounds : Bounds) (file : List ℕ) (fault : Fault) → HasNoHeaderFault bounds file → IsHeaderFault bounds file fault → ⊥
 fine_or_faulty bounds file fault fine first = not_both (HeaderPasses bounds file) (header_fault bounds) header_checks fault fine first
 
 pub one_blob_fault : OneFault
@@ -49,9 +49,9 @@ one_blob_fault bounds file f g (InStructure fine count has one) (InStructure too
     one_structure_fault (tree_blocks file) bounds.depth f g one other
 
 -- A file with a good header, reservations and a tree is a blob within the limits.
-pub blob_of_parts : (bounds : Bounds) (file : List ℕ) (count : ℕ) → AreBytes file → HeaderIsFine bounds file → HasReservations file (off_mem_rsvmap file) (totalsize file) count → HasTree (tree_blocks file) bounds.depth → IsBlobWithin bounds file
+pub blob_of_parts : (bounds : Bounds) (file : List ℕ) (count : ℕ) → AreBytes file → HasNoHeaderFault bounds file → HasReservations file (off_mem_rsvmap file) (totalsize file) count → HasTree (tree_blocks file) bounds.depth → IsBlobWithin bounds file
 blob_of_parts bounds file count bytes fine has tree =
-    let header : Header file = HeaderIsFine-Header bounds file fine in
+    let header : Header file = HasNoHeaderFault-Header bounds file fine in
     record {
       cpu = boot_cpuid_phys file;
       reservations = reservations_at file (off_mem_rsvmap file) count;
@@ -70,22 +70,22 @@ pub blob_or_fault : BlobOrFault
 blob_or_fault bounds file bytes =
     by_header (fault_or_none (HeaderPasses bounds file) (header_fault bounds) (header_decided bounds file) header_checks) where
       Outcome : Type 0
-      Outcome = IsBlobWithin bounds file ⊎ ((fault : Fault) × BlobFault bounds file fault)
+      Outcome = IsBlobWithin bounds file ⊎ ((fault : Fault) × IsBlobFault bounds file fault)
 
-      by_tree : HeaderIsFine bounds file → (count : ℕ) → HasReservations file (off_mem_rsvmap file) (totalsize file) count
-          → HasTree (tree_blocks file) bounds.depth ⊎ ((fault : Fault) × StructureFault (tree_blocks file) bounds.depth fault) → Outcome
+      by_tree : HasNoHeaderFault bounds file → (count : ℕ) → HasReservations file (off_mem_rsvmap file) (totalsize file) count
+          → HasTree (tree_blocks file) bounds.depth ⊎ ((fault : Fault) × IsStructureFault (tree_blocks file) bounds.depth fault) → Outcome
       by_tree fine count has (inl tree) = inl (blob_of_parts bounds file count bytes fine has tree)
       by_tree fine count has (inr faulty) = inr (faulty.0, InStructure fine count has faulty.1)
 
-      by_reservations : HeaderIsFine bounds file → Found file (off_mem_rsvmap file) (totalsize file) → Outcome
+      by_reservations : HasNoHeaderFault bounds file → Found file (off_mem_rsvmap file) (totalsize file) → Outcome
       by_reservations fine (inl some) =
           by_tree fine some.count some.has
-          (tree_or_fault (tree_blocks file) bounds.depth (Header-IsReadable file bytes (HeaderIsFine-Header bounds file fine)))
+          (tree_or_fault (tree_blocks file) bounds.depth (Header-IsReadable file bytes (HasNoHeaderFault-Header bounds file fine)))
       by_reservations fine (inr faulty) = inr (faulty.0, InReservations fine faulty.1)
 
-      by_header : HeaderIsFine bounds file ⊎ ((fault : Fault) × HeaderFault bounds file fault) → Outcome
+      by_header : HasNoHeaderFault bounds file ⊎ ((fault : Fault) × IsHeaderFault bounds file fault) → Outcome
       by_header (inl fine) =
-          by_reservations fine (reservations_or_fault file (off_mem_rsvmap file) (totalsize file) (HeaderIsFine-Header bounds file fine).reservations_within)
+          by_reservations fine (reservations_or_fault file (off_mem_rsvmap file) (totalsize file) (HasNoHeaderFault-Header bounds file fine).reservations_within)
       by_header (inr first) = inr (first.0, InHeader first.1)
 
 pub blob_where_no_fault : BlobWhereNoFault

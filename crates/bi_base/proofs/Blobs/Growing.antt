@@ -4,7 +4,7 @@ use Rattle.std.proofs.lemmas.List.{append_assoc, append-nil, map_push}
 use Rattle.bi_base.specs.Tree.{Nodes, none, node, Property, Placed, Located, names, with_each, depth, property_of, AreNodes, AreProperties, IsChildName, IsPropertyName, IsNew, AreDistinct}
 use Rattle.bi_base.specs.Marks.{OpensAt, HasAt, ClosesAt, placed_marks, placed_marks_of}
 use Rattle.bi_base.specs.Stages.{with_property, with_child}
-use Rattle.bi_base.specs.OpenNodes.{OpenNode, with_one_property, with_one_child, with_last, located_of, root_of, open_of, said_of, said_by}
+use Rattle.bi_base.proofs.Blobs.OpenNodes.{OpenNode, with_one_property, with_one_child, with_last, located_of, root_of, open_of, said_of, said_by}
 
 -- What one more property or child does to open nodes.
 

@@ -1,9 +1,8 @@
 use Rattle.std.proofs.Common.{ℕ, ◌≤◌, List, length, arith}
 use Rattle.bi_base.specs.Cells.{AreBytes}
 use Rattle.bi_base.specs.Limits.{Bounds}
-use Rattle.bi_base.specs.Blob.{Header, header_length, tree_blocks, totalsize, structure_end}
-use Rattle.bi_base.specs.BlobFaults.{HeaderIsFine}
-use Rattle.bi_base.specs.OpenNodes.{IsReadable}
+use Rattle.bi_base.specs.Blob.{Header, header_length, tree_blocks, totalsize, structure_end, IsReadable}
+use Rattle.bi_base.specs.BlobFaults.{HasNoHeaderFault}
 
 -- The checks of a header and the conditions of a header are the same.
 
@@ -12,8 +11,8 @@ header_length-magic : (file : List ℕ) → 4 ≤ header_length file
 header_length-magic file = omega arith
 
 -- A header whose checks pass meets the conditions.
-pub HeaderIsFine-Header : (bounds : Bounds) (file : List ℕ) → HeaderIsFine bounds file → Header file
-HeaderIsFine-Header bounds file fine =
+pub HasNoHeaderFault-Header : (bounds : Bounds) (file : List ℕ) → HasNoHeaderFault bounds file → Header file
+HasNoHeaderFault-Header bounds file fine =
     let version = fine.1.1.1.1 in
     let total = version.1.1 in
     let blocks = total.1.1 in
@@ -36,8 +35,8 @@ HeaderIsFine-Header bounds file fine =
     }
 
 -- A header that meets the conditions passes its checks, in a file that is no longer than the limit.
-pub Header-HeaderIsFine : (bounds : Bounds) (file : List ℕ) → length file ≤ bounds.file → Header file → HeaderIsFine bounds file
-Header-HeaderIsFine bounds file short header =
+pub Header-HasNoHeaderFault : (bounds : Bounds) (file : List ℕ) → length file ≤ bounds.file → Header file → HasNoHeaderFault bounds file
+Header-HasNoHeaderFault bounds file short header =
     let whole : header_length file ≤ length file = header.whole in
     let magic : 4 ≤ header_length file = header_length-magic file in (
       short,

@@ -5,7 +5,7 @@ use Rattle.bi_base.specs.Cells.{u32_at}
 use Rattle.bi_base.specs.Checks.{IsFirstFault, HasNoFault}
 use Rattle.bi_base.specs.Tokens.{Token, End, StandsAt}
 use Rattle.bi_base.specs.Blob.{TreeBlocks}
-use Rattle.bi_base.specs.BlobFaults.{TokenPasses, token_checks, token_fault, opened, place_after, IsPassed, Walked, StructureFault}
+use Rattle.bi_base.specs.BlobFaults.{TokenPasses, token_checks, token_fault, opened, place_after, IsPassed, Walked, IsStructureFault}
 use Rattle.bi_base.proofs.FirstFault.{one_fault, not_both}
 use Rattle.bi_base.proofs.Blobs.Tokens.{one_token}
 
@@ -56,7 +56,7 @@ module _ (blocks : TreeBlocks) (depth_limit : ℕ) where
       not_both _ _ (token_checks (u32_at blocks.file (place_after blocks ts))) fault next.1.passes first
 
   -- A structure block has one fault at most.
-  pub one_structure_fault : (f g : Fault) → StructureFault blocks depth_limit f → StructureFault blocks depth_limit g → f ≡ g
+  pub one_structure_fault : (f g : Fault) → IsStructureFault blocks depth_limit f → IsStructureFault blocks depth_limit g → f ≡ g
   one_structure_fault f g one other =
       elim (cases_order (length one.before) (length other.before)) [
         | inl same ↦
@@ -76,7 +76,7 @@ module _ (blocks : TreeBlocks) (depth_limit : ℕ) where
     pub passes : TokenIsFine tokens
 
   -- A block that ends has no fault.
-  pub no_fault_in_ended : (tokens : List Token) (fault : Fault) → IsEnded tokens → StructureFault blocks depth_limit fault → ⊥
+  pub no_fault_in_ended : (tokens : List Token) (fault : Fault) → IsEnded tokens → IsStructureFault blocks depth_limit fault → ⊥
   no_fault_in_ended tokens fault ended other =
       elim (cases_order (length other.before) (length tokens)) [
         | inl same ↦

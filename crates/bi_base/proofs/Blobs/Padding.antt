@@ -4,10 +4,9 @@ use Rattle.bi_base.specs.Cells.{slice, u32_at}
 use Rattle.bi_base.specs.Checks.{HasNoFault}
 use Rattle.bi_base.specs.Tokens.{Token, BeginNode, EndNode, Prop, Nop, End, unpadded, width, Spelled, StandsAt, NameAt, name_from}
 use Rattle.bi_base.specs.Stages.{Stage}
-use Rattle.bi_base.specs.Blob.{TreeBlocks}
+use Rattle.bi_base.specs.Blob.{TreeBlocks, IsReadable}
 use Rattle.bi_base.specs.BlobFaults.{TokenPasses, token_checks, opened, place_after, Walked}
-use Rattle.bi_base.specs.BlobLaws.{AllPass, WalkedWhereSpelled}
-use Rattle.bi_base.specs.OpenNodes.{IsReadable}
+use Rattle.bi_base.specs.BlobLaws.{AllTokensPass, WalkedWhereSpelled}
 use Rattle.bi_base.proofs.Blobs.Names.{one_name, HasName-NameAt}
 use Rattle.bi_base.proofs.Blobs.Tokens.{number, length-unpadded, StandsAt-number, StandsAt-within, BeginNode-name, Prop-parts}
 use Rattle.bi_base.proofs.Blobs.Spelling.{behind_all, AllStand, Spelled-stand}
@@ -35,10 +34,10 @@ AllStand-behind file behind at (token ∷ later) stand =
     (StandsAt-behind file behind at token stand.0, AllStand-behind file behind (at + width token) later stand.1)
 
 -- Tokens that pass, pass.
-Walked-AllPass : (blocks : TreeBlocks) (depth_limit : ℕ) (tokens : List Token) → Walked blocks depth_limit tokens → AllPass blocks depth_limit tokens
-Walked-AllPass blocks depth_limit [] walked = tt
-Walked-AllPass blocks depth_limit (token ∷ before) walked =
-    (walked.0.no_end, walked.0.passes, Walked-AllPass blocks depth_limit before walked.1)
+Walked-AllTokensPass : (blocks : TreeBlocks) (depth_limit : ℕ) (tokens : List Token) → Walked blocks depth_limit tokens → AllTokensPass blocks depth_limit tokens
+Walked-AllTokensPass blocks depth_limit [] walked = tt
+Walked-AllTokensPass blocks depth_limit (token ∷ before) walked =
+    (walked.0.no_end, walked.0.passes, Walked-AllTokensPass blocks depth_limit before walked.1)
 
 -- A cell of a file is read the same where bytes are put behind the file.
 u32_at-behind : (file behind : List ℕ) (at : ℕ) → at + 4 ≤ length file → u32_at (file ++ behind) at ≡ u32_at file at
@@ -102,9 +101,9 @@ AllStand-last file at (u ∷ tokens) t stand =
     ((stand.0, rest.0), rest.1)
 
 -- Tokens that pass their checks and stand in the longer file are passed.
-AllPass-Walked : (blocks : TreeBlocks) (depth_limit : ℕ) (tokens : List Token) (behind : List ℕ) → IsReadable blocks → AllPass blocks depth_limit tokens → AllStand (blocks.file ++ behind) blocks.begin (reverse tokens) → Walked blocks depth_limit tokens
-AllPass-Walked blocks depth_limit [] behind readable pass stand = tt
-AllPass-Walked blocks depth_limit (token ∷ before) behind readable pass stand =
+AllTokensPass-Walked : (blocks : TreeBlocks) (depth_limit : ℕ) (tokens : List Token) (behind : List ℕ) → IsReadable blocks → AllTokensPass blocks depth_limit tokens → AllStand (blocks.file ++ behind) blocks.begin (reverse tokens) → Walked blocks depth_limit tokens
+AllTokensPass-Walked blocks depth_limit [] behind readable pass stand = tt
+AllTokensPass-Walked blocks depth_limit (token ∷ before) behind readable pass stand =
     let place : ℕ = place_after blocks before in
     let parts : AllStand (blocks.file ++ behind) blocks.begin (reverse before) × StandsAt (blocks.file ++ behind) (behind_all blocks.begin (reverse before)) token =
     AllStand-last (blocks.file ++ behind) blocks.begin (reverse before) token
@@ -117,7 +116,7 @@ AllPass-Walked blocks depth_limit (token ∷ before) behind readable pass stand 
             (passes_within blocks depth_limit place (opened blocks.strings before) behind readable token there pass.1) there;
         passes = pass.1;
       },
-      AllPass-Walked blocks depth_limit before behind readable pass.2 parts.0,
+      AllTokensPass-Walked blocks depth_limit before behind readable pass.2 parts.0,
     )
 
 -- Tokens that pass are spelled in the longer file: the last of them ends at most three bytes behind the file.
@@ -139,10 +138,10 @@ Walked-spelled blocks depth_limit (token ∷ before) behind three walked =
 
 pub walked_where_spelled : WalkedWhereSpelled
 walked_where_spelled blocks depth_limit tokens behind readable three = (
-  (λ walked. (Walked-AllPass blocks depth_limit tokens walked, Walked-spelled blocks depth_limit tokens behind three walked)),
+  (λ walked. (Walked-AllTokensPass blocks depth_limit tokens walked, Walked-spelled blocks depth_limit tokens behind three walked)),
   (λ both.
       let size : ℕ = place_after blocks tokens - blocks.begin in
-      AllPass-Walked blocks depth_limit tokens behind readable both.0
+      AllTokensPass-Walked blocks depth_limit tokens behind readable both.0
       (Spelled-stand (blocks.file ++ behind) blocks.begin (reverse tokens) (slice (blocks.file ++ behind) blocks.begin size)
       (drop size (drop blocks.begin (blocks.file ++ behind))) both.1
       (sym (take-append-drop size (drop blocks.begin (blocks.file ++ behind)))))),

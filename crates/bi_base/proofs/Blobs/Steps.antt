@@ -6,9 +6,9 @@ use Rattle.bi_base.specs.Tokens.{Token, BeginNode, EndNode, Prop, Nop, End, widt
 use Rattle.bi_base.specs.Tree.{Nodes, none, node, Placed, Located, names, with_each, depth, plain, AreNodes, AreProperties, IsNew}
 use Rattle.bi_base.specs.Marks.{OpensAt, HasAt, ClosesAt}
 use Rattle.bi_base.specs.Stages.{Stage, BeforeRoot, Inside}
-use Rattle.bi_base.specs.Blob.{TreeBlocks}
+use Rattle.bi_base.specs.Blob.{TreeBlocks, IsReadable}
 use Rattle.bi_base.specs.BlobFaults.{TokenPasses, token_checks}
-use Rattle.bi_base.specs.OpenNodes.{OpenNode, Growth, NotBegun, Growing, Grown, begun, with_one_property, with_one_child, with_last, located_of, root_of, opens_of, stage_of, said_so_far, IsOpenNode, AreOpenNodes, MayBeChild, IsReadable, Standing}
+use Rattle.bi_base.proofs.Blobs.OpenNodes.{OpenNode, Growth, NotBegun, Growing, Grown, begun, with_one_property, with_one_child, with_last, located_of, root_of, opens_of, stage_of, said_so_far, IsOpenNode, AreOpenNodes, MayBeChild, Standing}
 use Rattle.bi_base.proofs.Blobs.Names.{HasName-NameAt}
 use Rattle.bi_base.proofs.Blobs.Tokens.{BeginNode-stands, EndNode-stands, Prop-stands, Nop-stands}
 use Rattle.bi_base.proofs.Blobs.Growing.{with_each-with_last, depth-with_last, AreNodes-with_last, AreProperties-push, open_of-property, open_of-child, said_by-property, said_by-child, said_by-root}

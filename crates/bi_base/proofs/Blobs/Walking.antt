@@ -4,24 +4,18 @@ use Rattle.std.proofs.lemmas.List.{reverse-append, take-take, drop-take, drop-dr
 use Rattle.std.proofs.Math.Seq.{take-add}
 use Rattle.bi_base.specs.Cells.{slice, u32_at, up4}
 use Rattle.bi_base.specs.Checks.{HasNoFault}
-use Rattle.bi_base.specs.Tokens.{Token, EndNode, Nop, End, unpadded, width, Spells, Spelled, StandsAt, nop_number, end_node_number, end_number}
+use Rattle.bi_base.specs.Tokens.{Token, End, unpadded, width, Spells, Spelled, StandsAt, end_number}
 use Rattle.bi_base.specs.Marks.{PlacedMark, Say}
 use Rattle.bi_base.specs.Stages.{after}
 use Rattle.bi_base.specs.Blob.{TreeBlocks}
 use Rattle.bi_base.specs.BlobFaults.{TokenPasses, token_checks, said, opened, place_after, Walked}
-use Rattle.bi_base.specs.OpenNodes.{Growth, stage_of, said_so_far, IsGrowth, Standing}
 use Rattle.bi_base.proofs.CellLaws.{length-cell, length-slice}
+use Rattle.bi_base.proofs.Blobs.OpenNodes.{Growth, stage_of, said_so_far, IsGrowth, Standing}
 use Rattle.bi_base.proofs.Blobs.Tokens.{width-at_least}
 use Rattle.bi_base.proofs.Blobs.Spelling.{behind_all, behind_all-append, AllStand}
 use Rattle.bi_base.proofs.Blobs.Saying.{Say-append}
 
--- Tokens without operands take four bytes.
-pub width-EndNode : width EndNode ≡ 4
-width-EndNode = ap up4 (length-cell end_node_number)
-
-pub width-Nop : width Nop ≡ 4
-width-Nop = ap up4 (length-cell nop_number)
-
+-- FDT_END takes four bytes.
 pub width-End : width End ≡ 4
 width-End = ap up4 (length-cell end_number)
 

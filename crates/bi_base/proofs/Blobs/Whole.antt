@@ -7,10 +7,10 @@ use Rattle.bi_base.specs.Checks.{IsFirstFault, HasNoFault}
 use Rattle.bi_base.specs.Tokens.{Token, BeginNode, EndNode, Nop, width, name_from, begin_node_number, end_node_number, prop_number, nop_number, end_number}
 use Rattle.bi_base.specs.Tree.{Root, Located, depth_of}
 use Rattle.bi_base.specs.Stages.{Stage, BeforeRoot, AfterRoot}
-use Rattle.bi_base.specs.Blob.{TreeBlocks, HoldsTree}
-use Rattle.bi_base.specs.BlobFaults.{HasWord, TokenPasses, token_checks, token_fault, opened, StructureFault}
-use Rattle.bi_base.specs.OpenNodes.{OpenNode, Growth, NotBegun, Growing, Grown, begun, with_one_property, with_one_child, root_of, stage_of, IsReadable, Standing}
+use Rattle.bi_base.specs.Blob.{TreeBlocks, HoldsTree, IsReadable}
+use Rattle.bi_base.specs.BlobFaults.{HasTokenNumber, TokenPasses, token_checks, token_fault, opened, IsStructureFault}
 use Rattle.bi_base.proofs.FirstFault.{fault_or_none}
+use Rattle.bi_base.proofs.Blobs.OpenNodes.{OpenNode, Growth, NotBegun, Growing, Grown, begun, with_one_property, with_one_child, root_of, stage_of, Standing}
 use Rattle.bi_base.proofs.Blobs.Tokens.{width-at_least}
 use Rattle.bi_base.proofs.Blobs.Steps.{IsNext, next_nop, next_root, next_child, property_at, property_token, next_property, next_end, next_last}
 use Rattle.bi_base.proofs.Blobs.Ending.{last_token}
@@ -44,7 +44,7 @@ standing_at_first blocks depth_limit readable = record {
 }
 
 -- The first check that fails of the token at which a reader stands is the fault of the block.
-pub fault_there : (blocks : TreeBlocks) (depth_limit place : ℕ) (growth : Growth) (fault : Fault) → Standing blocks depth_limit place growth → IsFirstFault (TokenPasses blocks depth_limit place (stage_of growth)) (token_fault place) (token_checks (u32_at blocks.file place)) fault → StructureFault blocks depth_limit fault
+pub fault_there : (blocks : TreeBlocks) (depth_limit place : ℕ) (growth : Growth) (fault : Fault) → Standing blocks depth_limit place growth → IsFirstFault (TokenPasses blocks depth_limit place (stage_of growth)) (token_fault place) (token_checks (u32_at blocks.file place)) fault → IsStructureFault blocks depth_limit fault
 fault_there blocks depth_limit place growth fault standing first = record {
   before = standing.tokens;
   walked = standing.walked;
@@ -105,14 +105,14 @@ module _ (blocks : TreeBlocks) (depth_limit place : ℕ) where
         ended whole = record { root = root; holds = whole.0; shallow = whole.1 }
 
 -- From where a reader stands the block holds a tree or has a fault.
-tree_or_fault_from : (steps : ℕ) (blocks : TreeBlocks) (depth_limit place : ℕ) (growth : Growth) → blocks.end ≤ place + steps → Standing blocks depth_limit place growth → HasTree blocks depth_limit ⊎ ((fault : Fault) × StructureFault blocks depth_limit fault)
+tree_or_fault_from : (steps : ℕ) (blocks : TreeBlocks) (depth_limit place : ℕ) (growth : Growth) → blocks.end ≤ place + steps → Standing blocks depth_limit place growth → HasTree blocks depth_limit ⊎ ((fault : Fault) × IsStructureFault blocks depth_limit fault)
 tree_or_fault_from zero blocks depth_limit place growth left standing =
-    inr (token_fault place HasWord, fault_there blocks depth_limit place growth (token_fault place HasWord) standing (inl ((λ (word : place + 4 ≤ blocks.end). omega arith), refl)))
+    inr (token_fault place HasTokenNumber, fault_there blocks depth_limit place growth (token_fault place HasTokenNumber) standing (inl ((λ (word : place + 4 ≤ blocks.end). omega arith), refl)))
 tree_or_fault_from (suc steps) blocks depth_limit place growth left standing =
     by_checks (fault_or_none (TokenPasses blocks depth_limit place (stage_of growth)) (token_fault place) (token_decided blocks depth_limit place (stage_of growth)) (token_checks (u32_at blocks.file place)))
     (λ next further later there. tree_or_fault_from steps blocks depth_limit next later (omega arith) there) where
       Outcome : Type 0
-      Outcome = HasTree blocks depth_limit ⊎ ((fault : Fault) × StructureFault blocks depth_limit fault)
+      Outcome = HasTree blocks depth_limit ⊎ ((fault : Fault) × IsStructureFault blocks depth_limit fault)
 
       by_token : GoesOn blocks depth_limit place ⊎ HasTree blocks depth_limit
           → ((next : ℕ) → place + 4 ≤ next → (later : Growth) → Standing blocks depth_limit next later → Outcome) → Outcome
@@ -126,6 +126,6 @@ tree_or_fault_from (suc steps) blocks depth_limit place growth left standing =
       by_checks (inr first) continue = inr (first.0, fault_there blocks depth_limit place growth first.0 standing first.1)
 
 -- A structure block in a file of bytes holds a tree within the depth limit, or it has a fault.
-pub tree_or_fault : (blocks : TreeBlocks) (depth_limit : ℕ) → IsReadable blocks → HasTree blocks depth_limit ⊎ ((fault : Fault) × StructureFault blocks depth_limit fault)
+pub tree_or_fault : (blocks : TreeBlocks) (depth_limit : ℕ) → IsReadable blocks → HasTree blocks depth_limit ⊎ ((fault : Fault) × IsStructureFault blocks depth_limit fault)
 tree_or_fault blocks depth_limit readable =
     tree_or_fault_from blocks.end blocks depth_limit blocks.begin NotBegun (omega arith) (standing_at_first blocks depth_limit readable)

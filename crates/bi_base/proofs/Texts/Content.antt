@@ -3,7 +3,7 @@ use Rattle.std.specs.List.{AllByRecursion}
 use Rattle.bi_base.specs.Cells.{slice, AreBytes}
 use Rattle.bi_base.specs.Tokens.{End}
 use Rattle.bi_base.specs.Tree.{Root, Located, plain_tree}
-use Rattle.bi_base.specs.Blob.{Blob, TreeBlocks, tree_blocks, HoldsTree, off_dt_struct, off_dt_strings, size_dt_strings}
+use Rattle.bi_base.specs.Blob.{IsBlob, TreeBlocks, tree_blocks, HoldsTree, off_dt_struct, off_dt_strings, size_dt_strings}
 use Rattle.bi_base.specs.Layout.{tree_text, located_tree, longest_text}
 use Rattle.bi_base.specs.TextLaws.{BlobHasContent, TextHasOneContent}
 use Rattle.bi_base.proofs.CellLaws.{AreBytes-slice}
@@ -42,7 +42,7 @@ pub text_has_one_content : TextHasOneContent
 text_has_one_content cpu other_cpu reservations other_reservations root other_root is other_is short same =
     let one = one_blob (tree_text cpu reservations root ++ []) cpu other_cpu reservations other_reservations (located_tree reservations root) (located_tree other_reservations other_root)
     (text_blob cpu reservations root [] is short AreBytes-none)
-    (subst (λ text. Blob (text ++ []) other_cpu other_reservations (located_tree other_reservations other_root)) (sym same)
+    (subst (λ text. IsBlob (text ++ []) other_cpu other_reservations (located_tree other_reservations other_root)) (sym same)
     (text_blob other_cpu other_reservations other_root [] other_is (subst (λ text. length text ≤ longest_text) same short) AreBytes-none)) in
     record {
       same_cpu = one.same_cpu;

@@ -2,7 +2,7 @@ use Rattle.std.proofs.Common.{◌≡◌, ◌≢◌, ◌⊎◌, ℕ, ◌+◌, Boo
 use Rattle.std.proofs.lemmas.Slice.Eq.{bytes_eq-Decides}
 use Rattle.std.proofs.lemmas.List.{drop_at, length_push}
 use Rattle.bi_base.specs.Tree.{IsNew, AreDistinct}
-use Rattle.bi_base.specs.Layout.{used, firsts, strings_of, offset_in}
+use Rattle.bi_base.specs.Layout.{used_names, distinct_names, strings_of, offset_in}
 use Rattle.bi_base.specs.TextLaws.{EachNameIsThereOnce, EachNameStands}
 use Rattle.bi_base.proofs.Texts.Members.{Contains-none, Contains-cases, Contains-first, Contains-others, Contains-filter, Contains-from_filter, each-filter}
 
@@ -36,27 +36,27 @@ stands_among (first ∷ others) name has =
         )
 
 -- Each of some names is among the first ones.
-pub firsts-all : (names : List (List ℕ)) (name : List ℕ) → Contains names name → Contains (firsts names) name
-firsts-all [] name has = has
-firsts-all (first ∷ others) name has =
-    where_first (bytes_eq first name) refl (Contains-cases first others name has) (λ has. firsts-all others name has)
+pub distinct_names-all : (names : List (List ℕ)) (name : List ℕ) → Contains names name → Contains (distinct_names names) name
+distinct_names-all [] name has = has
+distinct_names-all (first ∷ others) name has =
+    where_first (bytes_eq first name) refl (Contains-cases first others name has) (λ has. distinct_names-all others name has)
   where
-    where_first : (b : Bool) → bytes_eq first name ≡ b → (first ≡ name) ⊎ Contains others name → (Contains others name → Contains (firsts others) name) → Contains (firsts (first ∷ others)) name
+    where_first : (b : Bool) → bytes_eq first name ≡ b → (first ≡ name) ⊎ Contains others name → (Contains others name → Contains (distinct_names others) name) → Contains (distinct_names (first ∷ others)) name
     where_first true is has among = rw (← same_names first name is) (Contains-first first _)
     where_first false is (inl same) among = absurd (other_names first name is same)
     where_first false is (inr has) among =
-        Contains-others first _ name (Contains-filter (λ other. not (bytes_eq first other)) (firsts others) name (ap not is) (among has))
+        Contains-others first _ name (Contains-filter (λ other. not (bytes_eq first other)) (distinct_names others) name (ap not is) (among has))
 
 -- The first ones are among the names.
-pub firsts-only : (names : List (List ℕ)) (name : List ℕ) → Contains (firsts names) name → Contains names name
-firsts-only [] name has = has
-firsts-only (first ∷ others) name has =
-    where_first (Contains-cases first _ name has) (λ has. firsts-only others name has)
+pub distinct_names-only : (names : List (List ℕ)) (name : List ℕ) → Contains (distinct_names names) name → Contains names name
+distinct_names-only [] name has = has
+distinct_names-only (first ∷ others) name has =
+    where_first (Contains-cases first _ name has) (λ has. distinct_names-only others name has)
   where
-    where_first : (first ≡ name) ⊎ Contains (filter (λ other. not (bytes_eq first other)) (firsts others)) name → (Contains (firsts others) name → Contains others name) → Contains (first ∷ others) name
+    where_first : (first ≡ name) ⊎ Contains (filter (λ other. not (bytes_eq first other)) (distinct_names others)) name → (Contains (distinct_names others) name → Contains others name) → Contains (first ∷ others) name
     where_first (inl same) among = rw (← same) (Contains-first first others)
     where_first (inr has) among =
-        Contains-others first others name (among (Contains-from_filter (λ other. not (bytes_eq first other)) (firsts others) name has))
+        Contains-others first others name (among (Contains-from_filter (λ other. not (bytes_eq first other)) (distinct_names others) name has))
 
 -- Distinct names stay so where some are left out.
 distinct-filter : (test : List ℕ → Bool) (names : List (List ℕ)) → AreDistinct names → AreDistinct (filter test names)
@@ -77,19 +77,19 @@ new-filter name (other ∷ later) = where_first (bytes_eq name other) refl (new-
     where_first false is rest = rw is ((λ same. other_names name other is (sym same)), rest)
 
 -- The first ones are distinct.
-pub firsts-distinct : (names : List (List ℕ)) → AreDistinct (firsts names)
-firsts-distinct [] = tt
-firsts-distinct (first ∷ others) = (new-filter first (firsts others), distinct-filter (λ other. not (bytes_eq first other)) (firsts others) (firsts-distinct others))
+pub distinct_names-distinct : (names : List (List ℕ)) → AreDistinct (distinct_names names)
+distinct_names-distinct [] = tt
+distinct_names-distinct (first ∷ others) = (new-filter first (distinct_names others), distinct-filter (λ other. not (bytes_eq first other)) (distinct_names others) (distinct_names-distinct others))
 
 -- Marks have the names that they use in their strings block, each once.
 pub has_names_once : EachNameIsThereOnce
 has_names_once marks = record {
-  same = λ name. (firsts-only (used marks) name, firsts-all (used marks) name);
-  distinct = firsts-distinct (used marks);
+  same = λ name. (distinct_names-only (used_names marks) name, distinct_names-all (used_names marks) name);
+  distinct = distinct_names-distinct (used_names marks);
 }
 
 -- A name that marks use stands at its offset.
 pub name_stands : EachNameStands
 name_stands marks name has no_zero =
-    let there = stands_among (firsts (used marks)) name (firsts-all (used marks) name has) in
+    let there = stands_among (distinct_names (used_names marks)) name (distinct_names-all (used_names marks) name has) in
     record { no_zero = no_zero; behind = there.0; stands = there.1 }

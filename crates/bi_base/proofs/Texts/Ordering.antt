@@ -93,13 +93,6 @@ each-in_order P properties each =
     each-entries P (from_entries {R = slice_cmp nat_cmp} properties)
     (λ name value there. found-each P properties each name value (sym (get-from_entries nat_list_cmp_total properties name) ∙ there))
 
--- Properties by name are properties in order, where each of them has a name that it may have.
-pub AreProperties-entries : (properties : PropertyMap) → ((name value : List ℕ) → get properties name ≡ Some value → IsPropertyName name) → AreProperties (entries properties)
-AreProperties-entries properties found = record {
-  named = each-entries (λ property. IsPropertyName property.0) properties found;
-  distinct = ordered_distinct (entries properties) (entries_sorted properties);
-}
-
 -- Properties taken by name and put in order are properties.
 pub AreProperties-in_order : (properties : List Property) → AreProperties properties → AreProperties (entries (from_entries {R = slice_cmp nat_cmp} properties))
 AreProperties-in_order properties are = record {

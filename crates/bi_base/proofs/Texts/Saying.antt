@@ -3,7 +3,7 @@ use Rattle.std.proofs.Common.{◌≡◌, ℕ, ◌+◌, ◌^◌, ◌<◌, ◌≤�
 use Rattle.std.specs.List.{AllByRecursion}
 use Rattle.bi_base.specs.Tokens.{Prop, unpadded, IsToken, NameAt}
 use Rattle.bi_base.specs.Marks.{Mark, Opens, Has, Closes, Say}
-use Rattle.bi_base.specs.Layout.{used, strings_of, offset_in, filling, spelling, token_of, mark_width}
+use Rattle.bi_base.specs.Layout.{used_names, strings_of, offset_in, filling, spelling, token_of, mark_width}
 use Rattle.bi_base.proofs.Texts.Members.{Contains-first, Contains-others}
 use Rattle.bi_base.proofs.Texts.Names.{stands_among}
 use Rattle.bi_base.proofs.Texts.Trees.{HasGoodName}
@@ -19,16 +19,16 @@ IsNamedIn strings names (Has property) = NameAt strings (offset_in names propert
 IsNamedIn strings names Closes = ⊤
 
 -- The names that marks use stand among any names that have them.
-pub named_in : (names : List (List ℕ)) (marks : List Mark) → ((name : List ℕ) → Contains (used marks) name → Contains names name) → AllByRecursion HasGoodName marks → AllByRecursion (IsNamedIn (strings_of names) names) marks
+pub named_in : (names : List (List ℕ)) (marks : List Mark) → ((name : List ℕ) → Contains (used_names marks) name → Contains names name) → AllByRecursion HasGoodName marks → AllByRecursion (IsNamedIn (strings_of names) names) marks
 named_in names [] among good = tt
 named_in names (Opens name ∷ later) among good = (tt, named_in names later among good.1)
 named_in names (Has property ∷ later) among good = (
   record {
     no_zero = good.0;
-    behind = (stands_among names property.0 (among property.0 (Contains-first property.0 (used later)))).0;
-    stands = (stands_among names property.0 (among property.0 (Contains-first property.0 (used later)))).1;
+    behind = (stands_among names property.0 (among property.0 (Contains-first property.0 (used_names later)))).0;
+    stands = (stands_among names property.0 (among property.0 (Contains-first property.0 (used_names later)))).1;
   },
-  named_in names later (λ name has. among name (Contains-others property.0 (used later) name has)) good.1,
+  named_in names later (λ name has. among name (Contains-others property.0 (used_names later) name has)) good.1,
 )
 named_in names (Closes ∷ later) among good = (tt, named_in names later among good.1)
 

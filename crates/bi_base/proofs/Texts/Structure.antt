@@ -4,10 +4,10 @@ use Rattle.bi_base.specs.Tokens.{IsToken, End}
 use Rattle.bi_base.specs.Tree.{Root, Property}
 use Rattle.bi_base.specs.Marks.{Mark, marks_of, Say}
 use Rattle.bi_base.specs.Blob.{Reservation, reserved_block}
-use Rattle.bi_base.specs.Layout.{used, firsts, spelling, tokens_of, structure_block, strings_block, structure_place, tree_text, unfilled}
+use Rattle.bi_base.specs.Layout.{used_names, distinct_names, spelling, tokens_of, structure_block, strings_block, structure_place, tree_text, unfilled}
 use Rattle.bi_base.specs.TextLaws.{TextSaysItsTree}
 use Rattle.bi_base.proofs.Texts.Members.{each-append}
-use Rattle.bi_base.proofs.Texts.Names.{firsts-all}
+use Rattle.bi_base.proofs.Texts.Names.{distinct_names-all}
 use Rattle.bi_base.proofs.Texts.Trees.{good-tree}
 use Rattle.bi_base.proofs.Texts.Spelling.{spelled}
 use Rattle.bi_base.proofs.Texts.Places.{placed-tree}
@@ -32,11 +32,11 @@ pub says_tree : TextSaysItsTree
 says_tree cpu reservations root is short = record {
   spelled = spelled (tokens_of (marks_of root) ++ End ∷ [])
       (each-append IsToken (tokens_of (marks_of root)) (End ∷ [])
-      (are_tokens (firsts (used (marks_of root))) (marks_of root) (good-tree root is.is_tree) strings_fit structure_fits)
+      (are_tokens (distinct_names (used_names (marks_of root))) (marks_of root) (good-tree root is.is_tree) strings_fit structure_fits)
       (tt, tt));
   say = subst (Say (strings_block (marks_of root)) (structure_place reservations) (tokens_of (marks_of root))) (sym (placed-tree reservations root))
-      (says (strings_block (marks_of root)) (firsts (used (marks_of root))) (structure_place reservations) (marks_of root)
-      (named_in (firsts (used (marks_of root))) (marks_of root) (firsts-all (used (marks_of root))) (good-tree root is.is_tree)));
+      (says (strings_block (marks_of root)) (distinct_names (used_names (marks_of root))) (structure_place reservations) (marks_of root)
+      (named_in (distinct_names (used_names (marks_of root))) (marks_of root) (distinct_names-all (used_names (marks_of root))) (good-tree root is.is_tree)));
 }
   where
     strings_fit : length (strings_block (marks_of root)) < 2 ^ 32

@@ -2,7 +2,7 @@ use Rattle.std.proofs.Common.{◌≡◌, ℕ, ◌-◌, ◌%◌, ◌^◌, ◌<◌
 use Rattle.bi_base.specs.Cells.{slice, up4, AreBytes}
 use Rattle.bi_base.specs.Tree.{Root, Property, IsTree, AreProperties}
 use Rattle.bi_base.specs.Marks.{marks_of, placed_marks_of, Say}
-use Rattle.bi_base.specs.Blob.{Reservation, tree_blocks, HoldsTree, Blob, reserved_block, totalsize, off_dt_struct, off_dt_strings, off_mem_rsvmap, size_dt_strings, structure_end}
+use Rattle.bi_base.specs.Blob.{Reservation, tree_blocks, HoldsTree, IsBlob, reserved_block, totalsize, off_dt_struct, off_dt_strings, off_mem_rsvmap, size_dt_strings, structure_end}
 use Rattle.bi_base.specs.Layout.{blob_header, filling, unfilled, text_of, blob_text, tree_text, tokens_of, structure_block, strings_block, located_tree, IsContent, longest_text}
 use Rattle.bi_base.specs.TextLaws.{SaysTree, TextIsBlob, EachTextHasItsLength}
 use Rattle.bi_base.proofs.Blobs.OneBlob.{one_blob}
@@ -79,7 +79,7 @@ holds_tree file cpu reservations root parts said is = record {
 }
 
 -- The text of content, with any bytes behind it, is a blob of the content at the places of the layout.
-pub text_blob : (cpu : ℕ) (reservations : List Reservation) (root : Root (List Property)) (rest : List ℕ) → IsContent cpu reservations root → length (tree_text cpu reservations root) ≤ longest_text → AreBytes rest → Blob (tree_text cpu reservations root ++ rest) cpu reservations (located_tree reservations root)
+pub text_blob : (cpu : ℕ) (reservations : List Reservation) (root : Root (List Property)) (rest : List ℕ) → IsContent cpu reservations root → length (tree_text cpu reservations root) ≤ longest_text → AreBytes rest → IsBlob (tree_text cpu reservations root ++ rest) cpu reservations (located_tree reservations root)
 text_blob cpu reservations root rest is short bytes = record {
   bytes = AreBytes-append (tree_text cpu reservations root) rest (AreBytes-text cpu reservations root is) bytes;
   header = text_header (tree_text cpu reservations root ++ rest) cpu (length (reserved_block reservations)) (length (structure_block (marks_of root))) (length (strings_block (marks_of root)))

@@ -5,7 +5,7 @@ use Rattle.bi_base.specs.Tokens.{Token, End, unpadded, begin_node_number, end_no
 use Rattle.bi_base.specs.Tree.{Root, Property}
 use Rattle.bi_base.specs.Marks.{Mark, Opens, Has, Closes, marks_of}
 use Rattle.bi_base.specs.Blob.{Reservation, pair_bytes, end_pair, reserved_block, blob_magic}
-use Rattle.bi_base.specs.Layout.{used, firsts, strings_of, offset_in, filling, spelling, token_of, structure_block, strings_block, unfilled, blob_header, text_of, blob_text, tree_text, HasBytes, IsContent}
+use Rattle.bi_base.specs.Layout.{used_names, distinct_names, strings_of, offset_in, filling, spelling, token_of, structure_block, strings_block, unfilled, blob_header, text_of, blob_text, tree_text, HasBytes, IsContent}
 use Rattle.bi_base.proofs.Texts.Members.{each-append, each-filter}
 use Rattle.bi_base.proofs.Texts.Bytes.{AreBytes-none, AreBytes-append, AreBytes-zeros, AreBytes-cell, AreBytes-cell8, AreBytes-flat_map}
 
@@ -50,8 +50,8 @@ AreBytes-spelling token bytes = AreBytes-append (unpadded token) (filling (lengt
 pub AreBytes-structure : (marks : List Mark) → AllByRecursion HasBytes marks → AreBytes (structure_block marks)
 AreBytes-structure marks bytes =
     AreBytes-flat_map spelling _
-    (each-append (λ token. AreBytes (spelling token)) (map (token_of (firsts (used marks))) marks) (End ∷ [])
-    (each (firsts (used marks)) marks bytes)
+    (each-append (λ token. AreBytes (spelling token)) (map (token_of (distinct_names (used_names marks))) marks) (End ∷ [])
+    (each (distinct_names (used_names marks)) marks bytes)
     (AreBytes-spelling End (AreBytes-cell end_number), tt))
   where
     each : (names : List (List ℕ)) (marks : List Mark) → AllByRecursion HasBytes marks → AllByRecursion (λ token. AreBytes (spelling token)) (map (token_of names) marks)
@@ -59,17 +59,17 @@ AreBytes-structure marks bytes =
     each names (mark ∷ later) bytes = (AreBytes-spelling (token_of names mark) (AreBytes-unpadded names mark bytes.0), each names later bytes.1)
 
 -- The names that marks use are.
-pub AreBytes-used : (marks : List Mark) → AllByRecursion HasBytes marks → AllByRecursion AreBytes (used marks)
-AreBytes-used [] bytes = tt
-AreBytes-used (Opens name ∷ later) bytes = AreBytes-used later bytes.1
-AreBytes-used (Has property ∷ later) bytes = (bytes.0.0, AreBytes-used later bytes.1)
-AreBytes-used (Closes ∷ later) bytes = AreBytes-used later bytes.1
+pub AreBytes-used_names : (marks : List Mark) → AllByRecursion HasBytes marks → AllByRecursion AreBytes (used_names marks)
+AreBytes-used_names [] bytes = tt
+AreBytes-used_names (Opens name ∷ later) bytes = AreBytes-used_names later bytes.1
+AreBytes-used_names (Has property ∷ later) bytes = (bytes.0.0, AreBytes-used_names later bytes.1)
+AreBytes-used_names (Closes ∷ later) bytes = AreBytes-used_names later bytes.1
 
 -- What holds of each name holds of each of the first ones.
-pub each-firsts : (P : List ℕ → Type 0) (names : List (List ℕ)) → AllByRecursion P names → AllByRecursion P (firsts names)
-each-firsts P [] each = each
-each-firsts P (first ∷ others) each =
-    (each.0, each-filter P (λ other. not (bytes_eq first other)) (firsts others) (each-firsts P others each.1))
+pub each-distinct_names : (P : List ℕ → Type 0) (names : List (List ℕ)) → AllByRecursion P names → AllByRecursion P (distinct_names names)
+each-distinct_names P [] each = each
+each-distinct_names P (first ∷ others) each =
+    (each.0, each-filter P (λ other. not (bytes_eq first other)) (distinct_names others) (each-distinct_names P others each.1))
 
 -- Names that are bytes are so with zero bytes behind them.
 pub AreBytes-strings_of : (names : List (List ℕ)) → AllByRecursion AreBytes names → AreBytes (strings_of names)
@@ -79,7 +79,7 @@ AreBytes-strings_of (name ∷ later) bytes =
 
 -- The strings block is.
 pub AreBytes-strings : (marks : List Mark) → AllByRecursion HasBytes marks → AreBytes (strings_block marks)
-AreBytes-strings marks bytes = AreBytes-strings_of (firsts (used marks)) (each-firsts AreBytes (used marks) (AreBytes-used marks bytes))
+AreBytes-strings marks bytes = AreBytes-strings_of (distinct_names (used_names marks)) (each-distinct_names AreBytes (used_names marks) (AreBytes-used_names marks bytes))
 
 -- A text of three blocks is, where they are.
 pub AreBytes-text_of : (cpu : ℕ) (reserved structure strings : List ℕ) → AreBytes reserved → AreBytes structure → AreBytes strings → AreBytes (text_of cpu reserved structure strings)

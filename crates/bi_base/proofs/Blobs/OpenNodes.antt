@@ -1,10 +1,9 @@
-use Rattle.std.specs.Prelude.{◌≡◌, ℕ, ◌+◌, ◌≤◌, List, [], ◌∷◌, ◌++◌, map, length, reverse}
-use Rattle.bi_base.specs.Cells.{AreBytes}
+use Rattle.std.proofs.Common.{◌≡◌, ℕ, ◌+◌, ◌≤◌, List, [], ◌∷◌, ◌++◌, map, length, reverse}
 use Rattle.bi_base.specs.Tokens.{Token}
 use Rattle.bi_base.specs.Tree.{Nodes, none, node, Root, Placed, Located, names, with_each, depth, depth_of, property_of, plain, plain_tree, IsTree, AreNodes, AreProperties, IsChildName, IsNew}
 use Rattle.bi_base.specs.Marks.{PlacedMark, OpensAt, HasAt, placed_marks, placed_marks_of, Say}
 use Rattle.bi_base.specs.Stages.{Stage, BeforeRoot, Inside, AfterRoot, Open, with_child}
-use Rattle.bi_base.specs.Blob.{TreeBlocks}
+use Rattle.bi_base.specs.Blob.{TreeBlocks, IsReadable}
 use Rattle.bi_base.specs.BlobFaults.{opened, Walked, place_after}
 
 -- What is known of a tree while the structure block that holds it is read, token by token.
@@ -107,11 +106,6 @@ abbrev pub IsGrowth : ℕ → Growth → Type 0
 IsGrowth depth_limit NotBegun = Unit {0}
 IsGrowth depth_limit (Growing innermost outer) = AreOpenNodes depth_limit innermost outer
 IsGrowth depth_limit (Grown root) = IsWholeTree depth_limit root
-
--- A block whose bytes a file has.
-pub record IsReadable (blocks : TreeBlocks) : Type 0 where
-  pub bytes : AreBytes blocks.file
-  pub within : blocks.end ≤ length blocks.file
 
 -- A reader stands at this offset of a structure block: tokens that pass their checks, the newest first here, stand before it,
 -- and they say what has been read.
