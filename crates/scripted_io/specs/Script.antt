@@ -26,9 +26,9 @@ turn_at script number =
 abbrev pub FailsBy : {T : Type 0} → ErrorKind → Result T Error → Type 0
 FailsBy kind result = IsErrAnd result (λ error. error_kind error ≡ kind)
 
--- A call did as its turn says: what it was to do with the most bytes that it may take, or it gave the error.
+-- A call gave what its turn says: what it was to give with the most bytes that it may take, or the turn's error.
 abbrev pub Follows : {T : Type 0} → Turn → (ℕ → Type 0) → Result T Error → Type 0
-Follows TakesAll DoesWith result = DoesWith (2 ^ 64 - 1)
-Follows (Takes most) DoesWith result = DoesWith most
-Follows IsInterrupted DoesWith result = FailsBy Interrupted result
-Follows Fails DoesWith result = FailsBy BrokenPipe result
+Follows TakesAll GivesWith result = GivesWith (2 ^ 64 - 1)
+Follows (Takes most) GivesWith result = GivesWith most
+Follows IsInterrupted GivesWith result = FailsBy Interrupted result
+Follows Fails GivesWith result = FailsBy BrokenPipe result

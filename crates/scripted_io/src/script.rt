@@ -78,13 +78,12 @@ impl Script {
         ensures turn { (number : ℕ) → number % (calls + 1) < calls → turn_at result number ≡ turn }
         ensures then { (number : ℕ) → number % (calls + 1) ≡ calls → turn_at result number ≡ then }
     {
-        let calls = u64::from(calls);
         Script {
             first: 0,
-            calls,
+            calls: u64::from(calls),
             turn,
             others: then,
-            period: NonZeroU64::new(calls + 1),
+            period: NonZeroU64::new(u64::from(calls) + 1),
         }
     }
 
