@@ -1,6 +1,8 @@
 //! Readers.
 
-ghost use Rattle.std.specs.Prelude.{Some};
+ghost use Rattle.std.specs.Prelude.{◌≡◌, ◌+◌, ◌-◌, ◌^◌, min, max, length, replicate, Some, None, MatchResult};
+ghost use Rattle.std.specs.Io.{ReadsAtMost};
+ghost use Rattle.std.specs.Io.KnownBytes.{ReadConsumes};
 
 use crate::script::Script;
 use std::io::{self, Read};
@@ -17,8 +19,15 @@ pub struct ScriptedReader<'a> {
 }
 
 impl<'a> ScriptedReader<'a> {
+    ghost use Rattle.scripted_io.specs.Reader.{bytes_left, script_of};
+
     /// A reader of these bytes.
-    pub fn new(bytes: &'a [u8], script: Script) -> ScriptedReader<'a> {
+    pub fn new(bytes: &'a [u8], script: Script) -> ScriptedReader<'a>
+        ensures bytes { bytes_left result ≡ bytes.now }
+        ensures script { script_of result ≡ script }
+        ensures reads { result.reads ≡ 0 }
+        ensures taken { result.taken ≡ 0 }
+    {
         ScriptedReader {
             bytes,
             script,
@@ -29,9 +38,22 @@ impl<'a> ScriptedReader<'a> {
 }
 
 impl<'a> Read for ScriptedReader<'a> {
-    ghost remaining = { λ reader. Some reader.bytes.now };
+    ghost use Rattle.scripted_io.specs.Script.{turn_at, Follows};
+    ghost use Rattle.scripted_io.specs.Reader.{bytes_left, script_of};
 
-    fn read(&mut self, buffer: &mut [u8]) -> io::Result<usize> {
+    ghost remaining = { λ reader. Some (bytes_left reader) };
+
+    fn read(&mut self, buffer: &mut [u8]) -> io::Result<usize>
+        ensures bound { ReadsAtMost result buffer.new }
+        ensures bytes { ReadConsumes (Some (bytes_left self.old)) (Some (bytes_left self.new)) result buffer.new }
+        ensures turn { Follows (turn_at (script_of self.old) self.old.reads)
+            (λ most. result ≡ Ok (min (max most 1) (min (length buffer.old) (length (bytes_left self.old))))) result }
+        ensures script { script_of self.new ≡ script_of self.old }
+        ensures reads { self.new.reads ≡ min (self.old.reads + 1) (2 ^ 64 - 1) }
+        ensures taken { MatchResult result
+            (λ count. self.new.taken ≡ min (self.old.taken + count) (2 ^ 64 - 1))
+            (λ _. self.new.taken ≡ self.old.taken) }
+    {
         let number = self.reads;
         self.reads = self.reads.saturating_add(1);
         let most = self.script.most(number)?.max(1).min(buffer.len());
@@ -45,26 +67,32 @@ impl<'a> Read for ScriptedReader<'a> {
 #[derive(Drop)]
 pub struct EndlessReader {
     byte: u8,
-    /// How many reads there were.
-    pub reads: u64,
-    /// How many bytes they took.
+    /// How many bytes were taken.
     pub taken: u64,
 }
 
 impl EndlessReader {
+    ghost use Rattle.scripted_io.specs.Reader.{byte_of};
+
     /// A reader of this byte.
-    pub fn new(byte: u8) -> EndlessReader {
-        EndlessReader {
-            byte,
-            reads: 0,
-            taken: 0,
-        }
+    pub fn new(byte: u8) -> EndlessReader
+        ensures byte { byte_of result ≡ byte }
+        ensures taken { result.taken ≡ 0 }
+    {
+        EndlessReader { byte, taken: 0 }
     }
 }
 
 impl Read for EndlessReader {
-    fn read(&mut self, buffer: &mut [u8]) -> io::Result<usize> {
-        self.reads = self.reads.saturating_add(1);
+    ghost use Rattle.scripted_io.specs.Reader.{byte_of};
+
+    fn read(&mut self, buffer: &mut [u8]) -> io::Result<usize>
+        ensures bound { ReadsAtMost result buffer.new }
+        ensures bytes { ReadConsumes None None result buffer.new }
+        ensures count { result ≡ Ok (length buffer.old) }
+        ensures filled { buffer.new ≡ replicate (length buffer.old) (byte_of self.old) }
+        ensures state { self.new ≡ record self.old { taken = min (self.old.taken + length buffer.old) (2 ^ 64 - 1) } }
+    {
         self.taken = self.taken.saturating_add(buffer.len() as u64);
         buffer.fill(self.byte);
         Ok(buffer.len())

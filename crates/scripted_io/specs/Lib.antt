@@ -1,0 +1,3 @@
+pub mod Script
+pub mod Reader
+pub mod Writer

@@ -1,0 +1,34 @@
+use Rattle.std.specs.Prelude.{◌≡◌, ℕ, ◌+◌, ◌-◌, ◌^◌, ◌%◌, ◌&&◌, if◌then◌else◌, nat_lt, nat_le, Option, Some, None, Result, IsErrAnd}
+use Rattle.std.specs.Int.NonZero.{non_zero_u64_get}
+use Rattle.std.specs.IoError.{error_kind}
+use Rattle.std.specs.declared.io.Error.{Error}
+use Rattle.std.specs.declared.io.ErrorKind.{ErrorKind}
+use Rattle.std.specs.declared.io.ErrorKind.TheVariants.{Interrupted, BrokenPipe}
+use Rattle.std.specs.declared.num.NonZeroU64.{NonZeroU64}
+use Rattle.scripted_io.specs.declared.script.Script.{Script}
+use Rattle.scripted_io.specs.declared.script.Turn.{Turn}
+use Rattle.scripted_io.specs.declared.script.Turn.TheVariants.{TakesAll, Takes, IsInterrupted, Fails}
+
+-- What the calls of a reader or a writer do, by a script.
+
+-- How many calls come before this one since the script last began.
+abbrev pub place_in : Option NonZeroU64 → ℕ → ℕ
+place_in None number = number
+place_in (Some period) number = number % non_zero_u64_get period
+
+-- The turn of the call of this number, the first call's being 0.
+abbrev pub turn_at : Script → ℕ → Turn
+turn_at script number =
+    let place = place_in script.period number in
+    if nat_le script.first place && nat_lt place (script.first + script.calls) then script.turn else script.others
+
+-- A call gave an error of this kind.
+abbrev pub FailsBy : {T : Type 0} → ErrorKind → Result T Error → Type 0
+FailsBy kind result = IsErrAnd result (λ error. error_kind error ≡ kind)
+
+-- A call gave what its turn says: what it was to give with the most bytes that it may take, or the turn's error.
+abbrev pub Follows : {T : Type 0} → Turn → (ℕ → Type 0) → Result T Error → Type 0
+Follows TakesAll GivesWith result = GivesWith (2 ^ 64 - 1)
+Follows (Takes most) GivesWith result = GivesWith most
+Follows IsInterrupted GivesWith result = FailsBy Interrupted result
+Follows Fails GivesWith result = FailsBy BrokenPipe result
