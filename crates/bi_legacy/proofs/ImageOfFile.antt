@@ -4,11 +4,13 @@ use Rattle.bi_base.specs.Cells.{up4, AreBytes}
 use Rattle.bi_base.proofs.CellLaws.{AreBytes-slice}
 use Rattle.bi_legacy.specs.File.{IsLegacyFile}
 use Rattle.bi_legacy.specs.Meaning.{LegacyImage, IsListedPart, AreParts, has_table}
-use Rattle.bi_legacy.specs.Parts.{StandFrom, IsTable}
+use Rattle.bi_legacy.specs.Parts.{IsTable}
 use Rattle.bi_legacy.specs.Text.{IsLegacyImage, legacy_text}
 use Rattle.bi_legacy.proofs.ByteLists.{first_bytes}
 use Rattle.bi_legacy.proofs.HeaderReads.{field_read, body_read, length-file}
 use Rattle.bi_legacy.proofs.NormalLength.{length-normal_body, length-legacy_text, parts_end_in}
+use Rattle.bi_legacy.proofs.PartTables.{table_stands}
+use Rattle.bi_legacy.proofs.Standing.{StandFrom}
 
 -- What a file means is a meaning that a legacy image can have, and its normal text is no longer than the file.
 
@@ -20,7 +22,7 @@ standing_bytes at (part ∷ parts) body bytes stand =
 
 -- The parts that data of bytes holds, with or without a list of sizes, are bytes.
 held_bytes : (table : Bool) (parts : List (List ℕ)) (body : List ℕ) → AreBytes body → MatchBool table (IsTable parts body) (parts ≡ body ∷ []) → AllByRecursion AreBytes parts
-held_bytes true parts body bytes holds = standing_bytes _ parts body bytes holds.stand
+held_bytes true parts body bytes holds = standing_bytes _ parts body bytes (table_stands parts body holds)
 held_bytes false parts body bytes holds = rw holds (bytes, tt)
 
 -- The parts that data holds, with or without a list of sizes, are parts that such an image can have.

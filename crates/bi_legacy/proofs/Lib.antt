@@ -25,6 +25,7 @@ pub mod PutSums
 pub mod ReadAnswers
 pub mod SizeCells
 pub mod Sizes
+pub mod Standing
 pub mod TableWalk
 pub mod TextMeans
 pub mod TextPuts

@@ -2,12 +2,12 @@ use Rattle.std.proofs.Common.{◌≡◌, ℕ, ◌+◌, ◌-◌, ◌≤◌, Bool,
 use Rattle.std.proofs.lemmas.List.{length-append, length-replicate}
 use Rattle.bi_base.specs.Cells.{up4}
 use Rattle.bi_legacy.specs.Meaning.{LegacyImage, IsImageName, has_table}
-use Rattle.bi_legacy.specs.Parts.{size_list, StandFrom, IsTable, HoldsParts, end_from, parts_end}
+use Rattle.bi_legacy.specs.Parts.{size_list, IsTable, HoldsParts, end_from, parts_end}
 use Rattle.bi_legacy.specs.Text.{filled, joined, normal_body, name_field, legacy_text}
 use Rattle.bi_legacy.specs.File.{header}
 use Rattle.bi_legacy.proofs.HeaderReads.{length-header}
-use Rattle.bi_legacy.proofs.PartEnds.{up4_of_four, up4-up4}
-use Rattle.bi_legacy.proofs.PartTables.{length-size_list}
+use Rattle.bi_legacy.proofs.PartTables.{size_list_aligned, table_stands}
+use Rattle.bi_legacy.proofs.Standing.{StandFrom, up4-up4}
 
 -- How long the normal data and the normal text are.
 
@@ -33,10 +33,6 @@ length-joined at (part ∷ next ∷ later) aligned =
     ∙ end_from-up4 (at + length part) (length next) (map length later)
     ∙ ap (λ n. end_from (n + length part) (map length (next ∷ later))) (sym aligned)
 
--- A list of sizes ends at a multiple of four.
-pub size_list_aligned : (parts : List (List ℕ)) → up4 (length (size_list parts)) ≡ length (size_list parts)
-size_list_aligned parts = rw (length-size_list parts) (up4_of_four (length parts + 1))
-
 -- The normal data of some parts, with or without a list of sizes, ends where the last part ends.
 normal_end : (table : Bool) (parts : List (List ℕ)) → length (if table then size_list parts ++ joined parts else joined parts) ≡ end_from (if table then length (size_list parts) else 0) (map length parts)
 normal_end true parts =
@@ -56,7 +52,7 @@ end_within end (part ∷ later) body starts stand = end_within (up4 end + length
 held_end : (table : Bool) (parts : List (List ℕ)) (body : List ℕ) → MatchBool table (IsTable parts body) (parts ≡ body ∷ []) → end_from (if table then length (size_list parts) else 0) (map length parts) ≤ length body
 held_end true parts body holds =
     end_within (length (size_list parts)) parts body (omega (arith, ap length holds.list, length-append (size_list parts) holds.behind))
-    (subst (λ (at : ℕ). StandFrom at parts body) (sym (size_list_aligned parts)) holds.stand)
+    (subst (λ (at : ℕ). StandFrom at parts body) (sym (size_list_aligned parts)) (table_stands parts body holds))
 held_end false parts body holds = rw holds (omega arith)
 
 -- The last part ends within the data that holds the parts.

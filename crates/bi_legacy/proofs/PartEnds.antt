@@ -1,4 +1,4 @@
-use Rattle.std.proofs.Common.{◌≡◌, ℕ, ◌+◌, ◌*◌, List, [], ◌∷◌, length, map, slice_index, arith, Bool, true, false, if◌then◌else◌, refl, ap, ◌∙◌, suc}
+use Rattle.std.proofs.Common.{◌≡◌, ℕ, ◌+◌, ◌*◌, List, [], ◌∷◌, length, map, slice_index, Bool, true, false, if◌then◌else◌, refl, ap, ◌∙◌, suc}
 use Rattle.bi_base.specs.Cells.{up4}
 use Rattle.bi_base.specs.Limits.{Bounds}
 use Rattle.bi_base.specs.Checks.{HasNoFault}
@@ -10,14 +10,6 @@ use Rattle.bi_legacy.proofs.PartPieces.{length_pieces, ends_checked}
 use Rattle.bi_legacy.proofs.PartTables.{first_listed, listed_parts, length-size_list}
 
 -- Where parts begin and end, as a walk over their sizes finds it.
-
--- A multiple of four is its own next multiple of four.
-pub up4_of_four : (n : ℕ) → up4 (4 * n) ≡ 4 * n
-up4_of_four n = omega arith
-
--- The next multiple of four is one.
-pub up4-up4 : (n : ℕ) → up4 (up4 n) ≡ up4 n
-up4-up4 n = omega arith
 
 -- There is a piece for each size.
 pub length-pieces : (body : List ℕ) (at : ℕ) (sizes : List ℕ) → length (pieces body at sizes) ≡ length sizes

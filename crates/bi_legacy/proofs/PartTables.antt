@@ -1,12 +1,15 @@
 use Rattle.std.proofs.Common.{◌≡◌, ℕ, ◌+◌, ◌*◌, ◌<◌, ◌^◌, List, ◌++◌, [], ◌∷◌, length, map, drop, arith, refl, sym, ap, ◌∙◌, subst, flat_map, Contains}
 use Rattle.std.proofs.lemmas.List.{length-append, length-map}
-use Rattle.bi_base.specs.Cells.{cell, AreBytes}
+use Rattle.std.specs.List.{AllByRecursion}
+use Rattle.bi_base.specs.Cells.{cell, up4, AreBytes}
 use Rattle.bi_base.proofs.CellLaws.{length-cell}
 use Rattle.bi_legacy.specs.Faults.{cells_of, listed_sizes}
-use Rattle.bi_legacy.specs.Parts.{size_list, IsTable, StandFrom}
+use Rattle.bi_legacy.specs.Meaning.{IsListedPart}
+use Rattle.bi_legacy.specs.Parts.{size_list, IsTable}
 use Rattle.bi_legacy.specs.Walk.{pieces, FitFrom}
 use Rattle.bi_legacy.proofs.PartPieces.{length_pieces, pieces_stand, pieces_listed, pieces_are, parts_end_within, part_sizes}
 use Rattle.bi_legacy.proofs.SizeCells.{size_list_is, listed_sizes_are, size_list_ends, size_list_split}
+use Rattle.bi_legacy.proofs.Standing.{StandFrom, turn_stands, standing_turn, up4_of_four}
 use Rattle.bi_legacy.proofs.ZeroEnded.{before_zero_nonzero}
 
 -- Data that holds parts behind a list of sizes, and what the list tells of them.
@@ -24,6 +27,24 @@ length-size_list parts =
     ap length (size_list_is parts) ∙ length-append (flat_map cell sizes) (cell 0)
     ∙ omega (arith, length-cells sizes, length-cell 0, length-map parts length)
 
+-- A list of sizes ends at a multiple of four.
+pub size_list_aligned : (parts : List (List ℕ)) → up4 (length (size_list parts)) ≡ length (size_list parts)
+size_list_aligned parts = rw (length-size_list parts) (up4_of_four (length parts + 1))
+
+-- Parts that data holds stand in it behind the list of their sizes.
+pub table_stands : (parts : List (List ℕ)) (body : List ℕ) → IsTable parts body → StandFrom (length (size_list parts)) parts body
+table_stands parts body table =
+    rw table.list (turn_stands (size_list parts) parts table.behind (size_list_aligned parts) table.in_turn)
+
+-- Data holds parts that stand in it behind the list of their sizes.
+pub standing_table : (parts : List (List ℕ)) (body behind : List ℕ) → body ≡ size_list parts ++ behind → AllByRecursion IsListedPart parts → StandFrom (length (size_list parts)) parts body → IsTable parts body
+standing_table parts body behind list listed stand = record {
+  behind = behind;
+  list = list;
+  listed = listed;
+  in_turn = standing_turn (size_list parts) parts behind (size_list_aligned parts) (subst (StandFrom (length (size_list parts)) parts) list stand);
+}
+
 -- Where the parts begin whose sizes a list in the data tells.
 abbrev pub first_listed : List ℕ → ℕ
 first_listed body = 4 * (length (listed_sizes body) + 1)
@@ -38,14 +59,12 @@ table_held body bytes there ends =
     let sizes : map length (listed_parts body) ≡ listed_sizes body = length_pieces body (first_listed body) (listed_sizes body) ends in
     let first : first_listed body ≡ length (size_list (listed_parts body)) =
     ap (λ n. 4 * (n + 1)) (ap length (sym sizes) ∙ length-map (listed_parts body) length) ∙ sym (length-size_list (listed_parts body)) in
-    record {
-      behind = drop (first_listed body) body;
-      list = size_list_split body bytes there
-          ∙ ap (λ list. (flat_map cell list ++ cell 0) ++ drop (first_listed body) body) (sym sizes)
-          ∙ ap (λ list. list ++ drop (first_listed body) body) (sym (size_list_is (listed_parts body)));
-      listed = pieces_listed body (first_listed body) (listed_sizes body) ends (before_zero_nonzero (cells_of body));
-      stand = subst (λ at. StandFrom at (listed_parts body) body) first (pieces_stand body (first_listed body) (listed_sizes body) ends);
-    }
+    standing_table (listed_parts body) body (drop (first_listed body) body)
+    (size_list_split body bytes there
+    ∙ ap (λ list. (flat_map cell list ++ cell 0) ++ drop (first_listed body) body) (sym sizes)
+    ∙ ap (λ list. list ++ drop (first_listed body) body) (sym (size_list_is (listed_parts body))))
+    (pieces_listed body (first_listed body) (listed_sizes body) ends (before_zero_nonzero (cells_of body)))
+    (subst (λ at. StandFrom at (listed_parts body) body) first (pieces_stand body (first_listed body) (listed_sizes body) ends))
 
 -- Data that holds these parts begins with the cells of their lengths and a cell of zero.
 table_list : (parts : List (List ℕ)) (body : List ℕ) (table : IsTable parts body) → body ≡ (flat_map cell (map length parts) ++ cell 0) ++ table.behind
@@ -55,13 +74,13 @@ table_list parts body table = table.list ∙ ap (λ list. list ++ table.behind) 
 pub table_sizes : (parts : List (List ℕ)) (body : List ℕ) → length body < 2 ^ 32 → IsTable parts body → listed_sizes body ≡ map length parts
 table_sizes parts body fits table =
     ap listed_sizes (table_list parts body table)
-    ∙ listed_sizes_are (map length parts) table.behind (part_sizes body _ parts fits table.stand table.listed)
+    ∙ listed_sizes_are (map length parts) table.behind (part_sizes body _ parts fits (table_stands parts body table) table.listed)
 
 -- The list of sizes ends in data that holds these parts.
 pub table_ends : (parts : List (List ℕ)) (body : List ℕ) → length body < 2 ^ 32 → IsTable parts body → Contains (cells_of body) 0
 table_ends parts body fits table =
     subst (λ bytes. Contains (cells_of bytes) 0) (sym (table_list parts body table))
-    (size_list_ends (map length parts) table.behind (part_sizes body _ parts fits table.stand table.listed))
+    (size_list_ends (map length parts) table.behind (part_sizes body _ parts fits (table_stands parts body table) table.listed))
 
 -- The parts begin where the list of their sizes ends.
 pub table_first : (parts : List (List ℕ)) (body : List ℕ) → length body < 2 ^ 32 → IsTable parts body → first_listed body ≡ length (size_list parts)
@@ -74,10 +93,10 @@ pub table_parts : (parts : List (List ℕ)) (body : List ℕ) → length body < 
 table_parts parts body fits table =
     ap (λ at. pieces body at (listed_sizes body)) (table_first parts body fits table)
     ∙ ap (pieces body (length (size_list parts))) (table_sizes parts body fits table)
-    ∙ pieces_are body (length (size_list parts)) parts table.stand
+    ∙ pieces_are body (length (size_list parts)) parts (table_stands parts body table)
 
 -- The parts that data tells which holds some parts end within it.
 pub table_within : (parts : List (List ℕ)) (body : List ℕ) → length body < 2 ^ 32 → IsTable parts body → FitFrom (length body) (first_listed body) (listed_sizes body)
 table_within parts body fits table =
     rw (table_first parts body fits table, table_sizes parts body fits table)
-    (parts_end_within body (length (size_list parts)) parts table.stand)
+    (parts_end_within body (length (size_list parts)) parts (table_stands parts body table))
