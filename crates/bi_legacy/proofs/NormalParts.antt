@@ -2,8 +2,8 @@ use Rattle.std.proofs.Common.{◌≡◌, ℕ, ◌-◌, Bool, true, false, List, 
 use Rattle.std.specs.List.{AllByRecursion}
 use Rattle.std.proofs.lemmas.List.{length-append}
 use Rattle.bi_base.specs.Cells.{up4}
-use Rattle.bi_legacy.specs.Meaning.{IsListedPart, AreParts, has_table}
-use Rattle.bi_legacy.specs.Parts.{size_list, HoldInTurn, IsTable, HoldsParts}
+use Rattle.bi_legacy.specs.Meaning.{IsListedPart, AreParts, has_size_list}
+use Rattle.bi_legacy.specs.Parts.{size_list, HoldInTurn, IsSizeListed, HoldsParts}
 use Rattle.bi_legacy.specs.Text.{joined, normal_body}
 use Rattle.bi_legacy.proofs.NormalLength.{length-filled}
 
@@ -23,7 +23,7 @@ joined_turn (part ∷ next ∷ later) =
     )
 
 -- The normal data of some parts, with or without a list of sizes, holds them.
-normal_holds : (table : Bool) (parts : List (List ℕ)) → MatchBool table (AllByRecursion IsListedPart parts) (length parts ≡ 1) → let body = if table then size_list parts ++ joined parts else joined parts in MatchBool table (IsTable parts body) (parts ≡ body ∷ [])
+normal_holds : (is_listed : Bool) (parts : List (List ℕ)) → MatchBool is_listed (AllByRecursion IsListedPart parts) (length parts ≡ 1) → let body = if is_listed then size_list parts ++ joined parts else joined parts in MatchBool is_listed (IsSizeListed parts body) (parts ≡ body ∷ [])
 normal_holds true parts are = record {
   behind = joined parts;
   list = refl;
@@ -36,4 +36,4 @@ normal_holds false (part ∷ next ∷ later) are = absurd (omega arith)
 
 -- The normal data holds the parts.
 pub normal_body_holds : (image_type : ℕ) (parts : List (List ℕ)) → AreParts image_type parts → HoldsParts image_type (normal_body image_type parts) parts
-normal_body_holds image_type parts are = normal_holds (has_table image_type) parts are
+normal_body_holds image_type parts are = normal_holds (has_size_list image_type) parts are

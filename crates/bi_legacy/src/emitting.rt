@@ -5,7 +5,7 @@ ghost use Rattle.bi_base.specs.Checks.{IsFirstFault, HasNoFault};
 ghost use Rattle.bi_base.specs.Limits.{Bounds};
 ghost use Rattle.bi_base.specs.Sinks.{Wrote};
 ghost use Rattle.bi_base.specs.declared.fault.Fault.{Fault};
-ghost use Rattle.bi_legacy.specs.Meaning.{LegacyImage, IsImageName, has_table};
+ghost use Rattle.bi_legacy.specs.Meaning.{LegacyImage, IsImageName, has_size_list};
 ghost use Rattle.bi_legacy.specs.Parts.{end_from, first_place};
 ghost use Rattle.bi_legacy.specs.Text.{normal_body, legacy_text};
 ghost use Rattle.bi_legacy.specs.Emitting.{Passes, fault_of, part_checks, IsEmitFault, HasNoEmitFault, bytes_of, image_of_parts};
@@ -82,7 +82,7 @@ fn is_image_name(name: &[u8]) -> bool
 
 /// Whether an image of this type can have so many parts.
 fn can_have_parts(image_type: u8, part_count: usize) -> bool
-    ensures { IsTrue result ↔ MatchBool (has_table image_type) ⊤ (part_count ≡ 1) }
+    ensures { IsTrue result ↔ MatchBool (has_size_list image_type) ⊤ (part_count ≡ 1) }
 {
     has_size_list(image_type) || part_count == 1
 }

@@ -9,7 +9,7 @@ mod header;
 pub mod laws;
 mod legacy;
 mod parts;
-mod table;
+mod size_list;
 mod text;
 
 pub use emitting::emit;

@@ -4,7 +4,7 @@ use Rattle.std.specs.List.{Contains}
 use Rattle.bi_legacy.specs.Faults.{cells_of, listed_sizes}
 use Rattle.bi_legacy.specs.Walk.{FitFrom}
 use Rattle.bi_legacy.proofs.PartPieces.{ends_pass}
-use Rattle.bi_legacy.proofs.table.listed_extent.Goals as goal
+use Rattle.bi_legacy.proofs.size_list.listed_extent.Goals as goal
 
 pub returns-in_err-end-clause-fault : goal.returns-in_err-end-clause-fault
 returns-in_err-end-clause-fault c =

@@ -2,8 +2,8 @@ use Rattle.std.proofs.Common.{◌≡◌, ◌+◌, ◌*◌, ◌≤◌, ◌∙◌,
 use Rattle.bi_base.specs.Cells.{u32_at, up4}
 use Rattle.bi_legacy.specs.Faults.{body_of}
 use Rattle.bi_legacy.proofs.Sizes.{drop-listed}
-use Rattle.bi_legacy.proofs.TableWalk.{FitFrom-one, end_from-one, first-here, first-later}
-use Rattle.bi_legacy.proofs.table.end_of_parts.Goals as goal
+use Rattle.bi_legacy.proofs.SizeWalk.{FitFrom-one, end_from-one, first-here, first-later}
+use Rattle.bi_legacy.proofs.size_list.end_of_parts.Goals as goal
 
 pub returns-then-end-body-clause-fault : goal.returns-then-end-body-clause-fault
 returns-then-end-body-clause-fault c file limits same =
