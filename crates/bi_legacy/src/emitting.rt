@@ -1,6 +1,6 @@
 //! Writing a legacy image.
 
-ghost use Rattle.std.specs.Prelude.{◌≡◌, ◌⊎◌, ◌↔◌, ℕ, ◌+◌, ◌*◌, ◌^◌, ◌<◌, ◌≤◌, List, length, map, IsTrue, OnOk, IfOk, IfErr, MatchOption, MatchBool, ⊤};
+ghost use Rattle.std.specs.Prelude.{◌≡◌, ◌⊎◌, ◌↔◌, ◌+◌, ◌*◌, ◌^◌, ◌<◌, ◌≤◌, length, map, IsTrue, OnOk, IfOk, IfErr, MatchOption, MatchBool, ⊤};
 ghost use Rattle.bi_base.specs.Checks.{IsFirstFault, HasNoFault};
 ghost use Rattle.bi_base.specs.Limits.{Bounds};
 ghost use Rattle.bi_base.specs.Sinks.{Wrote};
@@ -13,6 +13,8 @@ ghost use Rattle.bi_legacy.specs.Emitting.{Passes, fault_of, part_checks, IsEmit
 use crate::cells::up4;
 use crate::fields::{Fields, has_size_list};
 use crate::header::{HEADER_SIZE, NAME_SIZE};
+use crate::refusal::refuse;
+use crate::size_list::size_place;
 use crate::text::put_text;
 use bi_base::{Cause, Error, Fault, Limits, Sink};
 
@@ -65,12 +67,6 @@ fn check_image(fields: Fields<'_>, parts: &[&[u8]], limits: Limits) -> Result<u3
         check_parts(parts)?;
     }
     Ok(size)
-}
-
-fn refuse(cause: Cause, offset: u32) -> Result<u32, Fault>
-    ensures { result ≡ Err (record { cause = cause; offset = offset }) }
-{
-    Err(Fault { cause, offset })
 }
 
 /// Whether a header can hold this name.
@@ -135,10 +131,7 @@ fn check_parts(parts: &[&[u8]]) -> Result<(), Fault>
 {
     for (index, part) in parts.iter().enumerate() {
         if part.is_empty() {
-            return Err(Fault {
-                cause: Cause::EmptyPart,
-                offset: 64 + 4 * index as u32,
-            });
+            return refuse(Cause::EmptyPart, size_place(index));
         }
     }
     Ok(())

@@ -11,6 +11,8 @@ ghost use Rattle.bi_legacy.specs.Walk.{FitFrom, IsExtent, first_in, sizes_in};
 
 use crate::cells::{cell_at, up4};
 use crate::fields::has_size_list;
+use crate::header::HEADER_SIZE;
+use crate::refusal::refuse;
 use bi_base::{Cause, Fault, be32_at};
 
 /// How many parts some data holds, and where the last one ends in it, or the list of sizes where there are none.
@@ -50,10 +52,7 @@ fn listed_extent(body: &[u8]) -> Result<Extent, Fault>
     ensures fault { IfErr result (λ fault. (file : List ℕ) (limits : Bounds) → body_of file ≡ body.now → IsFirstFault (Passes file limits) (fault_of limits) (size_list_checks body.now) fault) }
 {
     let Some(part_count) = count_sizes(body) else {
-        return Err(Fault {
-            cause: Cause::BadPartTable,
-            offset: 64,
-        });
+        return refuse(Cause::BadPartTable, HEADER_SIZE as u32);
     };
     let end = end_of_parts(body, part_count)?;
     Ok(Extent { part_count, end })
@@ -89,11 +88,16 @@ fn end_of_parts(body: &[u8], part_count: usize) -> Result<usize, Fault>
     for index in 0..part_count {
         end = up4(end) + cell_at(body, 4 * index) as usize;
         if end > body.len() {
-            return Err(Fault {
-                cause: Cause::BadPart,
-                offset: 64 + 4 * index as u32,
-            });
+            return refuse(Cause::BadPart, size_place(index));
         }
     }
     Ok(end)
+}
+
+/// Where the size of a part stands in the file.
+pub(crate) fn size_place(index: usize) -> u32
+    requires { 64 + 4 * index < 2 ^ 32 }
+    ensures { result ≡ 64 + 4 * index }
+{
+    (HEADER_SIZE + 4 * index) as u32
 }
