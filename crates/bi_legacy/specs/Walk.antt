@@ -1,4 +1,4 @@
-use Rattle.std.specs.Prelude.{ℕ, ◌+◌, ◌*◌, ◌^◌, ◌<◌, ◌≤◌, ◌≡◌, ◌==◌, Bool, List, [], ◌∷◌, length, drop, slice_index, if◌then◌else◌}
+use Rattle.std.specs.Prelude.{ℕ, ◌+◌, ◌*◌, ◌^◌, ◌<◌, ◌≤◌, ◌≡◌, ◌==◌, Bool, List, [], ◌∷◌, length, drop, map, slice_index, if◌then◌else◌}
 use Rattle.std.specs.List.{before_first}
 use Rattle.bi_base.specs.Cells.{slice, u32_at, up4}
 use Rattle.bi_legacy.specs.Meaning.{LegacyImage, has_size_list}
@@ -24,6 +24,10 @@ cut_from body at [] = []
 cut_from body at (size ∷ sizes) =
     record { place = 64 + at; bytes = slice body at size } ∷ cut_from body (up4 (at + size)) sizes
 
+-- The same pieces without their places.
+abbrev pub pieces : List ℕ → ℕ → List ℕ → List (List ℕ)
+pieces body at sizes = map (λ (piece : Piece). piece.bytes) (cut_from body at sizes)
+
 -- Each of the pieces of these sizes, the first from `at` on, ends within so many bytes.
 abbrev pub FitFrom : ℕ → ℕ → List ℕ → Type 0
 FitFrom most at [] = Unit {0}
@@ -37,11 +41,6 @@ pub record IsPartsState (is_listed : Bool) (body : List ℕ) (part_count index p
   pub fit : FitFrom (length body) place (drop index (sizes_in is_listed body))
   pub near : place < 2 ^ 32
   pub small : length body < 2 ^ 31
-
--- The pieces of these sizes of some data, the first from `at` on and each later one from the next multiple of four.
-abbrev pub pieces : List ℕ → ℕ → List ℕ → List (List ℕ)
-pieces body at [] = []
-pieces body at (size ∷ sizes) = slice body at size ∷ pieces body (up4 (at + size)) sizes
 
 -- The parts of the data of an image of this type: as its list of sizes tells, or the whole.
 abbrev pub parts_in : ℕ → List ℕ → List (List ℕ)
