@@ -3,9 +3,9 @@ use Rattle.std.specs.List.{AllByRecursion, flat_map}
 use Rattle.bi_base.specs.Cells.{cell, up4}
 use Rattle.bi_legacy.specs.Meaning.{has_size_list, IsListedPart}
 
--- The parts of an image in its data (U-Boot, include/image.h and boot/image.c: multi-file images). A list of
--- sizes is whole cells, so a multiple of four from its end is one from the data's beginning, from which places are
--- counted. That the bytes between the parts, and behind the last one, may be anything is profile of this project.
+-- The parts of an image in its data (U-Boot, include/image.h and boot/image.c: multi-file images). A list of sizes is
+-- whole cells, so a multiple of four from its end is one from the data's beginning, from which places are counted. That
+-- the bytes between the parts, and behind the last one, may be anything is profile of this project.
 
 -- The list of sizes: the length of each part as a cell, and a cell of zero that ends the list.
 abbrev pub size_list : List (List ℕ) → List ℕ
