@@ -10,8 +10,8 @@ use Rattle.bi_legacy.specs.Emitting.{Check, Passes, fault_of, FitsLimit, part_ch
 use Rattle.bi_legacy.specs.Meaning.{LegacyImage, IsImageName, has_size_list}
 use Rattle.bi_legacy.specs.Parts.{size_list}
 use Rattle.bi_legacy.specs.Text.{joined, normal_body, legacy_text}
-use Rattle.bi_legacy.proofs.NormalLength.{length-legacy_text, length-normal_body}
 use Rattle.bi_legacy.proofs.HeldParts.{length-size_list}
+use Rattle.bi_legacy.proofs.NormalLength.{length-legacy_text, length-normal_body}
 
 -- What decides whether an image can be written.
 

@@ -8,8 +8,8 @@ use Rattle.bi_legacy.specs.Parts.{IsSizeListed}
 use Rattle.bi_legacy.specs.Text.{IsLegacyImage, legacy_text}
 use Rattle.bi_legacy.proofs.ByteLists.{first_bytes}
 use Rattle.bi_legacy.proofs.HeaderReads.{field_read, body_read, length-file}
-use Rattle.bi_legacy.proofs.NormalLength.{length-normal_body, length-legacy_text, parts_end_in}
 use Rattle.bi_legacy.proofs.HeldParts.{held_stands}
+use Rattle.bi_legacy.proofs.NormalLength.{length-normal_body, length-legacy_text, parts_end_in}
 use Rattle.bi_legacy.proofs.Standing.{StandFrom}
 
 -- What a file means is a meaning that a legacy image can have, and its normal text is no longer than the file.

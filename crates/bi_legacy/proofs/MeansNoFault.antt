@@ -7,8 +7,8 @@ use Rattle.bi_legacy.specs.File.{LegacyMeans}
 use Rattle.bi_legacy.specs.Meaning.{LegacyImage, has_size_list}
 use Rattle.bi_legacy.specs.Parts.{IsSizeListed, HoldsParts}
 use Rattle.bi_legacy.proofs.HeaderReads.{magic_read, header_sum_read, size_read, data_sum_read, type_read, body_read, summed_read, length-file}
-use Rattle.bi_legacy.proofs.PartPieces.{ends_pass}
 use Rattle.bi_legacy.proofs.HeldParts.{held_ends, held_within}
+use Rattle.bi_legacy.proofs.PartPieces.{ends_pass}
 
 -- A file that has a meaning within the limits fails no check.
 

@@ -10,9 +10,9 @@ use Rattle.bi_legacy.specs.Parts.{IsSizeListed}
 use Rattle.bi_legacy.specs.Walk.{read_image}
 use Rattle.bi_legacy.proofs.FileCuts.{drop_slice, u32_at_fits}
 use Rattle.bi_legacy.proofs.HeaderSplit.{header_split}
+use Rattle.bi_legacy.proofs.HeldParts.{listed_parts, sizes_held}
 use Rattle.bi_legacy.proofs.NameField.{name_held}
 use Rattle.bi_legacy.proofs.PartPieces.{ends_checked}
-use Rattle.bi_legacy.proofs.HeldParts.{listed_parts, sizes_held}
 
 -- A file that fails no check is a legacy image, which means what its bytes say at the fields' places.
 

@@ -7,8 +7,8 @@ use Rattle.bi_legacy.specs.Meaning.{LegacyImage, has_size_list}
 use Rattle.bi_legacy.specs.Parts.{IsSizeListed}
 use Rattle.bi_legacy.specs.Walk.{read_image, parts_in}
 use Rattle.bi_legacy.proofs.HeaderReads.{time_read, load_read, entry_read, os_read, arch_read, type_read, compression_read, field_read, body_read}
-use Rattle.bi_legacy.proofs.NameField.{name_is}
 use Rattle.bi_legacy.proofs.HeldParts.{listed_parts, held_listed_parts}
+use Rattle.bi_legacy.proofs.NameField.{name_is}
 
 -- A file means at most one image: what is read at the fields' places.
 

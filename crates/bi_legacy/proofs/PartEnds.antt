@@ -6,8 +6,8 @@ use Rattle.bi_legacy.specs.Faults.{Passes, HasNoLegacyFault, body_of, listed_siz
 use Rattle.bi_legacy.specs.Meaning.{has_size_list}
 use Rattle.bi_legacy.specs.Parts.{size_list, end_from, parts_end}
 use Rattle.bi_legacy.specs.Walk.{pieces, parts_in, read_end, FitFrom, first_in, sizes_in}
-use Rattle.bi_legacy.proofs.PartPieces.{length_pieces, ends_checked}
 use Rattle.bi_legacy.proofs.HeldParts.{first_listed, listed_parts, length-size_list}
+use Rattle.bi_legacy.proofs.PartPieces.{length_pieces, ends_checked}
 
 -- Where parts begin and end, as a walk over their sizes finds it.
 

@@ -6,8 +6,8 @@ use Rattle.bi_legacy.specs.Meaning.{has_size_list}
 use Rattle.bi_legacy.specs.Parts.{size_list, first_place}
 use Rattle.bi_legacy.specs.Pieces.{Piece, placed_from}
 use Rattle.bi_legacy.specs.Walk.{FitFrom, cut_from, first_in, sizes_in, pieces, parts_in}
-use Rattle.bi_legacy.proofs.PartEnds.{length-pieces, listed_first}
 use Rattle.bi_legacy.proofs.HeldParts.{first_listed, listed_parts}
+use Rattle.bi_legacy.proofs.PartEnds.{length-pieces, listed_first}
 
 -- The parts that data tells, with their places.
 
