@@ -7,11 +7,11 @@ use Rattle.bi_base.specs.Limits.{Bounds}
 use Rattle.bi_base.specs.declared.fault.Fault.{Fault}
 use Rattle.bi_base.proofs.FirstFault.{one_fault, not_both}
 use Rattle.bi_legacy.specs.Emitting.{Check, Passes, fault_of, FitsLimit, part_checks, checks, IsEmitFault, HasNoEmitFault, bytes_of}
-use Rattle.bi_legacy.specs.Meaning.{LegacyImage, IsImageName, has_table}
+use Rattle.bi_legacy.specs.Meaning.{LegacyImage, IsImageName, has_size_list}
 use Rattle.bi_legacy.specs.Parts.{size_list}
 use Rattle.bi_legacy.specs.Text.{joined, normal_body, legacy_text}
+use Rattle.bi_legacy.proofs.HeldParts.{length-size_list}
 use Rattle.bi_legacy.proofs.NormalLength.{length-legacy_text, length-normal_body}
-use Rattle.bi_legacy.proofs.PartTables.{length-size_list}
 
 -- What decides whether an image can be written.
 
@@ -21,36 +21,36 @@ length-text image name =
     length-legacy_text image name ∙ ap (λ n. 64 + n) (sym (length-normal_body image.image_type image.parts))
 
 -- Parts that are lent are as many as their bytes.
-pub count-bytes_of : (table : Bool) (slices : List (Bor (List ℕ))) → MatchBool table ⊤ (length slices ≡ 1) → MatchBool table ⊤ (length (bytes_of slices) ≡ 1)
-count-bytes_of table slices count =
-    subst (λ (n : ℕ). MatchBool table ⊤ (n ≡ 1)) (sym (length-map slices (λ slice. slice.now))) count
+pub count-bytes_of : (is_listed : Bool) (slices : List (Bor (List ℕ))) → MatchBool is_listed ⊤ (length slices ≡ 1) → MatchBool is_listed ⊤ (length (bytes_of slices) ≡ 1)
+count-bytes_of is_listed slices count =
+    subst (λ (n : ℕ). MatchBool is_listed ⊤ (n ≡ 1)) (sym (length-map slices (λ slice. slice.now))) count
 
 -- The list of sizes is within the normal data.
-pub list_within : (image_type : ℕ) (slices : List (Bor (List ℕ))) → has_table image_type ≡ true → 4 * (length slices + 1) ≤ length (normal_body image_type (bytes_of slices))
+pub list_within : (image_type : ℕ) (slices : List (Bor (List ℕ))) → has_size_list image_type ≡ true → 4 * (length slices + 1) ≤ length (normal_body image_type (bytes_of slices))
 list_within image_type slices listed =
     let parts = bytes_of slices in
-    let P : Bool → Type 0 = λ table. 4 * (length slices + 1) ≤ length (if table then size_list parts ++ joined parts else joined parts) in
+    let P : Bool → Type 0 = λ is_listed. 4 * (length slices + 1) ≤ length (if is_listed then size_list parts ++ joined parts else joined parts) in
     subst P (sym listed)
     (omega (arith, length-append (size_list parts) (joined parts), length-size_list parts, length-map slices (λ slice. slice.now)))
 
 -- The checks of the parts that an image of this type has.
 abbrev pub kind_checks : Bool → LegacyImage → List Check
-kind_checks table image = if table then part_checks 0 image.parts else []
+kind_checks is_listed image = if is_listed then part_checks 0 image.parts else []
 
 -- An image whose name and number of parts are right, whose text is within the limit and whose parts pass has no fault.
-pub can_be_written : (image : LegacyImage) (limits : Bounds) (table : Bool) → IsImageName image.name → MatchBool (has_table image.image_type) ⊤ (length image.parts ≡ 1) → length (legacy_text image) ≤ limits.file → has_table image.image_type ≡ table → HasNoFault (Passes image limits) (kind_checks table image) → HasNoEmitFault image limits
-can_be_written image limits table name count short e parts =
+pub can_be_written : (image : LegacyImage) (limits : Bounds) (is_listed : Bool) → IsImageName image.name → MatchBool (has_size_list image.image_type) ⊤ (length image.parts ≡ 1) → length (legacy_text image) ≤ limits.file → has_size_list image.image_type ≡ is_listed → HasNoFault (Passes image limits) (kind_checks is_listed image) → HasNoEmitFault image limits
+can_be_written image limits is_listed name count short e parts =
     let P : Bool → Type 0 = λ kind. HasNoFault (Passes image limits) (kind_checks kind image) in
     (name, (count, (short, subst P (sym e) parts)))
 
 -- Where the parts do not pass, their first fault is the image's.
-pub fault_in_parts : (image : LegacyImage) (limits : Bounds) (table : Bool) (fault : Fault) → IsImageName image.name → MatchBool (has_table image.image_type) ⊤ (length image.parts ≡ 1) → length (legacy_text image) ≤ limits.file → has_table image.image_type ≡ table → IsFirstFault (Passes image limits) (fault_of limits) (kind_checks table image) fault → IsEmitFault image limits fault
-fault_in_parts image limits table fault name count short e first =
+pub fault_in_parts : (image : LegacyImage) (limits : Bounds) (is_listed : Bool) (fault : Fault) → IsImageName image.name → MatchBool (has_size_list image.image_type) ⊤ (length image.parts ≡ 1) → length (legacy_text image) ≤ limits.file → has_size_list image.image_type ≡ is_listed → IsFirstFault (Passes image limits) (fault_of limits) (kind_checks is_listed image) fault → IsEmitFault image limits fault
+fault_in_parts image limits is_listed fault name count short e first =
     let P : Bool → Type 0 = λ kind. IsFirstFault (Passes image limits) (fault_of limits) (kind_checks kind image) fault in
     inr (name, inr (count, inr (short, subst P (sym e) first)))
 
 -- Where the text is longer than the limit, that is the first fault.
-pub text_too_long : (image : LegacyImage) (limits : Bounds) → IsImageName image.name → MatchBool (has_table image.image_type) ⊤ (length image.parts ≡ 1) → limits.file < length (legacy_text image) → IsEmitFault image limits (fault_of limits FitsLimit)
+pub text_too_long : (image : LegacyImage) (limits : Bounds) → IsImageName image.name → MatchBool (has_size_list image.image_type) ⊤ (length image.parts ≡ 1) → limits.file < length (legacy_text image) → IsEmitFault image limits (fault_of limits FitsLimit)
 text_too_long image limits name count long =
     inr (name, inr (count, inl (λ (within : length (legacy_text image) ≤ limits.file). omega arith, refl)))
 

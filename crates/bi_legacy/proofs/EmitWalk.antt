@@ -5,7 +5,7 @@ use Rattle.bi_base.specs.Cells.{up4}
 use Rattle.bi_base.specs.Checks.{IsFirstFault, HasNoFault}
 use Rattle.bi_base.specs.Limits.{Bounds}
 use Rattle.bi_base.specs.declared.fault.Fault.{Fault}
-use Rattle.bi_legacy.specs.Emitting.{Passes, fault_of, part_checks, HasBytes, bytes_of}
+use Rattle.bi_legacy.specs.Emitting.{Passes, fault_of, part_checks, IsNotEmpty, bytes_of}
 use Rattle.bi_legacy.specs.Meaning.{LegacyImage}
 use Rattle.bi_legacy.specs.Parts.{end_from}
 
@@ -31,9 +31,9 @@ drop-sizes_of slices i d within =
     ∙ ap (λ later. length (get_or slices i d).now ∷ later) (sym (drop-map length (i + 1) (bytes_of slices)))
 
 -- An empty part is the first fault of those that are left.
-pub empty_here : (image : LegacyImage) (limits : Bounds) (index : ℕ) (part : List ℕ) (parts later : List (List ℕ)) → parts ≡ part ∷ later → length part ≡ 0 → IsFirstFault (Passes image limits) (fault_of limits) (part_checks index parts) (fault_of limits (HasBytes index part))
+pub empty_here : (image : LegacyImage) (limits : Bounds) (index : ℕ) (part : List ℕ) (parts later : List (List ℕ)) → parts ≡ part ∷ later → length part ≡ 0 → IsFirstFault (Passes image limits) (fault_of limits) (part_checks index parts) (fault_of limits (IsNotEmpty index part))
 empty_here image limits index part parts later e empty =
-    subst (λ (left : List (List ℕ)). IsFirstFault (Passes image limits) (fault_of limits) (part_checks index left) (fault_of limits (HasBytes index part))) (sym e) (inl (λ listed. omega arith, refl))
+    subst (λ (left : List (List ℕ)). IsFirstFault (Passes image limits) (fault_of limits) (part_checks index left) (fault_of limits (IsNotEmpty index part))) (sym e) (inl (λ listed. omega arith, refl))
 
 -- Behind a part that is not empty, the first fault is that of the others.
 pub empty_later : (image : LegacyImage) (limits : Bounds) (index : ℕ) (part : List ℕ) (parts later : List (List ℕ)) (fault : Fault) → parts ≡ part ∷ later → 0 < length part → IsFirstFault (Passes image limits) (fault_of limits) (part_checks (index + 1) later) fault → IsFirstFault (Passes image limits) (fault_of limits) (part_checks index parts) fault

@@ -7,6 +7,7 @@ pub mod FileCuts
 pub mod HeaderReads
 pub mod HeaderSplit
 pub mod HeaderSum
+pub mod HeldParts
 pub mod ImageOfFile
 pub mod MeansNoFault
 pub mod NameField
@@ -19,13 +20,13 @@ pub mod NthPart
 pub mod OneMeaning
 pub mod PartEnds
 pub mod PartPieces
-pub mod PartTables
 pub mod PlacedParts
 pub mod PutSums
 pub mod ReadAnswers
 pub mod SizeCells
+pub mod SizeWalk
 pub mod Sizes
-pub mod TableWalk
+pub mod Standing
 pub mod TextMeans
 pub mod TextPuts
 pub mod VectorFacts

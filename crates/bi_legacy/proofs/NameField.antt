@@ -1,7 +1,7 @@
 use Rattle.std.proofs.Common.{◌≡◌, ◌==◌, ℕ, List, length, drop, arith, sym, ◌∙◌, ap, take-append-drop, length-take}
 use Rattle.std.specs.List.{before_first}
 use Rattle.bi_legacy.specs.File.{HoldsName}
-use Rattle.bi_legacy.proofs.ZeroEnded.{zero_place, before_zero_is, before_zero_nonzero, behind_zero_unused}
+use Rattle.bi_legacy.proofs.ZeroEnded.{zero_place, before_zero_is, before_zero_nonzero, behind_first_zero}
 
 -- The name that a header's 32 bytes hold.
 
@@ -10,7 +10,7 @@ pub name_held : (field : List ℕ) → length field ≡ 32 → HoldsName field (
 name_held field whole = record {
   padding = drop (zero_place field) field;
   spelled = sym (take-append-drop (zero_place field) field);
-  unused = behind_zero_unused field;
+  unused = behind_first_zero field;
   whole = whole;
   is_name = record {
     short = omega (arith, length-take (zero_place field) field);

@@ -2,7 +2,7 @@ use Rattle.std.proofs.Common.{ℕ, Bool, true, false, List, ◌++◌, [], ◌∷
 use Rattle.std.specs.List.{AllByRecursion}
 use Rattle.bi_base.specs.Cells.{cell, AreBytes}
 use Rattle.bi_legacy.specs.File.{header}
-use Rattle.bi_legacy.specs.Meaning.{LegacyImage, HasRanges, has_table}
+use Rattle.bi_legacy.specs.Meaning.{LegacyImage, FitsFields, has_size_list}
 use Rattle.bi_legacy.specs.Parts.{size_list}
 use Rattle.bi_legacy.specs.Text.{filled, joined, name_field, legacy_text, IsLegacyImage}
 use Rattle.bi_legacy.proofs.ByteLists.{no_bytes, byte_first, bytes_joined, zero_bytes, cell_bytes, cells_bytes}
@@ -23,12 +23,12 @@ joined_bytes (part ∷ next ∷ later) are =
     bytes_joined (filled part) (joined (next ∷ later)) (bytes_joined part _ are.0 (zero_bytes _)) (joined_bytes (next ∷ later) are.1)
 
 -- The normal data of parts of bytes, with or without a list of sizes, is bytes.
-kind_bytes : (table : Bool) (parts : List (List ℕ)) → AllByRecursion AreBytes parts → AreBytes (if table then size_list parts ++ joined parts else joined parts)
+kind_bytes : (is_listed : Bool) (parts : List (List ℕ)) → AllByRecursion AreBytes parts → AreBytes (if is_listed then size_list parts ++ joined parts else joined parts)
 kind_bytes true parts are = bytes_joined (size_list parts) (joined parts) (size_list_bytes parts) (joined_bytes parts are)
 kind_bytes false parts are = joined_bytes parts are
 
 -- The codes of an image and its name's field are bytes.
-codes_bytes : (image : LegacyImage) (field : List ℕ) → HasRanges image → AreBytes field → AreBytes ((image.os ∷ image.arch ∷ image.image_type ∷ image.compression ∷ []) ++ field)
+codes_bytes : (image : LegacyImage) (field : List ℕ) → FitsFields image → AreBytes field → AreBytes ((image.os ∷ image.arch ∷ image.image_type ∷ image.compression ∷ []) ++ field)
 codes_bytes image field ranges are =
     byte_first image.os _ ranges.os (byte_first image.arch _ ranges.arch (byte_first image.image_type _ ranges.image_type
     (byte_first image.compression field ranges.compression are)))
@@ -38,7 +38,7 @@ cell_first : (n : ℕ) (rest : List ℕ) → AreBytes rest → AreBytes (cell n 
 cell_first n rest are = bytes_joined (cell n) rest (cell_bytes n) are
 
 -- A header is bytes.
-header_bytes : (image : LegacyImage) (field body : List ℕ) → HasRanges image → AreBytes field → AreBytes (header image field body)
+header_bytes : (image : LegacyImage) (field body : List ℕ) → FitsFields image → AreBytes field → AreBytes (header image field body)
 unfolding header
 header_bytes image field body ranges are =
     cell_first _ _ (cell_first _ _ (cell_first _ _ (cell_first _ _ (cell_first _ _ (cell_first _ _ (cell_first _ _
@@ -49,4 +49,4 @@ pub legacy_text_bytes : (image : LegacyImage) → IsLegacyImage image → AreByt
 unfolding legacy_text
 legacy_text_bytes image is =
     bytes_joined _ _ (header_bytes image (name_field image.name) _ is.ranges (bytes_joined image.name _ is.name_bytes (zero_bytes _)))
-    (kind_bytes (has_table image.image_type) image.parts is.parts_bytes)
+    (kind_bytes (has_size_list image.image_type) image.parts is.parts_bytes)

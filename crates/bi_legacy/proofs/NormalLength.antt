@@ -1,13 +1,13 @@
 use Rattle.std.proofs.Common.{◌≡◌, ℕ, ◌+◌, ◌-◌, ◌≤◌, Bool, true, false, List, ◌++◌, [], ◌∷◌, length, replicate, map, arith, sym, ap, subst, ◌∙◌, MatchBool, if◌then◌else◌}
 use Rattle.std.proofs.lemmas.List.{length-append, length-replicate}
 use Rattle.bi_base.specs.Cells.{up4}
-use Rattle.bi_legacy.specs.Meaning.{LegacyImage, IsImageName, has_table}
-use Rattle.bi_legacy.specs.Parts.{size_list, StandFrom, IsTable, HoldsParts, end_from, parts_end}
+use Rattle.bi_legacy.specs.Meaning.{LegacyImage, IsImageName, has_size_list}
+use Rattle.bi_legacy.specs.Parts.{size_list, IsSizeListed, HoldsParts, end_from, parts_end}
 use Rattle.bi_legacy.specs.Text.{filled, joined, normal_body, name_field, legacy_text}
 use Rattle.bi_legacy.specs.File.{header}
 use Rattle.bi_legacy.proofs.HeaderReads.{length-header}
-use Rattle.bi_legacy.proofs.PartEnds.{up4_of_four, up4-up4}
-use Rattle.bi_legacy.proofs.PartTables.{length-size_list}
+use Rattle.bi_legacy.proofs.HeldParts.{size_list_aligned, held_stands}
+use Rattle.bi_legacy.proofs.Standing.{StandFrom, up4-up4}
 
 -- How long the normal data and the normal text are.
 
@@ -33,19 +33,15 @@ length-joined at (part ∷ next ∷ later) aligned =
     ∙ end_from-up4 (at + length part) (length next) (map length later)
     ∙ ap (λ n. end_from (n + length part) (map length (next ∷ later))) (sym aligned)
 
--- A list of sizes ends at a multiple of four.
-pub size_list_aligned : (parts : List (List ℕ)) → up4 (length (size_list parts)) ≡ length (size_list parts)
-size_list_aligned parts = rw (length-size_list parts) (up4_of_four (length parts + 1))
-
 -- The normal data of some parts, with or without a list of sizes, ends where the last part ends.
-normal_end : (table : Bool) (parts : List (List ℕ)) → length (if table then size_list parts ++ joined parts else joined parts) ≡ end_from (if table then length (size_list parts) else 0) (map length parts)
+normal_end : (is_listed : Bool) (parts : List (List ℕ)) → length (if is_listed then size_list parts ++ joined parts else joined parts) ≡ end_from (if is_listed then length (size_list parts) else 0) (map length parts)
 normal_end true parts =
     length-append (size_list parts) (joined parts) ∙ length-joined (length (size_list parts)) parts (size_list_aligned parts)
 normal_end false parts = omega (arith, length-joined 0 parts (omega arith))
 
 -- The normal data ends where the last part ends, also where an image cannot have such parts.
 pub length-normal_body : (image_type : ℕ) (parts : List (List ℕ)) → length (normal_body image_type parts) ≡ parts_end image_type parts
-length-normal_body image_type parts = normal_end (has_table image_type) parts
+length-normal_body image_type parts = normal_end (has_size_list image_type) parts
 
 -- Parts that stand in data, the first at the next multiple of four from an end within it, end within it.
 end_within : (end : ℕ) (parts : List (List ℕ)) (body : List ℕ) → end ≤ length body → StandFrom (up4 end) parts body → end_from end (map length parts) ≤ length body
@@ -53,15 +49,15 @@ end_within end [] body starts stand = starts
 end_within end (part ∷ later) body starts stand = end_within (up4 end + length part) later body stand.0 stand.2
 
 -- The last part ends within data of a kind with or without a list that holds the parts.
-held_end : (table : Bool) (parts : List (List ℕ)) (body : List ℕ) → MatchBool table (IsTable parts body) (parts ≡ body ∷ []) → end_from (if table then length (size_list parts) else 0) (map length parts) ≤ length body
+held_end : (is_listed : Bool) (parts : List (List ℕ)) (body : List ℕ) → MatchBool is_listed (IsSizeListed parts body) (parts ≡ body ∷ []) → end_from (if is_listed then length (size_list parts) else 0) (map length parts) ≤ length body
 held_end true parts body holds =
     end_within (length (size_list parts)) parts body (omega (arith, ap length holds.list, length-append (size_list parts) holds.behind))
-    (subst (λ (at : ℕ). StandFrom at parts body) (sym (size_list_aligned parts)) holds.stand)
+    (subst (λ (at : ℕ). StandFrom at parts body) (sym (size_list_aligned parts)) (held_stands parts body holds))
 held_end false parts body holds = rw holds (omega arith)
 
 -- The last part ends within the data that holds the parts.
 pub parts_end_in : (image_type : ℕ) (parts : List (List ℕ)) (body : List ℕ) → HoldsParts image_type body parts → parts_end image_type parts ≤ length body
-parts_end_in image_type parts body holds = held_end (has_table image_type) parts body holds
+parts_end_in image_type parts body holds = held_end (has_size_list image_type) parts body holds
 
 -- The name's field has 32 bytes.
 pub length-name_field : (name : List ℕ) → length name ≤ 32 → length (name_field name) ≡ 32

@@ -3,18 +3,18 @@ use Rattle.std.specs.List.{before_first}
 use Rattle.bi_base.specs.Cells.{slice}
 use Rattle.bi_legacy.specs.Faults.{body_of}
 use Rattle.bi_legacy.specs.File.{IsLegacyFile}
-use Rattle.bi_legacy.specs.Meaning.{LegacyImage, has_table}
-use Rattle.bi_legacy.specs.Parts.{IsTable}
+use Rattle.bi_legacy.specs.Meaning.{LegacyImage, has_size_list}
+use Rattle.bi_legacy.specs.Parts.{IsSizeListed}
 use Rattle.bi_legacy.specs.Walk.{read_image, parts_in}
 use Rattle.bi_legacy.proofs.HeaderReads.{time_read, load_read, entry_read, os_read, arch_read, type_read, compression_read, field_read, body_read}
+use Rattle.bi_legacy.proofs.HeldParts.{listed_parts, held_listed_parts}
 use Rattle.bi_legacy.proofs.NameField.{name_is}
-use Rattle.bi_legacy.proofs.PartTables.{listed_parts, table_parts}
 
 -- A file means at most one image: what is read at the fields' places.
 
 -- The parts that data tells which holds some parts are these.
-parts_read : (table : Bool) (parts : List (List ℕ)) (body : List ℕ) → length body < 2 ^ 32 → MatchBool table (IsTable parts body) (parts ≡ body ∷ []) → (if table then listed_parts body else body ∷ []) ≡ parts
-parts_read true parts body fits holds = table_parts parts body fits holds
+parts_read : (is_listed : Bool) (parts : List (List ℕ)) (body : List ℕ) → length body < 2 ^ 32 → MatchBool is_listed (IsSizeListed parts body) (parts ≡ body ∷ []) → (if is_listed then listed_parts body else body ∷ []) ≡ parts
+parts_read true parts body fits holds = held_listed_parts parts body fits holds
 parts_read false parts body fits holds = sym holds
 
 -- A file that means an image reads as this image.
@@ -24,7 +24,7 @@ image_read file image is =
     ap (before_first (λ byte. byte == 0)) (field_read file image is) ∙ name_is is.field image.name is.name in
     let parts : parts_in (slice_index file 30) (body_of file) ≡ image.parts =
     ap₂ parts_in (type_read file image is) (body_read file image is)
-    ∙ parts_read (has_table image.image_type) image.parts is.body is.size is.parts in
+    ∙ parts_read (has_size_list image.image_type) image.parts is.body is.size is.parts in
     λ i. record {
       time = time_read file image is i;
       load = load_read file image is i;

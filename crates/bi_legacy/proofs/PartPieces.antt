@@ -6,9 +6,9 @@ use Rattle.bi_base.specs.Limits.{Bounds}
 use Rattle.bi_base.proofs.CellLaws.{length-slice}
 use Rattle.bi_legacy.specs.Faults.{Passes, part_checks, body_of}
 use Rattle.bi_legacy.specs.Meaning.{IsListedPart}
-use Rattle.bi_legacy.specs.Parts.{StandFrom}
 use Rattle.bi_legacy.specs.Walk.{FitFrom, pieces}
 use Rattle.bi_legacy.proofs.SizeCells.{IsSize}
+use Rattle.bi_legacy.proofs.Standing.{StandFrom}
 
 -- Parts that stand in data, and the pieces of their sizes.
 

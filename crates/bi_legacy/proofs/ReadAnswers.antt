@@ -11,8 +11,8 @@ use Rattle.bi_legacy.proofs.MeansNoFault.{means_no_fault}
 use Rattle.bi_legacy.proofs.NoFaultMeans.{no_fault_means}
 use Rattle.bi_legacy.specs.Parts.{parts_end}
 use Rattle.bi_legacy.specs.Walk.{read_image, read_end}
-use Rattle.bi_legacy.proofs.PartEnds.{told_end}
 use Rattle.bi_legacy.proofs.OneMeaning.{one_meaning}
+use Rattle.bi_legacy.proofs.PartEnds.{told_end}
 
 -- What an answer says of a file that is right by the checks: told where none fails, else the first fault.
 

@@ -1,6 +1,6 @@
 use Rattle.std.proofs.Common.{◌≡◌, ◌-◌, ℕ, List, ◌++◌, [], length, replicate, refl, sym, ap, arith, zero, suc, append-nil}
 use Rattle.bi_base.specs.Limits.{Bounds}
-use Rattle.bi_legacy.specs.File.{header, IsUnused, HoldsName, IsLegacyFile, LegacyMeans}
+use Rattle.bi_legacy.specs.File.{header, IsEmptyOrZeroLed, HoldsName, IsLegacyFile, LegacyMeans}
 use Rattle.bi_legacy.specs.Meaning.{LegacyImage, IsImageName}
 use Rattle.bi_legacy.specs.Text.{normal_body, name_field, legacy_text, IsLegacyImage}
 use Rattle.bi_legacy.proofs.ImageOfFile.{image_of_file, text_no_longer}
@@ -12,16 +12,16 @@ use Rattle.bi_legacy.proofs.OneMeaning.{one_meaning}
 -- The normal text is a legacy image that means what it was made of.
 
 -- Zeros are nothing, or a zero and then anything.
-zeros_unused : (n : ℕ) → IsUnused (replicate n 0)
-zeros_unused zero = tt
-zeros_unused (suc n) = refl
+zeros_zero_led : (n : ℕ) → IsEmptyOrZeroLed (replicate n 0)
+zeros_zero_led zero = tt
+zeros_zero_led (suc n) = refl
 
 -- The name's normal field holds the name.
 name_field_holds : (name : List ℕ) → IsImageName name → HoldsName (name_field name) name
 name_field_holds name is = record {
   padding = replicate (32 - length name) 0;
   spelled = refl;
-  unused = zeros_unused (32 - length name);
+  unused = zeros_zero_led (32 - length name);
   whole = length-name_field name is.short;
   is_name = is;
 }

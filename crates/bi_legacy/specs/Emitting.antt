@@ -5,7 +5,7 @@ use Rattle.bi_base.specs.declared.fault.Cause.TheVariants.{TooLarge, EmptyPart, 
 use Rattle.bi_base.specs.Limits.{Bounds}
 use Rattle.bi_base.specs.Checks.{IsFirstFault, HasNoFault}
 use Rattle.bi_legacy.specs.declared.fields.Fields.{Fields}
-use Rattle.bi_legacy.specs.Meaning.{LegacyImage, IsImageName, IsListedPart, has_table}
+use Rattle.bi_legacy.specs.Meaning.{LegacyImage, IsImageName, IsListedPart, has_size_list}
 use Rattle.bi_legacy.specs.Reading.{image_of}
 use Rattle.bi_legacy.specs.Text.{legacy_text}
 
@@ -19,35 +19,36 @@ bytes_of slices = map (λ slice. slice.now) slices
 abbrev pub image_of_parts : Fields → List (Bor (List ℕ)) → LegacyImage
 image_of_parts fields parts = image_of fields (bytes_of parts)
 
+-- The checks of an image to be written.
 pub data Check : Type 0 where
   HasImageName : Check
   HasPartCount : Check
   FitsLimit : Check
-  HasBytes : (index : ℕ) → (part : List ℕ) → Check
+  IsNotEmpty : (index : ℕ) → (part : List ℕ) → Check
 
 -- What each check asks.
 abbrev pub Passes : LegacyImage → Bounds → Check → Type 0
 Passes image limits HasImageName = IsImageName image.name
-Passes image limits HasPartCount = MatchBool (has_table image.image_type) ⊤ (length image.parts ≡ 1)
+Passes image limits HasPartCount = MatchBool (has_size_list image.image_type) ⊤ (length image.parts ≡ 1)
 Passes image limits FitsLimit = length (legacy_text image) ≤ limits.file
-Passes image limits (HasBytes index part) = IsListedPart part
+Passes image limits (IsNotEmpty index part) = IsListedPart part
 
 -- What the image is refused with where a check fails: the place of the field in the image to be written, or the limit.
 abbrev pub fault_of : Bounds → Check → Fault
 fault_of limits HasImageName = record { cause = BadField; offset = 32 }
 fault_of limits HasPartCount = record { cause = BadField; offset = 30 }
 fault_of limits FitsLimit = record { cause = TooLarge; offset = limits.file }
-fault_of limits (HasBytes index part) = record { cause = EmptyPart; offset = 64 + 4 * index }
+fault_of limits (IsNotEmpty index part) = record { cause = EmptyPart; offset = 64 + 4 * index }
 
 -- A check of each of these parts, the first of which is part `index`.
 abbrev pub part_checks : ℕ → List (List ℕ) → List Check
 part_checks index [] = []
-part_checks index (part ∷ parts) = HasBytes index part ∷ part_checks (index + 1) parts
+part_checks index (part ∷ parts) = IsNotEmpty index part ∷ part_checks (index + 1) parts
 
 -- All checks of an image to be written, in their order.
 abbrev pub checks : LegacyImage → List Check
 checks image =
-    HasImageName ∷ HasPartCount ∷ FitsLimit ∷ (if has_table image.image_type then part_checks 0 image.parts else [])
+    HasImageName ∷ HasPartCount ∷ FitsLimit ∷ (if has_size_list image.image_type then part_checks 0 image.parts else [])
 
 -- What an image is refused with: the fault of its first failing check.
 abbrev pub IsEmitFault : LegacyImage → Bounds → Fault → Type 0

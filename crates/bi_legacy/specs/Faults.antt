@@ -7,7 +7,8 @@ use Rattle.bi_base.specs.Cells.{cell, slice, u32_at, up4}
 use Rattle.bi_base.specs.Crc.{crc32}
 use Rattle.bi_base.specs.Limits.{Bounds}
 use Rattle.bi_base.specs.Checks.{IsFirstFault, HasNoFault}
-use Rattle.bi_legacy.specs.Meaning.{has_table}
+use Rattle.bi_legacy.specs.File.{legacy_magic}
+use Rattle.bi_legacy.specs.Meaning.{has_size_list}
 
 -- The checks of a legacy image, and what a file is refused with (profile of this project).
 
@@ -28,6 +29,7 @@ body_of file = slice file 64 (u32_at file 12)
 abbrev pub summed_header : List ℕ → List ℕ
 summed_header file = slice file 0 4 ++ (cell 0 ++ slice file 8 56)
 
+-- The checks of a legacy image.
 pub data Check : Type 0 where
   IsWithinLimit : Check
   HasMagicCell : Check
@@ -43,7 +45,7 @@ pub data Check : Type 0 where
 abbrev pub Passes : List ℕ → Bounds → Check → Type 0
 Passes file limits IsWithinLimit = length file ≤ limits.file
 Passes file limits HasMagicCell = 4 ≤ length file
-Passes file limits HasMagic = u32_at file 0 ≡ 0x27051956
+Passes file limits HasMagic = u32_at file 0 ≡ legacy_magic
 Passes file limits HasHeader = 64 ≤ length file
 Passes file limits HasHeaderChecksum = u32_at file 4 ≡ crc32 (summed_header file)
 Passes file limits HasData = 64 + u32_at file 12 ≤ length file
@@ -69,8 +71,8 @@ part_checks index at [] = []
 part_checks index at (size ∷ sizes) = HasPart index (at + size) ∷ part_checks (index + 1) (up4 (at + size)) sizes
 
 -- The checks of the data of multi and script images.
-abbrev pub table_checks : List ℕ → List Check
-table_checks body =
+abbrev pub size_list_checks : List ℕ → List Check
+size_list_checks body =
     let sizes = listed_sizes body in HasListEnd ∷ part_checks 0 (4 * (length sizes + 1)) sizes
 
 -- The checks of header and data, in their order.
@@ -79,7 +81,7 @@ header_checks = IsWithinLimit ∷ HasMagicCell ∷ HasMagic ∷ HasHeader ∷ Ha
 
 -- The checks of the data of an image of this type.
 abbrev pub body_checks : ℕ → List ℕ → List Check
-body_checks image_type body = if has_table image_type then table_checks body else []
+body_checks image_type body = if has_size_list image_type then size_list_checks body else []
 
 -- All checks of a legacy image, in their order. Byte 30 of the header is the type.
 abbrev pub checks : List ℕ → List Check

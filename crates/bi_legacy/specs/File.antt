@@ -2,14 +2,18 @@ use Rattle.std.specs.Prelude.{ℕ, ◌^◌, ◌<◌, ◌≤◌, ◌≡◌, List,
 use Rattle.bi_base.specs.Cells.{cell, AreBytes}
 use Rattle.bi_base.specs.Crc.{crc32}
 use Rattle.bi_base.specs.Limits.{Bounds}
-use Rattle.bi_legacy.specs.Meaning.{LegacyImage, HasRanges, IsImageName}
+use Rattle.bi_legacy.specs.Meaning.{LegacyImage, FitsFields, IsImageName}
 use Rattle.bi_legacy.specs.Parts.{HoldsParts}
+
+-- The magic number of a legacy image (U-Boot, include/image.h: IH_MAGIC).
+abbrev pub legacy_magic : ℕ
+legacy_magic = 0x27051956
 
 -- The 64 bytes of a header with these numbers as its header checksum, its data size and its data checksum (U-Boot,
 -- include/image.h: struct legacy_img_hdr). `field` is the name's 32 bytes.
 abbrev pub header_cells : ℕ → ℕ → ℕ → LegacyImage → List ℕ → List ℕ
 header_cells checksum size sum image field =
-    cell 0x27051956 ++ (cell checksum ++ (cell image.time ++ (cell size ++ (cell image.load ++ (cell image.entry
+    cell legacy_magic ++ (cell checksum ++ (cell image.time ++ (cell size ++ (cell image.load ++ (cell image.entry
     ++ (cell sum ++ ((image.os ∷ image.arch ∷ image.image_type ∷ image.compression ∷ []) ++ field)))))))
 
 -- The header of this data with a given number as its header checksum.
@@ -21,16 +25,16 @@ unfoldable pub header : LegacyImage → List ℕ → List ℕ → List ℕ
 header image field body = header_with (crc32 (header_with 0 image field body)) image field body
 
 -- Nothing, or a zero and then anything.
-abbrev pub IsUnused : List ℕ → Type 0
-IsUnused [] = Unit {0}
-IsUnused (byte ∷ bytes) = byte ≡ 0
+abbrev pub IsEmptyOrZeroLed : List ℕ → Type 0
+IsEmptyOrZeroLed [] = Unit {0}
+IsEmptyOrZeroLed (byte ∷ bytes) = byte ≡ 0
 
 -- The name's 32 bytes hold this name: the bytes before the first zero. That what follows that zero is free, and that a
 -- name may fill all 32 bytes, is profile of this project.
 pub record HoldsName (field name : List ℕ) : Type 0 where
   pub padding : List ℕ
   pub spelled : field ≡ name ++ padding
-  pub unused : IsUnused padding
+  pub unused : IsEmptyOrZeroLed padding
   pub whole : length field ≡ 32
   pub is_name : IsImageName name
 
@@ -40,7 +44,7 @@ pub record IsLegacyFile (file : List ℕ) (image : LegacyImage) : Type 0 where
   pub body : List ℕ
   pub rest : List ℕ
   pub spelled : file ≡ header image field body ++ (body ++ rest)
-  pub ranges : HasRanges image
+  pub ranges : FitsFields image
   pub name : HoldsName field image.name
   pub size : length body < 2 ^ 32
   pub parts : HoldsParts image.image_type body image.parts

@@ -3,7 +3,7 @@ use Rattle.std.specs.List.{AllByRecursion}
 use Rattle.bi_base.specs.declared.fault.Fault.{Fault}
 use Rattle.bi_base.specs.Cells.{AreBytes}
 use Rattle.bi_base.specs.Limits.{Bounds}
-use Rattle.bi_legacy.specs.Meaning.{LegacyImage, HasRanges}
+use Rattle.bi_legacy.specs.Meaning.{LegacyImage, FitsFields}
 use Rattle.bi_legacy.specs.File.{IsLegacyFile, LegacyMeans}
 use Rattle.bi_legacy.specs.Text.{legacy_text, IsLegacyImage}
 use Rattle.bi_legacy.specs.Faults.{IsLegacyFault, HasNoLegacyFault}
@@ -73,6 +73,6 @@ MeantCanBeWritten =
 -- What can be written under the limits means, once it is written, what was to be written.
 abbrev pub WrittenMeansImage : Type 0
 WrittenMeansImage =
-    (image : LegacyImage) (limits : Bounds) → HasRanges image → AreBytes image.name →
+    (image : LegacyImage) (limits : Bounds) → FitsFields image → AreBytes image.name →
     AllByRecursion AreBytes image.parts → limits.file < 2 ^ 32 → HasNoEmitFault image limits →
     LegacyMeans (legacy_text image) image limits

@@ -1,39 +1,41 @@
-use Rattle.std.specs.Prelude.{ℕ, ◌+◌, ◌≤◌, ◌≡◌, List, [], ◌∷◌, ◌++◌, length, map, MatchBool, if◌then◌else◌}
+use Rattle.std.specs.Prelude.{ℕ, ◌+◌, ◌≡◌, List, [], ◌∷◌, ◌++◌, length, map, MatchBool, if◌then◌else◌}
 use Rattle.std.specs.List.{AllByRecursion, flat_map}
-use Rattle.bi_base.specs.Cells.{cell, slice, up4}
-use Rattle.bi_legacy.specs.Meaning.{has_table, IsListedPart}
+use Rattle.bi_base.specs.Cells.{cell, up4}
+use Rattle.bi_legacy.specs.Meaning.{has_size_list, IsListedPart}
 
--- The parts of an image in its data (U-Boot, include/image.h and boot/image.c: multi-file images). Places are counted
--- from the data's beginning; a list of sizes is whole cells, so a multiple of four from its end is one from there. That
+-- The parts of an image in its data (U-Boot, include/image.h and boot/image.c: multi-file images). A list of sizes is
+-- whole cells, so a multiple of four from its end is one from the data's beginning, from which places are counted. That
 -- the bytes between the parts, and behind the last one, may be anything is profile of this project.
 
 -- The list of sizes: the length of each part as a cell, and a cell of zero that ends the list.
 abbrev pub size_list : List (List ℕ) → List ℕ
 size_list parts = flat_map (λ part. cell (length part)) parts ++ cell 0
 
--- Each part stands in this data, the first at `at` and each later one at the next multiple of four; what lies between
--- them is free.
-abbrev pub StandFrom : ℕ → List (List ℕ) → List ℕ → Type 0
-StandFrom at [] body = Unit {0}
-StandFrom at (part ∷ parts) body =
-    (at + length part ≤ length body) × (slice body at (length part) ≡ part) × StandFrom (up4 (at + length part)) parts body
+-- These bytes are the parts one behind another, and then anything. Behind each part but the last stand free bytes up to the
+-- next multiple of four.
+abbrev pub HoldInTurn : List (List ℕ) → List ℕ → Type 0
+HoldInTurn [] bytes = Unit {0}
+HoldInTurn (part ∷ []) bytes = (behind : List ℕ) × (bytes ≡ part ++ behind)
+HoldInTurn (part ∷ next ∷ later) bytes =
+    (padding behind : List ℕ) × (bytes ≡ part ++ (padding ++ behind)) × (length part + length padding ≡ up4 (length part))
+    × HoldInTurn (next ∷ later) behind
 
 -- The data, of less than 2^32 bytes, is the list of sizes of these parts and then the parts, the first right behind the
 -- list; what lies behind the last one is free.
-pub record IsTable (parts : List (List ℕ)) (body : List ℕ) : Type 0 where
+pub record IsSizeListed (parts : List (List ℕ)) (body : List ℕ) : Type 0 where
   pub behind : List ℕ
   pub list : body ≡ size_list parts ++ behind
   pub listed : AllByRecursion IsListedPart parts
-  pub stand : StandFrom (length (size_list parts)) parts body
+  pub in_turn : HoldInTurn parts behind
 
 -- The data of an image of this type holds these parts: by a list of sizes for multi and script images, else it is
 -- itself the one part.
 abbrev pub HoldsParts : ℕ → List ℕ → List (List ℕ) → Type 0
-HoldsParts image_type body parts = MatchBool (has_table image_type) (IsTable parts body) (parts ≡ body ∷ [])
+HoldsParts image_type body parts = MatchBool (has_size_list image_type) (IsSizeListed parts body) (parts ≡ body ∷ [])
 
 -- Where the parts begin in the data.
 abbrev pub first_place : ℕ → List (List ℕ) → ℕ
-first_place image_type parts = if has_table image_type then length (size_list parts) else 0
+first_place image_type parts = if has_size_list image_type then length (size_list parts) else 0
 
 -- Where the last of the pieces of these sizes ends, each of which begins at the next multiple of four from where the one
 -- before it ends, the first from `end` on.

@@ -1,7 +1,7 @@
 use Rattle.std.specs.Prelude.{ℕ, ◌-◌, ◌^◌, ◌<◌, List, [], ◌∷◌, ◌++◌, length, replicate, if◌then◌else◌}
 use Rattle.std.specs.List.{AllByRecursion}
 use Rattle.bi_base.specs.Cells.{up4, AreBytes}
-use Rattle.bi_legacy.specs.Meaning.{LegacyImage, HasRanges, IsImageName, AreParts, has_table}
+use Rattle.bi_legacy.specs.Meaning.{LegacyImage, FitsFields, IsImageName, AreParts, has_size_list}
 use Rattle.bi_legacy.specs.Parts.{size_list}
 use Rattle.bi_legacy.specs.File.{header}
 
@@ -19,7 +19,7 @@ joined (part ∷ next ∷ later) = filled part ++ joined (next ∷ later)
 
 -- The normal data: for multi and script images the list of sizes and the parts, else the one part.
 abbrev pub normal_body : ℕ → List (List ℕ) → List ℕ
-normal_body image_type parts = if has_table image_type then size_list parts ++ joined parts else joined parts
+normal_body image_type parts = if has_size_list image_type then size_list parts ++ joined parts else joined parts
 
 -- The name's 32 bytes: the name, and then zeros.
 abbrev pub name_field : List ℕ → List ℕ
@@ -32,7 +32,7 @@ legacy_text image =
 
 -- A meaning that a legacy image can have: every number, the name and the parts are ones that the format can hold.
 pub record IsLegacyImage (image : LegacyImage) : Type 0 where
-  pub ranges : HasRanges image
+  pub ranges : FitsFields image
   pub name : IsImageName image.name
   pub name_bytes : AreBytes image.name
   pub parts : AreParts image.image_type image.parts

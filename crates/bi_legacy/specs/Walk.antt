@@ -1,7 +1,7 @@
-use Rattle.std.specs.Prelude.{ℕ, ◌+◌, ◌*◌, ◌^◌, ◌<◌, ◌≤◌, ◌≡◌, ◌==◌, Bool, List, [], ◌∷◌, length, drop, slice_index, if◌then◌else◌}
+use Rattle.std.specs.Prelude.{ℕ, ◌+◌, ◌*◌, ◌^◌, ◌<◌, ◌≤◌, ◌≡◌, ◌==◌, Bool, List, [], ◌∷◌, length, drop, map, slice_index, if◌then◌else◌}
 use Rattle.std.specs.List.{before_first}
 use Rattle.bi_base.specs.Cells.{slice, u32_at, up4}
-use Rattle.bi_legacy.specs.Meaning.{LegacyImage, has_table}
+use Rattle.bi_legacy.specs.Meaning.{LegacyImage, has_size_list}
 use Rattle.bi_legacy.specs.Parts.{end_from}
 use Rattle.bi_legacy.specs.Faults.{listed_sizes, body_of}
 use Rattle.bi_legacy.specs.Pieces.{Piece}
@@ -24,6 +24,10 @@ cut_from body at [] = []
 cut_from body at (size ∷ sizes) =
     record { place = 64 + at; bytes = slice body at size } ∷ cut_from body (up4 (at + size)) sizes
 
+-- The same pieces without their places.
+abbrev pub pieces : List ℕ → ℕ → List ℕ → List (List ℕ)
+pieces body at sizes = map (λ (piece : Piece). piece.bytes) (cut_from body at sizes)
+
 -- Each of the pieces of these sizes, the first from `at` on, ends within so many bytes.
 abbrev pub FitFrom : ℕ → ℕ → List ℕ → Type 0
 FitFrom most at [] = Unit {0}
@@ -38,15 +42,10 @@ pub record IsPartsState (is_listed : Bool) (body : List ℕ) (part_count index p
   pub near : place < 2 ^ 32
   pub small : length body < 2 ^ 31
 
--- The pieces of these sizes of some data, the first from `at` on and each later one from the next multiple of four.
-abbrev pub pieces : List ℕ → ℕ → List ℕ → List (List ℕ)
-pieces body at [] = []
-pieces body at (size ∷ sizes) = slice body at size ∷ pieces body (up4 (at + size)) sizes
-
 -- The parts of the data of an image of this type: as its list of sizes tells, or the whole.
 abbrev pub parts_in : ℕ → List ℕ → List (List ℕ)
 parts_in image_type body =
-    if has_table image_type then pieces body (4 * (length (listed_sizes body) + 1)) (listed_sizes body) else body ∷ []
+    if has_size_list image_type then pieces body (4 * (length (listed_sizes body) + 1)) (listed_sizes body) else body ∷ []
 
 -- What the bytes of a file say at the places of a legacy image's fields, whether or not it is one.
 abbrev pub read_image : List ℕ → LegacyImage
@@ -66,7 +65,7 @@ read_image file =
 -- Where the parts that they say end in the data, by the sizes alone.
 abbrev pub read_end : List ℕ → ℕ
 read_end file =
-    let listed = has_table (slice_index file 30) in end_from (first_in listed (body_of file)) (sizes_in listed (body_of file))
+    let listed = has_size_list (slice_index file 30) in end_from (first_in listed (body_of file)) (sizes_in listed (body_of file))
 
 -- What holds of the parts that some data was found to hold.
 pub record IsExtent (is_listed : Bool) (body : List ℕ) (part_count : ℕ) : Type 0 where

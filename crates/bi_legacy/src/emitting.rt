@@ -1,11 +1,11 @@
 //! Writing a legacy image.
 
-ghost use Rattle.std.specs.Prelude.{◌≡◌, ◌⊎◌, ◌↔◌, ℕ, ◌+◌, ◌*◌, ◌^◌, ◌<◌, ◌≤◌, List, length, map, IsTrue, OnOk, IfOk, IfErr, MatchOption, MatchBool, ⊤};
+ghost use Rattle.std.specs.Prelude.{◌≡◌, ◌⊎◌, ◌↔◌, ◌+◌, ◌*◌, ◌^◌, ◌<◌, ◌≤◌, length, map, IsTrue, OnOk, IfOk, IfErr, MatchOption, MatchBool, ⊤};
 ghost use Rattle.bi_base.specs.Checks.{IsFirstFault, HasNoFault};
 ghost use Rattle.bi_base.specs.Limits.{Bounds};
 ghost use Rattle.bi_base.specs.Sinks.{Wrote};
 ghost use Rattle.bi_base.specs.declared.fault.Fault.{Fault};
-ghost use Rattle.bi_legacy.specs.Meaning.{LegacyImage, IsImageName, has_table};
+ghost use Rattle.bi_legacy.specs.Meaning.{LegacyImage, IsImageName, has_size_list};
 ghost use Rattle.bi_legacy.specs.Parts.{end_from, first_place};
 ghost use Rattle.bi_legacy.specs.Text.{normal_body, legacy_text};
 ghost use Rattle.bi_legacy.specs.Emitting.{Passes, fault_of, part_checks, IsEmitFault, HasNoEmitFault, bytes_of, image_of_parts};
@@ -13,6 +13,8 @@ ghost use Rattle.bi_legacy.specs.Emitting.{Passes, fault_of, part_checks, IsEmit
 use crate::cells::up4;
 use crate::fields::{Fields, has_size_list};
 use crate::header::{HEADER_SIZE, NAME_SIZE};
+use crate::refusal::refuse;
+use crate::size_list::size_place;
 use crate::text::put_text;
 use bi_base::{Cause, Error, Fault, Limits, Sink};
 
@@ -67,12 +69,6 @@ fn check_image(fields: Fields<'_>, parts: &[&[u8]], limits: Limits) -> Result<u3
     Ok(size)
 }
 
-fn refuse(cause: Cause, offset: u32) -> Result<u32, Fault>
-    ensures { result ≡ Err (record { cause = cause; offset = offset }) }
-{
-    Err(Fault { cause, offset })
-}
-
 /// Whether a header can hold this name.
 fn is_image_name(name: &[u8]) -> bool
     ensures { IsTrue result ↔ IsImageName name.now }
@@ -82,7 +78,7 @@ fn is_image_name(name: &[u8]) -> bool
 
 /// Whether an image of this type can have so many parts.
 fn can_have_parts(image_type: u8, part_count: usize) -> bool
-    ensures { IsTrue result ↔ MatchBool (has_table image_type) ⊤ (part_count ≡ 1) }
+    ensures { IsTrue result ↔ MatchBool (has_size_list image_type) ⊤ (part_count ≡ 1) }
 {
     has_size_list(image_type) || part_count == 1
 }
@@ -135,10 +131,7 @@ fn check_parts(parts: &[&[u8]]) -> Result<(), Fault>
 {
     for (index, part) in parts.iter().enumerate() {
         if part.is_empty() {
-            return Err(Fault {
-                cause: Cause::EmptyPart,
-                offset: 64 + 4 * index as u32,
-            });
+            return refuse(Cause::EmptyPart, size_place(index));
         }
     }
     Ok(())

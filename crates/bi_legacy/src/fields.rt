@@ -1,7 +1,7 @@
 //! The fields of a legacy header.
 
 ghost use Rattle.std.specs.Prelude.{◌≡◌};
-ghost use Rattle.bi_legacy.specs.Meaning.{has_table};
+ghost use Rattle.bi_legacy.specs.Meaning.{has_size_list as is_size_listed};
 
 /// The code of a multi-file image.
 const MULTI: u8 = 4;
@@ -33,7 +33,7 @@ pub struct Fields<'a> {
 
 /// Whether the data of an image of this type is a list of sizes and then the parts.
 pub(crate) fn has_size_list(image_type: u8) -> bool
-    ensures { result ≡ has_table image_type }
+    ensures { result ≡ is_size_listed image_type }
 {
     image_type == MULTI || image_type == SCRIPT
 }

@@ -1,17 +1,16 @@
-//! The header: its checks, and the fields that it tells.
+//! The header's layout, and the checks of the header and data checksums.
 
-ghost use Rattle.std.specs.Prelude.{◌≡◌, ◌≤◌, ◌+◌, ◌^◌, ◌<◌, length, OnOk, IfErr, slice_index, ◌==◌};
-ghost use Rattle.std.specs.List.{before_first};
-ghost use Rattle.bi_base.specs.Cells.{slice, u32_at};
+ghost use Rattle.std.specs.Prelude.{◌≡◌, ◌≤◌, length, OnOk, IfErr};
 ghost use Rattle.bi_base.specs.Crc.{crc32 as crc32_of};
 ghost use Rattle.bi_base.specs.Checks.{IsFirstFault, HasNoFault};
 ghost use Rattle.bi_legacy.specs.Faults.{Passes, fault_of, header_checks, summed_header};
 
 use crate::cells::cell_at;
+use crate::refusal::refuse;
 use bi_base::{Cause, Crc32, Fault, Limits, be32_at, crc32};
 
-/// The magic number of a legacy image.
-pub(crate) const MAGIC: u32 = 0x2705_1956;
+/// The magic number of a legacy image (U-Boot, include/image.h: `IH_MAGIC`).
+pub const MAGIC: u32 = 0x2705_1956;
 
 /// The bytes of a header.
 pub(crate) const HEADER_SIZE: usize = 64;
@@ -47,12 +46,6 @@ pub(crate) fn check_header(file: &[u8], limits: Limits) -> Result<(), Fault>
         return refuse(Cause::BadDataCrc, 24);
     }
     Ok(())
-}
-
-fn refuse(cause: Cause, offset: u32) -> Result<(), Fault>
-    ensures { result ≡ Err (record { cause = cause; offset = offset }) }
-{
-    Err(Fault { cause, offset })
 }
 
 /// The CRC-32 of the header with zeros in the place of its checksum.

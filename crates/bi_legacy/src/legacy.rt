@@ -1,11 +1,11 @@
 //! Reading a legacy image.
 
-ghost use Rattle.std.specs.Prelude.{◌≡◌, ◌==◌, ℕ, ◌+◌, ◌-◌, ◌^◌, ◌<◌, ◌≤◌, ◌↔◌, List, length, slice_get, IsOk, OnOk, IfOk, IfErr};
+ghost use Rattle.std.specs.Prelude.{◌≡◌, ◌==◌, ◌+◌, ◌-◌, ◌≤◌, ◌↔◌, length, slice_get, IsOk, OnOk, IfOk, IfErr};
 ghost use Rattle.std.specs.Option.{option_map};
 ghost use Rattle.std.specs.List.{before_first};
-ghost use Rattle.bi_base.specs.Cells.{slice, u32_at};
+ghost use Rattle.bi_base.specs.Cells.{u32_at};
 ghost use Rattle.bi_base.specs.declared.fault.Fault.{Fault};
-ghost use Rattle.bi_legacy.specs.Meaning.{LegacyImage, has_table};
+ghost use Rattle.bi_legacy.specs.Meaning.{LegacyImage, has_size_list};
 ghost use Rattle.bi_legacy.specs.File.{LegacyMeans};
 ghost use Rattle.bi_legacy.specs.Faults.{IsLegacyFault, HasNoLegacyFault, body_of};
 ghost use Rattle.bi_legacy.specs.Pieces.{piece_of, placed_parts};
@@ -16,7 +16,7 @@ use crate::cells::cell_at;
 use crate::fields::{Fields, has_size_list};
 use crate::header::{HEADER_SIZE, check_header};
 use crate::parts::{Part, Parts};
-use crate::table::extent_of;
+use crate::size_list::extent_of;
 use bi_base::{Fault, Limits};
 use std::marker::Model;
 
@@ -37,7 +37,7 @@ impl<'a> Model for Legacy<'a> {
       unused = legacy.unused;
     } };
 
-    ghost invariant = { λ legacy. IsExtent (has_table legacy.fields.image_type) legacy.body.now legacy.part_count };
+    ghost invariant = { λ legacy. IsExtent (has_size_list legacy.fields.image_type) legacy.body.now legacy.part_count };
 }
 
 impl<'a> Legacy<'a> {

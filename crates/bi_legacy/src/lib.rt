@@ -9,11 +9,13 @@ mod header;
 pub mod laws;
 mod legacy;
 mod parts;
-mod table;
+mod refusal;
+mod size_list;
 mod text;
 
 pub use emitting::emit;
 pub use fields::Fields;
+pub use header::MAGIC;
 pub use legacy::Legacy;
 pub use parts::{Part, Parts};
 

@@ -1,6 +1,6 @@
 //! The parts of an image, in their order.
 
-ghost use Rattle.std.specs.Prelude.{◌≡◌, ℕ, ◌+◌, ◌*◌, ◌^◌, ◌<◌, ◌≤◌, List, [], ◌∷◌, length, drop, MatchOption};
+ghost use Rattle.std.specs.Prelude.{◌≡◌, ◌+◌, ◌^◌, ◌<◌, ◌≤◌, List, ◌∷◌, length, drop};
 ghost use Rattle.std.specs.Iterator.{at_most};
 ghost use Rattle.bi_legacy.specs.Pieces.{Piece, GivesPart};
 ghost use Rattle.bi_legacy.specs.Walk.{IsPartsState, cut_from, sizes_in, first_in, FitFrom};

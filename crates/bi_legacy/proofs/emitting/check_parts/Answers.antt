@@ -8,12 +8,13 @@ use Rattle.bi_legacy.proofs.EmitWalk.{drop-bytes_of, empty_here, empty_later, no
 use Rattle.bi_legacy.proofs.emitting.check_parts.Goals as goal
 
 pub returns-then-is_empty-clause-fault : goal.returns-then-is_empty-clause-fault
-returns-then-is_empty-clause-fault c image limits =
+returns-then-is_empty-clause-fault c =
     let parts = c.args.parts.now in
     let index = c.loop-index.index in
     let nothing : Bor (List ℕ) = record { ref_ptr = (0, 0); now = [] } in
     let e = drop-bytes_of parts index nothing (omega arith) in
-    c.loop-index.invariant.fault image limits _ (empty_here image limits index _ _ _ e (eqb-true _ 0 (sym c.is_empty.ensures ∙ c.if-is_empty.true)))
+    rw (c.refuse.ensures, c.size_place.ensures) (λ image limits.
+    c.loop-index.invariant.fault image limits _ (empty_here image limits index _ _ _ e (eqb-true _ 0 (sym c.is_empty.ensures ∙ c.if-is_empty.true))))
 
 pub loop-index-preserved : goal.loop-index-preserved
 loop-index-preserved c =

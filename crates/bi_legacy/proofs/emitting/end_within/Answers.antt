@@ -4,7 +4,7 @@ use Rattle.bi_base.specs.Cells.{up4}
 use Rattle.bi_legacy.specs.Emitting.{bytes_of}
 use Rattle.bi_legacy.specs.Parts.{end_from}
 use Rattle.bi_legacy.proofs.EmitWalk.{end_from-grows, drop-sizes_of}
-use Rattle.bi_legacy.proofs.TableWalk.{end_from-one}
+use Rattle.bi_legacy.proofs.SizeWalk.{end_from-one}
 use Rattle.bi_legacy.proofs.emitting.end_within.Goals as goal
 
 pub returns-then-end-most : goal.returns-then-end-most

@@ -2,17 +2,18 @@ use Rattle.std.proofs.Common.{◌≡◌, ◌+◌, ◌*◌, ◌≤◌, ◌∙◌,
 use Rattle.bi_base.specs.Cells.{u32_at, up4}
 use Rattle.bi_legacy.specs.Faults.{body_of}
 use Rattle.bi_legacy.proofs.Sizes.{drop-listed}
-use Rattle.bi_legacy.proofs.TableWalk.{FitFrom-one, end_from-one, first-here, first-later}
-use Rattle.bi_legacy.proofs.table.end_of_parts.Goals as goal
+use Rattle.bi_legacy.proofs.SizeWalk.{FitFrom-one, end_from-one, first-here, first-later}
+use Rattle.bi_legacy.proofs.size_list.end_of_parts.Goals as goal
 
 pub returns-then-end-body-clause-fault : goal.returns-then-end-body-clause-fault
-returns-then-end-body-clause-fault c file limits same =
+returns-then-end-body-clause-fault c =
     let body = c.args.body.now in
     let index = c.loop-index.index in
     let e = drop-listed body index (omega arith) (omega arith) in
+    rw (c.refuse.ensures, c.size_place.ensures) (λ file limits same.
     c.loop-index.invariant.fault file limits _ same
     (first-here file limits index (up4 c.loop-index.end) (u32_at body (4 * index)) _ _ e
-    (λ fits. let long : length body ≡ length (body_of file) = ap length (sym same) in absurd (omega arith)))
+    (λ fits. let long : length body ≡ length (body_of file) = ap length (sym same) in absurd (omega arith))))
 
 pub loop-index-preserved : goal.loop-index-preserved
 loop-index-preserved c =

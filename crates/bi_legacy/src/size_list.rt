@@ -4,13 +4,15 @@ ghost use Rattle.std.specs.Prelude.{◌≡◌, ℕ, true, ◌+◌, ◌*◌, ◌^
 ghost use Rattle.std.specs.List.{Contains};
 ghost use Rattle.bi_base.specs.Checks.{IsFirstFault, HasNoFault};
 ghost use Rattle.bi_base.specs.Limits.{Bounds};
-ghost use Rattle.bi_legacy.specs.Faults.{Passes, fault_of, body_of, cells_of, listed_sizes, table_checks, body_checks, part_checks};
+ghost use Rattle.bi_legacy.specs.Faults.{Passes, fault_of, body_of, cells_of, listed_sizes, size_list_checks, body_checks, part_checks};
 ghost use Rattle.bi_legacy.specs.Parts.{end_from};
-ghost use Rattle.bi_legacy.specs.Meaning.{has_table};
+ghost use Rattle.bi_legacy.specs.Meaning.{has_size_list};
 ghost use Rattle.bi_legacy.specs.Walk.{FitFrom, IsExtent, first_in, sizes_in};
 
 use crate::cells::{cell_at, up4};
 use crate::fields::has_size_list;
+use crate::header::HEADER_SIZE;
+use crate::refusal::refuse;
 use bi_base::{Cause, Fault, be32_at};
 
 /// How many parts some data holds, and where the last one ends in it, or the list of sizes where there are none.
@@ -25,8 +27,8 @@ pub(crate) struct Extent {
 pub(crate) fn extent_of(image_type: u8, body: &[u8]) -> Result<Extent, Fault>
     requires { length body.now < 2 ^ 31 }
     ensures ok { IfOk result (λ extent. (file : List ℕ) (limits : Bounds) → body_of file ≡ body.now → HasNoFault (Passes file limits) (body_checks image_type body.now)) }
-    ensures extent { IfOk result (λ extent. IsExtent (has_table image_type) body.now extent.part_count) }
-    ensures end { IfOk result (λ extent. extent.end ≡ end_from (first_in (has_table image_type) body.now) (sizes_in (has_table image_type) body.now)) }
+    ensures extent { IfOk result (λ extent. IsExtent (has_size_list image_type) body.now extent.part_count) }
+    ensures end { IfOk result (λ extent. extent.end ≡ end_from (first_in (has_size_list image_type) body.now) (sizes_in (has_size_list image_type) body.now)) }
     ensures within { IfOk result (λ extent. extent.end ≤ length body.now) }
     ensures fault { IfErr result (λ fault. (file : List ℕ) (limits : Bounds) → body_of file ≡ body.now → IsFirstFault (Passes file limits) (fault_of limits) (body_checks image_type body.now) fault) }
 {
@@ -43,17 +45,14 @@ pub(crate) fn extent_of(image_type: u8, body: &[u8]) -> Result<Extent, Fault>
 /// The extent of the parts that a list of sizes tells.
 fn listed_extent(body: &[u8]) -> Result<Extent, Fault>
     requires { length body.now < 2 ^ 31 }
-    ensures ok { IfOk result (λ extent. (file : List ℕ) (limits : Bounds) → body_of file ≡ body.now → HasNoFault (Passes file limits) (table_checks body.now)) }
+    ensures ok { IfOk result (λ extent. (file : List ℕ) (limits : Bounds) → body_of file ≡ body.now → HasNoFault (Passes file limits) (size_list_checks body.now)) }
     ensures extent { IfOk result (λ extent. IsExtent true body.now extent.part_count) }
     ensures end { IfOk result (λ extent. extent.end ≡ end_from (4 * (length (listed_sizes body.now) + 1)) (listed_sizes body.now)) }
     ensures within { IfOk result (λ extent. extent.end ≤ length body.now) }
-    ensures fault { IfErr result (λ fault. (file : List ℕ) (limits : Bounds) → body_of file ≡ body.now → IsFirstFault (Passes file limits) (fault_of limits) (table_checks body.now) fault) }
+    ensures fault { IfErr result (λ fault. (file : List ℕ) (limits : Bounds) → body_of file ≡ body.now → IsFirstFault (Passes file limits) (fault_of limits) (size_list_checks body.now) fault) }
 {
     let Some(part_count) = count_sizes(body) else {
-        return Err(Fault {
-            cause: Cause::BadPartTable,
-            offset: 64,
-        });
+        return refuse(Cause::BadPartTable, HEADER_SIZE as u32);
     };
     let end = end_of_parts(body, part_count)?;
     Ok(Extent { part_count, end })
@@ -89,11 +88,16 @@ fn end_of_parts(body: &[u8], part_count: usize) -> Result<usize, Fault>
     for index in 0..part_count {
         end = up4(end) + cell_at(body, 4 * index) as usize;
         if end > body.len() {
-            return Err(Fault {
-                cause: Cause::BadPart,
-                offset: 64 + 4 * index as u32,
-            });
+            return refuse(Cause::BadPart, size_place(index));
         }
     }
     Ok(end)
+}
+
+/// Where the size of a part stands in the file.
+pub(crate) fn size_place(index: usize) -> u32
+    requires { 64 + 4 * index < 2 ^ 32 }
+    ensures { result ≡ 64 + 4 * index }
+{
+    (HEADER_SIZE + 4 * index) as u32
 }

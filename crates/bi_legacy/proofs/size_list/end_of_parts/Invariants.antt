@@ -6,7 +6,7 @@ use Rattle.bi_base.specs.Limits.{Bounds}
 use Rattle.bi_legacy.specs.Faults.{Passes, fault_of, body_of, listed_sizes, part_checks}
 use Rattle.bi_legacy.specs.Parts.{end_from}
 use Rattle.bi_legacy.specs.Walk.{FitFrom}
-use Rattle.bi_legacy.proofs.table.end_of_parts.Given as goal
+use Rattle.bi_legacy.proofs.size_list.end_of_parts.Given as goal
 
 -- What is left of the sizes decides whether all fit, where the last piece ends, and what the first fault is.
 abbrev pub invariant-loop-index : goal.invariant-loop-index

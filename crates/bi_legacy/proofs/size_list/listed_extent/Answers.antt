@@ -1,10 +1,15 @@
-use Rattle.std.proofs.Common.{◌+◌, ◌*◌, length, List, ℕ, sym, subst, refl, inr}
+use Rattle.std.proofs.Common.{◌+◌, ◌*◌, length, List, ℕ, sym, subst, refl, inl, inr}
 use Rattle.std.proofs.lemmas.Result.{err_from_is_err_and}
 use Rattle.std.specs.List.{Contains}
 use Rattle.bi_legacy.specs.Faults.{cells_of, listed_sizes}
 use Rattle.bi_legacy.specs.Walk.{FitFrom}
 use Rattle.bi_legacy.proofs.PartPieces.{ends_pass}
-use Rattle.bi_legacy.proofs.table.listed_extent.Goals as goal
+use Rattle.bi_legacy.proofs.size_list.listed_extent.Goals as goal
+
+pub returns-in_default-clause-fault : goal.returns-in_default-clause-fault
+returns-in_default-clause-fault c =
+    let P : List ℕ → Type 0 = λ body. Contains (cells_of body) 0 in
+    rw c.refuse.ensures (λ file limits same. inl ((λ there. let some = c.in_default.ensures.ends.1 (subst P same there) in absurd cc), refl))
 
 pub returns-in_err-end-clause-fault : goal.returns-in_err-end-clause-fault
 returns-in_err-end-clause-fault c =
