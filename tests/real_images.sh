@@ -1,6 +1,7 @@
 #!/bin/sh
 # Images that U-Boot's mkimage makes, through the program: they come back unchanged, or as mkimage made them where bytes without
-# a meaning were changed; their listings are right; and their parts are those that went in. It needs Debian's u-boot-tools.
+# a meaning were changed; their listings are right; and their parts are those that went in. It needs Debian's u-boot-tools and
+# python3, and installs them where one is missing and it runs as root.
 set -u
 
 export LC_ALL=C SOURCE_DATE_EPOCH=1000000000
@@ -28,8 +29,8 @@ finish() {
     exit
 }
 
-if ! command -v mkimage > /dev/null && [ "$(id -u)" = 0 ]; then
-    (apt-get update && apt-get install -y u-boot-tools) >&2
+if [ "$(id -u)" = 0 ] && { ! command -v mkimage || ! command -v python3; } > /dev/null; then
+    (apt-get update && apt-get install -y u-boot-tools python3) >&2
 fi
 for tool in mkimage dumpimage python3; do
     check "$tool is there (Debian: u-boot-tools, python3)" command -v "$tool"
@@ -177,5 +178,49 @@ END
 check "a script image is its own normal form" gives script.image script.image normalise
 check "the script is extracted" gives script script.image extract --part 0
 check "the script image is listed" gives script.listing script.image list
+
+# names LABEL NAME OPTION: where mkimage is given this name by this option, the listing of its image has it on the line of this
+# label.
+names() {
+    mkimage -A arm -O linux -T kernel -C none "$3" "$2" -d script names.image > /dev/null &&
+        "$root/bootimg" list < names.image > output && grep -Fqx "$1 $2" output
+}
+
+# Each name of a code, but for flat_dt, of which mkimage makes no legacy image.
+for name in netbsd linux vxworks u-boot; do
+    check "the system $name is listed" names os "$name" -O
+done
+for name in arm x86 mips ppc arm64 x86_64 riscv; do
+    check "the architecture $name is listed" names arch "$name" -A
+done
+for name in standalone kernel ramdisk multi firmware script; do
+    check "the type $name is listed" names type "$name" -T
+done
+for name in none gzip bzip2 lzma lzo lz4 zstd; do
+    check "the compression $name is listed" names compression "$name" -C
+done
+
+# The examples. dumpimage takes apart those of mkimage, which makes them again of what it gets.
+kernel=$root/examples/kernel.uimage
+padded=$root/examples/kernel-padded.uimage
+two=$root/examples/two-parts.uimage
+export SOURCE_DATE_EPOCH=1700000000
+check "dumpimage extracts the example's kernel" dumpimage -T kernel -p 0 -o payload "$kernel"
+for index in 0 1; do
+    check "dumpimage extracts the example's part $index" dumpimage -T multi -p "$index" -o "example$index" "$two"
+    check "the example's part $index is extracted" gives "example$index" "$two" extract --part "$index"
+done
+check "mkimage makes the kernel image again" mkimage -A arm64 -O linux -T kernel -C none -a 0x80080000 -e 0x80080000 \
+    -n "Linux example" -d payload kernel.again
+check "the kernel image made again is the example" cmp kernel.again "$kernel"
+check "mkimage makes the image of two parts again" mkimage -A arm -O linux -T multi -C none -a 0x8000 -e 0x8000 \
+    -n "two parts" -d example0:example1 two.again
+check "the image of two parts made again is the example" cmp two.again "$two"
+check "mkimage takes the padded kernel image" mkimage -l "$padded"
+check "the example of two parts is its own normal form" gives "$two" "$two" normalise
+for example in "$kernel" "$padded"; do
+    check "$(basename "$example") has the normal form kernel.uimage" gives "$kernel" "$example" normalise
+    check "the kernel of $(basename "$example") is extracted" gives payload "$example" extract --part 0
+done
 
 finish

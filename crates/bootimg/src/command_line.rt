@@ -20,15 +20,20 @@ const DEPTH: u8 = 64;
 /// A command with its own options.
 #[derive(Clone, Copy, Debug, PartialEq, Eq)]
 pub enum Task<'a> {
+    /// Write the normal form.
     Normalise,
+    /// Write the listing.
     List,
+    /// Write what is selected.
     Extract(Select<'a>),
 }
 
 /// What the words of the command line ask for.
 #[derive(Clone, Copy, Debug, PartialEq, Eq)]
 pub struct Request<'a> {
+    /// The task.
     pub task: Task<'a>,
+    /// The limits for the files that it reads and writes.
     pub limits: Limits,
 }
 
@@ -133,7 +138,7 @@ fn limit<'a>(alloc: Global) -> Arg<'a> {
     Arg::new(alloc, "limit")
         .long("limit")
         .value_name("N")
-        .help("Refuse inputs of more than N bytes and write no image of more, from 64")
+        .help("Refuse an input, and write no image, of more than N bytes (64 to 2147483647)")
         .default_value(GREATEST_LIMIT)
         .action(ArgAction::Set)
 }

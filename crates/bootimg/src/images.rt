@@ -1,4 +1,4 @@
-//! Boot images. Their checksums are those of Python's zlib.
+//! Boot images, whose checksums are those of Python's zlib, and the listings of two of them.
 
 /// A kernel image of the name `k`, whose data are the digits from 1 to 9.
 #[rattlefmt::skip]
@@ -8,6 +8,20 @@ pub const KERNEL: &[u8; 73] =
       k\x00\x00\x00\x00\x00\x00\x00\x00\x00\x00\x00\x00\x00\x00\x00\
       \x00\x00\x00\x00\x00\x00\x00\x00\x00\x00\x00\x00\x00\x00\x00\x00\
       123456789";
+
+/// The listing of that image.
+pub const KERNEL_LISTING: &[u8] = b"kind legacy\n\
+    name k\n\
+    time 0\n\
+    load 0x00008000\n\
+    entry 0x00008000\n\
+    os linux\n\
+    arch arm\n\
+    type kernel\n\
+    compression none\n\
+    parts 1\n\
+    part 0 size 9 at 64\n\
+    unused 0\n";
 
 /// The same image with other bytes behind its name and behind its data.
 #[rattlefmt::skip]
@@ -35,6 +49,21 @@ pub const PADDED_PARTS: &[u8; 87] =
       \x00\x00\x00\x00\x00\x00\x00\x00\x00\x00\x00\x00\x00\x00\x00\x00\
       \x00\x00\x00\x05\x00\x00\x00\x03\x00\x00\x00\x00hell\
       o\xff\xff\xffabc";
+
+/// The listing of that image.
+pub const PARTS_LISTING: &[u8] = b"kind legacy\n\
+    name k\n\
+    time 0\n\
+    load 0x00008000\n\
+    entry 0x00008000\n\
+    os linux\n\
+    arch arm\n\
+    type multi\n\
+    compression none\n\
+    parts 2\n\
+    part 0 size 5 at 76\n\
+    part 1 size 3 at 84\n\
+    unused 0\n";
 
 /// The normal form of that image.
 #[rattlefmt::skip]

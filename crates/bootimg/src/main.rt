@@ -17,7 +17,6 @@ mod run;
 mod shown;
 
 use run::run;
-use std::alloc::Global;
 use std::io::{self, Write};
 use std::process::ExitCode;
 

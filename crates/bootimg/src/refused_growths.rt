@@ -2,7 +2,7 @@
 //! tests/refused_growths.sh adds a test for each growth of each call, and has it refused.
 
 use crate::extract::{ExtractError, Select, extract_to};
-use crate::images::{KERNEL, PADDED_PARTS, PARTS};
+use crate::images::{PADDED_PARTS, PARTS, PARTS_LISTING};
 use crate::listing::list_to;
 use crate::normalise::{Form, normalise, normalise_to};
 use crate::run::run;
@@ -14,22 +14,6 @@ use std::test::Fail;
 
 /// The number of the allocation that the script has refused in each test.
 const REFUSED: u64 = 1000;
-
-/// The listing of a multi image of the parts `hello` and `abc`.
-const LISTING: &str = "kind legacy
-name k
-time 0
-load 0x00008000
-entry 0x00008000
-os linux
-arch arm
-type multi
-compression none
-parts 2
-part 0 size 5 at 76
-part 1 size 3 at 84
-unused 0
-";
 
 /// Takes memory and gives it back, so many times. True where it was refused once.
 fn is_refused(alloc: Global, times: u64) -> bool {
@@ -143,7 +127,7 @@ fn lists(rt: &(impl Abort + AllocGlobal), growth: u64) -> Result<bool, Fail> {
     let answer = list_to(rt.alloc(), &mut reader, &mut writer, limits);
     let left = writer.len();
     let text = written(&buffer, left);
-    let is_ample = answer == Ok(()) && text == LISTING.as_bytes();
+    let is_ample = answer == Ok(()) && text == PARTS_LISTING;
     let is_refusal = answer == Err(Error::OutOfMemory) && text.is_empty();
     Ok(judge(rt, trial.is_met(), is_ample, is_refusal))
 }

@@ -1,7 +1,7 @@
 use super::*;
 use crate::images::{KERNEL, PADDED_KERNEL, PADDED_PARTS, TREE};
 use bi_base::Cause;
-use scripted_io::{Script, ScriptedWriter, Turn};
+use scripted_io::{Script, ScriptedReader, ScriptedWriter, Turn};
 use std::test::Fail;
 
 fn limits() -> Limits {
@@ -76,5 +76,39 @@ fn a_failed_write_leaves_a_first_part_of_the_bytes(rt: HostRuntime) {
         );
         assert_eq!(rt; answer, Err(ExtractError::Failed(Error::WriteFailed)));
         assert_eq!(rt; writer.held.as_slice(), &b"123456789"[..taken]);
+    }
+}
+
+#[test]
+fn a_failed_flush_leaves_all_the_bytes(rt: HostRuntime) {
+    let mut file = KERNEL.as_slice();
+    let flushes = Script::failing_among(0, Turn::TakesAll);
+    let mut writer = ScriptedWriter::new(rt.alloc(), Script::always(Turn::TakesAll), flushes);
+    let answer = extract_to(
+        rt.alloc(),
+        &mut file,
+        &mut writer,
+        Select::Part(0),
+        limits(),
+    );
+    assert_eq!(rt; answer, Err(ExtractError::Failed(Error::WriteFailed)));
+    assert_eq!(rt; writer.held.as_slice(), b"123456789".as_slice());
+}
+
+#[test]
+fn a_failed_read_writes_nothing(rt: HostRuntime) {
+    for number in [0, 1, 73] {
+        let reads = Script::failing_among(number, Turn::Takes(1));
+        let mut reader = ScriptedReader::new(KERNEL.as_slice(), reads);
+        let mut bytes = Vec::new(rt.alloc());
+        let answer = extract_to(
+            rt.alloc(),
+            &mut reader,
+            &mut bytes,
+            Select::Part(0),
+            limits(),
+        );
+        assert_eq!(rt; answer, Err(ExtractError::Failed(Error::ReadFailed)));
+        assert!(rt; bytes.is_empty());
     }
 }

@@ -1,5 +1,7 @@
 use super::*;
-use crate::images::{KERNEL, NO_PARTS, PADDED_KERNEL, PADDED_PARTS, TREE};
+use crate::images::{
+    KERNEL, KERNEL_LISTING, NO_PARTS, PADDED_KERNEL, PADDED_PARTS, PARTS_LISTING, TREE,
+};
 use bi_base::{Cause, Fault};
 use scripted_io::{Script, ScriptedReader, ScriptedWriter, Turn};
 use std::test::Fail;
@@ -41,19 +43,6 @@ const UNNAMED_CODES: &[u8; 64] =
       k\x00\x00\x00\x00\x00\x00\x00\x00\x00\x00\x00\x00\x00\x00\x00\
       \x00\x00\x00\x00\x00\x00\x00\x00\x00\x00\x00\x00\x00\x00\x00\x00";
 
-const KERNEL_LISTING: &[u8] = b"kind legacy\n\
-    name k\n\
-    time 0\n\
-    load 0x00008000\n\
-    entry 0x00008000\n\
-    os linux\n\
-    arch arm\n\
-    type kernel\n\
-    compression none\n\
-    parts 1\n\
-    part 0 size 9 at 64\n\
-    unused 0\n";
-
 fn limits() -> Limits {
     Limits::new(0x7fff_ffff, 64).unwrap()
 }
@@ -75,9 +64,7 @@ fn a_kernel_image_is_listed(rt: HostRuntime) -> Result<(), Fail> {
 #[test]
 fn each_part_is_listed_with_its_place_in_the_file(rt: HostRuntime) -> Result<(), Fail> {
     let text = list_of(rt.alloc(), PADDED_PARTS.as_slice())?;
-    let end =
-        b"type multi\ncompression none\nparts 2\npart 0 size 5 at 76\npart 1 size 3 at 84\nunused 0\n";
-    assert!(rt; text.as_slice().ends_with(end.as_slice()));
+    assert_eq!(rt; text.as_slice(), PARTS_LISTING);
     Ok(())
 }
 

@@ -1,12 +1,20 @@
 use super::run;
 use crate::images::{
-    EMPTY_KERNEL, FIRST_PART_TOO_LONG, KERNEL, LESS_THAN_A_SIZE, NO_END_OF_SIZES, NO_PARTS,
-    PADDED_KERNEL, PADDED_PARTS, PARTS, SCRIPT, SECOND_PART_TOO_LONG, TREE,
+    EMPTY_KERNEL, FIRST_PART_TOO_LONG, KERNEL, KERNEL_LISTING, LESS_THAN_A_SIZE, NO_END_OF_SIZES,
+    NO_PARTS, PADDED_KERNEL, PADDED_PARTS, PARTS, PARTS_LISTING, SCRIPT, SECOND_PART_TOO_LONG,
+    TREE,
 };
 use scripted_io::{Script, ScriptedReader, ScriptedWriter, Turn};
 use std::alloc::Global;
 use std::process::Abort;
 use std::test::Fail;
+
+/// The commands, each with the words that it needs, and what they write for `PADDED_PARTS`.
+const COMMANDS: [(&[&str], &[u8]); 3] = [
+    (&["normalise"], PARTS),
+    (&["list"], PARTS_LISTING),
+    (&["extract", "--part", "0"], b"hello"),
+];
 
 /// What a run has to read and write with.
 #[derive(Clone, Copy)]
@@ -89,15 +97,11 @@ fn a_changed_bit_is_refused(rt: HostRuntime) {
     data[72] ^= 1;
     let mut magic = *KERNEL;
     magic[0] ^= 1;
-    for command in ["normalise", "list"] {
-        says(&rt, &[command], &header, "bootimg: BadHeaderCrc at 4\n");
-        says(&rt, &[command], &data, "bootimg: BadDataCrc at 24\n");
-        says(&rt, &[command], &magic, "bootimg: BadMagic at 0\n");
+    for (words, _) in COMMANDS {
+        says(&rt, words, &header, "bootimg: BadHeaderCrc at 4\n");
+        says(&rt, words, &data, "bootimg: BadDataCrc at 24\n");
+        says(&rt, words, &magic, "bootimg: BadMagic at 0\n");
     }
-    let extract = ["extract", "--part", "0"];
-    says(&rt, &extract, &header, "bootimg: BadHeaderCrc at 4\n");
-    says(&rt, &extract, &data, "bootimg: BadDataCrc at 24\n");
-    says(&rt, &extract, &magic, "bootimg: BadMagic at 0\n");
 }
 
 #[test]
@@ -108,43 +112,26 @@ fn a_cut_file_is_refused(rt: HostRuntime) {
         } else {
             "bootimg: Truncated at 12\n"
         };
-        says(&rt, &["normalise"], &KERNEL[..length], wanted);
+        for (words, _) in COMMANDS {
+            says(&rt, words, &KERNEL[..length], wanted);
+        }
     }
-    says(
-        &rt,
-        &["normalise"],
-        &[1, 2, 3, 4],
-        "bootimg: BadMagic at 0\n",
-    );
+    for (words, _) in COMMANDS {
+        says(&rt, words, &[1, 2, 3, 4], "bootimg: BadMagic at 0\n");
+    }
 }
 
 #[test]
 fn bad_parts_are_refused(rt: HostRuntime) {
-    for command in ["normalise", "list"] {
-        says(
-            &rt,
-            &[command],
-            NO_END_OF_SIZES,
-            "bootimg: BadPartTable at 64\n",
-        );
-        says(
-            &rt,
-            &[command],
-            LESS_THAN_A_SIZE,
-            "bootimg: BadPartTable at 64\n",
-        );
-        says(
-            &rt,
-            &[command],
-            SECOND_PART_TOO_LONG,
-            "bootimg: BadPart at 68\n",
-        );
-        says(
-            &rt,
-            &[command],
-            FIRST_PART_TOO_LONG,
-            "bootimg: BadPart at 64\n",
-        );
+    for (words, _) in COMMANDS {
+        for (image, wanted) in [
+            (NO_END_OF_SIZES.as_slice(), "bootimg: BadPartTable at 64\n"),
+            (LESS_THAN_A_SIZE.as_slice(), "bootimg: BadPartTable at 64\n"),
+            (SECOND_PART_TOO_LONG.as_slice(), "bootimg: BadPart at 68\n"),
+            (FIRST_PART_TOO_LONG.as_slice(), "bootimg: BadPart at 64\n"),
+        ] {
+            says(&rt, words, image, wanted);
+        }
     }
 }
 
@@ -231,35 +218,8 @@ fn values_that_an_option_cannot_have_are_refused(rt: HostRuntime) {
 
 #[test]
 fn images_are_listed(rt: HostRuntime) {
-    let kernel = "kind legacy
-name k
-time 0
-load 0x00008000
-entry 0x00008000
-os linux
-arch arm
-type kernel
-compression none
-parts 1
-part 0 size 9 at 64
-unused 0
-";
-    gives(&rt, &["list"], KERNEL, kernel.as_bytes());
-    let parts = "kind legacy
-name k
-time 0
-load 0x00008000
-entry 0x00008000
-os linux
-arch arm
-type multi
-compression none
-parts 2
-part 0 size 5 at 76
-part 1 size 3 at 84
-unused 0
-";
-    gives(&rt, &["list"], PADDED_PARTS, parts.as_bytes());
+    gives(&rt, &["list"], KERNEL, KERNEL_LISTING);
+    gives(&rt, &["list"], PADDED_PARTS, PARTS_LISTING);
 }
 
 #[test]
@@ -315,18 +275,17 @@ fn failing(reading: Script, writing: Script, flushing: Script, telling: Script) 
 #[test]
 fn a_failed_write_is_told(rt: HostRuntime) {
     let sound = Streams::sound();
-    for command in ["normalise", "list"] {
-        let ample = run_on(rt.alloc(), &[command], PADDED_KERNEL, sound);
-        for number in 0..ample.output.len() {
+    for (words, wanted) in COMMANDS {
+        for number in 0..wanted.len() {
             let writing = Script::failing_among(number as u64, Turn::Takes(1));
             let streams = failing(sound.reading, writing, sound.flushing, sound.telling);
-            let got = run_on(rt.alloc(), &[command], PADDED_KERNEL, streams);
-            assert_eq!(rt; got.status, 2, "{command} at {number}");
+            let got = run_on(rt.alloc(), words, PADDED_PARTS, streams);
+            assert_eq!(rt; got.status, 2, "{words:?} at {number}");
             assert_eq!(rt;
                 got.errors.as_slice(),
                 b"bootimg: write failed\n".as_slice()
             );
-            assert_eq!(rt; got.output.as_slice(), &ample.output[..number]);
+            assert_eq!(rt; got.output.as_slice(), &wanted[..number]);
         }
     }
     let writing = Script::first(1, Turn::Takes(50), Turn::Fails);
@@ -345,24 +304,26 @@ fn a_failed_flush_is_told(rt: HostRuntime) {
     let sound = Streams::sound();
     let fails = Script::always(Turn::Fails);
     let streams = failing(sound.reading, sound.writing, fails, sound.telling);
-    let got = run_on(rt.alloc(), &["normalise"], PADDED_KERNEL, streams);
-    assert_eq!(rt; got.status, 2);
-    assert_eq!(rt;
-        got.errors.as_slice(),
-        b"bootimg: write failed\n".as_slice()
-    );
-    assert_eq!(rt; got.output.as_slice(), KERNEL.as_slice());
+    for (words, wanted) in COMMANDS {
+        let got = run_on(rt.alloc(), words, PADDED_PARTS, streams);
+        assert_eq!(rt; got.status, 2, "{words:?}");
+        assert_eq!(rt;
+            got.errors.as_slice(),
+            b"bootimg: write failed\n".as_slice()
+        );
+        assert_eq!(rt; got.output.as_slice(), wanted, "{words:?}");
+    }
 }
 
 #[test]
 fn a_failed_read_is_told(rt: HostRuntime) {
     let sound = Streams::sound();
-    for command in ["normalise", "list"] {
-        for number in 0..KERNEL.len() {
+    for (words, _) in COMMANDS {
+        for number in 0..=KERNEL.len() {
             let reading = Script::failing_among(number as u64, Turn::Takes(1));
             let streams = failing(reading, sound.writing, sound.flushing, sound.telling);
-            let got = run_on(rt.alloc(), &[command], KERNEL, streams);
-            assert_eq!(rt; got.status, 2, "{command} at {number}");
+            let got = run_on(rt.alloc(), words, KERNEL, streams);
+            assert_eq!(rt; got.status, 2, "{words:?} at {number}");
             assert_eq!(rt; got.errors.as_slice(), b"bootimg: read failed\n".as_slice());
             assert_eq!(rt; got.output.len(), 0);
         }
@@ -382,36 +343,23 @@ fn what_cannot_be_said_is_left_out(rt: HostRuntime) {
     }
 }
 
-/// The program ends with status 0, writes a text with this in it, says nothing and reads nothing.
+/// The program reads nothing and ends with this status. It writes a text with this in it and says nothing where the status
+/// is 0, and else it says the text and writes nothing.
 fn shows<'a>(
     rt: &(impl Abort + AllocGlobal),
     words: &'a [&'a str],
+    status: u8,
     wanted: &str,
 ) -> Result<(), Fail> {
     let got = run_on(rt.alloc(), words, KERNEL, Streams::sound());
-    assert_eq!(rt;
-        (got.status, got.errors.len(), got.reads),
-        (0, 0, 0),
-        "{words:?}"
-    );
-    let text = String::from_utf8(got.output)?;
-    assert!(rt; text.as_str().contains(wanted), "{words:?}: {text}");
-    Ok(())
-}
-
-/// The program ends with status 2, says a text with this in it, writes nothing and reads nothing.
-fn warns<'a>(
-    rt: &(impl Abort + AllocGlobal),
-    words: &'a [&'a str],
-    wanted: &str,
-) -> Result<(), Fail> {
-    let got = run_on(rt.alloc(), words, KERNEL, Streams::sound());
-    assert_eq!(rt;
-        (got.status, got.output.len(), got.reads),
-        (2, 0, 0),
-        "{words:?}"
-    );
-    let text = String::from_utf8(got.errors)?;
+    assert_eq!(rt; (got.status, got.reads), (status, 0), "{words:?}");
+    let (text, rest) = if status == 0 {
+        (got.output, got.errors)
+    } else {
+        (got.errors, got.output)
+    };
+    assert!(rt; rest.is_empty(), "{words:?}");
+    let text = String::from_utf8(text)?;
     assert!(rt; text.as_str().contains(wanted), "{words:?}: {text}");
     Ok(())
 }
@@ -419,13 +367,13 @@ fn warns<'a>(
 #[test]
 fn help_is_shown_where_it_is_asked_for(rt: HostRuntime) -> Result<(), Fail> {
     for word in ["help", "--help", "-h"] {
-        shows(&rt, &[word], "Usage: bootimg <COMMAND>\n")?;
+        shows(&rt, &[word], 0, "Usage: bootimg <COMMAND>\n")?;
     }
     for command in ["normalise", "list", "extract"] {
         let usage = format!(in rt.alloc(); "Usage: bootimg {command} [OPTIONS]\n")?;
-        shows(&rt, &["help", command], usage.as_str())?;
-        shows(&rt, &[command, "--help"], usage.as_str())?;
-        shows(&rt, &[command, "-h"], usage.as_str())?;
+        shows(&rt, &["help", command], 0, usage.as_str())?;
+        shows(&rt, &[command, "--help"], 0, usage.as_str())?;
+        shows(&rt, &[command, "-h"], 0, usage.as_str())?;
     }
     Ok(())
 }
@@ -453,7 +401,7 @@ fn help_that_cannot_be_written_is_a_failure(rt: HostRuntime) {
 
 #[test]
 fn unknown_words_are_refused(rt: HostRuntime) -> Result<(), Fail> {
-    warns(&rt, &[], "Usage: bootimg <COMMAND>\n")?;
+    shows(&rt, &[], 2, "Usage: bootimg <COMMAND>\n")?;
     for command in [
         "verify",
         "convert",
@@ -462,25 +410,28 @@ fn unknown_words_are_refused(rt: HostRuntime) -> Result<(), Fail> {
         "Normalise",
         "",
     ] {
-        warns(&rt, &[command], "Usage: bootimg <COMMAND>\n")?;
+        shows(&rt, &[command], 2, "Usage: bootimg <COMMAND>\n")?;
     }
-    warns(
+    shows(
         &rt,
         &["--limit", "64", "normalise"],
+        2,
         "Usage: bootimg <COMMAND>\n",
     )?;
     for word in ["--external", "-x", "--part", "image", "--version"] {
-        warns(
+        shows(
             &rt,
             &["normalise", word],
+            2,
             "Usage: bootimg normalise [OPTIONS]\n",
         )?;
-        warns(&rt, &["list", word], "Usage: bootimg list [OPTIONS]\n")?;
+        shows(&rt, &["list", word], 2, "Usage: bootimg list [OPTIONS]\n")?;
     }
     for word in ["--config", "--key", "--index", "image"] {
-        warns(
+        shows(
             &rt,
             &["extract", word, "a"],
+            2,
             "Usage: bootimg extract [OPTIONS]\n",
         )?;
     }
@@ -489,30 +440,44 @@ fn unknown_words_are_refused(rt: HostRuntime) -> Result<(), Fail> {
 
 #[test]
 fn options_need_a_value_and_come_once(rt: HostRuntime) -> Result<(), Fail> {
-    warns(
+    shows(
         &rt,
         &["normalise", "--limit"],
+        2,
         "a value is required for '--limit <N>'",
     )?;
-    warns(
+    shows(
         &rt,
         &["extract", "--part"],
+        2,
         "a value is required for '--part <N>'",
     )?;
-    warns(
+    shows(
         &rt,
         &["extract", "--image"],
+        2,
         "a value is required for '--image <NAME>'",
     )?;
     let twice = "cannot be used multiple times";
-    warns(&rt, &["normalise", "--limit", "64", "--limit", "64"], twice)?;
-    warns(&rt, &["extract", "--part", "0", "--part", "0"], twice)?;
-    warns(&rt, &["extract", "--image", "a", "--image", "a"], twice)?;
+    shows(
+        &rt,
+        &["normalise", "--limit", "64", "--limit", "64"],
+        2,
+        twice,
+    )?;
+    shows(&rt, &["extract", "--part", "0", "--part", "0"], 2, twice)?;
+    shows(&rt, &["extract", "--image", "a", "--image", "a"], 2, twice)?;
     // These come before a missing selection and before a value that an option cannot have.
-    warns(&rt, &["extract", "--limit", "63", "--limit", "63"], twice)?;
-    warns(
+    shows(
+        &rt,
+        &["extract", "--limit", "63", "--limit", "63"],
+        2,
+        twice,
+    )?;
+    shows(
         &rt,
         &["normalise", "--limit", "63", "--external"],
+        2,
         "unexpected argument",
     )?;
     Ok(())
