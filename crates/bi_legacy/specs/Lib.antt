@@ -8,5 +8,6 @@ pub mod Vectors
 pub mod Faults
 pub mod Reading
 pub mod Emitting
+pub mod NormalForm
 pub mod Laws
 pub mod Walk

@@ -1,6 +1,6 @@
 //! Reading a legacy image.
 
-ghost use Rattle.std.specs.Prelude.{◌≡◌, ◌==◌, ◌+◌, ◌-◌, ◌≤◌, ◌↔◌, length, slice_get, IsOk, OnOk, IfOk, IfErr};
+ghost use Rattle.std.specs.Prelude.{◌≡◌, ◌==◌, ◌+◌, ◌-◌, ◌≤◌, ◌↔◌, length, map, slice_get, IsOk, OnOk, IfOk, IfErr};
 ghost use Rattle.std.specs.Option.{option_map};
 ghost use Rattle.std.specs.List.{before_first};
 ghost use Rattle.bi_base.specs.Cells.{u32_at};
@@ -8,6 +8,7 @@ ghost use Rattle.bi_base.specs.declared.fault.Fault.{Fault};
 ghost use Rattle.bi_legacy.specs.Meaning.{LegacyImage, has_size_list};
 ghost use Rattle.bi_legacy.specs.File.{LegacyMeans};
 ghost use Rattle.bi_legacy.specs.Faults.{IsLegacyFault, HasNoLegacyFault, body_of};
+ghost use Rattle.bi_legacy.specs.NormalForm.{HasNormalForm};
 ghost use Rattle.bi_legacy.specs.Pieces.{piece_of, placed_parts};
 ghost use Rattle.bi_legacy.specs.Reading.{Told, IsTold, image_of, file_places};
 ghost use Rattle.bi_legacy.specs.Walk.{IsExtent, parts_in, read_image, read_end};
@@ -51,6 +52,7 @@ impl<'a> Legacy<'a> {
         ensures accepts { IsOk result ↔ ((image : LegacyImage) × LegacyMeans file.entry.now image limits) }
         ensures told { IfOk result (IsTold file.entry.now limits) }
         ensures one_meaning { IfOk result (λ told. (image : LegacyImage) → LegacyMeans file.entry.now image limits → image ≡ told.image) }
+        ensures normal_form { IfOk result (λ told. HasNormalForm told.image limits) }
         ensures no_fault { OnOk result (HasNoLegacyFault file.entry.now limits) }
         ensures fault { IfErr result (IsLegacyFault file.entry.now limits) }
         ensures one_fault { IfErr result (λ fault. (other : Fault) → IsLegacyFault file.entry.now limits other → other ≡ fault) }
@@ -74,7 +76,8 @@ impl<'a> Legacy<'a> {
 
     /// The parts in their order, each with its place. Going over all of them takes time linear in their number.
     pub fn parts(&self) -> Parts<'a>
-        ensures { result ≡ placed_parts self.now.image }
+        ensures placed { result ≡ placed_parts self.now.image }
+        ensures bytes { map (λ piece. piece.bytes) result ≡ self.now.image.parts }
     {
         Parts::new(
             self.body,

@@ -1,10 +1,10 @@
 //! The normal form of a boot image.
 
-ghost use Rattle.std.specs.Prelude.{◌≡◌, ◌≢◌, ◌+◌, ℕ, map, List, false, OnOk, IfOk, IfErr, IfSome, IsErrOf};
+ghost use Rattle.std.specs.Prelude.{◌≡◌, ◌≢◌, ◌+◌, map, false, OnOk, IfOk, IfErr, IfSome, IsErrOf};
 ghost use Rattle.std.specs.Io.KnownBytes.{Keeps};
 ghost use Rattle.bi_base.specs.Outcomes.{HasToStop, CannotGoOn};
 ghost use Rattle.bi_base.specs.Reading.{TakesAtMost};
-ghost use Rattle.bi_legacy.specs.Reading.{IsTold};
+ghost use Rattle.bi_legacy.specs.NormalForm.{HasNormalForm};
 ghost use Rattle.bi_legacy.specs.Text.{legacy_text};
 ghost use Rattle.bootimg.specs.Normalising.{StandsFor, TellsApart, IsOwnNormalForm, IsRefusalOf, IsStreamRefusalOf};
 ghost use Rattle.bootimg.specs.Streams.{Streamed, StreamedPrefix};
@@ -41,8 +41,8 @@ pub fn normalise(alloc: Global, file: &[u8], form: Form, limits: Limits) -> Resu
 
 /// The normal text of a legacy image that was read under the limits.
 fn normal_text(alloc: Global, image: &Legacy<'_>, limits: Limits) -> Result<Vec<u8>, Error>
-    ensures text { IfOk result (λ text. (file : List ℕ) → IsTold file limits image.now → text.items ≡ legacy_text image.now.image) }
-    ensures error { IfErr result (λ error. (file : List ℕ) → IsTold file limits image.now → error ≡ Error.OutOfMemory) }
+    ensures text { IfOk result (λ text. HasNormalForm image.now.image limits → text.items ≡ legacy_text image.now.image) }
+    ensures error { IfErr result (λ error. HasNormalForm image.now.image limits → error ≡ Error.OutOfMemory) }
 {
     let parts = parts_of(alloc, image)?;
     let mut sink = VecSink::new(alloc);

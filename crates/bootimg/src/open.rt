@@ -1,6 +1,9 @@
 //! What every command does first with a file that it was given.
 
-ghost use Rattle.std.specs.Prelude.{IfOk, OnErr, IfErr};
+ghost use Rattle.std.specs.Prelude.{◌≡◌, IfOk, OnErr, IfErr};
+ghost use Rattle.bi_legacy.specs.File.{LegacyMeans};
+ghost use Rattle.bi_legacy.specs.Meaning.{LegacyImage};
+ghost use Rattle.bi_legacy.specs.NormalForm.{HasNormalForm};
 ghost use Rattle.bi_legacy.specs.Reading.{IsTold};
 ghost use Rattle.bootimg.specs.Normalising.{IsFileFault, MeansNothing};
 
@@ -14,6 +17,8 @@ use bi_legacy::Legacy;
 /// BadMagic at 0; for a legacy image those of `Legacy::read`; Unsupported at 0 for a flattened image tree.
 pub fn read_legacy<'a>(file: &'a [u8], limits: Limits) -> Result<Legacy<'a>, Fault>
     ensures told { IfOk result (IsTold file.entry.now limits) }
+    ensures one_meaning { IfOk result (λ told. (image : LegacyImage) → LegacyMeans file.entry.now image limits → image ≡ told.image) }
+    ensures normal_form { IfOk result (λ told. HasNormalForm told.image limits) }
     ensures first_fault { IfErr result (IsFileFault file.entry.now limits) }
     ensures means_nothing { OnErr result (MeansNothing file.entry.now limits) }
 {

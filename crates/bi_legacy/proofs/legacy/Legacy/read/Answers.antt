@@ -1,4 +1,5 @@
 use Rattle.std.proofs.Common.{arith}
+use Rattle.bi_legacy.proofs.NormalForms.{normal_form_of}
 use Rattle.bi_legacy.proofs.ReadAnswers.{accepts_of, told_of, one_meaning_of, one_fault_of}
 use Rattle.bi_legacy.proofs.legacy.Legacy.read.Goals as goal
 
@@ -11,6 +12,12 @@ pub returns-clause-told : goal.returns-clause-told
 returns-clause-told c =
     told_of c.args.file.now c.args.limits c.examine.result (record { each = λ i. omega (arith, c.type_inv.file i) })
     c.examine.ensures.no_fault c.examine.ensures.image c.examine.ensures.unused
+
+pub returns-clause-normal_form : goal.returns-clause-normal_form
+returns-clause-normal_form c =
+    normal_form_of c.args.file.now c.args.limits c.examine.result
+    (told_of c.args.file.now c.args.limits c.examine.result (record { each = λ i. omega (arith, c.type_inv.file i) })
+    c.examine.ensures.no_fault c.examine.ensures.image c.examine.ensures.unused)
 
 pub returns-clause-one_meaning : goal.returns-clause-one_meaning
 returns-clause-one_meaning c =
