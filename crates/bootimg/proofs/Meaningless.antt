@@ -1,17 +1,23 @@
-use Rattle.std.proofs.Common.{ℕ, List, inl, inr, arith}
+use Rattle.std.proofs.Common.{◌∷◌, ℕ, List, inl, inr, arith, subst, sym, refl}
 use Rattle.bi_base.specs.declared.fault.Fault.{Fault}
 use Rattle.bi_base.specs.Limits.{Bounds}
+use Rattle.bi_base.specs.Cells.{cell, u32_at}
 use Rattle.bi_legacy.specs.Meaning.{LegacyImage}
-use Rattle.bi_legacy.specs.File.{LegacyMeans}
-use Rattle.bi_legacy.proofs.MeansNoFault.{means_no_fault}
+use Rattle.bi_legacy.specs.File.{LegacyMeans, header}
 use Rattle.bootimg.specs.declared.kind.Kind.TheVariants.{Legacy, Fit}
 use Rattle.bootimg.specs.Kinds.{BeginsAs, IsKindFault}
 use Rattle.bootimg.specs.Normalising.{MeansNothing}
 
+-- These four bytes are the magic number of a legacy image.
+begins_legacy : (bytes : List ℕ) → BeginsAs (0x27 ∷ 0x05 ∷ 0x19 ∷ 0x56 ∷ bytes) Legacy
+unfolding u32_at
+begins_legacy bytes = record { whole = omega arith; magic = refl }
+
 -- A file that means an image has the magic number of a legacy image.
 pub means_legacy : (file : List ℕ) (image : LegacyImage) (limits : Bounds) → LegacyMeans file image limits → BeginsAs file Legacy
+unfolding header cell
 means_legacy file image limits means =
-    let passed = means_no_fault file image limits means in record { whole = passed.1.0; magic = passed.1.1.0 }
+    subst (λ (bytes : List ℕ). BeginsAs bytes Legacy) (sym means.is_file.spelled) (begins_legacy _)
 
 -- A file of no known kind means nothing.
 pub kind_fault_means_nothing : (file : List ℕ) (limits : Bounds) (fault : Fault) → IsKindFault file fault → MeansNothing file limits

@@ -3,6 +3,7 @@ use Rattle.bi_base.specs.declared.fault.Fault.{Fault}
 use Rattle.bi_base.specs.declared.fault.Cause.TheVariants.{Truncated, BadMagic}
 use Rattle.bi_base.specs.Cells.{u32_at}
 use Rattle.bi_base.specs.Checks.{IsFirstFault}
+use Rattle.bi_legacy.specs.File.{legacy_magic}
 use Rattle.bootimg.specs.declared.kind.Kind.{Kind}
 use Rattle.bootimg.specs.declared.kind.Kind.TheVariants.{Legacy, Fit}
 
@@ -10,7 +11,7 @@ use Rattle.bootimg.specs.declared.kind.Kind.TheVariants.{Legacy, Fit}
 
 -- The cell that a file of this kind begins with (U-Boot, include/image.h: IH_MAGIC; Devicetree Specification, 5.2: magic).
 abbrev pub magic_of : Kind → ℕ
-magic_of Legacy = 0x27051956
+magic_of Legacy = legacy_magic
 magic_of Fit = 0xd00dfeed
 
 -- The file begins with the magic number of this kind.

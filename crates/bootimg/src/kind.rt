@@ -1,13 +1,11 @@
 //! The kinds of boot images.
 
-ghost use Rattle.std.specs.Prelude.{◌≡◌, List, IfOk, IfErr};
+ghost use Rattle.std.specs.Prelude.{◌≡◌, IfOk, IfErr};
 ghost use Rattle.bootimg.specs.declared.kind.Kind.{Kind};
 ghost use Rattle.bootimg.specs.Kinds.{BeginsAs, IsKindFault};
 
 use bi_base::{Cause, Fault, be32_at};
-
-/// The magic number of a legacy image (U-Boot, include/image.h).
-const LEGACY_MAGIC: u32 = 0x2705_1956;
+use bi_legacy::MAGIC as LEGACY_MAGIC;
 
 /// The magic number of a blob, and so of a flattened image tree (Devicetree Specification, 5.2).
 const FIT_MAGIC: u32 = 0xd00d_feed;
