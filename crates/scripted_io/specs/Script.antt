@@ -26,7 +26,7 @@ turn_at script number =
 abbrev pub FailsBy : {T : Type 0} → ErrorKind → Result T Error → Type 0
 FailsBy kind result = IsErrAnd result (λ error. error_kind error ≡ kind)
 
--- A call gave what its turn says: what it was to give with the most bytes that it may take, or the turn's error.
+-- A call gave what its turn says: what it gives where it may take this many bytes at most, or the turn's error.
 abbrev pub Follows : {T : Type 0} → Turn → (ℕ → Type 0) → Result T Error → Type 0
 Follows TakesAll GivesWith result = GivesWith (2 ^ 64 - 1)
 Follows (Takes most) GivesWith result = GivesWith most

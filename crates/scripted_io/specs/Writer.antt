@@ -14,9 +14,9 @@ writing_of writer = writer.writing
 abbrev pub flushing_of : ScriptedWriter → Script
 flushing_of writer = writer.flushing
 
--- A write took this many bytes, or the memory for them was refused, which it is only where these bytes lack room for them.
+-- A write took this many bytes, or it found no memory for them, as may be only where the vector has no room for them.
 abbrev pub TakesOrLacksMemory : Vec ℕ Global → ℕ → Result ℕ Error → Type 0
-TakesOrLacksMemory held most result =
+TakesOrLacksMemory held wanted result =
     MatchResult result
-    (λ count. count ≡ most)
-    (λ error. (error_kind error ≡ OutOfMemory) × (vec_capacity held < vec_len held + most))
+    (λ count. count ≡ wanted)
+    (λ error. (error_kind error ≡ OutOfMemory) × (vec_capacity held < vec_len held + wanted))
