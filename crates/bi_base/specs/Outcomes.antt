@@ -1,4 +1,4 @@
-use Rattle.std.specs.Prelude.{◌≡◌, ◌≢◌, ◌⊎◌, ◌+◌, ◌-◌, ◌^◌, ◌<◌, ◌≤◌, ◌↔◌, ℕ, Bool, List, length, min, Result, IsTrue, IsOkAnd, IsErrAnd, MatchResult}
+use Rattle.std.specs.Prelude.{◌≡◌, ◌≢◌, ◌⊎◌, ◌+◌, ◌-◌, ◌^◌, ◌<◌, ◌≤◌, ◌↔◌, ℕ, Bool, List, length, min, Result, IsTrue, IsFalse, IsOkAnd, IsErrAnd, MatchResult}
 use Rattle.std.specs.IoError.{error_kind}
 use Rattle.std.specs.declared.io.Error.{Error}
 use Rattle.std.specs.declared.io.ErrorKind.TheVariants.{Interrupted}
@@ -28,3 +28,7 @@ HasToStop failed interruptions = IsTrue failed ⊎ (1024 ≤ interruptions)
 -- There is a reason to give up writing: one of these, or that the last write stalled.
 abbrev pub CannotGoOn : Bool → Bool → ℕ → Type 0
 CannotGoOn failed stalled interruptions = HasToStop failed interruptions ⊎ IsTrue stalled
+
+-- All goes well: no call so far was a reason to give up, and the last one was not interrupted.
+abbrev pub GoesWell : Bool → ℕ → Type 0
+GoesWell stopped interruptions = IsFalse stopped × (interruptions ≡ 0)

@@ -1,5 +1,5 @@
 //! CRC-32, one bit at a time.
-#![tactic(auto, unfolding(crate::specs::Crc::crc_after, crate::specs::Crc::crc32))]
+#![tactic(auto, unfolding(crate::specs::Crc::crc_after))]
 
 ghost use Rattle.std.specs.Prelude.{◌≡◌, ℕ, ◌-◌, ◌<◌, fold};
 ghost use Rattle.bi_base.specs.Crc.{crc_bit, crc_after, low_bits};

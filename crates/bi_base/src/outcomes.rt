@@ -1,11 +1,11 @@
 //! How the calls of a reader or a writer went.
 
-ghost use Rattle.std.specs.Prelude.{◌≡◌, IsFalse};
-ghost use Rattle.bi_base.specs.Outcomes.{TellsFailure, CountsInterruptions};
+ghost use Rattle.std.specs.Prelude.{◌≡◌, ◌↔◌, IsTrue, IsFalse};
+ghost use Rattle.bi_base.specs.Outcomes.{TellsFailure, CountsInterruptions, HasToStop};
 
 use std::io::{self, ErrorKind};
 
-/// How many calls in a row may be interrupted: the last of them counts as a failure.
+/// At this many interrupted calls in a row a call gives up; one fewer is passed over.
 pub const MOST_INTERRUPTIONS: u32 = 1024;
 
 /// What is kept of the calls so far: whether the last one failed, by another error than an interruption, and how many in
@@ -44,5 +44,12 @@ impl Outcome {
                 interruptions: 0,
             },
         }
+    }
+
+    /// Whether there is a reason to give up.
+    pub fn has_to_stop(self) -> bool
+        ensures { IsTrue result ↔ HasToStop self.failed self.interruptions }
+    {
+        self.failed || self.interruptions >= MOST_INTERRUPTIONS
     }
 }

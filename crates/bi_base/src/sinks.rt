@@ -60,7 +60,8 @@ impl VecSink {
     pub fn into_vec(self) -> Vec<u8>
         ensures { result.items ≡ self }
     {
-        self.bytes
+        let VecSink { bytes } = self;
+        bytes
     }
 }
 
@@ -105,7 +106,9 @@ impl<'a, W: Write> WriteSink<'a, W> {
     /// Flushes the writer, and appends nothing.
     ///
     /// The only error is `WriteFailed`. It comes only after a flush that failed by another error than an interruption, or
-    /// after 1,024 interrupted flushes in a row.
+    /// after 1,024 interrupted flushes in a row. A plain writer tells nothing of a failed call, so no clause here says
+    /// why the error comes, nor that no failure is passed over. `flush` promises both, of a writer that tells the outcome
+    /// of each call.
     pub fn finish(&mut self) -> Result<(), Error>
         ensures nothing { ⟦<WriteSink<'a, W> as Sink>⟧.appends self.old [] self.new }
         ensures error { IfErr result (λ error. error ≡ WriteFailed) }

@@ -3,7 +3,7 @@
 ghost use Rattle.std.specs.Prelude.{◌≡◌, ◌≢◌, ◌+◌, false, IfOk, OnOk, IfErr, IfSome, IsErrOf};
 ghost use Rattle.std.specs.Io.KnownBytes.{Keeps};
 ghost use Rattle.bi_base.specs.declared.fault.Error.TheVariants.{Refused, OutOfMemory, ReadFailed, WriteFailed};
-ghost use Rattle.bi_base.specs.Outcomes.{HasToStop, CannotGoOn};
+ghost use Rattle.bi_base.specs.Outcomes.{HasToStop, CannotGoOn, GoesWell};
 ghost use Rattle.bi_base.specs.Reading.{TakesAtMost};
 ghost use Rattle.bootimg.specs.declared.extract.ExtractError.TheVariants.{Failed};
 ghost use Rattle.bootimg.specs.Extracting.{IsChosen, IsExtractRefusal, IsStreamExtractRefusal};
@@ -100,6 +100,10 @@ pub fn extract_through<S: Source, T: Target>(
         HasToStop (S.failed source.new) (S.interruptions source.new) }
     ensures why_write_failed { IsErrOf result (ExtractError.Failed Error.WriteFailed) →
         CannotGoOn (T.failed target.new) (T.stalled target.new) (T.interruptions target.new) }
+    ensures no_failed_read_is_passed_over { GoesWell (S.stopped source.old) (S.interruptions source.old) →
+        (IsErrOf result (ExtractError.Failed Error.ReadFailed) → ⊥) → GoesWell (S.stopped source.new) (S.interruptions source.new) }
+    ensures no_failed_write_is_passed_over { GoesWell (T.stopped target.old) (T.interruptions target.old) →
+        (IsErrOf result (ExtractError.Failed Error.WriteFailed) → ⊥) → GoesWell (T.stopped target.new) (T.interruptions target.new) }
     ensures same_reader { S.reader source.new ≡ S.reader source.old }
     ensures same_writer { T.writer target.new ≡ T.writer target.old }
 {

@@ -3,7 +3,7 @@
 ghost use Rattle.std.specs.Prelude.{◌≡◌, ◌≢◌, ◌+◌, ◌∷◌, [], ◌++◌, false, IfOk, OnOk, IfErr, IfSome, IsErrOf, option_map, unwrap_or, string_bytes};
 ghost use Rattle.std.specs.Fmt.{decimal};
 ghost use Rattle.std.specs.Io.KnownBytes.{Keeps};
-ghost use Rattle.bi_base.specs.Outcomes.{HasToStop, CannotGoOn};
+ghost use Rattle.bi_base.specs.Outcomes.{HasToStop, CannotGoOn, GoesWell};
 ghost use Rattle.bi_base.specs.Reading.{TakesAtMost};
 ghost use Rattle.bi_legacy.specs.Pieces.{piece_of};
 ghost use Rattle.bootimg.specs.Normalising.{IsRefusalOf, IsStreamRefusalOf};
@@ -61,6 +61,10 @@ pub fn list_through<S: Source, T: Target>(
         HasToStop (S.failed source.new) (S.interruptions source.new) }
     ensures why_write_failed { IsErrOf result Error.WriteFailed →
         CannotGoOn (T.failed target.new) (T.stalled target.new) (T.interruptions target.new) }
+    ensures no_failed_read_is_passed_over { GoesWell (S.stopped source.old) (S.interruptions source.old) →
+        (IsErrOf result Error.ReadFailed → ⊥) → GoesWell (S.stopped source.new) (S.interruptions source.new) }
+    ensures no_failed_write_is_passed_over { GoesWell (T.stopped target.old) (T.interruptions target.old) →
+        (IsErrOf result Error.WriteFailed → ⊥) → GoesWell (T.stopped target.new) (T.interruptions target.new) }
     ensures same_reader { S.reader source.new ≡ S.reader source.old }
     ensures same_writer { T.writer target.new ≡ T.writer target.old }
 {

@@ -2,7 +2,7 @@
 
 ghost use Rattle.std.specs.Prelude.{◌≡◌, ◌≢◌, ◌+◌, map, false, OnOk, IfOk, IfErr, IfSome, IsErrOf};
 ghost use Rattle.std.specs.Io.KnownBytes.{Keeps};
-ghost use Rattle.bi_base.specs.Outcomes.{HasToStop, CannotGoOn};
+ghost use Rattle.bi_base.specs.Outcomes.{HasToStop, CannotGoOn, GoesWell};
 ghost use Rattle.bi_base.specs.Reading.{TakesAtMost};
 ghost use Rattle.bi_legacy.specs.NormalForm.{HasNormalForm};
 ghost use Rattle.bi_legacy.specs.Text.{legacy_text};
@@ -85,6 +85,10 @@ pub fn normalise_through<S: Source, T: Target>(
     ensures takes_at_most_one_byte_more { TakesAtMost (S.left source.old) (S.left source.new) (limits.file + 1) }
     ensures why_read_failed { IsErrOf result Error.ReadFailed → HasToStop (S.failed source.new) (S.interruptions source.new) }
     ensures why_write_failed { IsErrOf result Error.WriteFailed → CannotGoOn (T.failed target.new) (T.stalled target.new) (T.interruptions target.new) }
+    ensures no_failed_read_is_passed_over { GoesWell (S.stopped source.old) (S.interruptions source.old) →
+        (IsErrOf result Error.ReadFailed → ⊥) → GoesWell (S.stopped source.new) (S.interruptions source.new) }
+    ensures no_failed_write_is_passed_over { GoesWell (T.stopped target.old) (T.interruptions target.old) →
+        (IsErrOf result Error.WriteFailed → ⊥) → GoesWell (T.stopped target.new) (T.interruptions target.new) }
     ensures same_reader { S.reader source.new ≡ S.reader source.old }
     ensures same_writer { T.writer target.new ≡ T.writer target.old }
 {

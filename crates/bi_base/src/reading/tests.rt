@@ -80,13 +80,3 @@ fn a_failed_read_is_told_wherever_it_comes(rt: HostRuntime) -> Result<(), Fail> 
     assert_eq!(rt; held.as_slice(), b"abcde".as_slice());
     Ok(())
 }
-
-#[test]
-fn a_refused_growth_is_told_while_reading(rt: HostRuntime) {
-    let bytes = [0x5a; 64];
-    let mut reader = ScriptedReader::new(&bytes, Script::always(Turn::Takes(5)));
-    match read_all(rt.alloc(), &mut reader, small()) {
-        Ok(held) => assert_eq!(rt; held.as_slice(), bytes.as_slice()),
-        Err(error) => assert_eq!(rt; error, Error::OutOfMemory),
-    }
-}

@@ -100,16 +100,3 @@ fn a_flush_may_be_interrupted_and_may_fail(rt: HostRuntime) {
         assert_eq!(rt; held.flushes, flushes);
     }
 }
-
-#[test]
-fn a_refused_growth_appends_nothing(rt: HostRuntime) {
-    let mut sink = VecSink::new(rt.alloc());
-    let mut count = 0;
-    for _ in 0..20u8 {
-        match sink.put(b"abcde") {
-            Ok(()) => count += 5,
-            Err(error) => assert_eq!(rt; error, Error::OutOfMemory),
-        }
-    }
-    assert_eq!(rt; sink.into_vec().len(), count);
-}

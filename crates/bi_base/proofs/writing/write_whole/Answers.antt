@@ -18,5 +18,6 @@ loop-done-preserved g c =
       appended = subst (Appends before after) (sym (take-add done more bytes))
           (Appends-trans before _ after _ _ c.loop-done.invariant.appended
           (subst (Appends _ after) (ap (take more) (take_rest bytes done)) c.in_ok-done.ensures.ok));
+      well = search rules;
       same_writer = search rules;
     }
