@@ -32,3 +32,7 @@ CannotGoOn failed stalled interruptions = HasToStop failed interruptions ⊎ IsT
 -- All goes well: no call so far was a reason to give up, and the last one was not interrupted.
 abbrev pub GoesWell : Bool → ℕ → Type 0
 GoesWell stopped interruptions = IsFalse stopped × (interruptions ≡ 0)
+
+-- The last call was a flush, and it did its work.
+abbrev pub IsFlushed : Bool → Bool → ℕ → Type 0
+IsFlushed flushing failed interruptions = IsTrue flushing × IsFalse failed × (interruptions ≡ 0)

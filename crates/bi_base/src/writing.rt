@@ -4,7 +4,7 @@ ghost use Rattle.std.specs.Prelude.{◌≡◌, ◌<◌, ◌↔◌, ◌⊎◌, �
 ghost use Rattle.std.specs.Borrow.{GName};
 ghost use Rattle.std.specs.Io.{WritesAtMost};
 ghost use Rattle.std.specs.Io.KnownBytes.{Appends, Keeps, WriteAppends};
-ghost use Rattle.bi_base.specs.Outcomes.{TellsFailure, TellsStall, CountsInterruptions, HasToStop, CannotGoOn, GoesWell};
+ghost use Rattle.bi_base.specs.Outcomes.{TellsFailure, TellsStall, CountsInterruptions, HasToStop, CannotGoOn, GoesWell, IsFlushed};
 ghost use Rattle.bi_base.specs.Sinks.{Wrote};
 ghost use Rattle.bi_base.specs.Writing.{TookPrefix};
 
@@ -206,7 +206,7 @@ pub fn flush<T: Target>(target: &mut T) -> Result<(), Error>
 /// bytes that were left, or after 1,024 interruptions in a row, and `Ok` does not come after these.
 pub fn write_text<T: Target>(target: &mut T, text: &[u8]) -> Result<(), Error>
     ensures ok { OnOk result (Appends (T.contents target.old) (T.contents target.new) text.now) }
-    ensures flushed { OnOk result (IsTrue (T.flushing target.new) × IsFalse (T.failed target.new) × (T.interruptions target.new ≡ 0)) }
+    ensures flushed { OnOk result (IsFlushed (T.flushing target.new) (T.failed target.new) (T.interruptions target.new)) }
     ensures error { IfErr result (λ error. error ≡ Error.WriteFailed) }
     ensures prefix { OnErr result (TookPrefix (T.contents target.old) (T.contents target.new) (T.flushing target.new) text.now) }
     ensures cause { OnErr result

@@ -16,12 +16,12 @@ abbrev pub IsNormalTextOf : LegacyImage → Result (Vec ℕ Global) Error → Ty
 IsNormalTextOf image r = IfOk r (λ text. text.items ≡ legacy_text image)
 
 -- It stands for the file.
-pub text-stands : (file : List ℕ) (limits : Bounds) (told : Told) (r : Result (Vec ℕ Global) Error) → IsTold file limits told → IsNormalTextOf told.image r → IfOk r (λ text. StandsFor file limits text.items)
+pub text-stands : (file : List ℕ) (limits : Bounds) (told : Told) (r : Result (Vec ℕ Global) Error) → IsTold file limits told → IsNormalTextOf told.image r → IfOk r (λ text. StandsFor limits file text.items)
 text-stands file limits told (Ok text) is_told is = record { image = told.image; means = is_told.means; is = is }
 text-stands file limits told (Err error) is_told is = tt
 
 -- It tells meanings apart.
-pub text-tells_apart : (file : List ℕ) (limits : Bounds) (told : Told) (r : Result (Vec ℕ Global) Error) → ((image : LegacyImage) → LegacyMeans file image limits → image ≡ told.image) → HasNormalForm told.image limits → IsNormalTextOf told.image r → IfOk r (λ text. TellsApart file limits text.items)
+pub text-tells_apart : (file : List ℕ) (limits : Bounds) (told : Told) (r : Result (Vec ℕ Global) Error) → ((image : LegacyImage) → LegacyMeans file image limits → image ≡ told.image) → HasNormalForm told.image limits → IsNormalTextOf told.image r → IfOk r (λ text. TellsApart limits file text.items)
 text-tells_apart file limits told (Ok text) one form is = record {
   apart = λ image means other_file other other_means. (
     λ e. form.told_apart other_file other other_means.is_file (e ∙ is) ∙ sym (one image means),
@@ -31,7 +31,7 @@ text-tells_apart file limits told (Ok text) one form is = record {
 text-tells_apart file limits told (Err error) one form is = tt
 
 -- It is its own normal form.
-pub text-own : (file : List ℕ) (limits : Bounds) (told : Told) (r : Result (Vec ℕ Global) Error) → ((image : LegacyImage) → LegacyMeans file image limits → image ≡ told.image) → HasNormalForm told.image limits → IsNormalTextOf told.image r → IfOk r (λ text. IsOwnNormalForm file limits text.items)
+pub text-own : (file : List ℕ) (limits : Bounds) (told : Told) (r : Result (Vec ℕ Global) Error) → ((image : LegacyImage) → LegacyMeans file image limits → image ≡ told.image) → HasNormalForm told.image limits → IsNormalTextOf told.image r → IfOk r (λ text. IsOwnNormalForm limits file text.items)
 text-own file limits told (Ok text) one form is = record {
   again = λ image means.
       let accepted = subst (λ (bytes : List ℕ). LegacyMeans bytes told.image limits) (sym is) form.accepted in

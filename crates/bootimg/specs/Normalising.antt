@@ -16,19 +16,19 @@ use Rattle.bootimg.specs.Kinds.{magic_of}
 -- What normalising promises: two accepted files give the same bytes exactly if they mean the same.
 
 -- The text stands for the file: it is the normal text of what the file means.
-pub record StandsFor (file : List ℕ) (limits : Bounds) (text : List ℕ) : Type 0 where
+pub record StandsFor (limits : Bounds) (file text : List ℕ) : Type 0 where
   pub image : LegacyImage
   pub means : LegacyMeans file image limits
   pub is : text ≡ legacy_text image
 
 -- The text tells meanings apart: of all files, those that mean what this one means have this normal text, and no others.
-pub record TellsApart (file : List ℕ) (limits : Bounds) (text : List ℕ) : Type 0 where
+pub record TellsApart (limits : Bounds) (file text : List ℕ) : Type 0 where
   pub apart : (image : LegacyImage) → LegacyMeans file image limits →
       (other_file : List ℕ) (other : LegacyImage) → LegacyMeans other_file other limits →
       (legacy_text other ≡ text) ↔ (other ≡ image)
 
 -- The text is its own normal form: it means what the file means, under the same limits.
-pub record IsOwnNormalForm (file : List ℕ) (limits : Bounds) (text : List ℕ) : Type 0 where
+pub record IsOwnNormalForm (limits : Bounds) (file text : List ℕ) : Type 0 where
   pub again : (image : LegacyImage) → LegacyMeans file image limits → LegacyMeans text image limits
 
 -- The checks of a file that does not begin with the magic number of a legacy image.

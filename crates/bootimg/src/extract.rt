@@ -3,7 +3,7 @@
 ghost use Rattle.std.specs.Prelude.{◌≡◌, ◌≢◌, ◌+◌, false, IfOk, OnOk, IfErr, IfSome, IsErrOf};
 ghost use Rattle.std.specs.Io.KnownBytes.{Keeps};
 ghost use Rattle.bi_base.specs.declared.fault.Error.TheVariants.{Refused, OutOfMemory, ReadFailed, WriteFailed};
-ghost use Rattle.bi_base.specs.Outcomes.{HasToStop, CannotGoOn, GoesWell};
+ghost use Rattle.bi_base.specs.Outcomes.{HasToStop, CannotGoOn, GoesWell, IsFlushed};
 ghost use Rattle.bi_base.specs.Reading.{TakesAtMost};
 ghost use Rattle.bootimg.specs.declared.extract.ExtractError.TheVariants.{Failed};
 ghost use Rattle.bootimg.specs.Extracting.{IsChosen, IsExtractRefusal, IsStreamExtractRefusal};
@@ -75,10 +75,11 @@ pub fn extract<'a>(file: &'a [u8], select: Select, limits: Limits) -> Result<&'a
 /// writer that each tell the outcome of their calls.
 ///
 /// Failed with ReadFailed comes only after a read that failed by another error than an interruption, or after 1,024
-/// interrupted reads in a row; Failed with WriteFailed likewise, or after a write that took none of the bytes that were left,
-/// and only where no other error applies. After that a first part of the bytes was written, all of them where only the flush
-/// failed; after any other error nothing was written. Failed with OutOfMemory may stand in place of any answer that is given
-/// after memory was asked for.
+/// interrupted reads in a row; Failed with WriteFailed only after a write or flush that failed so, a write that took none of
+/// the bytes that were left, or 1,024 interruptions in a row, and only where no other error applies. No other answer comes
+/// after these. After Failed with WriteFailed a prefix of the bytes was written, all of them where only the flush failed;
+/// after any other error nothing was written. Failed with OutOfMemory may stand in place of any answer that is given after
+/// memory was asked for.
 pub fn extract_through<S: Source, T: Target>(
     alloc: Global,
     source: &mut S,
@@ -95,6 +96,7 @@ pub fn extract_through<S: Source, T: Target>(
         (T.contents target.old) (T.contents target.new) (T.flushing target.new) (IsChosen select.entry limits) }
     ensures else_writes_nothing { IfErr result (λ error.
         error ≢ ExtractError.Failed Error.WriteFailed → Keeps (T.contents target.old) (T.contents target.new)) }
+    ensures flushed { OnOk result (IsFlushed (T.flushing target.new) (T.failed target.new) (T.interruptions target.new)) }
     ensures takes_at_most_one_byte_more { TakesAtMost (S.left source.old) (S.left source.new) (limits.file + 1) }
     ensures why_read_failed { IsErrOf result (ExtractError.Failed Error.ReadFailed) →
         HasToStop (S.failed source.new) (S.interruptions source.new) }
@@ -116,11 +118,10 @@ pub fn extract_through<S: Source, T: Target>(
 /// Reads a boot image to its end, and writes the bytes of it that are selected and flushes: as `extract`, from a reader to a
 /// writer.
 ///
-/// Failed with ReadFailed comes only after a read that failed by another error than an interruption, or after 1,024
-/// interrupted reads in a row; Failed with WriteFailed likewise, or after a write that took none of the bytes that were left,
-/// and only where no other error applies. After that a first part of the bytes was written, all of them where only the flush
-/// failed; after any other error nothing was written. Failed with OutOfMemory may stand in place of any answer that is given
-/// after memory was asked for.
+/// The errors are those of `extract_through`. A plain reader or writer tells nothing of a failed call, so no clause here
+/// says why Failed with ReadFailed and Failed with WriteFailed come. After Failed with WriteFailed a prefix of the bytes was
+/// written; after any other error nothing was written. Failed with OutOfMemory may stand in place of any answer that is
+/// given after memory was asked for.
 pub fn extract_to<R: Read, W: Write>(
     alloc: Global,
     reader: &mut R,

@@ -3,7 +3,7 @@
 ghost use Rattle.std.specs.Prelude.{◌≡◌, ◌≢◌, ◌+◌, ◌∷◌, [], ◌++◌, false, IfOk, OnOk, IfErr, IfSome, IsErrOf, option_map, unwrap_or, string_bytes};
 ghost use Rattle.std.specs.Fmt.{decimal};
 ghost use Rattle.std.specs.Io.KnownBytes.{Keeps};
-ghost use Rattle.bi_base.specs.Outcomes.{HasToStop, CannotGoOn, GoesWell};
+ghost use Rattle.bi_base.specs.Outcomes.{HasToStop, CannotGoOn, GoesWell, IsFlushed};
 ghost use Rattle.bi_base.specs.Reading.{TakesAtMost};
 ghost use Rattle.bi_legacy.specs.Pieces.{piece_of};
 ghost use Rattle.bootimg.specs.Normalising.{IsRefusalOf, IsStreamRefusalOf};
@@ -38,9 +38,10 @@ pub fn listing(alloc: Global, file: &[u8], limits: Limits) -> Result<String, Err
 /// the outcome of their calls.
 ///
 /// ReadFailed comes only after a read that failed by another error than an interruption, or after 1,024 interrupted reads in
-/// a row; WriteFailed likewise, or after a write that took none of the bytes that were left. After WriteFailed a first part
-/// of the listing was written, the whole of it where only the flush failed; after any other error nothing was written.
-/// OutOfMemory may stand in place of any answer that is given after memory was asked for.
+/// a row; WriteFailed only after a write or flush that failed so, a write that took none of the bytes that were left, or
+/// 1,024 interruptions in a row. No other answer comes after these. After WriteFailed a prefix of the listing was written,
+/// the whole of it where only the flush failed; after any other error nothing was written. OutOfMemory may stand in place of
+/// any answer that is given after memory was asked for.
 pub fn list_through<S: Source, T: Target>(
     alloc: Global,
     source: &mut S,
@@ -56,6 +57,7 @@ pub fn list_through<S: Source, T: Target>(
         (T.contents target.old) (T.contents target.new) (T.flushing target.new) (IsListing limits) }
     ensures else_writes_nothing { IfErr result (λ error.
         error ≢ Error.WriteFailed → Keeps (T.contents target.old) (T.contents target.new)) }
+    ensures flushed { OnOk result (IsFlushed (T.flushing target.new) (T.failed target.new) (T.interruptions target.new)) }
     ensures takes_at_most_one_byte_more { TakesAtMost (S.left source.old) (S.left source.new) (limits.file + 1) }
     ensures why_read_failed { IsErrOf result Error.ReadFailed →
         HasToStop (S.failed source.new) (S.interruptions source.new) }
@@ -76,10 +78,9 @@ pub fn list_through<S: Source, T: Target>(
 
 /// Reads a boot image to its end, and writes its listing and flushes: as `listing`, from a reader to a writer.
 ///
-/// ReadFailed comes only after a read that failed by another error than an interruption, or after 1,024 interrupted reads in
-/// a row; WriteFailed likewise, or after a write that took none of the bytes that were left. After WriteFailed a first part
-/// of the listing was written, the whole of it where only the flush failed; after any other error nothing was written.
-/// OutOfMemory may stand in place of any answer that is given after memory was asked for.
+/// The errors are those of `list_through`. A plain reader or writer tells nothing of a failed call, so no clause here says
+/// why ReadFailed and WriteFailed come. After WriteFailed a prefix of the listing was written; after any other error nothing
+/// was written. OutOfMemory may stand in place of any answer that is given after memory was asked for.
 pub fn list_to<R: Read, W: Write>(
     alloc: Global,
     reader: &mut R,

@@ -2,7 +2,7 @@
 
 ghost use Rattle.std.specs.Prelude.{◌≡◌, ◌≢◌, ◌+◌, map, false, OnOk, IfOk, IfErr, IfSome, IsErrOf};
 ghost use Rattle.std.specs.Io.KnownBytes.{Keeps};
-ghost use Rattle.bi_base.specs.Outcomes.{HasToStop, CannotGoOn, GoesWell};
+ghost use Rattle.bi_base.specs.Outcomes.{HasToStop, CannotGoOn, GoesWell, IsFlushed};
 ghost use Rattle.bi_base.specs.Reading.{TakesAtMost};
 ghost use Rattle.bi_legacy.specs.NormalForm.{HasNormalForm};
 ghost use Rattle.bi_legacy.specs.Text.{legacy_text};
@@ -30,9 +30,9 @@ pub enum Form {
 /// BadMagic at 0; for a legacy image those of `Legacy::read`; Unsupported at 0 for a flattened image tree. OutOfMemory stands
 /// in place of a normal form alone: a file is refused before memory is asked for.
 pub fn normalise(alloc: Global, file: &[u8], form: Form, limits: Limits) -> Result<Vec<u8>, Error>
-    ensures stands_for_the_file { IfOk result (λ text. StandsFor file.now limits text.items) }
-    ensures tells_meanings_apart { IfOk result (λ text. TellsApart file.now limits text.items) }
-    ensures is_its_own_normal_form { IfOk result (λ text. IsOwnNormalForm file.now limits text.items) }
+    ensures stands_for_the_file { IfOk result (λ text. StandsFor limits file.now text.items) }
+    ensures tells_meanings_apart { IfOk result (λ text. TellsApart limits file.now text.items) }
+    ensures is_its_own_normal_form { IfOk result (λ text. IsOwnNormalForm limits file.now text.items) }
     ensures refused_with_the_first_fault { IfErr result (IsRefusalOf file.now limits) }
 {
     let image = read_legacy(file, limits)?;
@@ -66,8 +66,10 @@ fn parts_of<'a>(alloc: Global, image: &Legacy<'a>) -> Result<Vec<&'a [u8]>, Erro
 /// each tell the outcome of their calls. The answer is the number of signature nodes, 0 for a legacy image.
 ///
 /// ReadFailed comes only after a read that failed by another error than an interruption, or after 1,024 interrupted reads in
-/// a row; WriteFailed likewise, or after a write that took none of the bytes that were left. After WriteFailed a first part
-/// of the normal form was written, the whole of it where only the flush failed; after any other error nothing was written.
+/// a row; WriteFailed only after a write or flush that failed so, a write that took none of the bytes that were left, or
+/// 1,024 interruptions in a row. No other answer comes after these. After WriteFailed a prefix of the normal form was
+/// written, the whole of it where only the flush failed; after any other error nothing was written. OutOfMemory may stand in
+/// place of any answer that is given after memory was asked for.
 pub fn normalise_through<S: Source, T: Target>(
     alloc: Global,
     source: &mut S,
@@ -75,16 +77,26 @@ pub fn normalise_through<S: Source, T: Target>(
     form: Form,
     limits: Limits,
 ) -> Result<usize, Error>
-    ensures stands_for_the_file { OnOk result (Streamed (S.left source.old) (S.left source.new) (T.contents target.old) (T.contents target.new) (λ file text. StandsFor file limits text)) }
-    ensures tells_meanings_apart { OnOk result (Streamed (S.left source.old) (S.left source.new) (T.contents target.old) (T.contents target.new) (λ file text. TellsApart file limits text)) }
-    ensures is_its_own_normal_form { OnOk result (Streamed (S.left source.old) (S.left source.new) (T.contents target.old) (T.contents target.new) (λ file text. IsOwnNormalForm file limits text)) }
+    ensures stands_for_the_file { OnOk result (Streamed (S.left source.old) (S.left source.new)
+        (T.contents target.old) (T.contents target.new) (StandsFor limits)) }
+    ensures tells_meanings_apart { OnOk result (Streamed (S.left source.old) (S.left source.new)
+        (T.contents target.old) (T.contents target.new) (TellsApart limits)) }
+    ensures is_its_own_normal_form { OnOk result (Streamed (S.left source.old) (S.left source.new)
+        (T.contents target.old) (T.contents target.new) (IsOwnNormalForm limits)) }
     ensures no_signatures { IfOk result (λ count. count ≡ 0) }
-    ensures refused_with_the_first_fault { IfErr result (λ error. IfSome (S.left source.old) (λ file. IsStreamRefusalOf file limits error)) }
-    ensures writes_a_prefix { IsErrOf result Error.WriteFailed → StreamedPrefix (S.left source.old) (S.left source.new) (T.contents target.old) (T.contents target.new) (T.flushing target.new) (λ file text. StandsFor file limits text) }
-    ensures else_writes_nothing { IfErr result (λ error. error ≢ Error.WriteFailed → Keeps (T.contents target.old) (T.contents target.new)) }
+    ensures refused_with_the_first_fault { IfErr result (λ error.
+        IfSome (S.left source.old) (λ file. IsStreamRefusalOf file limits error)) }
+    ensures writes_a_prefix { IsErrOf result Error.WriteFailed →
+        StreamedPrefix (S.left source.old) (S.left source.new)
+        (T.contents target.old) (T.contents target.new) (T.flushing target.new) (StandsFor limits) }
+    ensures else_writes_nothing { IfErr result (λ error.
+        error ≢ Error.WriteFailed → Keeps (T.contents target.old) (T.contents target.new)) }
+    ensures flushed { OnOk result (IsFlushed (T.flushing target.new) (T.failed target.new) (T.interruptions target.new)) }
     ensures takes_at_most_one_byte_more { TakesAtMost (S.left source.old) (S.left source.new) (limits.file + 1) }
-    ensures why_read_failed { IsErrOf result Error.ReadFailed → HasToStop (S.failed source.new) (S.interruptions source.new) }
-    ensures why_write_failed { IsErrOf result Error.WriteFailed → CannotGoOn (T.failed target.new) (T.stalled target.new) (T.interruptions target.new) }
+    ensures why_read_failed { IsErrOf result Error.ReadFailed →
+        HasToStop (S.failed source.new) (S.interruptions source.new) }
+    ensures why_write_failed { IsErrOf result Error.WriteFailed →
+        CannotGoOn (T.failed target.new) (T.stalled target.new) (T.interruptions target.new) }
     ensures no_failed_read_is_passed_over { GoesWell (S.stopped source.old) (S.interruptions source.old) →
         (IsErrOf result Error.ReadFailed → ⊥) → GoesWell (S.stopped source.new) (S.interruptions source.new) }
     ensures no_failed_write_is_passed_over { GoesWell (T.stopped target.old) (T.interruptions target.old) →
@@ -101,9 +113,9 @@ pub fn normalise_through<S: Source, T: Target>(
 /// Reads a boot image to its end, and writes its normal form and flushes: as `normalise`, from a reader to a writer. The
 /// answer is the number of signature nodes, 0 for a legacy image.
 ///
-/// ReadFailed comes only after a read that failed by another error than an interruption, or after 1,024 interrupted reads in
-/// a row; WriteFailed likewise, or after a write that took none of the bytes that were left. After WriteFailed a first part
-/// of the normal form was written, the whole of it where only the flush failed; after any other error nothing was written.
+/// The errors are those of `normalise_through`. A plain reader or writer tells nothing of a failed call, so no clause here
+/// says why ReadFailed and WriteFailed come. After WriteFailed a prefix of the normal form was written; after any other
+/// error nothing was written. OutOfMemory may stand in place of any answer that is given after memory was asked for.
 pub fn normalise_to<R: Read, W: Write>(
     alloc: Global,
     reader: &mut R,
@@ -111,13 +123,20 @@ pub fn normalise_to<R: Read, W: Write>(
     form: Form,
     limits: Limits,
 ) -> Result<usize, Error>
-    ensures stands_for_the_file { OnOk result (Streamed (R.remaining reader.old) (R.remaining reader.new) (W.contents writer.old) (W.contents writer.new) (λ file text. StandsFor file limits text)) }
-    ensures tells_meanings_apart { OnOk result (Streamed (R.remaining reader.old) (R.remaining reader.new) (W.contents writer.old) (W.contents writer.new) (λ file text. TellsApart file limits text)) }
-    ensures is_its_own_normal_form { OnOk result (Streamed (R.remaining reader.old) (R.remaining reader.new) (W.contents writer.old) (W.contents writer.new) (λ file text. IsOwnNormalForm file limits text)) }
+    ensures stands_for_the_file { OnOk result (Streamed (R.remaining reader.old) (R.remaining reader.new)
+        (W.contents writer.old) (W.contents writer.new) (StandsFor limits)) }
+    ensures tells_meanings_apart { OnOk result (Streamed (R.remaining reader.old) (R.remaining reader.new)
+        (W.contents writer.old) (W.contents writer.new) (TellsApart limits)) }
+    ensures is_its_own_normal_form { OnOk result (Streamed (R.remaining reader.old) (R.remaining reader.new)
+        (W.contents writer.old) (W.contents writer.new) (IsOwnNormalForm limits)) }
     ensures no_signatures { IfOk result (λ count. count ≡ 0) }
-    ensures refused_with_the_first_fault { IfErr result (λ error. IfSome (R.remaining reader.old) (λ file. IsStreamRefusalOf file limits error)) }
-    ensures writes_a_prefix { IsErrOf result Error.WriteFailed → StreamedPrefix (R.remaining reader.old) (R.remaining reader.new) (W.contents writer.old) (W.contents writer.new) false (λ file text. StandsFor file limits text) }
-    ensures else_writes_nothing { IfErr result (λ error. error ≢ Error.WriteFailed → Keeps (W.contents writer.old) (W.contents writer.new)) }
+    ensures refused_with_the_first_fault { IfErr result (λ error.
+        IfSome (R.remaining reader.old) (λ file. IsStreamRefusalOf file limits error)) }
+    ensures writes_a_prefix { IsErrOf result Error.WriteFailed →
+        StreamedPrefix (R.remaining reader.old) (R.remaining reader.new)
+        (W.contents writer.old) (W.contents writer.new) false (StandsFor limits) }
+    ensures else_writes_nothing { IfErr result (λ error.
+        error ≢ Error.WriteFailed → Keeps (W.contents writer.old) (W.contents writer.new)) }
     ensures takes_at_most_one_byte_more { TakesAtMost (R.remaining reader.old) (R.remaining reader.new) (limits.file + 1) }
 {
     let mut source = ReaderSource::new(reader);
