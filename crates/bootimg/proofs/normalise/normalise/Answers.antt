@@ -1,5 +1,5 @@
-use Rattle.std.proofs.Common.{rules, IfOk, IfErr, Result, Ok, Err, Vec, ℕ, Global, ◌≡◌}
-use Rattle.bootimg.proofs.Headline.{text-stands, text-tells_apart, text-own, memory-refusal, IsNormalTextOf}
+use Rattle.std.proofs.Common.{rules}
+use Rattle.bootimg.proofs.Headline.{text-stands, text-tells_apart, text-own, memory-refusal}
 use Rattle.bootimg.proofs.normalise.normalise.Goals as goal
 
 pub returns-clause-stands_for_the_file : goal.returns-clause-stands_for_the_file

@@ -1,4 +1,4 @@
-use Rattle.std.proofs.Common.{List, ap, ◌∙◌, map}
+use Rattle.std.proofs.Common.{ap, ◌∙◌, map}
 use Rattle.bi_legacy.specs.Pieces.{Piece}
 use Rattle.bootimg.proofs.normalise.parts_of.Goals as goal
 

@@ -1,4 +1,4 @@
-use Rattle.std.proofs.Common.{◌∙◌, ap, map, List}
+use Rattle.std.proofs.Common.{◌∙◌, ap, map}
 use Rattle.bi_legacy.specs.Parts.{first_place}
 use Rattle.bi_legacy.specs.Pieces.{Piece, placed_parts}
 use Rattle.bi_legacy.specs.Reading.{Told}
