@@ -75,10 +75,10 @@ pub fn extract<'a>(file: &'a [u8], select: Select, limits: Limits) -> Result<&'a
 /// writer that each tell the outcome of their calls.
 ///
 /// Failed with ReadFailed comes only after a read that failed by another error than an interruption, or after 1,024
-/// interrupted reads in a row; Failed with WriteFailed likewise, or after a write that took none of the bytes that were left,
-/// and only where no other error applies. After that a first part of the bytes was written, all of them where only the flush
-/// failed; after any other error nothing was written. Failed with OutOfMemory may stand in place of any answer that is given
-/// after memory was asked for.
+/// interrupted reads in a row; Failed with WriteFailed likewise, or after a write that took none of the bytes that were
+/// left, and only where no other error applies. After such a read or write no other answer comes. After Failed with
+/// WriteFailed a first part of the bytes was written, all of them where only the flush failed; after any other error
+/// nothing was written. Failed with OutOfMemory may stand in place of any answer that is given after memory was asked for.
 pub fn extract_through<S: Source, T: Target>(
     alloc: Global,
     source: &mut S,

@@ -37,10 +37,11 @@ pub fn listing(alloc: Global, file: &[u8], limits: Limits) -> Result<String, Err
 /// Reads a boot image to its end, and writes its listing and flushes: as `listing`, from a reader to a writer that each tell
 /// the outcome of their calls.
 ///
-/// ReadFailed comes only after a read that failed by another error than an interruption, or after 1,024 interrupted reads in
-/// a row; WriteFailed likewise, or after a write that took none of the bytes that were left. After WriteFailed a first part
-/// of the listing was written, the whole of it where only the flush failed; after any other error nothing was written.
-/// OutOfMemory may stand in place of any answer that is given after memory was asked for.
+/// ReadFailed comes only after a read that failed by another error than an interruption, or after 1,024 interrupted reads
+/// in a row; WriteFailed likewise, or after a write that took none of the bytes that were left. After such a read or write
+/// no other answer comes. After WriteFailed a first part of the listing was written, the whole of it where only the flush
+/// failed; after any other error nothing was written. OutOfMemory may stand in place of any answer that is given after
+/// memory was asked for.
 pub fn list_through<S: Source, T: Target>(
     alloc: Global,
     source: &mut S,

@@ -65,9 +65,10 @@ fn parts_of<'a>(alloc: Global, image: &Legacy<'a>) -> Result<Vec<&'a [u8]>, Erro
 /// Reads a boot image to its end, and writes its normal form and flushes: as `normalise`, from a reader to a writer that
 /// each tell the outcome of their calls. The answer is the number of signature nodes, 0 for a legacy image.
 ///
-/// ReadFailed comes only after a read that failed by another error than an interruption, or after 1,024 interrupted reads in
-/// a row; WriteFailed likewise, or after a write that took none of the bytes that were left. After WriteFailed a first part
-/// of the normal form was written, the whole of it where only the flush failed; after any other error nothing was written.
+/// ReadFailed comes only after a read that failed by another error than an interruption, or after 1,024 interrupted reads
+/// in a row; WriteFailed likewise, or after a write that took none of the bytes that were left. After such a read or write
+/// no other answer comes. After WriteFailed a first part of the normal form was written, the whole of it where only the
+/// flush failed; after any other error nothing was written.
 pub fn normalise_through<S: Source, T: Target>(
     alloc: Global,
     source: &mut S,

@@ -1,7 +1,7 @@
-use Rattle.std.proofs.Common.{ℕ, List, Option, Some, None, sym, subst, ◌∙◌, IfSome}
+use Rattle.std.proofs.Common.{ℕ, List, subst}
 use Rattle.std.proofs.lemmas.Result.{err_from_is_err_and}
 use Rattle.bootimg.specs.Normalising.{IsRefusalOf}
-use Rattle.bootimg.proofs.Headline.{stream-refusal, of_known}
+use Rattle.bootimg.proofs.Headline.{of_known}
 use Rattle.bootimg.proofs.normalise.normalise_through.Goals as goal
 
 pub returns-in_err-text-clause-refused_with_the_first_fault :
