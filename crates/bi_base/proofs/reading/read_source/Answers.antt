@@ -1,5 +1,4 @@
 use Rattle.std.proofs.Common.{◌++◌, take, arith}
-use Rattle.std.proofs.KnownBytes.{Consumes-trans}
 use Rattle.std.proofs.lemmas.Grind.{common_steps}
 use Rattle.bi_base.proofs.reading.read_source.Goals as goal
 
@@ -7,12 +6,12 @@ pub returns-then-count-most-clause-takes : goal.returns-then-count-most-clause-t
 returns-then-count-most-clause-takes g c = (
   c.loop-bytes.bytes.items ++ take c.in_ok-count.count c.read_some.new.buffer,
   grind (arith, common_steps),
-  Consumes-trans _ _ _ _ _ c.loop-bytes.invariant.taken c.in_ok-count.ensures.ok,
+  grind (arith, common_steps),
 )
 
 pub returns-in_err-extend_from_slice-clause-takes : goal.returns-in_err-extend_from_slice-clause-takes
 returns-in_err-extend_from_slice-clause-takes g c = (
   c.loop-bytes.bytes.items ++ take c.in_ok-count.count c.read_some.new.buffer,
   grind (arith, common_steps),
-  Consumes-trans _ _ _ _ _ c.loop-bytes.invariant.taken c.in_ok-count.ensures.ok,
+  grind (arith, common_steps),
 )
