@@ -5,7 +5,7 @@ use Rattle.std.proofs.lemmas.List.{length-append, take-append-le, take-append-dr
 use Rattle.bi_base.specs.Sinks.{AppendsPrefix, AppendsInTurn, Wrote}
 use Rattle.bi_base.specs.declared.fault.Error.{Error}
 
--- A first part of these bytes is one of these and more.
+-- A prefix of these bytes is one of these and more.
 pub prefix_more : {S : Type 0} (appends : S → List ℕ → S → Type 0) (old : S) (bytes more : List ℕ) (new : S) → AppendsPrefix appends old bytes new → AppendsPrefix appends old (bytes ++ more) new
 prefix_more appends old bytes more new part = (
   part.0,
@@ -13,7 +13,7 @@ prefix_more appends old bytes more new part = (
   subst (λ xs. appends old xs new) (sym (take-append-le part.0 bytes more part.1)) part.2,
 )
 
--- After these bytes, a first part of more is a first part of both together.
+-- After these bytes, a prefix of more is a prefix of both together.
 pub prefix_after : {S : Type 0} (appends : S → List ℕ → S → Type 0) (in_turn : AppendsInTurn appends) (old mid new : S) (bytes more : List ℕ) → appends old bytes mid → AppendsPrefix appends mid more new → AppendsPrefix appends old (bytes ++ more) new
 prefix_after appends in_turn old mid new bytes more first part = (
   length bytes + part.0,
@@ -21,7 +21,7 @@ prefix_after appends in_turn old mid new bytes more first part = (
   subst (λ xs. appends old xs new) (sym (take-append-add bytes more part.0)) (in_turn old mid new bytes (take part.0 more) first part.2),
 )
 
--- An error that is passed on by `?` is what a call that writes may answer, where a first part of the bytes was appended.
+-- An error that is passed on by `?` is what a call that writes may answer, where a prefix of the bytes was appended.
 pub passed_on : {S : Type 0} (appends : S → List ℕ → S → Type 0) (names : Error → Type 0) (old : S) (bytes : List ℕ) (error : Error) (result : Result (Unit {0}) Error) (new : S) → IsErrAnd result (λ e. e ≡ error) → AppendsPrefix appends old bytes new → names error → Wrote appends names old bytes result new
 passed_on appends names old bytes error (Ok done) new is part named = absurd is
 passed_on appends names old bytes error (Err e) new is part named = (part, subst names (sym is) named)
@@ -40,7 +40,7 @@ flat_map_at f xs i d within =
     ∙ ap (λ l. flat_map f l ++ behind) (take_more xs i d within)
     ∙ ap (λ l. l ++ behind) (flat_map-append f (take i xs) (get_or xs i d ∷ []) ∙ ap (λ l. flat_map f (take i xs) ++ l) (append-nil (f (get_or xs i d))))
 
--- After the pieces before one, a first part of that one is a first part of all pieces together.
+-- After the pieces before one, a prefix of that one is a prefix of all pieces together.
 pub prefix_within : {S A : Type 0} (appends : S → List ℕ → S → Type 0) (in_turn : AppendsInTurn appends) (old mid new : S) (f : A → List ℕ) (xs : List A) (i : ℕ) (d : A) → i < length xs → appends old (flat_map f (take i xs)) mid → AppendsPrefix appends mid (f (get_or xs i d)) new → AppendsPrefix appends old (flat_map f xs) new
 prefix_within appends in_turn old mid new f xs i d within before part =
     let first = flat_map f (take i xs) ++ f (get_or xs i d) in

@@ -4,11 +4,11 @@ use Rattle.bi_base.specs.declared.fault.Error.{Error}
 -- What a sink is: something to which bytes are appended. A sink's `appends` relates the sink before, a list of bytes, and
 -- the sink after; its `names` are the errors that it may answer (profile of this project).
 
--- Some first part of these bytes was appended.
+-- Some prefix of these bytes was appended.
 abbrev pub AppendsPrefix : {S : Type 0} → (S → List ℕ → S → Type 0) → S → List ℕ → S → Type 0
 AppendsPrefix appends old bytes new = (n : ℕ) × (n ≤ length bytes) × appends old (take n bytes) new
 
--- What a call that writes these bytes did: all were appended, or a first part of them with an error that the sink names.
+-- What a call that writes these bytes did: all were appended, or a prefix of them with an error that the sink names.
 abbrev pub Wrote : {S : Type 0} → (S → List ℕ → S → Type 0) → (Error → Type 0) → S → List ℕ → Result (Unit {0}) Error → S → Type 0
 Wrote appends names old bytes result new =
     MatchResult result (λ _. appends old bytes new) (λ error. AppendsPrefix appends old bytes new × names error)

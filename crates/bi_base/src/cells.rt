@@ -9,8 +9,8 @@ ghost use Rattle.bi_base.specs.Sinks.{Wrote};
 use crate::fault::Error;
 use crate::sinks::Sink;
 
-/// The number whose cell, its four big-endian bytes, stands at offset `at`. None exactly where the bytes end before
-/// the cell does.
+/// The number whose cell, its four big-endian bytes (Devicetree Specification, 2.2.4.2: u32), stands at offset `at`. None
+/// exactly where the bytes end before the cell does.
 pub fn be32_at(bytes: &[u8], at: usize) -> Option<u32>
     ensures within { IsSome result ↔ (at + 4 ≤ length bytes.now) }
     ensures value { IfSome result (λ number. number ≡ u32_at bytes.now at) }
@@ -20,15 +20,15 @@ pub fn be32_at(bytes: &[u8], at: usize) -> Option<u32>
     Some(u32::from_be_bytes(*cell))
 }
 
-/// Appends the cell of this number: its four bytes, the highest first (Devicetree Specification, 2.3). An error is one
-/// that the sink names, and a first part of the cell was appended then.
+/// Appends the cell of this number: its four bytes, the highest first (Devicetree Specification, 2.2.4.2: u32). An error
+/// is one that the sink names, and a prefix of the cell was appended then.
 pub fn put_cell<S: Sink>(sink: &mut S, number: u32) -> Result<(), Error>
     ensures { Wrote S.appends S.names sink.old (cell number) result sink.new }
 {
     sink.put(&number.to_be_bytes())
 }
 
-/// Appends the cells of these numbers in their order. An error is one that the sink names, and a first part of the
+/// Appends the cells of these numbers in their order. An error is one that the sink names, and a prefix of the
 /// cells was appended then.
 pub fn put_cells<S: Sink>(sink: &mut S, numbers: &[u32]) -> Result<(), Error>
     ensures { Wrote S.appends S.names sink.old (flat_map cell numbers.now) result sink.new }

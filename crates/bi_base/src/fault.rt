@@ -107,10 +107,12 @@ impl Cause {
     }
 }
 
-/// A refusal: why, and at which offset of the file, or of the image to be written.
+/// A refusal: why, and where.
 #[derive(Clone, Copy, Debug, PartialEq, Eq)]
 pub struct Fault {
+    /// Why.
     pub cause: Cause,
+    /// Where, in bytes from the beginning of the file, or of the image to be written. For TooLarge it is the limit.
     pub offset: u32,
 }
 

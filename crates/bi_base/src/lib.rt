@@ -1,13 +1,13 @@
 //! What every layer of bootimg stands on: cells, CRC-32, limits, causes and faults, reading a whole input, and sinks
-//! that bytes are written to.
+//! that bytes are written to; and the definitions of devicetree blobs and of their normal text, with their laws.
 #![tactic(auto)]
 
 pub mod blob_laws;
 mod cells;
 mod checksum;
 mod crc;
+pub mod crc_laws;
 mod fault;
-pub mod laws;
 mod limits;
 mod outcomes;
 mod reading;

@@ -23,7 +23,7 @@ pub trait Sink {
     // The errors that a call may answer.
     ghost names: { Error → Type 0 };
 
-    /// Appends these bytes. After an error, which is one that the sink names, a first part of them was appended.
+    /// Appends these bytes. After an error, which is one that the sink names, a prefix of them was appended.
     fn put(&mut self, bytes: &[u8]) -> Result<(), Error>
         ensures { Wrote appends names self.old bytes.now result self.new };
 

@@ -155,7 +155,7 @@ fn write_some<T: Target>(target: &mut T, bytes: &[u8]) -> Result<usize, Error>
 
 /// Writes all of these bytes, in as many calls as it takes.
 ///
-/// The only error is `WriteFailed`, and the writer took a first part of the bytes then. It comes only after a write
+/// The only error is `WriteFailed`, and the writer took a prefix of the bytes then. It comes only after a write
 /// that failed by another error than an interruption, after one that took none of the bytes that were left, or after
 /// 1,024 interrupted writes in a row, and `Ok` does not come after these.
 pub fn write_whole<T: Target>(target: &mut T, bytes: &[u8]) -> Result<(), Error>
@@ -201,7 +201,7 @@ pub fn flush<T: Target>(target: &mut T) -> Result<(), Error>
 
 /// Writes a whole text, and flushes.
 ///
-/// The only error is `WriteFailed`. The writer took a first part of the text then, and all of it where the flush failed. It
+/// The only error is `WriteFailed`. The writer took a prefix of the text then, and all of it where the flush failed. It
 /// comes only after a write or flush that failed by another error than an interruption, after a write that took none of the
 /// bytes that were left, or after 1,024 interruptions in a row, and `Ok` does not come after these.
 pub fn write_text<T: Target>(target: &mut T, text: &[u8]) -> Result<(), Error>

@@ -8,7 +8,7 @@ use Rattle.bi_hash.specs.declared.verdicts.Verdict.{Verdict}
 use Rattle.bi_hash.specs.declared.verdicts.Verdict.TheVariants.{Malformed, UnknownAlgo, NoPayload, Good, Bad}
 
 -- The text that a property's value begins with: the bytes before its first zero, if it has one (Devicetree
--- Specification, 2.2.4: a string ends with a zero).
+-- Specification, 2.2.4.2: a string ends with a zero).
 unfoldable pub text_of : List ℕ → Option (List ℕ)
 text_of bytes =
     if list_any (λ byte. byte == 0) bytes then Some (before_first (λ byte. byte == 0) bytes) else None

@@ -62,7 +62,8 @@ impl Algo {
         }
     }
 
-    /// Puts the digest of a payload first into `out`, and zeros after it. The answer is the digest's length in bytes.
+    /// Puts the digest of a payload first into `out`, and zeros after it. The answer is the digest's length in bytes: 4, 16,
+    /// 20, 32 or 64.
     pub fn digest(self, payload: &[u8], out: &mut [u8; 64]) -> usize
         ensures length { result ≡ length (digest_of self payload.now) }
         ensures size { result ≡ digest_size self }

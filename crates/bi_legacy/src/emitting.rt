@@ -25,7 +25,7 @@ use bi_base::{Cause, Error, Fault, Limits, Sink};
 /// It is refused by the first of these, before anything is appended: BadField at 32 where the name is longer than 32
 /// bytes or has a zero; BadField at 30 where the image is neither multi nor script and the number of parts is not one;
 /// TooLarge at `limits.file()` where the text would be longer than that; EmptyPart at `64 + 4 * index` for the first empty
-/// part of a multi or script image. Any other error is one that the sink names, and a first part of the text was appended
+/// part of a multi or script image. Any other error is one that the sink names, and a prefix of the text was appended
 /// then. It takes no memory but what the sink takes, and time linear in the parts' number and length.
 pub fn emit<S: Sink>(
     fields: Fields<'_>,

@@ -18,7 +18,7 @@ pub record Streamed (left left_after held held_after : Option (List ℕ)) (Holds
   pub took : Appends held held_after text
   pub holds : Holds file text
 
--- The reader gave a file, and the writer took a first part of a text that this holds of: all of it where the call that
+-- The reader gave a file, and the writer took a prefix of a text that this holds of: all of it where the call that
 -- failed is known to be a flush.
 pub record StreamedPrefix (left left_after held held_after : Option (List ℕ)) (flushing : Bool) (Holds : List ℕ → List ℕ → Type 0) : Type 0 where
   pub file : List ℕ

@@ -1,4 +1,4 @@
-//! Laws of what the contracts speak of. Their functions do nothing: what each of them ensures is the law.
+//! Laws of CRC-32. Their functions do nothing: what each of them ensures is the law.
 
 ghost use Rattle.std.specs.Prelude.{◌≡◌, codes};
 ghost use Rattle.bi_base.specs.Crc.{crc32, SameForEveryCut};
