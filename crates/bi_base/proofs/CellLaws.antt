@@ -44,3 +44,17 @@ pub cell-u32_at : (file : List ℕ) (at : ℕ) → AreBytes file → at + 4 ≤ 
 unfolding cell u32_at
 cell-u32_at file at bytes within =
     be_bytes_4 (slice file at 4) (from_be_bytes w32 (slice file at 4)) (length-slice file at 4 within) (AreBytes-slice file at 4 bytes).each refl
+
+-- What four bytes say is below 2^32.
+from_be_bytes_4-fits : (bytes : List ℕ) → ((i : ℕ) → get_or bytes i 0 < 256) → from_be_bytes w32 bytes < 2 ^ 32
+from_be_bytes_4-fits bytes each =
+    let a : get_or bytes 0 0 < 256 = each 0 in
+    let b : get_or bytes 1 0 < 256 = each 1 in
+    let c : get_or bytes 2 0 < 256 = each 2 in
+    let d : get_or bytes 3 0 < 256 = each 3 in
+    omega arith
+
+-- A number that is read from a cell of bytes is below 2^32.
+pub u32_at-fits : (file : List ℕ) (at : ℕ) → AreBytes file → u32_at file at < 2 ^ 32
+unfolding u32_at
+u32_at-fits file at bytes = from_be_bytes_4-fits (slice file at 4) (AreBytes-slice file at 4 bytes).each

@@ -1,4 +1,5 @@
 pub mod CellLaws
+pub mod ByteLists
 pub mod TextFacts
 pub mod HeaderTests
 pub mod HeaderFacts

@@ -9,7 +9,6 @@ pub mod Length
 pub mod Structure
 pub mod Header
 pub mod Blocks
-pub mod Bytes
 pub mod TextBytes
 pub mod TextBlob
 pub mod SaidBytes

@@ -1,26 +1,7 @@
-use Rattle.std.proofs.Common.{ℕ, zero, suc, ◌<◌, ◌^◌, ◌%◌, List, [], ◌∷◌, ◌++◌, arith}
-use Rattle.std.specs.Prelude.{slice_index}
+use Rattle.std.proofs.Common.{ℕ, ◌<◌, ◌^◌, ◌%◌, List, ◌∷◌, arith}
 use Rattle.std.specs.Int.{to_be_bytes, to_le_bytes, w32, w64}
 use Rattle.bi_base.specs.Cells.{AreBytes}
-
--- No bytes are bytes.
-pub AreBytes-none : AreBytes []
-AreBytes-none = record { each = λ i. omega arith }
-
--- Each element of a byte before bytes is a byte.
-each_of-cons : (byte : ℕ) (bytes : List ℕ) → byte < 2 ^ 8 → AreBytes bytes → (i : ℕ) → slice_index (byte ∷ bytes) i < 2 ^ 8
-each_of-cons byte bytes here later zero = here
-each_of-cons byte bytes here later (suc i) = later.each i
-
--- A byte before bytes makes bytes.
-AreBytes-cons : (byte : ℕ) (bytes : List ℕ) → byte < 2 ^ 8 → AreBytes bytes → AreBytes (byte ∷ bytes)
-AreBytes-cons byte bytes here later = record { each = each_of-cons byte bytes here later }
-
--- Bytes behind bytes are bytes.
-pub AreBytes-append : (a b : List ℕ) → AreBytes a → AreBytes b → AreBytes (a ++ b)
-AreBytes-append [] b first second = second
-AreBytes-append (byte ∷ a) b first second =
-    AreBytes-cons byte (a ++ b) (first.each 0) (AreBytes-append a b (record { each = λ i. first.each (suc i) }) second)
+use Rattle.bi_base.proofs.ByteLists.{AreBytes-none, AreBytes-cons}
 
 -- A remainder by 256 before bytes makes bytes.
 AreBytes-remainder : (n : ℕ) (bytes : List ℕ) → AreBytes bytes → AreBytes (n % 256 ∷ bytes)

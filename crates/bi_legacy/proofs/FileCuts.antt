@@ -17,13 +17,6 @@ pub drop_cell : (file : List ℕ) (at : ℕ) → AreBytes file → at + 4 ≤ le
 drop_cell file at bytes within =
     drop_slice file at 4 ∙ ap (λ first. first ++ drop (at + 4) file) (sym (cell-u32_at file at bytes within))
 
--- A number that is read from bytes fits 32 bits.
-pub u32_at_fits : (file : List ℕ) (at : ℕ) → AreBytes file → u32_at file at < 2 ^ 32
-unfolding u32_at
-u32_at_fits file at bytes =
-    let part = AreBytes-slice file at 4 bytes in
-    omega (arith, part.each 0, part.each 1, part.each 2, part.each 3)
-
 -- Where a cell stands, its number is read.
 pub cell_read : (file : List ℕ) (at n : ℕ) → n < 2 ^ 32 → slice file at 4 ≡ cell n → u32_at file at ≡ n
 unfolding cell u32_at

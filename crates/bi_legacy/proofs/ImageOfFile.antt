@@ -6,7 +6,7 @@ use Rattle.bi_legacy.specs.File.{IsLegacyFile}
 use Rattle.bi_legacy.specs.Meaning.{LegacyImage, IsListedPart, AreParts, has_size_list}
 use Rattle.bi_legacy.specs.Parts.{IsSizeListed}
 use Rattle.bi_legacy.specs.Text.{IsLegacyImage, legacy_text}
-use Rattle.bi_legacy.proofs.ByteLists.{first_bytes}
+use Rattle.bi_base.proofs.ByteLists.{AreBytes-left}
 use Rattle.bi_legacy.proofs.HeaderReads.{field_read, body_read, length-file}
 use Rattle.bi_legacy.proofs.HeldParts.{held_stands}
 use Rattle.bi_legacy.proofs.NormalLength.{length-normal_body, length-legacy_text, parts_end_in}
@@ -41,7 +41,7 @@ body_bytes file image is = subst AreBytes (body_read file image is) (AreBytes-sl
 -- The name that a file means is bytes.
 name_bytes : (file : List ℕ) (image : LegacyImage) (is : IsLegacyFile file image) → AreBytes image.name
 name_bytes file image is =
-    first_bytes image.name is.name.padding (subst AreBytes (field_read file image is ∙ is.name.spelled) (AreBytes-slice file 32 32 is.bytes))
+    AreBytes-left image.name is.name.padding (subst AreBytes (field_read file image is ∙ is.name.spelled) (AreBytes-slice file 32 32 is.bytes))
 
 -- What a file means is a meaning that a legacy image can have.
 pub image_of_file : (file : List ℕ) (image : LegacyImage) → IsLegacyFile file image → IsLegacyImage image

@@ -1,4 +1,3 @@
-pub mod ByteLists
 pub mod CheckLists
 pub mod EmitFaults
 pub mod EmitWalk

@@ -2,13 +2,13 @@ use Rattle.std.proofs.Common.{◌≡◌, ℕ, ◌+◌, Bool, true, false, List, 
 use Rattle.bi_base.specs.Cells.{slice, u32_at, AreBytes}
 use Rattle.bi_base.specs.Checks.{HasNoFault}
 use Rattle.bi_base.specs.Limits.{Bounds}
-use Rattle.bi_base.proofs.CellLaws.{AreBytes-slice, length-slice}
+use Rattle.bi_base.proofs.CellLaws.{AreBytes-slice, length-slice, u32_at-fits}
 use Rattle.bi_legacy.specs.Faults.{Passes, HasNoLegacyFault, body_of, size_list_checks}
 use Rattle.bi_legacy.specs.File.{header, LegacyMeans}
 use Rattle.bi_legacy.specs.Meaning.{FitsFields, has_size_list}
 use Rattle.bi_legacy.specs.Parts.{IsSizeListed}
 use Rattle.bi_legacy.specs.Walk.{read_image}
-use Rattle.bi_legacy.proofs.FileCuts.{drop_slice, u32_at_fits}
+use Rattle.bi_legacy.proofs.FileCuts.{drop_slice}
 use Rattle.bi_legacy.proofs.HeaderSplit.{header_split}
 use Rattle.bi_legacy.proofs.HeldParts.{listed_parts, sizes_held}
 use Rattle.bi_legacy.proofs.NameField.{name_held}
@@ -19,9 +19,9 @@ use Rattle.bi_legacy.proofs.PartPieces.{ends_checked}
 -- What is read from bytes is in the ranges of the fields.
 ranges_read : (file : List ℕ) → AreBytes file → FitsFields (read_image file)
 ranges_read file bytes = record {
-  time = u32_at_fits file 8 bytes;
-  load = u32_at_fits file 16 bytes;
-  entry = u32_at_fits file 20 bytes;
+  time = u32_at-fits file 8 bytes;
+  load = u32_at-fits file 16 bytes;
+  entry = u32_at-fits file 20 bytes;
   os = bytes.each 28;
   arch = bytes.each 29;
   image_type = bytes.each 30;
@@ -47,7 +47,7 @@ no_fault_means file limits bytes (short, (cell, (magic, (whole, (header_sum, (wh
             ∙ ap (λ rest. header (read_image file) (slice file 32 32) (body_of file) ++ rest) (drop_slice file 64 (u32_at file 12));
         ranges = ranges_read file bytes;
         name = name_held (slice file 32 32) (length-slice file 32 32 whole);
-        size = rw size (u32_at_fits file 12 bytes);
+        size = rw size (u32_at-fits file 12 bytes);
         parts = parts_held (has_size_list (slice_index file 30)) file limits bytes parts;
         bytes = bytes;
       };

@@ -4,7 +4,8 @@ use Rattle.bi_base.specs.Cells.{cell, slice, u32_at, AreBytes}
 use Rattle.bi_base.specs.Tokens.{Token, BeginNode, EndNode, Prop, Nop, End, unpadded, width, StandsAt, NameAt, begin_node_number, end_node_number, prop_number, nop_number, end_number}
 use Rattle.bi_base.proofs.CellLaws.{length-cell, length-slice}
 use Rattle.bi_base.proofs.Blobs.Names.{one_name}
-use Rattle.bi_base.proofs.Blobs.Cells.{BytesAt, BytesAt-from, BytesAt-drop, BytesAt-within, BytesAt-left, BytesAt-right, BytesAt-join, BytesAt-cell, u32_at-BytesAt, u32_at-fits}
+use Rattle.bi_base.proofs.Blobs.Cells.{BytesAt, BytesAt-from, BytesAt-drop, BytesAt-within, BytesAt-left, BytesAt-right, BytesAt-join, BytesAt-cell, u32_at-BytesAt}
+use Rattle.bi_base.proofs.CellLaws.{u32_at-fits}
 
 -- The number of a token.
 abbrev pub number : Token → ℕ

@@ -7,11 +7,11 @@ use Rattle.bi_base.specs.Blob.{IsBlob, TreeBlocks, tree_blocks, HoldsTree, off_d
 use Rattle.bi_base.specs.Layout.{tree_text, located_tree, longest_text}
 use Rattle.bi_base.specs.TextLaws.{BlobHasContent, TextHasOneContent}
 use Rattle.bi_base.proofs.CellLaws.{AreBytes-slice}
-use Rattle.bi_base.proofs.Blobs.Cells.{u32_at-fits}
+use Rattle.bi_base.proofs.CellLaws.{u32_at-fits}
 use Rattle.bi_base.proofs.Blobs.OneBlob.{one_blob}
 use Rattle.bi_base.proofs.Texts.Members.{each-front}
 use Rattle.bi_base.proofs.Texts.Places.{plain-tree}
-use Rattle.bi_base.proofs.Texts.Bytes.{AreBytes-none, AreBytes-left}
+use Rattle.bi_base.proofs.ByteLists.{AreBytes-none, AreBytes-left}
 use Rattle.bi_base.proofs.Texts.SaidBytes.{TokenHasBytes, tokens_bytes, tree_bytes}
 use Rattle.bi_base.proofs.Texts.TextBlob.{text_blob}
 

@@ -8,7 +8,7 @@ use Rattle.bi_base.specs.Tree.{Nodes, none, node, Root, Placed, Located, as_node
 use Rattle.bi_base.specs.Marks.{Mark, Opens, Has, Closes, marks, marks_of, PlacedMark, OpensAt, HasAt, ClosesAt, placed_marks, placed_marks_of, Say}
 use Rattle.bi_base.specs.Layout.{HasBytes}
 use Rattle.bi_base.proofs.Texts.Members.{each-map}
-use Rattle.bi_base.proofs.Texts.Bytes.{AreBytes-left, AreBytes-right, AreBytes-drop, AreBytes-take}
+use Rattle.bi_base.proofs.ByteLists.{AreBytes-left, AreBytes-right, AreBytes-drop, AreBytes-take}
 
 -- What tokens that are bytes say has names and values that are bytes.
 

@@ -11,7 +11,7 @@ use Rattle.bi_base.proofs.Texts.Length.{length-header, length-text_of, length-tr
 use Rattle.bi_base.proofs.Texts.Structure.{says_tree}
 use Rattle.bi_base.proofs.Texts.Header.{HasCells, has_cells}
 use Rattle.bi_base.proofs.Texts.Blocks.{text_parts, slice_from_second, third_slice, fourth_slice, reserved-aligned, text_header}
-use Rattle.bi_base.proofs.Texts.Bytes.{AreBytes-append}
+use Rattle.bi_base.proofs.ByteLists.{AreBytes-append}
 use Rattle.bi_base.proofs.Texts.TextBytes.{AreBytes-text}
 
 -- A text, with any bytes behind it, is a blob of what it was made from.

@@ -7,7 +7,7 @@ use Rattle.bi_base.specs.Marks.{Mark, Opens, Has, Closes, marks_of}
 use Rattle.bi_base.specs.Blob.{Reservation, pair_bytes, end_pair, reserved_block, blob_magic}
 use Rattle.bi_base.specs.Layout.{used_names, distinct_names, strings_of, offset_in, filling, spelling, token_of, structure_block, strings_block, unfilled, blob_header, text_of, blob_text, tree_text, HasBytes, IsContent}
 use Rattle.bi_base.proofs.Texts.Members.{each-append, each-filter}
-use Rattle.bi_base.proofs.Texts.Bytes.{AreBytes-none, AreBytes-append, AreBytes-zeros, AreBytes-cell, AreBytes-cell8, AreBytes-flat_map}
+use Rattle.bi_base.proofs.ByteLists.{AreBytes-none, AreBytes-append, AreBytes-zeros, AreBytes-cell, AreBytes-cell8, AreBytes-flat_map}
 
 -- A text is bytes, where its names and values are.
 

@@ -5,7 +5,7 @@ use Rattle.std.proofs.lemmas.List.{get_or_append_left, get_or-append_right, get_
 use Rattle.bi_base.specs.Cells.{cell, cell8, AreBytes}
 use Rattle.bi_base.proofs.CellLaws.{AreBytes-slice}
 
--- Lists of bytes that are put together are bytes.
+-- Lists of bytes: their parts, and how they are put together.
 
 -- No bytes.
 pub AreBytes-none : AreBytes []
