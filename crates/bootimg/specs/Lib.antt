@@ -1,4 +1,5 @@
 pub mod Extracting
+pub mod Failures
 pub mod Kinds
 pub mod Listing
 pub mod Normalising

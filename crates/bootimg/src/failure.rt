@@ -1,5 +1,9 @@
 //! Why the program did not do what it was asked to do, and how it says so.
 
+ghost use Rattle.std.specs.Prelude.{◌≡◌, Some};
+ghost use Rattle.bootimg.specs.declared.failure.Failure.TheVariants.{Call};
+ghost use Rattle.bootimg.specs.Failures.{failure_of, failure_text};
+
 use crate::extract::ExtractError;
 use bi_base::{Error, Fault};
 use std::fmt;
@@ -20,12 +24,16 @@ pub enum Failure {
 }
 
 impl From<Error> for Failure {
+    ghost from_gives = { λ error failure. failure ≡ Call error };
+
     fn from(error: Error) -> Failure {
         Failure::Call(error)
     }
 }
 
 impl From<ExtractError> for Failure {
+    ghost from_gives = { λ error failure. failure ≡ failure_of error };
+
     fn from(error: ExtractError) -> Failure {
         match error {
             ExtractError::Failed(error) => Failure::Call(error),
@@ -36,6 +44,8 @@ impl From<ExtractError> for Failure {
 }
 
 impl fmt::Display for Failure {
+    ghost output = { λ failure. Some (failure_text failure) };
+
     fn fmt<W: fmt::Write>(&self, f: &mut fmt::Formatter<W>) -> fmt::Result {
         match self {
             Failure::Call(Error::Refused(Fault { cause, offset })) => {
