@@ -2,7 +2,7 @@ use Rattle.std.proofs.Common.{◌≡◌, ℕ, ◌+◌, ◌<◌, ◌≤◌, ◌^�
 use Rattle.std.specs.Int.{from_be_bytes, w32}
 use Rattle.std.proofs.Math.Seq.{take-append_seam, drop-append_seam}
 use Rattle.std.proofs.lemmas.Bool.{cases_lt}
-use Rattle.std.proofs.lemmas.List.{get_or-take, get_or-drop, get_or_past, length-drop, length-take, length-take-le}
+use Rattle.std.proofs.lemmas.List.{get_or-take, get_or-drop, get_or_past, length-drop, length-take, length-take-le, take-take, drop-take, drop-drop}
 use Rattle.std.proofs.lemmas.Nat.{be_bytes_4}
 use Rattle.bi_base.specs.Cells.{cell, u32_at, slice, AreBytes}
 
@@ -58,3 +58,12 @@ from_be_bytes_4-fits bytes each =
 pub u32_at-fits : (file : List ℕ) (at : ℕ) → AreBytes file → u32_at file at < 2 ^ 32
 unfolding u32_at
 u32_at-fits file at bytes = from_be_bytes_4-fits (slice file at 4) (AreBytes-slice file at 4 bytes).each
+
+-- The first bytes of a slice are one.
+pub slice-first : (file : List ℕ) (at n m : ℕ) → n ≤ m → take n (slice file at m) ≡ slice file at n
+slice-first file at n m le = take-take n m (drop at file) le
+
+-- What follows them is one.
+pub slice-rest : (file : List ℕ) (at n m k : ℕ) → m ≡ n + k → drop n (slice file at m) ≡ slice file (at + n) k
+slice-rest file at n m k e =
+    ap (λ l. drop n (take l (drop at file))) e ∙ drop-take n k (drop at file) ∙ ap (take k) (drop-drop n at file)

@@ -87,7 +87,7 @@ pub record HasReservations (file : List ℕ) (at total count : ℕ) : Type 0 whe
   pub within : at + 16 * count + 16 ≤ total
 
 -- Of the pairs of the reservation block, up to and with its end pair, the first that reaches past `total` gives the fault.
-pub record ReservationsFault (file : List ℕ) (at total : ℕ) (fault : Fault) : Type 0 where
+pub record IsReservationsFault (file : List ℕ) (at total : ℕ) (fault : Fault) : Type 0 where
   pub index : ℕ
   pub before : (earlier : ℕ) → earlier < index → ¬ (IsEndPair file (at + 16 * earlier))
   pub fits : at + 16 * index ≤ total
@@ -213,7 +213,7 @@ pub record IsStructureFault (blocks : TreeBlocks) (depth_limit : ℕ) (fault : F
 -- The fault of a file as a blob within limits.
 pub data IsBlobFault (bounds : Bounds) (file : List ℕ) (fault : Fault) : Type 0 where
   InHeader : IsHeaderFault bounds file fault → IsBlobFault bounds file fault
-  InReservations : HasNoHeaderFault bounds file → ReservationsFault file (off_mem_rsvmap file) (totalsize file) fault
+  InReservations : HasNoHeaderFault bounds file → IsReservationsFault file (off_mem_rsvmap file) (totalsize file) fault
       → IsBlobFault bounds file fault
   InStructure : HasNoHeaderFault bounds file
       → (count : ℕ) → HasReservations file (off_mem_rsvmap file) (totalsize file) count

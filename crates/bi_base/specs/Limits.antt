@@ -6,6 +6,7 @@ pub record Bounds : Type 0 where
   pub file : ℕ
   pub depth : ℕ
 
--- The bounds that this project can keep: at least a legacy header and at least a root, at most 2 GiB less one byte.
+-- The bounds that this project can keep: at least a legacy header and at least a root, at most 2 GiB less one byte
+-- (profile of this project).
 abbrev pub IsInRange : ℕ → ℕ → Type 0
 IsInRange file depth = (64 ≤ file) × (file ≤ 0x7fffffff) × (1 ≤ depth) × (depth ≤ 64)

@@ -20,6 +20,7 @@ pub mod NthPart
 pub mod OneMeaning
 pub mod PartEnds
 pub mod PartPieces
+pub mod PartsStand
 pub mod PlacedParts
 pub mod PutSums
 pub mod ReadAnswers

@@ -1,4 +1,4 @@
-use Rattle.std.proofs.Common.{◌≡◌, ℕ, ◌+◌, ◌-◌, ◌↔◌, List, length, Result, Ok, Err, IsOk, OnOk, IfOk, IfErr, refl, sym, ap, ◌∙◌, subst}
+use Rattle.std.proofs.Common.{◌≡◌, ℕ, ◌+◌, ◌-◌, ◌↔◌, List, length, Result, Ok, Err, IsOk, OnOk, IfOk, IfErr, refl, sym, ap, ◌∙◌, subst, arith}
 use Rattle.bi_base.specs.Cells.{AreBytes}
 use Rattle.bi_base.specs.Limits.{Bounds}
 use Rattle.bi_base.specs.declared.fault.Fault.{Fault}
@@ -13,6 +13,7 @@ use Rattle.bi_legacy.specs.Parts.{parts_end}
 use Rattle.bi_legacy.specs.Walk.{read_image, read_end}
 use Rattle.bi_legacy.proofs.OneMeaning.{one_meaning}
 use Rattle.bi_legacy.proofs.PartEnds.{told_end}
+use Rattle.bi_legacy.proofs.PartsStand.{parts_stand, parts_end_in_file}
 
 -- What an answer says of a file that is right by the checks: told where none fails, else the first fault.
 
@@ -26,10 +27,16 @@ accepts_of file limits (Err fault) bytes none first = (
 
 -- It tells what the file means.
 pub told_of : (file : List ℕ) (limits : Bounds) (r : Result Told Fault) → AreBytes file → OnOk r (HasNoLegacyFault file limits) → IfOk r (λ told. told.image ≡ read_image file) → IfOk r (λ told. told.unused ≡ length file - (64 + read_end file)) → IfOk r (IsTold file limits)
-told_of file limits (Ok told) bytes none image unused = record {
-  means = subst (λ (image : LegacyImage). LegacyMeans file image limits) (sym image) (no_fault_means file limits bytes none);
-  unused = unused ∙ ap (λ n. length file - (64 + n)) (sym (told_end file limits none) ∙ ap (λ (i : LegacyImage). parts_end i.image_type i.parts) (sym image));
-}
+told_of file limits (Ok told) bytes none image unused =
+    let means : LegacyMeans file told.image limits =
+    subst (λ (image : LegacyImage). LegacyMeans file image limits) (sym image) (no_fault_means file limits bytes none) in
+    let ends : read_end file ≡ parts_end told.image.image_type told.image.parts =
+    sym (told_end file limits none) ∙ ap (λ (i : LegacyImage). parts_end i.image_type i.parts) (sym image) in
+    record {
+      means = means;
+      stand = parts_stand file told.image means.is_file;
+      unused = omega (arith, unused, ends, parts_end_in_file file told.image means.is_file);
+    }
 told_of file limits (Err fault) bytes none image unused = tt
 
 -- And the file means nothing else.

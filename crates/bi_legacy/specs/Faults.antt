@@ -65,7 +65,7 @@ fault_of limits HasDataChecksum = record { cause = BadDataCrc; offset = 24 }
 fault_of limits HasListEnd = record { cause = BadPartTable; offset = 64 }
 fault_of limits (HasPart index end) = record { cause = BadPart; offset = 64 + 4 * index }
 
--- A check of the end of each part, from part `index` on, whose place is `at`.
+-- A check of the end of each part, from part `index` on, whose first byte is at `at` in the data.
 abbrev pub part_checks : ℕ → ℕ → List ℕ → List Check
 part_checks index at [] = []
 part_checks index at (size ∷ sizes) = HasPart index (at + size) ∷ part_checks (index + 1) (up4 (at + size)) sizes

@@ -9,7 +9,7 @@ use Rattle.bi_legacy.specs.Text.{legacy_text, IsLegacyImage}
 use Rattle.bi_legacy.specs.Faults.{IsLegacyFault, HasNoLegacyFault}
 use Rattle.bi_legacy.specs.Emitting.{HasNoEmitFault}
 
--- The laws of legacy images, each of which a function of `laws` proves.
+-- The laws of legacy images (U-Boot, include/image.h; profile of this project), each of which a function of `laws` proves.
 
 -- A file means at most one image.
 abbrev pub OneMeaning : Type 0

@@ -11,8 +11,8 @@ use Rattle.bi_legacy.specs.Meaning.{has_size_list, IsListedPart}
 abbrev pub size_list : List (List ℕ) → List ℕ
 size_list parts = flat_map (λ part. cell (length part)) parts ++ cell 0
 
--- These bytes are the parts one behind another, and then anything. Behind each part but the last stand free bytes up to the
--- next multiple of four.
+-- These bytes are the parts one behind another, and then anything. Behind each part but the last stand 0 to 3 free bytes that
+-- round its length up to a multiple of four (U-Boot, include/image.h: each size is rounded up to a multiple of four bytes).
 abbrev pub HoldInTurn : List (List ℕ) → List ℕ → Type 0
 HoldInTurn [] bytes = Unit {0}
 HoldInTurn (part ∷ []) bytes = (behind : List ℕ) × (bytes ≡ part ++ behind)
@@ -20,8 +20,8 @@ HoldInTurn (part ∷ next ∷ later) bytes =
     (padding behind : List ℕ) × (bytes ≡ part ++ (padding ++ behind)) × (length part + length padding ≡ up4 (length part))
     × HoldInTurn (next ∷ later) behind
 
--- The data, of less than 2^32 bytes, is the list of sizes of these parts and then the parts, the first right behind the
--- list; what lies behind the last one is free.
+-- The data is the list of sizes of these parts and then the parts, the first right behind the list; what lies behind the last
+-- one is free. It is asked of data of less than 2^32 bytes alone, where the cells tell the lengths.
 pub record IsSizeListed (parts : List (List ℕ)) (body : List ℕ) : Type 0 where
   pub behind : List ℕ
   pub list : body ≡ size_list parts ++ behind

@@ -4,7 +4,9 @@ use Rattle.bi_legacy.specs.declared.fields.Fields.{Fields}
 use Rattle.bi_legacy.specs.Meaning.{LegacyImage}
 use Rattle.bi_legacy.specs.Parts.{parts_end}
 use Rattle.bi_legacy.specs.File.{LegacyMeans}
-use Rattle.bi_legacy.specs.Pieces.{Piece, placed_parts}
+use Rattle.bi_legacy.specs.Pieces.{Piece, placed_parts, StandIn}
+
+-- What reading a legacy image gives (profile of this project).
 
 -- What an image of these header fields and these parts says.
 abbrev pub image_of : Fields → List (List ℕ) → LegacyImage
@@ -31,7 +33,9 @@ pub record Told : Type 0 where
 abbrev pub file_places : LegacyImage → List ℕ
 file_places image = map (λ (piece : Piece). piece.place) (placed_parts image)
 
--- The file means this image, and so many of its bytes follow the last part, or the list of sizes where there are no parts.
+-- The file means this image; each part stands in it at its place; and so many of its bytes follow the last part, or the list
+-- of sizes where there are no parts.
 pub record IsTold (file : List ℕ) (limits : Bounds) (told : Told) : Type 0 where
   pub means : LegacyMeans file told.image limits
-  pub unused : told.unused ≡ length file - (64 + parts_end told.image.image_type told.image.parts)
+  pub stand : StandIn file (placed_parts told.image)
+  pub unused : 64 + parts_end told.image.image_type told.image.parts + told.unused ≡ length file

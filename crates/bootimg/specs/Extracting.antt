@@ -33,7 +33,8 @@ abbrev pub IsPastParts : Select → Bounds → List ℕ → Type 0
 IsPastParts (Part index) limits file = (image : LegacyImage) × LegacyMeans file image limits × (length image.parts ≤ index)
 IsPastParts (Image name) limits file = ⊥
 
--- What an error says of the file and the selection: a refusal is the file's first fault, and the file means nothing.
+-- What an error says of a file in memory and the selection, where nothing is read or written and no memory is wanted: a refusal
+-- is the file's first fault, and the file means nothing.
 abbrev pub IsExtractRefusal : Select → Bounds → List ℕ → ExtractError → Type 0
 IsExtractRefusal select limits file (Failed (Refused fault)) = IsFileFault file limits fault × MeansNothing file limits
 IsExtractRefusal select limits file (Failed OutOfMemory) = ⊥

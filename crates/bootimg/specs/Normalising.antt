@@ -13,7 +13,7 @@ use Rattle.bi_legacy.specs.Faults.{IsLegacyFault}
 use Rattle.bootimg.specs.declared.kind.Kind.TheVariants.{Legacy, Fit}
 use Rattle.bootimg.specs.Kinds.{magic_of}
 
--- What normalising promises: two accepted files give the same bytes exactly if they mean the same.
+-- What normalising promises (profile of this project): two accepted files give the same bytes exactly if they mean the same.
 
 -- The text stands for the file: it is the normal text of what the file means.
 pub record StandsFor (limits : Bounds) (file text : List ℕ) : Type 0 where
@@ -21,7 +21,8 @@ pub record StandsFor (limits : Bounds) (file text : List ℕ) : Type 0 where
   pub means : LegacyMeans file image limits
   pub is : text ≡ legacy_text image
 
--- The text tells meanings apart: of all files, those that mean what this one means have this normal text, and no others.
+-- The text tells meanings apart: of all files that mean something within the limits, those that mean what this one means have
+-- this normal text, and no others.
 pub record TellsApart (limits : Bounds) (file text : List ℕ) : Type 0 where
   pub apart : (image : LegacyImage) → LegacyMeans file image limits →
       (other_file : List ℕ) (other : LegacyImage) → LegacyMeans other_file other limits →
@@ -63,8 +64,8 @@ IsFileFault file limits fault =
 abbrev pub MeansNothing : List ℕ → Bounds → Type 0
 MeansNothing file limits = (image : LegacyImage) → ¬ (LegacyMeans file image limits)
 
--- What an error says of the file: a refusal is its first fault, and the file means nothing. Memory is wanted only for a file
--- that means something.
+-- What an error says of a file in memory, where nothing is read or written: a refusal is its first fault, and the file means
+-- nothing. Memory is wanted only for a file that means something.
 abbrev pub IsRefusalOf : List ℕ → Bounds → Error → Type 0
 IsRefusalOf file limits (Refused fault) = IsFileFault file limits fault × MeansNothing file limits
 IsRefusalOf file limits OutOfMemory = (image : LegacyImage) × LegacyMeans file image limits

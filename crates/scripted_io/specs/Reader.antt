@@ -3,6 +3,8 @@ use Rattle.scripted_io.specs.declared.script.Script.{Script}
 use Rattle.scripted_io.specs.declared.reader.ScriptedReader.{ScriptedReader}
 use Rattle.scripted_io.specs.declared.reader.EndlessReader.{EndlessReader}
 
+-- The readers of tests (profile of this project).
+
 -- The bytes that a reader has left.
 abbrev pub bytes_left : ScriptedReader → List ℕ
 bytes_left reader = reader.bytes.now

@@ -9,14 +9,14 @@ use Rattle.scripted_io.specs.declared.script.Script.{Script}
 use Rattle.scripted_io.specs.declared.script.Turn.{Turn}
 use Rattle.scripted_io.specs.declared.script.Turn.TheVariants.{TakesAll, Takes, IsInterrupted, Fails}
 
--- What the calls of a reader or a writer do, by a script.
+-- What the calls of a reader or a writer do in tests, by a script (profile of this project).
 
 -- How many calls come before this one since the script last began.
 abbrev pub place_in : Option NonZeroU64 → ℕ → ℕ
 place_in None number = number
 place_in (Some period) number = number % non_zero_u64_get period
 
--- The turn of the call of this number, the first call's being 0.
+-- The turn of the call of this number, the first call's being 0: one turn for some calls in a row, another for all others.
 abbrev pub turn_at : Script → ℕ → Turn
 turn_at script number =
     let place = place_in script.period number in

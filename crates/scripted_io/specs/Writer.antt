@@ -6,6 +6,8 @@ use Rattle.std.specs.declared.io.ErrorKind.TheVariants.{OutOfMemory}
 use Rattle.scripted_io.specs.declared.script.Script.{Script}
 use Rattle.scripted_io.specs.declared.writer.ScriptedWriter.{ScriptedWriter}
 
+-- The writer of tests (profile of this project).
+
 -- The script of a writer's writes.
 abbrev pub writing_of : ScriptedWriter → Script
 writing_of writer = writer.writing

@@ -7,7 +7,7 @@ use Rattle.bi_base.specs.declared.fault.Cause.TheVariants.{Truncated}
 use Rattle.bi_base.specs.declared.fault.Fault.{Fault}
 use Rattle.bi_base.specs.Cells.{cell8, slice, u64_at, AreBytes}
 use Rattle.bi_base.specs.Blob.{Reservation, IsReservation, pair_bytes, end_pair, reserved_block, Reserved}
-use Rattle.bi_base.specs.BlobFaults.{IsEndPair, HasReservations, ReservationsFault}
+use Rattle.bi_base.specs.BlobFaults.{IsEndPair, HasReservations, IsReservationsFault}
 use Rattle.bi_base.proofs.CellLaws.{length-slice}
 use Rattle.bi_base.proofs.Blobs.Cells.{BytesAt, BytesAt-from, BytesAt-left, BytesAt-right, BytesAt-join, BytesAt-cell8, u64_at-BytesAt, u64_at-fits, length-cell8}
 use Rattle.bi_base.proofs.Blobs.Decided.{IsEndPair_decided}
@@ -102,8 +102,8 @@ HasReservations-cons file at total count first later =
     }
 
 -- One more reservation stands before the pair that gives the fault.
-ReservationsFault-cons : (file : List ℕ) (at total : ℕ) (fault : Fault) → ¬ (IsEndPair file at) → ReservationsFault file (at + 16) total fault → ReservationsFault file at total fault
-ReservationsFault-cons file at total fault first later =
+IsReservationsFault-cons : (file : List ℕ) (at total : ℕ) (fault : Fault) → ¬ (IsEndPair file at) → IsReservationsFault file (at + 16) total fault → IsReservationsFault file at total fault
+IsReservationsFault-cons file at total fault first later =
     let fits : at + 16 + 16 * later.index ≤ total = later.fits in
     let past : total < at + 16 + 16 * later.index + 16 = later.past in
     record {
@@ -128,7 +128,7 @@ ends_here file at total room end = record {
 }
 
 -- The first pair reaches past the blob.
-past_here : (file : List ℕ) (at total : ℕ) → at ≤ total → total < at + 16 → ReservationsFault file at total (record { cause = Truncated; offset = at })
+past_here : (file : List ℕ) (at total : ℕ) → at ≤ total → total < at + 16 → IsReservationsFault file at total (record { cause = Truncated; offset = at })
 past_here file at total fits past = record {
   index = 0;
   before = λ index below. absurd (omega arith);
@@ -139,12 +139,12 @@ past_here file at total fits past = record {
 
 -- What there is from an offset on: reservations and an end pair, or a fault.
 abbrev pub Found : List ℕ → ℕ → ℕ → Type 0
-Found file at total = HasSome file at total ⊎ ((fault : Fault) × ReservationsFault file at total fault)
+Found file at total = HasSome file at total ⊎ ((fault : Fault) × IsReservationsFault file at total fault)
 
 -- The same with a first pair that is no end pair.
 found_behind : (file : List ℕ) (at total : ℕ) → ¬ (IsEndPair file at) → Found file (at + 16) total → Found file at total
 found_behind file at total first (inl later) = inl (record { count = later.count + 1; has = HasReservations-cons file at total later.count first later.has })
-found_behind file at total first (inr later) = inr (later.0, ReservationsFault-cons file at total later.0 first later.1)
+found_behind file at total first (inr later) = inr (later.0, IsReservationsFault-cons file at total later.0 first later.1)
 
 found_from : (steps : ℕ) (file : List ℕ) (at total : ℕ) → at ≤ total → total ≤ at + steps → Found file at total
 found_from zero file at total fits left = inr (record { cause = Truncated; offset = at }, past_here file at total fits (omega arith))
@@ -163,7 +163,7 @@ pub reservations_or_fault : (file : List ℕ) (at total : ℕ) → at ≤ total 
 reservations_or_fault file at total fits = found_from total file at total fits (omega arith)
 
 -- There is one fault at most.
-pub one_reservations_fault : (file : List ℕ) (at total : ℕ) (f g : Fault) → ReservationsFault file at total f → ReservationsFault file at total g → f ≡ g
+pub one_reservations_fault : (file : List ℕ) (at total : ℕ) (f g : Fault) → IsReservationsFault file at total f → IsReservationsFault file at total g → f ≡ g
 one_reservations_fault file at total f g one other =
     let a : at + 16 * one.index ≤ total = one.fits in
     let b : total < at + 16 * one.index + 16 = one.past in
@@ -173,7 +173,7 @@ one_reservations_fault file at total f g one other =
     one.is ∙ ap (λ n. record { cause = Truncated; offset = at + 16 * n }) same ∙ sym other.is
 
 -- There are no reservations with an end pair where there is a fault.
-pub no_reservations_with_fault : (file : List ℕ) (at total count : ℕ) (fault : Fault) → HasReservations file at total count → ReservationsFault file at total fault → ⊥
+pub no_reservations_with_fault : (file : List ℕ) (at total count : ℕ) (fault : Fault) → HasReservations file at total count → IsReservationsFault file at total fault → ⊥
 no_reservations_with_fault file at total count fault has faulty =
     let within : at + 16 * count + 16 ≤ total = has.within in
     let past : total < at + 16 * faulty.index + 16 = faulty.past in

@@ -1,6 +1,6 @@
 use Rattle.std.proofs.Common.{◌≡◌, ◌≢◌, ℕ, ◌+◌, ◌-◌, ◌≤◌, List, [], ◌∷◌, ◌++◌, length, take, drop, reverse, refl, sym, ap, subst, ◌∙◌, arith}
 use Rattle.std.specs.Prelude.{fold}
-use Rattle.std.proofs.lemmas.List.{reverse-append, take-take, drop-take, drop-drop}
+use Rattle.std.proofs.lemmas.List.{reverse-append}
 use Rattle.std.proofs.Math.Seq.{take-add}
 use Rattle.bi_base.specs.Cells.{slice, u32_at, up4}
 use Rattle.bi_base.specs.Checks.{HasNoFault}
@@ -9,7 +9,7 @@ use Rattle.bi_base.specs.Marks.{PlacedMark, Say}
 use Rattle.bi_base.specs.Stages.{after}
 use Rattle.bi_base.specs.Blob.{TreeBlocks}
 use Rattle.bi_base.specs.BlobFaults.{TokenPasses, token_checks, said, opened, place_after, Walked}
-use Rattle.bi_base.proofs.CellLaws.{length-cell, length-slice}
+use Rattle.bi_base.proofs.CellLaws.{length-cell, length-slice, slice-first, slice-rest}
 use Rattle.bi_base.proofs.Blobs.OpenNodes.{Growth, stage_of, said_so_far, IsGrowth, Standing}
 use Rattle.bi_base.proofs.Blobs.Tokens.{width-at_least}
 use Rattle.bi_base.proofs.Blobs.Spelling.{behind_all, behind_all-append, AllStand}
@@ -69,14 +69,6 @@ stand_Spells file at t stands within =
     } where
       sum : {a b : ℕ} → a ≤ b → b ≡ a + (b - a)
       sum {a} {b} le = omega arith
-
--- The first part of a slice, and what follows it, are slices.
-slice-first : (file : List ℕ) (at n m : ℕ) → n ≤ m → take n (slice file at m) ≡ slice file at n
-slice-first file at n m le = take-take n m (drop at file) le
-
-slice-rest : (file : List ℕ) (at n m k : ℕ) → m ≡ n + k → drop n (slice file at m) ≡ slice file (at + n) k
-slice-rest file at n m k e =
-    ap (λ l. drop n (take l (drop at file))) e ∙ drop-take n k (drop at file) ∙ ap (take k) (drop-drop n at file)
 
 -- Tokens that stand one behind the other are spelled by the bytes there, where the file has them all.
 pub stand_Spelled : (file : List ℕ) (at : ℕ) (tokens : List Token) → AllStand file at tokens → behind_all at tokens ≤ length file → Spelled tokens (slice file at (behind_all at tokens - at))
