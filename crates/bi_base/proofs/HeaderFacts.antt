@@ -21,10 +21,18 @@ headers_have_faults = record {
   compatible_18 = InHeader (inr (lit≤ tt, inr (lit≤ tt, inr (refl, inr (lit≤ tt, inr (lit≤ tt, inl ((λ (wrong : 18 ≤ 17). omega arith), refl)))))));
   total_39 = InHeader (inr (lit≤ tt, inr (lit≤ tt, inr (refl, inr (lit≤ tt, inr (lit≤ tt, inr (lit≤ tt, inl ((λ (wrong : 40 ≤ 39). omega arith), refl))))))));
   total_past_end = InHeader (inr (lit≤ tt, inr (lit≤ tt, inr (refl, inr (lit≤ tt, inr (lit≤ tt, inr (lit≤ tt, inr (lit≤ tt, inl ((λ (wrong : 89 ≤ 88). omega arith), refl)))))))));
+  reservations_in_header = InHeader (inr (lit≤ tt, inr (lit≤ tt, inr (refl, inr (lit≤ tt, inr (lit≤ tt, inr (lit≤ tt, inr (lit≤ tt, inr (lit≤ tt, inl ((λ wrong. let inside : 40 ≤ 32 = wrong.0 in omega arith), refl))))))))));
   reservations_unaligned = InHeader (inr (lit≤ tt, inr (lit≤ tt, inr (refl, inr (lit≤ tt, inr (lit≤ tt, inr (lit≤ tt, inr (lit≤ tt, inr (lit≤ tt, inl ((λ wrong. let unaligned : 4 ≡ 0 = wrong.1 in omega arith), refl))))))))));
+  reservations_past_end = InHeader (inr (lit≤ tt, inr (lit≤ tt, inr (refl, inr (lit≤ tt, inr (lit≤ tt, inr (lit≤ tt, inr (lit≤ tt, inr (lit≤ tt, inl ((λ wrong. let past : 96 ≤ 88 = wrong.2 in omega arith), refl))))))))));
+  structure_in_header = InHeader (inr (lit≤ tt, inr (lit≤ tt, inr (refl, inr (lit≤ tt, inr (lit≤ tt, inr (lit≤ tt, inr (lit≤ tt, inr (lit≤ tt, inr ((lit≤ tt, refl, lit≤ tt), inl ((λ wrong. let inside : 40 ≤ 36 = wrong.0 in omega arith), refl)))))))))));
+  structure_unaligned = InHeader (inr (lit≤ tt, inr (lit≤ tt, inr (refl, inr (lit≤ tt, inr (lit≤ tt, inr (lit≤ tt, inr (lit≤ tt, inr (lit≤ tt, inr ((lit≤ tt, refl, lit≤ tt), inl ((λ wrong. let unaligned : 2 ≡ 0 = wrong.1 in omega arith), refl)))))))))));
   structure_past_end = InHeader (inr (lit≤ tt, inr (lit≤ tt, inr (refl, inr (lit≤ tt, inr (lit≤ tt, inr (lit≤ tt, inr (lit≤ tt, inr (lit≤ tt, inr ((lit≤ tt, refl, lit≤ tt), inl ((λ wrong. let past : 0x10000001c ≤ 88 = wrong.3 in omega arith), refl)))))))))));
   strings_in_header = InHeader (inr (lit≤ tt, inr (lit≤ tt, inr (refl, inr (lit≤ tt, inr (lit≤ tt, inr (lit≤ tt, inr (lit≤ tt, inr (lit≤ tt, inr ((lit≤ tt, refl, lit≤ tt), inr ((lit≤ tt, refl, lit≤ tt, lit≤ tt), inl ((λ wrong. let inside : 40 ≤ 39 = wrong.0 in omega arith), refl))))))))))));
   strings_past_end = InHeader (inr (lit≤ tt, inr (lit≤ tt, inr (refl, inr (lit≤ tt, inr (lit≤ tt, inr (lit≤ tt, inr (lit≤ tt, inr (lit≤ tt, inr ((lit≤ tt, refl, lit≤ tt), inr ((lit≤ tt, refl, lit≤ tt, lit≤ tt), inl ((λ wrong. let past : 0xffffffff ≤ 88 = wrong.1 in omega arith), refl))))))))))));
+  version_before_compatible = InHeader (inr (lit≤ tt, inr (lit≤ tt, inr (refl, inr (lit≤ tt, inl ((λ (wrong : 17 ≤ 15). omega arith), refl))))));
+  version_before_total = InHeader (inr (lit≤ tt, inr (lit≤ tt, inr (refl, inr (lit≤ tt, inl ((λ (wrong : 17 ≤ 15). omega arith), refl))))));
+  reservations_before_structure = InHeader (inr (lit≤ tt, inr (lit≤ tt, inr (refl, inr (lit≤ tt, inr (lit≤ tt, inr (lit≤ tt, inr (lit≤ tt, inr (lit≤ tt, inl ((λ wrong. let unaligned : 4 ≡ 0 = wrong.1 in omega arith), refl))))))))));
+  structure_before_strings = InHeader (inr (lit≤ tt, inr (lit≤ tt, inr (refl, inr (lit≤ tt, inr (lit≤ tt, inr (lit≤ tt, inr (lit≤ tt, inr (lit≤ tt, inr ((lit≤ tt, refl, lit≤ tt), inl ((λ wrong. let past : 0x10000001c ≤ 88 = wrong.3 in omega arith), refl)))))))))));
 }
 
 -- In each reservation block, the pairs up to the one that reaches past its end.
@@ -32,6 +40,13 @@ pub reservations_have_faults : ReservationsHaveFaults
 unfolding u32_at u64_at cell test
 reservations_have_faults = record {
   past_end = InReservations (fine_by_test widest (with_cell smallest_text 16 80) refl) (record {
+    index = 0;
+    before = λ earlier below. omega arith;
+    fits = lit≤ tt;
+    past = lit< tt;
+    is = refl;
+  });
+  at_end = InReservations (fine_by_test widest (with_cell smallest_text 16 88) refl) (record {
     index = 0;
     before = λ earlier below. omega arith;
     fits = lit≤ tt;

@@ -58,7 +58,7 @@ file_with_two_properties =
 abbrev pub HasFault : Bounds → List ℕ → Cause → ℕ → Type 0
 HasFault bounds file cause offset = IsBlobFault bounds file (record { cause = cause; offset = offset })
 
--- Files that are at fault in their headers. `totalsize` stands at 4, `off_dt_struct` at 8, `off_dt_strings` at 12,
+-- Files that are at fault in their headers, the last four of them in two of its checks. `totalsize` stands at 4, `off_dt_struct` at 8, `off_dt_strings` at 12,
 -- `off_mem_rsvmap` at 16, `version` at 20 and `last_comp_version` at 24 (Devicetree Specification, 5.2).
 pub record HeadersHaveFaults : Type 0 where
   pub past_limit : HasFault (record { file = 87; depth = 64 }) smallest_text TooLarge 87
@@ -71,15 +71,25 @@ pub record HeadersHaveFaults : Type 0 where
   pub compatible_18 : HasFault widest (with_cell smallest_text 24 18) BadVersion 24
   pub total_39 : HasFault widest (with_cell smallest_text 4 39) BadTotalSize 4
   pub total_past_end : HasFault widest (with_cell smallest_text 4 89) Truncated 4
+  pub reservations_in_header : HasFault widest (with_cell smallest_text 16 32) BadOffset 16
   pub reservations_unaligned : HasFault widest (with_cell smallest_text 16 84) BadOffset 16
+  pub reservations_past_end : HasFault widest (with_cell smallest_text 16 96) BadOffset 16
+  pub structure_in_header : HasFault widest (with_cell smallest_text 8 36) BadOffset 8
+  pub structure_unaligned : HasFault widest (with_cell smallest_text 8 54) BadOffset 8
   pub structure_past_end : HasFault widest (with_cell smallest_text 8 0xfffffffc) BadOffset 8
   pub strings_in_header : HasFault widest (with_cell smallest_text 12 39) BadOffset 12
   pub strings_past_end : HasFault widest (with_cell smallest_text 12 0xffffffff) BadOffset 12
+  pub version_before_compatible : HasFault widest (with_cell (with_cell smallest_text 20 15) 24 18) BadVersion 20
+  pub version_before_total : HasFault widest (with_cell (with_cell smallest_text 20 15) 4 39) BadVersion 20
+  pub reservations_before_structure :
+      HasFault widest (with_cell (with_cell smallest_text 16 84) 8 0xfffffffc) BadOffset 16
+  pub structure_before_strings : HasFault widest (with_cell (with_cell smallest_text 8 0xfffffffc) 12 39) BadOffset 8
 
--- Files that are at fault in their memory reservations: one whose first pair reaches past `totalsize`, and one that has no
--- pair of two zeros.
+-- Files that are at fault in their memory reservations: two whose first pair reaches past `totalsize`, the block of one of
+-- which begins there, and one that has no pair of two zeros.
 pub record ReservationsHaveFaults : Type 0 where
   pub past_end : HasFault widest (with_cell smallest_text 16 80) Truncated 80
+  pub at_end : HasFault widest (with_cell smallest_text 16 88) Truncated 88
   pub endless : HasFault widest (with_cell smallest_text 44 1) Truncated 88
 
 -- Files that are at fault in a token. In the smallest text the root's token stands at 56, that of `images` at 64, both
