@@ -4,7 +4,7 @@ use Rattle.std.proofs.lemmas.List.{take-append-drop, drop-drop}
 use Rattle.std.proofs.lemmas.Nat.{from_be_bytes-to_be_bytes_4}
 use Rattle.bi_base.specs.Cells.{cell, u32_at, slice, AreBytes}
 use Rattle.bi_base.specs.Crc.{crc32}
-use Rattle.bi_base.proofs.CellLaws.{AreBytes-slice, cell-u32_at}
+use Rattle.bi_base.proofs.CellLaws.{cell-u32_at}
 
 -- Laws of cutting a file, which know nothing of a format.
 

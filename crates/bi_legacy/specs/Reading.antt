@@ -1,4 +1,4 @@
-use Rattle.std.specs.Prelude.{ℕ, ◌+◌, ◌-◌, ◌≡◌, List, length, map}
+use Rattle.std.specs.Prelude.{ℕ, ◌+◌, ◌≡◌, List, length, map}
 use Rattle.bi_base.specs.Limits.{Bounds}
 use Rattle.bi_legacy.specs.declared.fields.Fields.{Fields}
 use Rattle.bi_legacy.specs.Meaning.{LegacyImage}
