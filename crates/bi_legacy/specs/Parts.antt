@@ -12,7 +12,7 @@ abbrev pub size_list : List (List ℕ) → List ℕ
 size_list parts = flat_map (λ part. cell (length part)) parts ++ cell 0
 
 -- These bytes are the parts one behind another, and then anything. Behind each part but the last stand 0 to 3 free bytes that
--- round its length up to a multiple of four (U-Boot, include/image.h: each size is rounded up to a multiple of four bytes).
+-- round its length up to a multiple of four (U-Boot, boot/image.c: image_multi_getimg).
 abbrev pub HoldInTurn : List (List ℕ) → List ℕ → Type 0
 HoldInTurn [] bytes = Unit {0}
 HoldInTurn (part ∷ []) bytes = (behind : List ℕ) × (bytes ≡ part ++ behind)
