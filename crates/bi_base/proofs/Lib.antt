@@ -1,11 +1,5 @@
 pub mod CellLaws
 pub mod ByteLists
-pub mod TextFacts
-pub mod HeaderTests
-pub mod HeaderFacts
-pub mod StructureFacts
 pub mod CrcLaws
 pub mod FirstFault
 pub mod SinkLaws
-pub mod Blobs
-pub mod Texts

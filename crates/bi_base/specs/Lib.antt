@@ -9,14 +9,3 @@ pub mod CrcSink
 pub mod WriteSink
 pub mod Writing
 pub mod Crc
-pub mod Tree
-pub mod Tokens
-pub mod Marks
-pub mod Stages
-pub mod Blob
-pub mod BlobFaults
-pub mod Layout
-pub mod BlobLaws
-pub mod TextLaws
-pub mod KnownTexts
-pub mod KnownFaults

@@ -1,8 +1,7 @@
 //! What every layer of bootimg stands on: cells, CRC-32, limits, causes and faults, reading a whole input, and sinks
-//! that bytes are written to; and the definitions of devicetree blobs and of their normal text, with their laws.
+//! that bytes are written to.
 #![tactic(auto)]
 
-pub mod blob_laws;
 mod cells;
 mod checksum;
 mod crc;
@@ -12,7 +11,6 @@ mod limits;
 mod outcomes;
 mod reading;
 mod sinks;
-pub mod text_laws;
 mod writing;
 
 pub use cells::{be32_at, put_cell, put_cells};

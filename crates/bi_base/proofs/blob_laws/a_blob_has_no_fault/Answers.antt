@@ -1,5 +1,0 @@
-use Rattle.bi_base.proofs.Blobs.Faults.{blob_has_no_fault}
-use Rattle.bi_base.proofs.blob_laws.a_blob_has_no_fault.Goals as goal
-
-pub returns : goal.returns
-returns c = blob_has_no_fault

@@ -1,5 +1,0 @@
-use Rattle.bi_base.proofs.Blobs.Faults.{blob_where_no_fault}
-use Rattle.bi_base.proofs.blob_laws.a_file_is_a_blob_where_it_has_no_fault.Goals as goal
-
-pub returns : goal.returns
-returns c = blob_where_no_fault

@@ -1,5 +1,0 @@
-use Rattle.bi_base.proofs.Blobs.OneBlob.{one_blob}
-use Rattle.bi_base.proofs.blob_laws.a_file_is_one_blob.Goals as goal
-
-pub returns : goal.returns
-returns c = one_blob

@@ -1,5 +1,0 @@
-use Rattle.bi_base.proofs.Texts.Names.{has_names_once}
-use Rattle.bi_base.proofs.text_laws.each_name_is_there_once.Goals as goal
-
-pub returns : goal.returns
-returns c = has_names_once

@@ -1,5 +1,0 @@
-use Rattle.bi_base.proofs.Texts.Accepted.{normal_text_is_accepted}
-use Rattle.bi_base.proofs.text_laws.normal_text_is_accepted.Goals as goal
-
-pub returns : goal.returns
-returns c = normal_text_is_accepted

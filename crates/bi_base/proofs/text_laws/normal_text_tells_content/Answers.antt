@@ -1,5 +1,0 @@
-use Rattle.bi_base.proofs.Texts.Normal.{normal_text_tells_content}
-use Rattle.bi_base.proofs.text_laws.normal_text_tells_content.Goals as goal
-
-pub returns : goal.returns
-returns c = normal_text_tells_content

@@ -1,5 +1,0 @@
-use Rattle.bi_base.proofs.Texts.FirstUse.{strings_grow_by_use}
-use Rattle.bi_base.proofs.text_laws.strings_grow_by_use.Goals as goal
-
-pub returns : goal.returns
-returns c = strings_grow_by_use

@@ -1,5 +1,0 @@
-use Rattle.bi_base.proofs.Texts.TextBlob.{text_is_blob}
-use Rattle.bi_base.proofs.text_laws.text_is_a_blob.Goals as goal
-
-pub returns : goal.returns
-returns c = text_is_blob

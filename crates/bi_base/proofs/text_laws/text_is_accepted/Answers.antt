@@ -1,5 +1,0 @@
-use Rattle.bi_base.proofs.Texts.Accepted.{text_is_accepted}
-use Rattle.bi_base.proofs.text_laws.text_is_accepted.Goals as goal
-
-pub returns : goal.returns
-returns c = text_is_accepted

@@ -1,5 +1,0 @@
-use Rattle.bi_base.proofs.Texts.Structure.{says_tree}
-use Rattle.bi_base.proofs.text_laws.text_says_its_tree.Goals as goal
-
-pub returns : goal.returns
-returns c = says_tree

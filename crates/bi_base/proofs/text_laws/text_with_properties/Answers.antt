@@ -1,5 +1,0 @@
-use Rattle.bi_base.proofs.TextFacts.{is_laid_out}
-use Rattle.bi_base.proofs.text_laws.text_with_properties.Goals as goal
-
-pub returns : goal.returns
-returns c = record { layout = is_laid_out }

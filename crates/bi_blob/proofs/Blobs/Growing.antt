@@ -1,0 +1,130 @@
+use Rattle.std.proofs.Common.{◌≡◌, ◌≢◌, ℕ, ◌+◌, ◌≤◌, List, [], ◌∷◌, ◌++◌, map, refl, sym, ap, subst, ◌∙◌, arith}
+use Rattle.std.specs.List.{AllByRecursion}
+use Rattle.std.proofs.lemmas.List.{append_assoc, append-nil, map_push}
+use Rattle.bi_blob.specs.Tree.{Nodes, none, node, Property, Placed, Located, names, with_each, depth, property_of, AreNodes, AreProperties, IsChildName, IsPropertyName, IsNew, AreDistinct}
+use Rattle.bi_blob.specs.Marks.{OpensAt, HasAt, ClosesAt, placed_marks, placed_marks_of}
+use Rattle.bi_blob.specs.Stages.{with_property, with_child}
+use Rattle.bi_blob.proofs.Blobs.OpenNodes.{OpenNode, with_one_property, with_one_child, with_last, located_of, root_of, open_of, said_of, said_by}
+
+-- What one more property or child does to open nodes.
+
+-- What holds of each element of a list holds with one more at its end of which it holds.
+pub All-push : {X : Type 0} (P : X → Type 0) (xs : List X) (x : X) → AllByRecursion P xs → P x → AllByRecursion P (xs ++ x ∷ [])
+All-push P [] x all last = (last, tt)
+All-push P (y ∷ xs) x all last = (all.0, All-push P xs x all.1 last)
+
+-- Names that are apart stay so with a new one at their end.
+pub AreDistinct-push : (ns : List (List ℕ)) (n : List ℕ) → AreDistinct ns → IsNew n ns → AreDistinct (ns ++ n ∷ [])
+AreDistinct-push [] n apart is_new = (tt, tt)
+AreDistinct-push (m ∷ ns) n apart is_new = (
+  All-push (λ other. other ≢ m) ns n apart.0 (λ e. is_new.0 (sym e)),
+  AreDistinct-push ns n apart.1 is_new.1,
+)
+
+-- The names of properties are those of the properties without their places.
+pub names_of_properties : (ps : List Placed) → map (λ (q : Property). q.0) (map property_of ps) ≡ map (λ (p : Placed). p.name) ps
+names_of_properties [] = refl
+names_of_properties (p ∷ ps) = ap (λ l. p.name ∷ l) (names_of_properties ps)
+
+-- Good properties stay so with one more whose name is good and new.
+pub AreProperties-push : (ps : List Placed) (p : Placed) → AreProperties (map property_of ps) → IsPropertyName p.name → IsNew p.name (map (λ (q : Placed). q.name) ps) → AreProperties (map property_of (ps ++ p ∷ []))
+AreProperties-push ps p are is_name is_new =
+    subst AreProperties (sym (map_push property_of ps p)) (record {
+      named = All-push (λ (q : Property). IsPropertyName q.0) (map property_of ps) (property_of p) are.named is_name;
+      distinct = subst AreDistinct (sym (map_push (λ (q : Property). q.0) (map property_of ps) (property_of p)))
+          (AreDistinct-push (map (λ (q : Property). q.0) (map property_of ps)) p.name are.distinct
+          (subst (IsNew p.name) (sym (names_of_properties ps)) is_new));
+    })
+
+pub names-with_last : {Own : Type 0} (nodes : Nodes Own) (name : List ℕ) (own : Own) (children : Nodes Own) → names (with_last nodes name own children) ≡ names nodes ++ name ∷ []
+names-with_last none name own children = refl
+names-with_last (node n o cs later) name own children = ap (λ l. n ∷ l) (names-with_last later name own children)
+
+pub with_each-with_last : {A B : Type 0} (change : A → B) (nodes : Nodes A) (name : List ℕ) (own : A) (children : Nodes A) → with_each change (with_last nodes name own children) ≡ with_last (with_each change nodes) name (change own) (with_each change children)
+with_each-with_last change none name own children = refl
+with_each-with_last change (node n o cs later) name own children =
+    ap (λ l. node n (change o) (with_each change cs) l) (with_each-with_last change later name own children)
+
+pub placed_marks-with_last : (nodes : Nodes Located) (name : List ℕ) (located : Located) (children : Nodes Located) → placed_marks (with_last nodes name located children) ≡ placed_marks nodes ++ placed_marks (node name located children none)
+placed_marks-with_last none name located children = refl
+placed_marks-with_last (node n l cs later) name located children =
+    ap (λ x. OpensAt l.place n ∷ (map HasAt l.properties ++ (placed_marks cs ++ (ClosesAt ∷ x)))) (placed_marks-with_last later name located children)
+    ∙ ap (λ x. OpensAt l.place n ∷ x)
+    (ap (λ x. map HasAt l.properties ++ x) (sym (append_assoc (placed_marks cs) (ClosesAt ∷ placed_marks later) (placed_marks (node name located children none))))
+    ∙ sym (append_assoc (map HasAt l.properties) (placed_marks cs ++ (ClosesAt ∷ placed_marks later)) (placed_marks (node name located children none))))
+
+-- A list of nodes is as deep as what it had, or as its last node.
+pub depth-with_last : {Own : Type 0} (nodes : Nodes Own) (name : List ℕ) (own : Own) (children : Nodes Own) (limit : ℕ) → depth nodes ≤ limit → depth children + 1 ≤ limit → depth (with_last nodes name own children) ≤ limit
+depth-with_last none name own children limit first last = omega arith
+depth-with_last (node n o cs later) name own children limit first last =
+    let rest : depth (with_last later name own children) ≤ limit = depth-with_last later name own children limit (omega arith) last in
+    omega arith
+
+-- Good nodes stay so with one more at their end that is good and has a new name.
+pub AreNodes-with_last : {Own : Type 0} (IsOwn : Own → Type 0) (nodes : Nodes Own) (name : List ℕ) (own : Own) (children : Nodes Own) → AreNodes IsOwn nodes → IsChildName name → IsNew name (names nodes) → IsOwn own → AreNodes IsOwn children → AreNodes IsOwn (with_last nodes name own children)
+AreNodes-with_last IsOwn none name own children are is_name is_new is_own are_children =
+    (record { is_name = is_name; is_own = is_own; is_new = tt }, are_children, tt)
+AreNodes-with_last IsOwn (node n o cs later) name own children are is_name is_new is_own are_children = (
+  record {
+    is_name = are.0.is_name;
+    is_own = are.0.is_own;
+    is_new = subst (IsNew n) (sym (names-with_last later name own children))
+        (All-push (λ other. other ≢ n) (names later) name are.0.is_new (λ e. is_new.0 (sym e)));
+  },
+  are.1,
+  AreNodes-with_last IsOwn later name own children are.2 is_name is_new.1 is_own are_children,
+)
+
+-- The names of an open node after one more property.
+pub open_of-property : (o : OpenNode) (p : Placed) → open_of (with_one_property o p) ≡ with_property (open_of o) p.name
+open_of-property o p = λ i. record { properties = map_push (λ (q : Placed). q.name) o.properties p i; children = names o.children }
+
+-- The names of an open node after one more child.
+pub open_of-child : (parent child : OpenNode) → open_of (with_one_child parent child) ≡ with_child (open_of parent) child.name
+open_of-child parent child =
+    λ i. record { properties = map (λ p. p.name) parent.properties; children = names-with_last parent.children child.name (located_of child) child.children i }
+
+-- A node without names of children has none.
+no_children : (nodes : Nodes Located) → names nodes ≡ [] → nodes ≡ none
+no_children none e = refl
+no_children (node n l cs later) e = absurd cc
+
+-- An open node without children says one thing more after one more property.
+said_of-property : (o : OpenNode) (p : Placed) → names o.children ≡ [] → said_of (with_one_property o p) ≡ said_of o ++ HasAt p ∷ []
+said_of-property o p childless =
+    let bare : o.children ≡ none = no_children o.children childless in
+    ap (λ l. OpensAt o.place o.name ∷ l)
+    (ap (λ c. map HasAt (o.properties ++ p ∷ []) ++ placed_marks c) bare
+    ∙ append-nil (map HasAt (o.properties ++ p ∷ []))
+    ∙ map_push HasAt o.properties p
+    ∙ ap (λ l. l ++ HasAt p ∷ []) (sym (append-nil (map HasAt o.properties)) ∙ ap (λ c. map HasAt o.properties ++ placed_marks c) (sym bare)))
+
+-- What all open nodes say after one more property of the innermost.
+pub said_by-property : (o : OpenNode) (outer : List OpenNode) (p : Placed) → names o.children ≡ [] → said_by (with_one_property o p) outer ≡ said_by o outer ++ HasAt p ∷ []
+said_by-property o [] p childless = said_of-property o p childless
+said_by-property o (parent ∷ outer) p childless =
+    ap (λ l. said_by parent outer ++ l) (said_of-property o p childless) ∙ sym (append_assoc (said_by parent outer) (said_of o) (HasAt p ∷ []))
+
+-- What a node says when it is closed.
+said_of-closed : (child : OpenNode) → placed_marks (node child.name (located_of child) child.children none) ≡ said_of child ++ ClosesAt ∷ []
+said_of-closed child =
+    ap (λ l. OpensAt child.place child.name ∷ l) (sym (append_assoc (map HasAt child.properties) (placed_marks child.children) (ClosesAt ∷ [])))
+
+said_of-child : (parent child : OpenNode) → said_of (with_one_child parent child) ≡ said_of parent ++ (said_of child ++ ClosesAt ∷ [])
+said_of-child parent child =
+    ap (λ l. OpensAt parent.place parent.name ∷ (map HasAt parent.properties ++ l))
+    (placed_marks-with_last parent.children child.name (located_of child) child.children ∙ ap (λ l. placed_marks parent.children ++ l) (said_of-closed child))
+    ∙ ap (λ l. OpensAt parent.place parent.name ∷ l) (sym (append_assoc (map HasAt parent.properties) (placed_marks parent.children) (said_of child ++ ClosesAt ∷ [])))
+
+-- What all open nodes say after the innermost is closed.
+pub said_by-child : (parent child : OpenNode) (outer : List OpenNode) → said_by (with_one_child parent child) outer ≡ said_by child (parent ∷ outer) ++ ClosesAt ∷ []
+said_by-child parent child [] = said_of-child parent child ∙ sym (append_assoc (said_of parent) (said_of child) (ClosesAt ∷ []))
+said_by-child parent child (grandparent ∷ outer) =
+    ap (λ l. said_by grandparent outer ++ l) (said_of-child parent child)
+    ∙ sym (append_assoc (said_by grandparent outer) (said_of parent) (said_of child ++ ClosesAt ∷ []))
+    ∙ sym (append_assoc (said_by grandparent outer ++ said_of parent) (said_of child) (ClosesAt ∷ []))
+
+-- What a tree says is what its root says when it is closed.
+pub said_by-root : (outermost : OpenNode) → outermost.name ≡ [] → placed_marks_of (root_of outermost) ≡ said_of outermost ++ ClosesAt ∷ []
+said_by-root outermost unnamed =
+    ap (λ n. placed_marks (node n (located_of outermost) outermost.children none)) (sym unnamed) ∙ said_of-closed outermost

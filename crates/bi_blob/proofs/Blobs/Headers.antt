@@ -1,0 +1,78 @@
+use Rattle.std.proofs.Common.{ℕ, ◌≤◌, List, length, arith}
+use Rattle.bi_base.specs.Cells.{AreBytes}
+use Rattle.bi_base.specs.Limits.{Bounds}
+use Rattle.bi_blob.specs.Blob.{Header, header_length, tree_blocks, totalsize, structure_end, IsReadable}
+use Rattle.bi_blob.specs.BlobFaults.{HasNoHeaderFault}
+
+-- The checks of a header and the conditions of a header are the same.
+
+-- A header holds the word that a blob begins with.
+header_length-magic : (file : List ℕ) → 4 ≤ header_length file
+header_length-magic file = omega arith
+
+-- A header whose checks pass meets the conditions.
+pub HasNoHeaderFault-Header : (bounds : Bounds) (file : List ℕ) → HasNoHeaderFault bounds file → Header file
+HasNoHeaderFault-Header bounds file fine =
+    let version = fine.1.1.1.1 in
+    let total = version.1.1 in
+    let blocks = total.1.1 in
+    record {
+      whole = fine.1.1.1.0;
+      is_magic = fine.1.1.0;
+      is_read = version.0;
+      is_understood = version.1.0;
+      total_holds_header = total.0;
+      file_holds_total = total.1.0;
+      reservations_behind_header = blocks.0.0;
+      reservations_aligned = blocks.0.1;
+      reservations_within = blocks.0.2;
+      structure_behind_header = blocks.1.0.0;
+      structure_aligned = blocks.1.0.1;
+      structure_ordered = blocks.1.0.2;
+      structure_within = blocks.1.0.3;
+      strings_behind_header = blocks.1.1.0.0;
+      strings_within = blocks.1.1.0.1;
+    }
+
+-- A header that meets the conditions passes its checks, in a file that is no longer than the limit.
+pub Header-HasNoHeaderFault : (bounds : Bounds) (file : List ℕ) → length file ≤ bounds.file → Header file → HasNoHeaderFault bounds file
+Header-HasNoHeaderFault bounds file short header =
+    let whole : header_length file ≤ length file = header.whole in
+    let magic : 4 ≤ header_length file = header_length-magic file in (
+      short,
+      (
+        omega arith,
+        (
+          header.is_magic,
+          (
+            header.whole,
+            (
+              header.is_read,
+              (
+                header.is_understood,
+                (
+                  header.total_holds_header,
+                  (
+                    header.file_holds_total,
+                    (
+                      (header.reservations_behind_header, header.reservations_aligned, header.reservations_within),
+                      (
+                        (header.structure_behind_header, header.structure_aligned, header.structure_ordered, header.structure_within),
+                        ((header.strings_behind_header, header.strings_within), tt),
+                      ),
+                    ),
+                  ),
+                ),
+              ),
+            ),
+          ),
+        ),
+      ),
+    )
+
+-- The blocks of a tree behind a good header are within the file.
+pub Header-IsReadable : (file : List ℕ) → AreBytes file → Header file → IsReadable (tree_blocks file)
+Header-IsReadable file bytes header =
+    let structure : structure_end file ≤ totalsize file = header.structure_within in
+    let total : totalsize file ≤ length file = header.file_holds_total in
+    record { bytes = bytes; within = omega arith }

@@ -1,0 +1,292 @@
+use Rattle.std.proofs.Common.{◌≡◌, ◌⊎◌, ℕ, zero, suc, ◌+◌, ◌-◌, ◌*◌, ◌<◌, ◌≤◌, ◌^◌, List, [], ◌∷◌, ◌++◌, length, take, drop, refl, sym, ap, subst, ◌∙◌, inl, inr, arith, lit<}
+use Rattle.std.specs.List.{AllByRecursion, flat_map}
+use Rattle.std.proofs.lemmas.Bool.{cases_lt}
+use Rattle.std.proofs.lemmas.List.{length-append, append_assoc, take-append-drop}
+use Rattle.std.proofs.Math.Seq.{take-add}
+use Rattle.bi_base.specs.declared.fault.Cause.TheVariants.{Truncated}
+use Rattle.bi_base.specs.declared.fault.Fault.{Fault}
+use Rattle.bi_base.specs.Cells.{cell8, slice, u64_at, AreBytes}
+use Rattle.bi_blob.specs.Blob.{Reservation, IsReservation, pair_bytes, end_pair, reserved_block, Reserved}
+use Rattle.bi_blob.specs.BlobFaults.{IsEndPair, HasReservations, IsReservationsFault}
+use Rattle.bi_base.proofs.CellLaws.{length-slice}
+use Rattle.bi_blob.proofs.Blobs.Cells.{BytesAt, BytesAt-from, BytesAt-left, BytesAt-right, BytesAt-join, BytesAt-cell8, u64_at-BytesAt, u64_at-fits, length-cell8}
+use Rattle.bi_blob.proofs.Blobs.Decided.{IsEndPair_decided}
+
+-- A reservation block has reservations and an end pair, or a fault.
+
+pub length-pair_bytes : (pair : Reservation) → length (pair_bytes pair) ≡ 16
+length-pair_bytes pair = simp (length-append, length-cell8) refl
+
+-- The block of a first reservation and others is its pair and their block.
+pub reserved_block-first : (pair : Reservation) (later : List Reservation) → reserved_block (pair ∷ later) ≡ pair_bytes pair ++ reserved_block later
+reserved_block-first pair later = append_assoc (pair_bytes pair) (flat_map pair_bytes later) (pair_bytes end_pair)
+
+pub length-reserved_block : (reservations : List Reservation) → length (reserved_block reservations) ≡ 16 * length reservations + 16
+length-reserved_block [] = length-pair_bytes end_pair
+length-reserved_block (pair ∷ later) =
+    let rest : length (reserved_block later) ≡ 16 * length later + 16 = length-reserved_block later in
+    let first : length (pair_bytes pair) ≡ 16 = length-pair_bytes pair in
+    let whole : length (reserved_block (pair ∷ later)) ≡ length (pair_bytes pair) + length (reserved_block later) =
+    ap length (reserved_block-first pair later) ∙ length-append (pair_bytes pair) (reserved_block later) in
+    omega arith
+
+-- The pair that is read at an offset.
+abbrev pub pair_at : List ℕ → ℕ → Reservation
+pair_at file at = record { address = u64_at file at; size = u64_at file (at + 8) }
+
+-- It stands there.
+pair_stands : (file : List ℕ) (at : ℕ) → AreBytes file → at + 16 ≤ length file → BytesAt file at (pair_bytes (pair_at file at))
+pair_stands file at bytes within =
+    BytesAt-join file at (cell8 (u64_at file at)) (cell8 (u64_at file (at + 8)))
+    (BytesAt-cell8 file at bytes (omega arith))
+    (subst (λ n. BytesAt file (at + n) (cell8 (u64_at file (at + 8)))) (sym (length-cell8 (u64_at file at)))
+    (BytesAt-cell8 file (at + 8) bytes (omega arith)))
+
+-- A pair that stands at an offset is read there.
+pub pair_read : (file : List ℕ) (at : ℕ) (pair : Reservation) → pair.address < 2 ^ 64 → pair.size < 2 ^ 64 → BytesAt file at (pair_bytes pair) → (u64_at file at ≡ pair.address) × (u64_at file (at + 8) ≡ pair.size)
+pair_read file at pair address_fits size_fits stands = (
+  u64_at-BytesAt file at pair.address address_fits (BytesAt-left file at (cell8 pair.address) (cell8 pair.size) stands),
+  u64_at-BytesAt file (at + 8) pair.size size_fits
+      (subst (λ n. BytesAt file (at + n) (cell8 pair.size)) (length-cell8 pair.address) (BytesAt-right file at (cell8 pair.address) (cell8 pair.size) stands)),
+)
+
+-- A pair that is not the end pair is a reservation.
+pair_is : (file : List ℕ) (at : ℕ) → AreBytes file → ¬ (IsEndPair file at) → IsReservation (pair_at file at)
+pair_is file at bytes other = record {
+  address_fits = u64_at-fits file at bytes;
+  size_fits = u64_at-fits file (at + 8) bytes;
+  some = elim (cases_lt 0 (u64_at file at + u64_at file (at + 8))) [
+    | inl some ↦ some
+    | inr none ↦ absurd (other (record { address = omega arith; size = omega arith }))
+  ];
+}
+
+-- What the pairs behind the first one are, seen from the first one.
+one_later : (P : ℕ → Type 0) (at index : ℕ) → P (at + 16 + 16 * index) → P (at + 16 * (index + 1))
+one_later P at index holds = subst P (same at index) holds where
+  same : (a i : ℕ) → a + 16 + 16 * i ≡ a + 16 * (i + 1)
+  same a i = omega arith
+
+one_earlier : (P : ℕ → Type 0) (at index : ℕ) → P (at + 16 * (index + 1)) → P (at + 16 + 16 * index)
+one_earlier P at index holds = subst P (same at index) holds where
+  same : (a i : ℕ) → a + 16 * (i + 1) ≡ a + 16 + 16 * i
+  same a i = omega arith
+
+at_first : (P : ℕ → Type 0) (at : ℕ) → P at → P (at + 16 * 0)
+at_first P at holds = subst P (same at) holds where
+  same : (a : ℕ) → a ≡ a + 16 * 0
+  same a = omega arith
+
+from_first : (P : ℕ → Type 0) (at : ℕ) → P (at + 16 * 0) → P at
+from_first P at holds = subst P (same at) holds where
+  same : (a : ℕ) → a + 16 * 0 ≡ a
+  same a = omega arith
+
+-- No pair before one index ends the block, where neither the first does nor those behind it.
+none_before : (file : List ℕ) (at count : ℕ) → ¬ (IsEndPair file at) → ((index : ℕ) → index < count → ¬ (IsEndPair file (at + 16 + 16 * index))) → (index : ℕ) → index < count + 1 → ¬ (IsEndPair file (at + 16 * index))
+none_before file at count first later zero below = λ is. first (from_first (IsEndPair file) at is)
+none_before file at count first later (suc index) below =
+    let below_there : index < count = omega arith in
+    λ is. later index below_there (one_earlier (IsEndPair file) at index (subst (λ n. IsEndPair file (at + 16 * n)) (one_more index) is)) where
+      one_more : (n : ℕ) → suc n ≡ n + 1
+      one_more n = omega arith
+
+-- One more reservation stands before those of a block.
+pub HasReservations-cons : (file : List ℕ) (at total count : ℕ) → ¬ (IsEndPair file at) → HasReservations file (at + 16) total count → HasReservations file at total (count + 1)
+HasReservations-cons file at total count first later =
+    let within : at + 16 + 16 * count + 16 ≤ total = later.within in
+    record {
+      before = none_before file at count first later.before;
+      end = one_later (IsEndPair file) at count later.end;
+      within = omega arith;
+    }
+
+-- One more reservation stands before the pair that gives the fault.
+IsReservationsFault-cons : (file : List ℕ) (at total : ℕ) (fault : Fault) → ¬ (IsEndPair file at) → IsReservationsFault file (at + 16) total fault → IsReservationsFault file at total fault
+IsReservationsFault-cons file at total fault first later =
+    let fits : at + 16 + 16 * later.index ≤ total = later.fits in
+    let past : total < at + 16 + 16 * later.index + 16 = later.past in
+    record {
+      index = later.index + 1;
+      before = none_before file at later.index first later.before;
+      fits = omega arith;
+      past = omega arith;
+      is = one_later (λ n. fault ≡ record { cause = Truncated; offset = n }) at later.index later.is;
+    }
+
+-- What a reservation block has.
+pub record HasSome (file : List ℕ) (at total : ℕ) : Type 0 where
+  pub count : ℕ
+  pub has : HasReservations file at total count
+
+-- The end pair is first.
+ends_here : (file : List ℕ) (at total : ℕ) → at + 16 ≤ total → IsEndPair file at → HasReservations file at total 0
+ends_here file at total room end = record {
+  before = λ index below. absurd (omega arith);
+  end = at_first (IsEndPair file) at end;
+  within = omega arith;
+}
+
+-- The first pair reaches past the blob.
+past_here : (file : List ℕ) (at total : ℕ) → at ≤ total → total < at + 16 → IsReservationsFault file at total (record { cause = Truncated; offset = at })
+past_here file at total fits past = record {
+  index = 0;
+  before = λ index below. absurd (omega arith);
+  fits = omega arith;
+  past = omega arith;
+  is = at_first (λ n. ◌≡◌ {A = Fault} (record { cause = Truncated; offset = at }) (record { cause = Truncated; offset = n })) at refl;
+}
+
+-- What there is from an offset on: reservations and an end pair, or a fault.
+abbrev pub Found : List ℕ → ℕ → ℕ → Type 0
+Found file at total = HasSome file at total ⊎ ((fault : Fault) × IsReservationsFault file at total fault)
+
+-- The same with a first pair that is no end pair.
+found_behind : (file : List ℕ) (at total : ℕ) → ¬ (IsEndPair file at) → Found file (at + 16) total → Found file at total
+found_behind file at total first (inl later) = inl (record { count = later.count + 1; has = HasReservations-cons file at total later.count first later.has })
+found_behind file at total first (inr later) = inr (later.0, IsReservationsFault-cons file at total later.0 first later.1)
+
+found_from : (steps : ℕ) (file : List ℕ) (at total : ℕ) → at ≤ total → total ≤ at + steps → Found file at total
+found_from zero file at total fits left = inr (record { cause = Truncated; offset = at }, past_here file at total fits (omega arith))
+found_from (suc steps) file at total fits left =
+    by_room (cases_lt total (at + 16)) (λ room. found_from steps file (at + 16) total room (omega arith)) where
+      by_pair : at + 16 ≤ total → IsEndPair file at ⊎ ¬ (IsEndPair file at) → (at + 16 ≤ total → Found file (at + 16) total) → Found file at total
+      by_pair room (inl end) later = inl (record { count = 0; has = ends_here file at total room end })
+      by_pair room (inr other) later = found_behind file at total other (later room)
+
+      by_room : (total < at + 16) ⊎ (at + 16 ≤ total) → (at + 16 ≤ total → Found file (at + 16) total) → Found file at total
+      by_room (inl past) later = inr (record { cause = Truncated; offset = at }, past_here file at total fits past)
+      by_room (inr room) later = by_pair room (IsEndPair_decided file at) later
+
+-- From an offset on there are reservations and an end pair, or a fault.
+pub reservations_or_fault : (file : List ℕ) (at total : ℕ) → at ≤ total → Found file at total
+reservations_or_fault file at total fits = found_from total file at total fits (omega arith)
+
+-- There is one fault at most.
+pub one_reservations_fault : (file : List ℕ) (at total : ℕ) (f g : Fault) → IsReservationsFault file at total f → IsReservationsFault file at total g → f ≡ g
+one_reservations_fault file at total f g one other =
+    let a : at + 16 * one.index ≤ total = one.fits in
+    let b : total < at + 16 * one.index + 16 = one.past in
+    let c : at + 16 * other.index ≤ total = other.fits in
+    let d : total < at + 16 * other.index + 16 = other.past in
+    let same : one.index ≡ other.index = omega arith in
+    one.is ∙ ap (λ n. record { cause = Truncated; offset = at + 16 * n }) same ∙ sym other.is
+
+-- There are no reservations with an end pair where there is a fault.
+pub no_reservations_with_fault : (file : List ℕ) (at total count : ℕ) (fault : Fault) → HasReservations file at total count → IsReservationsFault file at total fault → ⊥
+no_reservations_with_fault file at total count fault has faulty =
+    let within : at + 16 * count + 16 ≤ total = has.within in
+    let past : total < at + 16 * faulty.index + 16 = faulty.past in
+    faulty.before count (omega arith) has.end
+
+-- The reservations that a block of this many has.
+abbrev pub reservations_at : List ℕ → ℕ → ℕ → List Reservation
+reservations_at file at zero = []
+reservations_at file at (suc count) = pair_at file at ∷ reservations_at file (at + 16) count
+
+-- What a block of one more has behind its first pair.
+HasReservations-later : (file : List ℕ) (at total count : ℕ) → HasReservations file at total (suc count) → HasReservations file (at + 16) total count
+HasReservations-later file at total count has =
+    let within : at + 16 * suc count + 16 ≤ total = has.within in
+    let one_more : suc count ≡ count + 1 = omega arith in
+    record {
+      before = λ index below.
+          let below_there : index + 1 < suc count = omega arith in
+          λ is. has.before (index + 1) below_there (one_later (IsEndPair file) at index is);
+      end = one_earlier (IsEndPair file) at count (subst (λ n. IsEndPair file (at + 16 * n)) one_more has.end);
+      within = omega arith;
+    }
+
+-- They are reservations.
+are_reservations_at : (file : List ℕ) (at total count : ℕ) → AreBytes file → HasReservations file at total count → AllByRecursion IsReservation (reservations_at file at count)
+are_reservations_at file at total zero bytes has = tt
+are_reservations_at file at total (suc count) bytes has =
+    let first : 0 < suc count = omega arith in (
+      pair_is file at bytes (λ is. has.before 0 first (at_first (IsEndPair file) at is)),
+      are_reservations_at file (at + 16) total count bytes (HasReservations-later file at total count has),
+    )
+
+-- The end pair stands where both of its numbers are zero.
+end_stands : (file : List ℕ) (at : ℕ) → AreBytes file → at + 16 ≤ length file → IsEndPair file at → BytesAt file at (pair_bytes end_pair)
+end_stands file at bytes within is =
+    subst (λ (pair : Reservation). BytesAt file at (pair_bytes pair)) (λ i. record { address = is.address i; size = is.size i }) (pair_stands file at bytes within)
+
+-- Their block stands at the offset.
+reservations_stand : (file : List ℕ) (at total count : ℕ) → AreBytes file → total ≤ length file → HasReservations file at total count → BytesAt file at (reserved_block (reservations_at file at count))
+reservations_stand file at total zero bytes inside has =
+    let within : at + 16 * 0 + 16 ≤ total = has.within in
+    end_stands file at bytes (omega arith) (from_first (IsEndPair file) at has.end)
+reservations_stand file at total (suc count) bytes inside has =
+    let within : at + 16 * suc count + 16 ≤ total = has.within in
+    subst (BytesAt file at) (sym (reserved_block-first (pair_at file at) (reservations_at file (at + 16) count)))
+    (BytesAt-join file at (pair_bytes (pair_at file at)) (reserved_block (reservations_at file (at + 16) count))
+    (pair_stands file at bytes (omega arith))
+    (subst (λ n. BytesAt file (at + n) (reserved_block (reservations_at file (at + 16) count))) (sym (length-pair_bytes (pair_at file at)))
+    (reservations_stand file (at + 16) total count bytes inside (HasReservations-later file at total count has))))
+
+length-reservations_at : (file : List ℕ) (at count : ℕ) → length (reservations_at file at count) ≡ count
+length-reservations_at file at zero = refl
+length-reservations_at file at (suc count) = ap suc (length-reservations_at file (at + 16) count)
+
+-- What is before an end begins with what stands there.
+begins : (file : List ℕ) (at total : ℕ) (bytes : List ℕ) → BytesAt file at bytes → length bytes ≤ total - at → slice file at (total - at) ≡ bytes ++ take ((total - at) - length bytes) (drop (length bytes) (drop at file))
+begins file at total bytes stands fits =
+    ap (λ n. take n (drop at file)) sum
+    ∙ take-add (length bytes) ((total - at) - length bytes) (drop at file)
+    ∙ ap (λ l. l ++ take ((total - at) - length bytes) (drop (length bytes) (drop at file))) stands where
+      sum : total - at ≡ length bytes + ((total - at) - length bytes)
+      sum = omega arith
+
+-- A block of reservations is one, byte by byte.
+pub HasReservations-Reserved : (file : List ℕ) (at total count : ℕ) → AreBytes file → total ≤ length file → HasReservations file at total count → Reserved (slice file at (total - at)) (reservations_at file at count)
+HasReservations-Reserved file at total count bytes inside has =
+    let all : List Reservation = reservations_at file at count in
+    let within : at + 16 * count + 16 ≤ total = has.within in
+    let long : length (reserved_block all) ≡ 16 * length all + 16 = length-reserved_block all in
+    let many : length all ≡ count = length-reservations_at file at count in
+    record {
+      are_reservations = are_reservations_at file at total count bytes has;
+      behind = take ((total - at) - length (reserved_block all)) (drop (length (reserved_block all)) (drop at file));
+      stands = begins file at total (reserved_block all) (reservations_stand file at total count bytes inside has) (omega arith);
+    }
+
+-- A block that stands at an offset has as many reservations as it is made of.
+block_has : (file : List ℕ) (at total : ℕ) (all : List Reservation) → AllByRecursion IsReservation all → BytesAt file at (reserved_block all) → at + (16 * length all + 16) ≤ total → HasReservations file at total (length all)
+block_has file at total [] are stands fits =
+    let read : (u64_at file at ≡ 0) × (u64_at file (at + 8) ≡ 0) = pair_read file at end_pair (lit< tt) (lit< tt) stands in
+    ends_here file at total (omega arith) (record { address = read.0; size = read.1 })
+block_has file at total (pair ∷ later) are stands fits =
+    let split : BytesAt file at (pair_bytes pair ++ reserved_block later) = subst (BytesAt file at) (reserved_block-first pair later) stands in
+    let read : (u64_at file at ≡ pair.address) × (u64_at file (at + 8) ≡ pair.size) =
+    pair_read file at pair are.0.address_fits are.0.size_fits (BytesAt-left file at (pair_bytes pair) (reserved_block later) split) in
+    let some : 0 < pair.address + pair.size = are.0.some in
+    let rest : HasReservations file (at + 16) total (length later) =
+    block_has file (at + 16) total later are.1
+    (subst (λ n. BytesAt file (at + n) (reserved_block later)) (length-pair_bytes pair) (BytesAt-right file at (pair_bytes pair) (reserved_block later) split))
+    (omega arith) in
+    subst (HasReservations file at total) (one_more (length later))
+    (HasReservations-cons file at total (length later) (λ is. not_end is read some) rest) where
+      one_more : (n : ℕ) → n + 1 ≡ suc n
+      one_more n = omega arith
+
+      not_end : IsEndPair file at → (u64_at file at ≡ pair.address) × (u64_at file (at + 8) ≡ pair.size) → 0 < pair.address + pair.size → ⊥
+      not_end is read some =
+          let address : u64_at file at ≡ 0 = is.address in
+          let size : u64_at file (at + 8) ≡ 0 = is.size in
+          let one : u64_at file at ≡ pair.address = read.0 in
+          let other : u64_at file (at + 8) ≡ pair.size = read.1 in
+          omega arith
+
+-- Reserved bytes have as many reservations as they are made of.
+pub Reserved-HasReservations : (file : List ℕ) (at total : ℕ) (all : List Reservation) → at ≤ total → total ≤ length file → Reserved (slice file at (total - at)) all → HasReservations file at total (length all)
+Reserved-HasReservations file at total all ordered inside reserved =
+    let size : ℕ = total - at in
+    let long : length (slice file at size) ≡ size = length-slice file at size (omega arith) in
+    let parts : length (slice file at size) ≡ length (reserved_block all) + length reserved.behind =
+    ap length reserved.stands ∙ length-append (reserved_block all) reserved.behind in
+    let block : length (reserved_block all) ≡ 16 * length all + 16 = length-reserved_block all in
+    block_has file at total all reserved.are_reservations
+    (BytesAt-from file at (reserved_block all) (reserved.behind ++ drop size (drop at file))
+    (sym (take-append-drop size (drop at file)) ∙ ap (λ l. l ++ drop size (drop at file)) reserved.stands
+    ∙ append_assoc (reserved_block all) reserved.behind (drop size (drop at file))))
+    (omega arith)

@@ -1,0 +1,82 @@
+use Rattle.std.proofs.Common.{◌≡◌, ◌≢◌, ℕ, ◌+◌, ◌-◌, ◌≤◌, List, [], ◌∷◌, ◌++◌, length, take, drop, min, refl, sym, ap, subst, ◌∙◌, arith}
+use Rattle.std.specs.List.{AllByRecursion}
+use Rattle.std.proofs.lemmas.List.{length-take, length-drop, append_assoc, take-append-drop, drop-append-le, drop-drop, take_at, drop_at}
+use Rattle.bi_blob.specs.Tokens.{Token, End, unpadded, width, Spells, Spelled, StandsAt}
+use Rattle.bi_blob.proofs.Blobs.Cells.{BytesAt-from}
+use Rattle.bi_blob.proofs.Blobs.Tokens.{one_token}
+
+-- Where the token behind these stands, if they stand from this offset on.
+abbrev pub behind_all : ℕ → List Token → ℕ
+behind_all at [] = at
+behind_all at (token ∷ later) = behind_all (at + width token) later
+
+pub behind_all-append : (at : ℕ) (a b : List Token) → behind_all at (a ++ b) ≡ behind_all (behind_all at a) b
+behind_all-append at [] b = refl
+behind_all-append at (token ∷ a) b = behind_all-append (at + width token) a b
+
+-- These tokens stand in a file one behind the other, from this offset on.
+abbrev pub AllStand : List ℕ → ℕ → List Token → Type 0
+AllStand file at [] = Unit {0}
+AllStand file at (token ∷ later) = StandsAt file at token × AllStand file (at + width token) later
+
+-- A token that is spelled by the first bytes behind an offset stands there.
+Spells-stands : (file : List ℕ) (at : ℕ) (token : Token) (bytes rest : List ℕ) → Spells token bytes → drop at file ≡ bytes ++ rest → StandsAt file at token
+Spells-stands file at token bytes rest spells e = record {
+  is_token = spells.is_token;
+  stands = BytesAt-from file at (unpadded token) (spells.padding ++ rest)
+      (e ∙ ap (λ l. l ++ rest) spells.spelled ∙ append_assoc (unpadded token) spells.padding rest);
+}
+
+-- The bytes of spelled tokens are as many as the first token takes, or more.
+Spelled-first : (token : Token) (bytes : List ℕ) → Spells token (take (width token) bytes) → width token ≤ length bytes
+Spelled-first token bytes spells =
+    let long : length (take (width token) bytes) ≡ width token = spells.whole in
+    let short : length (take (width token) bytes) ≡ min (width token) (length bytes) = length-take (width token) bytes in
+    omega arith
+
+-- Tokens that are spelled by the first bytes behind an offset stand there.
+pub Spelled-stand : (file : List ℕ) (at : ℕ) (tokens : List Token) (bytes rest : List ℕ) → Spelled tokens bytes → drop at file ≡ bytes ++ rest → AllStand file at tokens
+Spelled-stand file at [] bytes rest spelled e = tt
+Spelled-stand file at (token ∷ later) bytes rest spelled e = (
+  Spells-stands file at token (take (width token) bytes) (drop (width token) bytes ++ rest) spelled.0
+      (e ∙ ap (λ l. l ++ rest) (sym (take-append-drop (width token) bytes)) ∙ append_assoc (take (width token) bytes) (drop (width token) bytes) rest),
+  Spelled-stand file (at + width token) later (drop (width token) bytes) rest spelled.1
+      (sym (drop-drop (width token) at file) ∙ ap (drop (width token)) e ∙ drop-append-le (width token) bytes rest (Spelled-first token bytes spelled.0)),
+)
+
+-- The bytes of spelled tokens are as many as the tokens take.
+pub Spelled-length : (at : ℕ) (tokens : List Token) (bytes : List ℕ) → Spelled tokens bytes → at + length bytes ≡ behind_all at tokens
+Spelled-length at [] bytes spelled = let none : length bytes ≡ 0 = ap length spelled in omega arith
+Spelled-length at (token ∷ later) bytes spelled =
+    let rest : at + width token + length (drop (width token) bytes) ≡ behind_all (at + width token) later =
+    Spelled-length (at + width token) later (drop (width token) bytes) spelled.1 in
+    let left : length (drop (width token) bytes) ≡ length bytes - width token = length-drop (width token) bytes in
+    let first : width token ≤ length bytes = Spelled-first token bytes spelled.0 in
+    let same : at + length bytes ≡ at + width token + length (drop (width token) bytes) = omega arith in
+    same ∙ rest
+
+-- What one token is spelled by, and then others, spells all of them.
+pub Spelled-cons : (token : Token) (later : List Token) (a b : List ℕ) → Spells token a → Spelled later b → Spelled (token ∷ later) (a ++ b)
+Spelled-cons token later a b spells spelled = (
+  subst (Spells token) (sym (take_at a b (width token) spells.whole)) spells,
+  subst (Spelled later) (sym (drop_at a b (width token) spells.whole)) spelled,
+)
+
+-- What some tokens are spelled by, and then others, spells all of them.
+pub Spelled-append : (ts us : List Token) (a b : List ℕ) → Spelled ts a → Spelled us b → Spelled (ts ++ us) (a ++ b)
+Spelled-append [] us a b first second = subst (λ l. Spelled us (l ++ b)) (sym first) second
+Spelled-append (token ∷ ts) us a b first second =
+    let w : ℕ = width token in
+    subst (Spelled (token ∷ (ts ++ us))) (sym (append_assoc (take w a) (drop w a) b) ∙ ap (λ l. l ++ b) (take-append-drop w a))
+    (Spelled-cons token (ts ++ us) (take w a) (drop w a ++ b) first.0 (Spelled-append ts us (drop w a) b first.1 second))
+
+-- Of two lists of tokens with one FDT_END at their ends, one at most stands at an offset.
+pub one_spelling : (file : List ℕ) (at : ℕ) (ts us : List Token) → AllByRecursion (λ t. t ≢ End) ts → AllByRecursion (λ t. t ≢ End) us → AllStand file at (ts ++ End ∷ []) → AllStand file at (us ++ End ∷ []) → ts ≡ us
+one_spelling file at [] [] no_end_ts no_end_us one other = refl
+one_spelling file at [] (u ∷ us) no_end_ts no_end_us one other = absurd (no_end_us.0 (one_token file at u End other.0 one.0))
+one_spelling file at (t ∷ ts) [] no_end_ts no_end_us one other = absurd (no_end_ts.0 (one_token file at t End one.0 other.0))
+one_spelling file at (t ∷ ts) (u ∷ us) no_end_ts no_end_us one other =
+    let same : t ≡ u = one_token file at t u one.0 other.0 in
+    let rest : ts ≡ us = one_spelling file (at + width t) ts us no_end_ts.1 no_end_us.1 one.1
+    (subst (λ v. AllStand file (at + width v) (us ++ End ∷ [])) (sym same) other.1) in
+    λ i. same i ∷ rest i

@@ -1,0 +1,81 @@
+use Rattle.std.proofs.Common.{◌≡◌, ℕ, ◌+◌, ◌-◌, ◌*◌, ◌%◌, ◌≤◌, List, [], ◌∷◌, ◌++◌, length, take, flat_map, refl, sym, ap, ◌∙◌, arith, append_assoc, length-append}
+use Rattle.std.proofs.lemmas.List.{take_at, drop_at}
+use Rattle.std.proofs.Math.Seq.{take-append-add}
+use Rattle.bi_base.specs.Cells.{slice, up4}
+use Rattle.bi_blob.specs.Blob.{Header, Reservation, pair_bytes, end_pair, reserved_block}
+use Rattle.bi_blob.specs.Layout.{blob_header, filling, unfilled, text_of}
+use Rattle.bi_blob.proofs.Blobs.Cells.{length-cell8}
+use Rattle.bi_blob.proofs.Texts.Header.{HasCells}
+
+-- The blocks of a text are the slices that its header names.
+
+-- The second of three lists is the slice where the first ends.
+pub second_slice : (a b c : List ℕ) (at n : ℕ) → length a ≡ at → length b ≡ n → slice (a ++ (b ++ c)) at n ≡ b
+second_slice a b c at n is_at is_n = ap (take n) (drop_at a (b ++ c) at is_at) ∙ take_at b c n is_n
+
+-- The third of four lists is the slice where the first two end.
+pub third_slice : (a b c d : List ℕ) (at n : ℕ) → length a + length b ≡ at → length c ≡ n → slice (a ++ (b ++ (c ++ d))) at n ≡ c
+third_slice a b c d at n is_at is_n =
+    ap (λ file. slice file at n) (sym (append_assoc a b (c ++ d)))
+    ∙ second_slice (a ++ b) c d at n (length-append a b ∙ is_at) is_n
+
+-- The fourth of five lists is the slice where the first three end.
+pub fourth_slice : (a b c d e : List ℕ) (at n : ℕ) → length a + length b + length c ≡ at → length d ≡ n → slice (a ++ (b ++ (c ++ (d ++ e)))) at n ≡ d
+fourth_slice a b c d e at n is_at is_n =
+    ap (λ file. slice file at n) (sym (append_assoc a b (c ++ (d ++ e))))
+    ∙ third_slice (a ++ b) c d e at n (omega (arith, length-append a b)) is_n
+
+-- A slice where the first of three lists ends, and that reaches behind the second, begins with the second.
+pub slice_from_second : (a b c : List ℕ) (at n : ℕ) → length a ≡ at → length b ≤ n → slice (a ++ (b ++ c)) at n ≡ b ++ take (n - length b) c
+slice_from_second a b c at n is_at within =
+    ap (take n) (drop_at a (b ++ c) at is_at)
+    ∙ ap (λ k. take k (b ++ c)) (omega arith)
+    ∙ take-append-add b c (n - length b)
+
+-- What stands behind five lists stands behind the last of them.
+pub behind_five : (a b c d e rest : List ℕ) → (a ++ (b ++ (c ++ (d ++ e)))) ++ rest ≡ a ++ (b ++ (c ++ (d ++ (e ++ rest))))
+behind_five a b c d e rest = simp append_assoc
+
+-- A text with any bytes behind it: its header and its three blocks in turn.
+pub text_parts : (cpu : ℕ) (reserved structure strings rest : List ℕ) → text_of cpu reserved structure strings ++ rest ≡ blob_header cpu (length reserved) (length structure) (length strings) ++ (reserved ++ (structure ++ (strings ++ (filling (unfilled (length reserved) (length structure) (length strings)) ++ rest))))
+unfolding text_of
+text_parts cpu reserved structure strings rest =
+    behind_five (blob_header cpu (length reserved) (length structure) (length strings)) reserved structure strings (filling (unfilled (length reserved) (length structure) (length strings))) rest
+
+-- The reservation block is a whole number of pairs.
+pub length-reservations : (reservations : List Reservation) → length (flat_map pair_bytes reservations) ≡ 16 * length reservations
+length-reservations [] = refl
+length-reservations (reservation ∷ later) =
+    length-append (pair_bytes reservation) (flat_map pair_bytes later)
+    ∙ (omega (arith, length-pair reservation, length-reservations later))
+  where
+    length-pair : (reservation : Reservation) → length (pair_bytes reservation) ≡ 16
+    length-pair reservation = simp (length-append, length-cell8)
+
+-- So it ends at a multiple of eight.
+pub reserved-aligned : (reservations : List Reservation) → length (reserved_block reservations) % 8 ≡ 0
+reserved-aligned reservations =
+    omega (arith, length-append (flat_map pair_bytes reservations) (pair_bytes end_pair), length-reservations reservations, length-pair)
+  where
+    length-pair : length (pair_bytes end_pair) ≡ 16
+    length-pair = simp (length-append, length-cell8)
+
+-- What has the cells of a text, and is as long at least, has the header of a blob.
+pub text_header : (file : List ℕ) (cpu reserved structure strings : ℕ) → HasCells file cpu reserved structure strings → reserved % 8 ≡ 0 → up4 (unfilled reserved structure strings) ≤ length file → Header file
+text_header file cpu reserved structure strings cells aligned long = record {
+  whole = omega arith;
+  is_magic = cells.is_magic;
+  is_read = omega (arith, cells.is_version);
+  is_understood = omega (arith, cells.is_compatible);
+  total_holds_header = omega (arith, cells.is_total);
+  file_holds_total = omega (arith, cells.is_total);
+  reservations_behind_header = omega (arith, cells.is_off_reserved);
+  reservations_aligned = omega (arith, cells.is_off_reserved);
+  reservations_within = omega (arith, cells.is_off_reserved, cells.is_total);
+  structure_behind_header = omega (arith, cells.is_off_struct);
+  structure_aligned = omega (arith, cells.is_off_struct);
+  structure_ordered = omega (arith, cells.is_off_struct);
+  structure_within = omega (arith, cells.is_off_struct, cells.is_size_struct, cells.is_total);
+  strings_behind_header = omega (arith, cells.is_off_strings);
+  strings_within = omega (arith, cells.is_off_strings, cells.is_size_strings, cells.is_total);
+}

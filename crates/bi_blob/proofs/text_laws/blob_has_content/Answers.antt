@@ -1,0 +1,5 @@
+use Rattle.bi_blob.proofs.Texts.Content.{blob_has_content}
+use Rattle.bi_blob.proofs.text_laws.blob_has_content.Goals as goal
+
+pub returns : goal.returns
+returns c = blob_has_content

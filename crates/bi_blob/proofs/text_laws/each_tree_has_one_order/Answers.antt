@@ -1,0 +1,5 @@
+use Rattle.bi_blob.proofs.Texts.Normal.{has_one_order}
+use Rattle.bi_blob.proofs.text_laws.each_tree_has_one_order.Goals as goal
+
+pub returns : goal.returns
+returns c = has_one_order

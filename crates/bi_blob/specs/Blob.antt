@@ -1,0 +1,170 @@
+use Rattle.std.specs.Prelude.{◌≡◌, ℕ, ◌+◌, ◌-◌, ◌%◌, ◌^◌, ◌<◌, ◌≤◌, List, [], ◌∷◌, ◌++◌, length, flat_map}
+use Rattle.std.specs.List.{AllByRecursion}
+use Rattle.bi_base.specs.Cells.{cell8, slice, u32_at, AreBytes}
+use Rattle.bi_base.specs.Limits.{Bounds}
+use Rattle.bi_blob.specs.Tokens.{Token, End, Spelled}
+use Rattle.bi_blob.specs.Tree.{Root, Located, IsTree, AreProperties, plain_tree, depth_of}
+use Rattle.bi_blob.specs.Marks.{Say, placed_marks_of}
+
+-- What a file says as a devicetree blob (Devicetree Specification, chapter 5): the number of the boot processor, the
+-- memory reservations, and the tree. A file may be longer than its blob
+-- (profile of this project).
+
+-- The cells of the header, by their names in the standard (5.2).
+abbrev pub magic : List ℕ → ℕ
+magic file = u32_at file 0
+
+abbrev pub totalsize : List ℕ → ℕ
+totalsize file = u32_at file 4
+
+abbrev pub off_dt_struct : List ℕ → ℕ
+off_dt_struct file = u32_at file 8
+
+abbrev pub off_dt_strings : List ℕ → ℕ
+off_dt_strings file = u32_at file 12
+
+abbrev pub off_mem_rsvmap : List ℕ → ℕ
+off_mem_rsvmap file = u32_at file 16
+
+abbrev pub version : List ℕ → ℕ
+version file = u32_at file 20
+
+abbrev pub last_comp_version : List ℕ → ℕ
+last_comp_version file = u32_at file 24
+
+abbrev pub boot_cpuid_phys : List ℕ → ℕ
+boot_cpuid_phys file = u32_at file 28
+
+abbrev pub size_dt_strings : List ℕ → ℕ
+size_dt_strings file = u32_at file 32
+
+abbrev pub size_dt_struct : List ℕ → ℕ
+size_dt_struct file = u32_at file 36
+
+-- The word that a blob begins with (5.2).
+abbrev pub blob_magic : ℕ
+blob_magic = 0xd00dfeed
+
+-- The least version that is read (profile of this project).
+abbrev pub least_version : ℕ
+least_version = 17
+
+-- The version that a reader here is of: `last_comp_version` may be this at most (5.1).
+abbrev pub reader_version : ℕ
+reader_version = 17
+
+-- How many bytes the header has (5.2).
+abbrev pub header_length : List ℕ → ℕ
+header_length file = 40
+
+-- Where the structure block ends (5.2).
+abbrev pub structure_end : List ℕ → ℕ
+structure_end file = off_dt_struct file + size_dt_struct file
+
+-- Where the strings block ends (5.2).
+abbrev pub strings_end : List ℕ → ℕ
+strings_end file = off_dt_strings file + size_dt_strings file
+
+-- The header of a blob (5.2, 5.6). The three blocks stand behind the header and before `totalsize`, in any order, and may
+-- overlap (profile of this project). That the structure block does not end before it begins (`structure_ordered`) asks for
+-- something only where its end is not told by its size.
+pub record Header (file : List ℕ) : Type 0 where
+  pub whole : header_length file ≤ length file
+  pub is_magic : magic file ≡ blob_magic
+  pub is_read : least_version ≤ version file
+  pub is_understood : last_comp_version file ≤ reader_version
+  pub total_holds_header : header_length file ≤ totalsize file
+  pub file_holds_total : totalsize file ≤ length file
+  pub reservations_behind_header : header_length file ≤ off_mem_rsvmap file
+  pub reservations_aligned : off_mem_rsvmap file % 8 ≡ 0
+  pub reservations_within : off_mem_rsvmap file ≤ totalsize file
+  pub structure_behind_header : header_length file ≤ off_dt_struct file
+  pub structure_aligned : off_dt_struct file % 4 ≡ 0
+  pub structure_ordered : off_dt_struct file ≤ structure_end file
+  pub structure_within : structure_end file ≤ totalsize file
+  pub strings_behind_header : header_length file ≤ off_dt_strings file
+  pub strings_within : strings_end file ≤ totalsize file
+
+-- A memory reservation: a range of memory (5.3).
+pub record Reservation : Type 0 where
+  pub address : ℕ
+  pub size : ℕ
+
+-- The bytes of a pair of the reservation block (5.3.2).
+abbrev pub pair_bytes : Reservation → List ℕ
+pair_bytes reservation = cell8 reservation.address ++ cell8 reservation.size
+
+-- The pair of two zeros that ends the reservation block (5.3.2).
+abbrev pub end_pair : Reservation
+end_pair = record { address = 0; size = 0 }
+
+-- A reservation that the reservation block can hold: not both numbers are zero (5.3.2; that one of size zero counts is
+-- profile of this project).
+pub record IsReservation (reservation : Reservation) : Type 0 where
+  pub address_fits : reservation.address < 2 ^ 64
+  pub size_fits : reservation.size < 2 ^ 64
+  pub some : 0 < reservation.address + reservation.size
+
+-- The reservation block with these reservations (5.3.2).
+abbrev pub reserved_block : List Reservation → List ℕ
+reserved_block reservations = flat_map pair_bytes reservations ++ pair_bytes end_pair
+
+-- These bytes begin with the reservation block that has these reservations (5.3).
+pub record Reserved (bytes : List ℕ) (reservations : List Reservation) : Type 0 where
+  pub are_reservations : AllByRecursion IsReservation reservations
+  pub behind : List ℕ
+  pub stands : bytes ≡ reserved_block reservations ++ behind
+
+-- Where a file has its tree: the structure block from `begin` on and before `end`, and the strings block (5.4, 5.5).
+pub record TreeBlocks : Type 0 where
+  pub file : List ℕ
+  pub begin : ℕ
+  pub end : ℕ
+  pub strings : List ℕ
+
+-- Where a blob has its tree (5.2).
+abbrev pub tree_blocks : List ℕ → TreeBlocks
+tree_blocks file = record {
+  file = file;
+  begin = off_dt_struct file;
+  end = structure_end file;
+  strings = slice file (off_dt_strings file) (size_dt_strings file);
+}
+
+-- The file is bytes, and has all of its structure block (5.4).
+pub record IsReadable (blocks : TreeBlocks) : Type 0 where
+  pub bytes : AreBytes blocks.file
+  pub within : blocks.end ≤ length blocks.file
+
+-- The structure block holds this tree: it begins with tokens that say the tree, and FDT_END behind them (5.4.2; that bytes
+-- may stand behind FDT_END is profile of this project).
+pub record HoldsTree (blocks : TreeBlocks) (root : Root Located) : Type 0 where
+  pub tokens : List Token
+  pub structure : List ℕ
+  pub behind : List ℕ
+  pub stands : slice blocks.file blocks.begin (blocks.end - blocks.begin) ≡ structure ++ behind
+  pub spelled : Spelled (tokens ++ End ∷ []) structure
+  pub say : Say blocks.strings blocks.begin tokens (placed_marks_of root)
+  pub is_tree : IsTree AreProperties (plain_tree root)
+
+-- This file begins with a blob that has this boot processor, these memory reservations and this tree (chapter 5; that a
+-- file may be longer than its blob is profile of this project).
+pub record IsBlob (file : List ℕ) (cpu : ℕ) (reservations : List Reservation) (root : Root Located) : Type 0 where
+  pub bytes : AreBytes file
+  pub header : Header file
+  pub is_cpu : boot_cpuid_phys file ≡ cpu
+  pub reserved : Reserved (slice file (off_mem_rsvmap file) (totalsize file - off_mem_rsvmap file)) reservations
+  pub holds : HoldsTree (tree_blocks file) root
+
+-- A file and its tree are no larger than the limits allow (profile of this project).
+pub record IsWithin (bounds : Bounds) (file : List ℕ) (root : Root Located) : Type 0 where
+  pub short : length file ≤ bounds.file
+  pub shallow : depth_of root ≤ bounds.depth
+
+-- The file is a blob within the limits (profile of this project).
+pub record IsBlobWithin (bounds : Bounds) (file : List ℕ) : Type 0 where
+  pub cpu : ℕ
+  pub reservations : List Reservation
+  pub root : Root Located
+  pub blob : IsBlob file cpu reservations root
+  pub within : IsWithin bounds file root

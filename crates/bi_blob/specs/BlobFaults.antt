@@ -1,0 +1,221 @@
+use Rattle.std.specs.Prelude.{◌≡◌, ◌≢◌, ℕ, ◌+◌, ◌*◌, ◌%◌, ◌<◌, ◌≤◌, List, [], ◌∷◌, length, ◌==◌, if◌then◌else◌, fold, IsTrue}
+use Rattle.bi_base.specs.declared.fault.Cause.{Cause}
+use Rattle.bi_base.specs.declared.fault.Cause.TheVariants.{Truncated, BadMagic, BadTotalSize, BadVersion, BadOffset, BadToken, BadName, BadNameOffset, PropertyAfterChild, DuplicateProperty, DuplicateNode, TooDeep, TooLarge}
+use Rattle.bi_base.specs.declared.fault.Fault.{Fault}
+use Rattle.bi_base.specs.Cells.{u32_at, u64_at}
+use Rattle.bi_base.specs.Checks.{IsFirstFault, HasNoFault}
+use Rattle.bi_base.specs.Limits.{Bounds}
+use Rattle.bi_blob.specs.Tokens.{Token, BeginNode, EndNode, Prop, End, width, StandsAt, name_from, begin_node_number, prop_number}
+use Rattle.bi_blob.specs.Tree.{IsChildName, IsPropertyName, IsNew}
+use Rattle.bi_blob.specs.Marks.{Mark, Opens, Has, Closes}
+use Rattle.bi_blob.specs.Stages.{Stage, BeforeRoot, Inside, AfterRoot, after, open_nodes, child_names, property_names, may_stand}
+use Rattle.bi_blob.specs.Blob.{magic, totalsize, off_dt_struct, off_dt_strings, off_mem_rsvmap, version, last_comp_version, blob_magic, least_version, reader_version, header_length, structure_end, strings_end, TreeBlocks, tree_blocks}
+
+-- Why a file is no blob within limits, and at which offset: the first check that fails (profile of this project, with
+-- the requirements of the Devicetree Specification, chapter 5). The header's checks come first, then the pairs of the
+-- reservation block, and then the tokens of the structure block one by one.
+
+-- The checks of the header (5.2).
+pub data HeaderCheck : Type 0 where
+  IsWithinLimit : HeaderCheck
+  HasMagicCell : HeaderCheck
+  HasMagic : HeaderCheck
+  HasHeader : HeaderCheck
+  HasVersion : HeaderCheck
+  HasCompatibleVersion : HeaderCheck
+  TotalHoldsHeader : HeaderCheck
+  FileHoldsTotal : HeaderCheck
+  PlacesReservations : HeaderCheck
+  PlacesStructure : HeaderCheck
+  PlacesStrings : HeaderCheck
+
+-- The order in which they are made (profile of this project).
+abbrev pub header_checks : List HeaderCheck
+header_checks =
+    IsWithinLimit ∷ HasMagicCell ∷ HasMagic ∷ HasHeader ∷ HasVersion ∷ HasCompatibleVersion ∷ TotalHoldsHeader
+    ∷ FileHoldsTotal ∷ PlacesReservations ∷ PlacesStructure ∷ PlacesStrings ∷ []
+
+-- What each of them asks for. A check may read cells that a short file lacks; an earlier check fails there.
+abbrev pub HeaderPasses : Bounds → List ℕ → HeaderCheck → Type 0
+HeaderPasses bounds file IsWithinLimit = length file ≤ bounds.file
+HeaderPasses bounds file HasMagicCell = 4 ≤ length file
+HeaderPasses bounds file HasMagic = magic file ≡ blob_magic
+HeaderPasses bounds file HasHeader = header_length file ≤ length file
+HeaderPasses bounds file HasVersion = least_version ≤ version file
+HeaderPasses bounds file HasCompatibleVersion = last_comp_version file ≤ reader_version
+HeaderPasses bounds file TotalHoldsHeader = header_length file ≤ totalsize file
+HeaderPasses bounds file FileHoldsTotal = totalsize file ≤ length file
+HeaderPasses bounds file PlacesReservations =
+    (header_length file ≤ off_mem_rsvmap file) × (off_mem_rsvmap file % 8 ≡ 0) × (off_mem_rsvmap file ≤ totalsize file)
+HeaderPasses bounds file PlacesStructure =
+    (header_length file ≤ off_dt_struct file) × (off_dt_struct file % 4 ≡ 0) × (off_dt_struct file ≤ structure_end file)
+    × (structure_end file ≤ totalsize file)
+HeaderPasses bounds file PlacesStrings =
+    (header_length file ≤ off_dt_strings file) × (strings_end file ≤ totalsize file)
+
+-- The fault that each of them gives.
+abbrev pub header_fault : Bounds → HeaderCheck → Fault
+header_fault bounds IsWithinLimit = record { cause = TooLarge; offset = bounds.file }
+header_fault bounds HasMagicCell = record { cause = Truncated; offset = 0 }
+header_fault bounds HasMagic = record { cause = BadMagic; offset = 0 }
+header_fault bounds HasHeader = record { cause = Truncated; offset = 0 }
+header_fault bounds HasVersion = record { cause = BadVersion; offset = 20 }
+header_fault bounds HasCompatibleVersion = record { cause = BadVersion; offset = 24 }
+header_fault bounds TotalHoldsHeader = record { cause = BadTotalSize; offset = 4 }
+header_fault bounds FileHoldsTotal = record { cause = Truncated; offset = 4 }
+header_fault bounds PlacesReservations = record { cause = BadOffset; offset = 16 }
+header_fault bounds PlacesStructure = record { cause = BadOffset; offset = 8 }
+header_fault bounds PlacesStrings = record { cause = BadOffset; offset = 12 }
+
+-- Each check of the header passes.
+abbrev pub HasNoHeaderFault : Bounds → List ℕ → Type 0
+HasNoHeaderFault bounds file = HasNoFault (HeaderPasses bounds file) header_checks
+
+-- The first check of the header that fails gives this fault.
+abbrev pub IsHeaderFault : Bounds → List ℕ → Fault → Type 0
+IsHeaderFault bounds file fault = IsFirstFault (HeaderPasses bounds file) (header_fault bounds) header_checks fault
+
+-- The pair of two zeros that ends the reservation block stands at this offset (5.3.2).
+pub record IsEndPair (file : List ℕ) (at : ℕ) : Type 0 where
+  pub address : u64_at file at ≡ 0
+  pub size : u64_at file (at + 8) ≡ 0
+
+-- The reservation block at this offset has this many reservations, and its end pair ends at `total` or before (5.3).
+pub record HasReservations (file : List ℕ) (at total count : ℕ) : Type 0 where
+  pub before : (index : ℕ) → index < count → ¬ (IsEndPair file (at + 16 * index))
+  pub end : IsEndPair file (at + 16 * count)
+  pub within : at + 16 * count + 16 ≤ total
+
+-- Of the pairs of the reservation block, up to and with its end pair, the first that reaches past `total` gives the fault.
+pub record IsReservationsFault (file : List ℕ) (at total : ℕ) (fault : Fault) : Type 0 where
+  pub index : ℕ
+  pub before : (earlier : ℕ) → earlier < index → ¬ (IsEndPair file (at + 16 * earlier))
+  pub fits : at + 16 * index ≤ total
+  pub past : total < at + 16 * index + 16
+  pub is : fault ≡ record { cause = Truncated; offset = at + 16 * index }
+
+-- The checks of one token (5.4.1, 5.4.2).
+pub data TokenCheck : Type 0 where
+  HasTokenNumber : TokenCheck
+  MayStand : TokenCheck
+  IsWithinDepth : TokenCheck
+  HasNodeName : TokenCheck
+  MayNameNode : TokenCheck
+  IsNewNode : TokenCheck
+  IsBeforeChildren : TokenCheck
+  HasValue : TokenCheck
+  HasPropertyName : TokenCheck
+  MayNameProperty : TokenCheck
+  IsNewProperty : TokenCheck
+
+-- The order in which the checks of FDT_BEGIN_NODE alone are made (profile of this project).
+abbrev pub begin_checks : List TokenCheck
+begin_checks = IsWithinDepth ∷ HasNodeName ∷ MayNameNode ∷ IsNewNode ∷ []
+
+-- The order in which the checks of FDT_PROP alone are made (profile of this project).
+abbrev pub property_checks : List TokenCheck
+property_checks = IsBeforeChildren ∷ HasValue ∷ HasPropertyName ∷ MayNameProperty ∷ IsNewProperty ∷ []
+
+-- The checks of the token of this number, in order. Where the block has no whole number at an offset, `HasTokenNumber`
+-- fails, whatever is read there (5.4.1).
+abbrev pub token_checks : ℕ → List TokenCheck
+token_checks number =
+    HasTokenNumber ∷ MayStand
+    ∷ (if number == begin_node_number then begin_checks
+    else if number == prop_number then property_checks
+    else [])
+
+-- What the name of a node may be: empty for the root, and for no other node (2.2.1).
+abbrev pub MayBeNamed : Stage → List ℕ → Type 0
+MayBeNamed BeforeRoot name = name ≡ []
+MayBeNamed (Inside innermost outer) name = IsChildName name
+MayBeNamed AfterRoot name = ⊥
+
+-- These bytes have a zero byte from offset `at` on and before `end`, and so a name (5.4.1, 5.5).
+abbrev pub HasName : List ℕ → ℕ → ℕ → Type 0
+HasName bytes at end = at + length (name_from bytes at) < end
+
+-- What each of them asks of the token at offset `place` of the file, at this stage. A node's name stands behind the token's
+-- number; a property's number is followed by the length of its value, the offset of its name, and its value.
+abbrev pub TokenPasses : TreeBlocks → (depth_limit place : ℕ) → Stage → TokenCheck → Type 0
+TokenPasses blocks depth_limit place stage HasTokenNumber = place + 4 ≤ blocks.end
+TokenPasses blocks depth_limit place stage MayStand = IsTrue (may_stand stage (u32_at blocks.file place))
+TokenPasses blocks depth_limit place stage IsWithinDepth = length (open_nodes stage) < depth_limit
+TokenPasses blocks depth_limit place stage HasNodeName = HasName blocks.file (place + 4) blocks.end
+TokenPasses blocks depth_limit place stage MayNameNode = MayBeNamed stage (name_from blocks.file (place + 4))
+TokenPasses blocks depth_limit place stage IsNewNode = IsNew (name_from blocks.file (place + 4)) (child_names stage)
+TokenPasses blocks depth_limit place stage IsBeforeChildren = child_names stage ≡ []
+TokenPasses blocks depth_limit place stage HasValue = place + 12 + u32_at blocks.file (place + 4) ≤ blocks.end
+TokenPasses blocks depth_limit place stage HasPropertyName =
+    HasName blocks.strings (u32_at blocks.file (place + 8)) (length blocks.strings)
+TokenPasses blocks depth_limit place stage MayNameProperty =
+    IsPropertyName (name_from blocks.strings (u32_at blocks.file (place + 8)))
+TokenPasses blocks depth_limit place stage IsNewProperty =
+    IsNew (name_from blocks.strings (u32_at blocks.file (place + 8))) (property_names stage)
+
+-- The cause that each of them gives.
+abbrev pub token_cause : TokenCheck → Cause
+token_cause HasTokenNumber = Truncated
+token_cause MayStand = BadToken
+token_cause IsWithinDepth = TooDeep
+token_cause HasNodeName = Truncated
+token_cause MayNameNode = BadName
+token_cause IsNewNode = DuplicateNode
+token_cause IsBeforeChildren = PropertyAfterChild
+token_cause HasValue = Truncated
+token_cause HasPropertyName = BadNameOffset
+token_cause MayNameProperty = BadName
+token_cause IsNewProperty = DuplicateProperty
+
+-- The fault that each of them gives: always at the token.
+abbrev pub token_fault : ℕ → TokenCheck → Fault
+token_fault place check = record { cause = token_cause check; offset = place }
+
+-- What a token says, by the strings block alone.
+abbrev pub said : List ℕ → Token → List Mark
+said strings (BeginNode name) = Opens name ∷ []
+said strings (Prop name_offset value) = Has (name_from strings name_offset, value) ∷ []
+said strings EndNode = Closes ∷ []
+said strings token = []
+
+-- The stage after these tokens, the newest first.
+abbrev pub opened : List ℕ → List Token → Stage
+opened strings [] = BeforeRoot
+opened strings (token ∷ before) = fold after (opened strings before) (said strings token)
+
+-- Where the token after these stands, the newest first.
+abbrev pub place_after : TreeBlocks → List Token → ℕ
+place_after blocks [] = blocks.begin
+place_after blocks (token ∷ before) = place_after blocks before + width token
+
+-- This token stands after these, the newest first; it passes its checks, and it is not FDT_END.
+pub record IsPassed (blocks : TreeBlocks) (depth_limit : ℕ) (before : List Token) (token : Token) : Type 0 where
+  pub no_end : token ≢ End
+  pub stands : StandsAt blocks.file (place_after blocks before) token
+  pub passes : HasNoFault (TokenPasses blocks depth_limit (place_after blocks before) (opened blocks.strings before))
+      (token_checks (u32_at blocks.file (place_after blocks before)))
+
+-- The structure block begins with these tokens, the newest first; each of them passes its checks, and none is FDT_END.
+abbrev pub Walked : TreeBlocks → ℕ → List Token → Type 0
+Walked blocks depth_limit [] = Unit {0}
+Walked blocks depth_limit (token ∷ before) = IsPassed blocks depth_limit before token × Walked blocks depth_limit before
+
+-- Some tokens of the structure block pass, and of the checks of the token after them the first that fails gives this fault.
+pub record IsStructureFault (blocks : TreeBlocks) (depth_limit : ℕ) (fault : Fault) : Type 0 where
+  pub before : List Token
+  pub walked : Walked blocks depth_limit before
+  pub first : IsFirstFault
+      (TokenPasses blocks depth_limit (place_after blocks before) (opened blocks.strings before))
+      (token_fault (place_after blocks before))
+      (token_checks (u32_at blocks.file (place_after blocks before)))
+      fault
+
+-- The fault of a file as a blob within limits.
+pub data IsBlobFault (bounds : Bounds) (file : List ℕ) (fault : Fault) : Type 0 where
+  InHeader : IsHeaderFault bounds file fault → IsBlobFault bounds file fault
+  InReservations : HasNoHeaderFault bounds file → IsReservationsFault file (off_mem_rsvmap file) (totalsize file) fault
+      → IsBlobFault bounds file fault
+  InStructure : HasNoHeaderFault bounds file
+      → (count : ℕ) → HasReservations file (off_mem_rsvmap file) (totalsize file) count
+      → IsStructureFault (tree_blocks file) bounds.depth fault
+      → IsBlobFault bounds file fault

@@ -1,0 +1,109 @@
+use Rattle.std.specs.Prelude.{ℕ, ◌+◌, List, [], ◌∷◌, ◌++◌, take, drop, flat_map, codes}
+use Rattle.bi_base.specs.declared.fault.Cause.{Cause}
+use Rattle.bi_base.specs.declared.fault.Cause.TheVariants.{Truncated, BadMagic, BadTotalSize, BadVersion, BadOffset, BadToken, BadName, BadNameOffset, PropertyAfterChild, DuplicateProperty, DuplicateNode, TooDeep, TooLarge}
+use Rattle.bi_base.specs.Cells.{cell}
+use Rattle.bi_base.specs.Limits.{Bounds}
+use Rattle.bi_blob.specs.Tokens.{Token, BeginNode, EndNode, Prop, End}
+use Rattle.bi_blob.specs.Blob.{reserved_block}
+use Rattle.bi_blob.specs.BlobFaults.{IsBlobFault}
+use Rattle.bi_blob.specs.Layout.{text_of, spelling}
+use Rattle.bi_blob.specs.KnownTexts.{smallest_text}
+
+-- Small files that are refused, each with its fault, by which a reader can judge the definitions: each check of a header
+-- and of a token is the first that fails in one of them (profile of this project).
+
+-- The widest limits.
+abbrev pub widest : Bounds
+widest = record { file = 0x7fffffff; depth = 64 }
+
+-- A file with another number in the cell at this offset.
+abbrev pub with_cell : List ℕ → ℕ → ℕ → List ℕ
+with_cell file at number = take at file ++ (cell number ++ drop (at + 4) file)
+
+-- A file of a header, no memory reservations, a structure block of these tokens and this strings block. The first token
+-- stands at offset 56.
+abbrev pub file_of : List Token → List ℕ → List ℕ
+file_of tokens strings = text_of 0 (reserved_block []) (flat_map spelling tokens) strings
+
+-- A file whose root holds FDT_END.
+abbrev pub file_with_end_in_root : List ℕ
+file_with_end_in_root = file_of (BeginNode [] ∷ End ∷ []) []
+
+-- A file whose root has two children `images`.
+abbrev pub file_with_two_children : List ℕ
+file_with_two_children =
+    file_of
+    (BeginNode [] ∷ BeginNode (codes "images") ∷ EndNode ∷ BeginNode (codes "images") ∷ EndNode ∷ EndNode ∷ End ∷ [])
+    []
+
+-- A file whose root has a property `x` behind its child.
+abbrev pub file_with_late_property : List ℕ
+file_with_late_property =
+    file_of
+    (BeginNode [] ∷ BeginNode (codes "images") ∷ EndNode ∷ Prop 0 [] ∷ EndNode ∷ End ∷ [])
+    (codes "x" ++ 0 ∷ [])
+
+-- A file whose root has a property with the name at this offset of a strings block that has the name `x` alone.
+abbrev pub file_with_property : ℕ → List ℕ
+file_with_property name_offset = file_of (BeginNode [] ∷ Prop name_offset [] ∷ EndNode ∷ End ∷ []) (codes "x" ++ 0 ∷ [])
+
+-- A file whose root has two properties `x`. The name stands twice in its strings block.
+abbrev pub file_with_two_properties : List ℕ
+file_with_two_properties =
+    file_of
+    (BeginNode [] ∷ Prop 0 [] ∷ Prop 2 [] ∷ EndNode ∷ End ∷ [])
+    (codes "x" ++ (0 ∷ (codes "x" ++ 0 ∷ [])))
+
+-- A file has this fault under these limits.
+abbrev pub HasFault : Bounds → List ℕ → Cause → ℕ → Type 0
+HasFault bounds file cause offset = IsBlobFault bounds file (record { cause = cause; offset = offset })
+
+-- Files that are at fault in their headers, the last four of them in two of its checks. `totalsize` stands at 4, `off_dt_struct` at 8, `off_dt_strings` at 12,
+-- `off_mem_rsvmap` at 16, `version` at 20 and `last_comp_version` at 24 (Devicetree Specification, 5.2).
+pub record HeadersHaveFaults : Type 0 where
+  pub past_limit : HasFault (record { file = 87; depth = 64 }) smallest_text TooLarge 87
+  pub no_bytes : HasFault widest [] Truncated 0
+  pub three_bytes : HasFault widest (take 3 smallest_text) Truncated 0
+  pub other_magic : HasFault widest (1 ∷ 2 ∷ 3 ∷ 4 ∷ []) BadMagic 0
+  pub short_header : HasFault widest (take 39 smallest_text) Truncated 0
+  pub version_15 : HasFault widest (with_cell smallest_text 20 15) BadVersion 20
+  pub version_16 : HasFault widest (with_cell smallest_text 20 16) BadVersion 20
+  pub compatible_18 : HasFault widest (with_cell smallest_text 24 18) BadVersion 24
+  pub total_39 : HasFault widest (with_cell smallest_text 4 39) BadTotalSize 4
+  pub total_past_end : HasFault widest (with_cell smallest_text 4 89) Truncated 4
+  pub reservations_in_header : HasFault widest (with_cell smallest_text 16 32) BadOffset 16
+  pub reservations_unaligned : HasFault widest (with_cell smallest_text 16 84) BadOffset 16
+  pub reservations_past_end : HasFault widest (with_cell smallest_text 16 96) BadOffset 16
+  pub structure_in_header : HasFault widest (with_cell smallest_text 8 36) BadOffset 8
+  pub structure_unaligned : HasFault widest (with_cell smallest_text 8 54) BadOffset 8
+  pub structure_past_end : HasFault widest (with_cell smallest_text 8 0xfffffffc) BadOffset 8
+  pub strings_in_header : HasFault widest (with_cell smallest_text 12 39) BadOffset 12
+  pub strings_past_end : HasFault widest (with_cell smallest_text 12 0xffffffff) BadOffset 12
+  pub version_before_compatible : HasFault widest (with_cell (with_cell smallest_text 20 15) 24 18) BadVersion 20
+  pub version_before_total : HasFault widest (with_cell (with_cell smallest_text 20 15) 4 39) BadVersion 20
+  pub reservations_before_structure :
+      HasFault widest (with_cell (with_cell smallest_text 16 84) 8 0xfffffffc) BadOffset 16
+  pub structure_before_strings : HasFault widest (with_cell (with_cell smallest_text 8 0xfffffffc) 12 39) BadOffset 8
+
+-- Files that are at fault in their memory reservations: two whose first pair reaches past `totalsize`, the block of one of
+-- which begins there, and one that has no pair of two zeros.
+pub record ReservationsHaveFaults : Type 0 where
+  pub past_end : HasFault widest (with_cell smallest_text 16 80) Truncated 80
+  pub at_end : HasFault widest (with_cell smallest_text 16 88) Truncated 88
+  pub endless : HasFault widest (with_cell smallest_text 44 1) Truncated 88
+
+-- Files that are at fault in a token. In the smallest text the root's token stands at 56, that of `images` at 64, both
+-- FDT_END_NODE at 76 and 80, and FDT_END at 84; `size_dt_struct` stands at 36 (Devicetree Specification, 5.2, 5.4).
+pub record TokensHaveFaults : Type 0 where
+  pub no_number : HasFault widest (with_cell smallest_text 36 28) Truncated 84
+  pub unknown_number : HasFault widest (with_cell smallest_text 56 5) BadToken 56
+  pub end_in_root : HasFault widest file_with_end_in_root BadToken 64
+  pub too_deep : HasFault (record { file = 0x7fffffff; depth = 1 }) smallest_text TooDeep 64
+  pub endless_node_name : HasFault widest (with_cell smallest_text 36 18) Truncated 64
+  pub named_root : HasFault widest (with_cell smallest_text 60 0x78000000) BadName 56
+  pub second_child_of_name : HasFault widest file_with_two_children DuplicateNode 80
+  pub behind_child : HasFault widest file_with_late_property PropertyAfterChild 80
+  pub value_past_end : HasFault widest (with_cell (file_with_property 0) 68 9) Truncated 64
+  pub no_property_name : HasFault widest (file_with_property 2) BadNameOffset 64
+  pub empty_property_name : HasFault widest (file_with_property 1) BadName 64
+  pub second_property_of_name : HasFault widest file_with_two_properties DuplicateProperty 76

@@ -1,0 +1,11 @@
+pub mod Tree
+pub mod Tokens
+pub mod Marks
+pub mod Stages
+pub mod Blob
+pub mod BlobFaults
+pub mod Layout
+pub mod BlobLaws
+pub mod TextLaws
+pub mod KnownTexts
+pub mod KnownFaults

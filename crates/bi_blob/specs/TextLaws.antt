@@ -1,0 +1,151 @@
+use Rattle.std.specs.Prelude.{◌≡◌, ℕ, ◌%◌, ◌≤◌, List, [], ◌∷◌, ◌++◌, length, Contains, ◌↔◌}
+use Rattle.bi_base.specs.declared.fault.Fault.{Fault}
+use Rattle.bi_base.specs.Cells.{up4, AreBytes}
+use Rattle.bi_base.specs.Limits.{Bounds}
+use Rattle.bi_blob.specs.Tokens.{End, Spelled, NameAt}
+use Rattle.bi_blob.specs.Tree.{Root, Property, PropertyMap, Located, HasNoZero, AreDistinct, IsNormal, plain_tree, forget, depth_of}
+use Rattle.bi_blob.specs.Marks.{Mark, Has, marks_of, placed_marks_of, Say}
+use Rattle.bi_blob.specs.Blob.{Reservation, reserved_block, IsBlob, IsWithin, totalsize}
+use Rattle.bi_blob.specs.BlobFaults.{IsBlobFault}
+use Rattle.bi_blob.specs.BlobLaws.{AreSame}
+use Rattle.bi_blob.specs.Layout.{names_in, used_names, distinct_names, offset_in, tokens_of, structure_block, strings_block, tree_text, unfilled, structure_place, located_tree, in_order, IsContent, IsNormalText, longest_text}
+
+-- Laws of the text that a blob is laid out as (profile of this project). Each is the contract of a function in `text_laws`.
+
+-- The strings block of these marks has the names that they use, each once.
+pub record HasNamesOnce (marks : List Mark) : Type 0 where
+  pub same : (name : List ℕ) → Contains (distinct_names (used_names marks)) name ↔ Contains (used_names marks) name
+  pub distinct : AreDistinct (distinct_names (used_names marks))
+
+-- Any marks have their names once in their strings block.
+abbrev pub EachNameIsThereOnce : Type 0
+EachNameIsThereOnce = (marks : List Mark) → HasNamesOnce marks
+
+-- The strings block of these marks with one more: a name that was not used yet stands behind the others.
+pub record GrowsByUse (marks : List Mark) : Type 0 where
+  pub empty : strings_block [] ≡ []
+  pub other : (mark : Mark) → names_in mark ≡ [] → strings_block (marks ++ mark ∷ []) ≡ strings_block marks
+  pub known : (property : Property) → Contains (used_names marks) property.0
+      → strings_block (marks ++ Has property ∷ []) ≡ strings_block marks
+  pub new : (property : Property) → ¬ (Contains (used_names marks) property.0)
+      → strings_block (marks ++ Has property ∷ []) ≡ strings_block marks ++ (property.0 ++ 0 ∷ [])
+
+-- A strings block has names in the order of their first use.
+abbrev pub StringsGrowByUse : Type 0
+StringsGrowByUse = (marks : List Mark) → GrowsByUse marks
+
+-- Each name that marks use stands at its offset of their strings block.
+abbrev pub EachNameStands : Type 0
+EachNameStands =
+    (marks : List Mark) (name : List ℕ) → Contains (used_names marks) name → HasNoZero name
+    → NameAt (strings_block marks) (offset_in (distinct_names (used_names marks)) name) name
+
+-- The structure block of a text spells tokens and FDT_END, and these say the tree over the strings block, at its places.
+pub record SaysTree (reservations : List Reservation) (root : Root (List Property)) : Type 0 where
+  pub spelled : Spelled (tokens_of (marks_of root) ++ End ∷ []) (structure_block (marks_of root))
+  pub say : Say (strings_block (marks_of root)) (structure_place reservations) (tokens_of (marks_of root)) (placed_marks_of (located_tree reservations root))
+
+-- The blocks of a text that is not too long say its tree.
+abbrev pub TextSaysItsTree : Type 0
+TextSaysItsTree =
+    (cpu : ℕ) (reservations : List Reservation) (root : Root (List Property)) → IsContent cpu reservations root
+    → length (tree_text cpu reservations root) ≤ longest_text → SaysTree reservations root
+
+-- This file is a blob of these and of nothing else. Its tree stands at the places of the layout and is as deep, and its
+-- total size is the length of the text.
+pub record IsBlobOf (file : List ℕ) (cpu : ℕ) (reservations : List Reservation) (root : Root (List Property)) : Type 0 where
+  pub blob : IsBlob file cpu reservations (located_tree reservations root)
+  pub same_tree : plain_tree (located_tree reservations root) ≡ root
+  pub same_depth : depth_of (located_tree reservations root) ≡ depth_of root
+  pub only : (other_cpu : ℕ) (other_reservations : List Reservation) (other_root : Root Located)
+      → IsBlob file other_cpu other_reservations other_root
+      → AreSame cpu other_cpu reservations other_reservations (located_tree reservations root) other_root
+  pub is_total : totalsize file ≡ length (tree_text cpu reservations root)
+
+-- A text that is not too long, with any bytes behind it, is a blob of exactly what it was made from.
+abbrev pub TextIsBlob : Type 0
+TextIsBlob =
+    (cpu : ℕ) (reservations : List Reservation) (root : Root (List Property)) (rest : List ℕ) → IsContent cpu reservations root
+    → length (tree_text cpu reservations root) ≤ longest_text → AreBytes rest
+    → IsBlobOf (tree_text cpu reservations root ++ rest) cpu reservations root
+
+-- A file is a blob of these alone within limits, and has no fault under them.
+pub record IsAccepted (bounds : Bounds) (file : List ℕ) (cpu : ℕ) (reservations : List Reservation) (root : Root (List Property)) : Type 0 where
+  pub is_blob : IsBlobOf file cpu reservations root
+  pub is_within : IsWithin bounds file (located_tree reservations root)
+  pub no_fault : (fault : Fault) → ¬ (IsBlobFault bounds file fault)
+
+-- A text that is not too long, with any bytes behind it, is accepted under limits that hold all of it and its tree.
+abbrev pub TextIsAccepted : Type 0
+TextIsAccepted =
+    (bounds : Bounds) (cpu : ℕ) (reservations : List Reservation) (root : Root (List Property)) (rest : List ℕ)
+    → IsContent cpu reservations root
+    → length (tree_text cpu reservations root) ≤ longest_text → AreBytes rest
+    → length (tree_text cpu reservations root ++ rest) ≤ bounds.file → depth_of root ≤ bounds.depth
+    → IsAccepted bounds (tree_text cpu reservations root ++ rest) cpu reservations root
+
+-- The same of a normal text.
+abbrev pub NormalTextIsAccepted : Type 0
+NormalTextIsAccepted =
+    (bounds : Bounds) (cpu : ℕ) (reservations : List Reservation) (root : Root (List Property)) (text rest : List ℕ)
+    → IsContent cpu reservations root → IsNormalText cpu reservations root text
+    → length text ≤ longest_text → AreBytes rest
+    → length (text ++ rest) ≤ bounds.file → depth_of root ≤ bounds.depth
+    → IsAccepted bounds (text ++ rest) cpu reservations root
+
+-- How long a text is.
+pub record HasTextLength (cpu : ℕ) (reservations : List Reservation) (root : Root (List Property)) : Type 0 where
+  pub is_length : length (tree_text cpu reservations root)
+      ≡ up4 (unfilled (length (reserved_block reservations)) (length (structure_block (marks_of root))) (length (strings_block (marks_of root))))
+  pub is_whole : length (tree_text cpu reservations root) % 4 ≡ 0
+
+-- Each text is as long as its header and its blocks, filled up to a multiple of four.
+abbrev pub EachTextHasItsLength : Type 0
+EachTextHasItsLength = (cpu : ℕ) (reservations : List Reservation) (root : Root (List Property)) → HasTextLength cpu reservations root
+
+-- What a file says as a blob is content: it can be written again.
+abbrev pub BlobHasContent : Type 0
+BlobHasContent =
+    (file : List ℕ) (cpu : ℕ) (reservations : List Reservation) (root : Root Located) → IsBlob file cpu reservations root
+    → IsContent cpu reservations (plain_tree root)
+
+-- Contents with one text, which is not too long, are the same: distinct ones have distinct texts.
+abbrev pub TextHasOneContent : Type 0
+TextHasOneContent =
+    (cpu other_cpu : ℕ) (reservations other_reservations : List Reservation) (root other_root : Root (List Property))
+    → IsContent cpu reservations root → IsContent other_cpu other_reservations other_root
+    → length (tree_text cpu reservations root) ≤ longest_text
+    → tree_text cpu reservations root ≡ tree_text other_cpu other_reservations other_root
+    → AreSame cpu other_cpu reservations other_reservations root other_root
+
+-- A tree of properties by name has one order of them that is normal.
+pub record HasOneOrder (root : Root PropertyMap) : Type 0 where
+  pub is_normal : IsNormal (in_order root)
+  pub is_same : forget (in_order root) ≡ root
+  pub only : (other : Root (List Property)) → IsNormal other → forget other ≡ root → other ≡ in_order root
+
+-- Each tree has.
+abbrev pub EachTreeHasOneOrder : Type 0
+EachTreeHasOneOrder = (root : Root PropertyMap) → HasOneOrder root
+
+-- What may be laid out may be so in normal order, and is as deep then.
+pub record MayBeOrdered (cpu : ℕ) (reservations : List Reservation) (root : Root (List Property)) : Type 0 where
+  pub is_content : IsContent cpu reservations (in_order (forget root))
+  pub same_depth : depth_of (in_order (forget root)) ≡ depth_of root
+
+-- All content may.
+abbrev pub ContentMayBeOrdered : Type 0
+ContentMayBeOrdered =
+    (cpu : ℕ) (reservations : List Reservation) (root : Root (List Property)) → IsContent cpu reservations root
+    → MayBeOrdered cpu reservations root
+
+-- Normal texts, one of which is not too long, are the same exactly where they were made from the same boot processor, memory
+-- reservations and tree, the properties taken by name.
+abbrev pub NormalTextTellsContent : Type 0
+NormalTextTellsContent =
+    (cpu other_cpu : ℕ) (reservations other_reservations : List Reservation) (root other_root : Root (List Property))
+    → (text other_text : List ℕ)
+    → IsContent cpu reservations root → IsContent other_cpu other_reservations other_root
+    → IsNormalText cpu reservations root text → IsNormalText other_cpu other_reservations other_root other_text
+    → length text ≤ longest_text
+    → (text ≡ other_text) ↔ AreSame cpu other_cpu reservations other_reservations (forget root) (forget other_root)

@@ -1,0 +1,77 @@
+use Rattle.std.specs.Prelude.{◌≡◌, ℕ, ◌^◌, ◌<◌, List, [], ◌∷◌, ◌++◌, length, take, drop, ◌==◌}
+use Rattle.std.specs.List.{before_first}
+use Rattle.bi_base.specs.Cells.{cell, slice, up4}
+use Rattle.bi_blob.specs.Tree.{HasNoZero}
+
+-- The tokens of the structure block, and how they are spelled (Devicetree Specification, 5.4.1).
+
+-- A token with what follows it.
+pub data Token : Type 0 where
+  BeginNode : (name : List ℕ) → Token
+  EndNode : Token
+  Prop : (name_offset : ℕ) → (value : List ℕ) → Token
+  Nop : Token
+  End : Token
+
+-- The number of each token (5.4.1): FDT_BEGIN_NODE, FDT_END_NODE, FDT_PROP, FDT_NOP and FDT_END.
+abbrev pub begin_node_number : ℕ
+begin_node_number = 1
+
+abbrev pub end_node_number : ℕ
+end_node_number = 2
+
+abbrev pub prop_number : ℕ
+prop_number = 3
+
+abbrev pub nop_number : ℕ
+nop_number = 4
+
+abbrev pub end_number : ℕ
+end_number = 9
+
+-- The bytes of a token without the padding behind them.
+abbrev pub unpadded : Token → List ℕ
+unpadded (BeginNode name) = cell begin_node_number ++ (name ++ 0 ∷ [])
+unpadded EndNode = cell end_node_number
+unpadded (Prop name_offset value) = cell prop_number ++ (cell (length value) ++ (cell name_offset ++ value))
+unpadded Nop = cell nop_number
+unpadded End = cell end_number
+
+-- How many bytes a token takes, its padding included: the next token begins at a multiple of four.
+abbrev pub width : Token → ℕ
+width token = up4 (length (unpadded token))
+
+-- The numbers of a token are cells, and a zero byte ends its name.
+abbrev pub IsToken : Token → Type 0
+IsToken (BeginNode name) = HasNoZero name
+IsToken (Prop name_offset value) = (name_offset < 2 ^ 32) × (length value < 2 ^ 32)
+IsToken token = Unit {0}
+
+-- These bytes are a token with its padding (that the padding may hold anything, and not zeros alone, is profile of this
+-- project).
+pub record Spells (token : Token) (bytes : List ℕ) : Type 0 where
+  pub is_token : IsToken token
+  pub padding : List ℕ
+  pub spelled : bytes ≡ unpadded token ++ padding
+  pub whole : length bytes ≡ width token
+
+-- These bytes are these tokens, one after the other.
+abbrev pub Spelled : List Token → List ℕ → Type 0
+Spelled [] bytes = bytes ≡ []
+Spelled (token ∷ later) bytes = Spells token (take (width token) bytes) × Spelled later (drop (width token) bytes)
+
+-- A token stands at this offset of a file, whatever its padding is and whether or not the file has it.
+pub record StandsAt (file : List ℕ) (at : ℕ) (token : Token) : Type 0 where
+  pub is_token : IsToken token
+  pub stands : slice file at (length (unpadded token)) ≡ unpadded token
+
+-- This name stands at this offset of the strings block: a zero byte ends it there (5.5).
+pub record NameAt (strings : List ℕ) (offset : ℕ) (name : List ℕ) : Type 0 where
+  pub no_zero : HasNoZero name
+  pub behind : List ℕ
+  pub stands : drop offset strings ≡ name ++ 0 ∷ behind
+
+-- The bytes from this offset on and before the first zero byte, or all of them where none is zero: the name of a node
+-- (5.4.1) or of a property (5.5).
+abbrev pub name_from : List ℕ → ℕ → List ℕ
+name_from bytes offset = before_first (λ byte. byte == 0) (drop offset bytes)

@@ -1,0 +1,50 @@
+//! Laws of what a devicetree blob is. Their functions do nothing: what each of them ensures is the law.
+
+ghost use Rattle.bi_blob.specs.BlobLaws.{OneBlob, BlobHasNoFault, OneFault, BlobOrFault, BlobWhereNoFault, WalkedWhereSpelled};
+ghost use Rattle.bi_blob.specs.KnownFaults.{HeadersHaveFaults, ReservationsHaveFaults, TokensHaveFaults};
+
+/// A file is a blob of at most one boot processor, one list of memory reservations and one tree.
+pub fn a_file_is_one_blob()
+    ensures { OneBlob }
+{}
+
+/// A file that is a blob within limits has no fault under them.
+pub fn a_blob_has_no_fault()
+    ensures { BlobHasNoFault }
+{}
+
+/// A file has at most one fault under limits.
+pub fn a_file_has_one_fault()
+    ensures { OneFault }
+{}
+
+/// A file of bytes is a blob within limits, or it has a fault under them.
+pub fn a_file_is_a_blob_or_has_a_fault()
+    ensures { BlobOrFault }
+{}
+
+/// A file of bytes is a blob within limits exactly where it has no fault under them.
+pub fn a_file_is_a_blob_where_it_has_no_fault()
+    ensures { BlobWhereNoFault }
+{}
+
+/// Tokens of a structure block that pass their checks stand in the file as their spellings, the last of which may end
+/// in any three bytes behind the file.
+pub fn passed_tokens_are_spelled()
+    ensures { WalkedWhereSpelled }
+{}
+
+/// Small files that are at fault in their headers have known faults: each check of a header is the first that fails in one.
+pub fn headers_have_these_faults()
+    ensures headers { HeadersHaveFaults }
+{}
+
+/// Small files that are at fault in their memory reservations have known faults.
+pub fn reservations_have_these_faults()
+    ensures reservations { ReservationsHaveFaults }
+{}
+
+/// Small files that are at fault in a token have known faults: each check of a token is the first that fails in one.
+pub fn tokens_have_these_faults()
+    ensures tokens { TokensHaveFaults }
+{}
