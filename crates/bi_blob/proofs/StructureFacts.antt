@@ -5,12 +5,12 @@ use Rattle.std.proofs.lemmas.Bool.{and_parts, not-true, eqb-false, false≢true}
 use Rattle.bi_base.specs.declared.fault.Fault.{Fault}
 use Rattle.bi_base.specs.Cells.{cell, cell8, u32_at, u64_at}
 use Rattle.bi_base.specs.Limits.{Bounds}
-use Rattle.bi_blob.specs.Tokens.{Token, BeginNode, EndNode, Prop, End, StandsAt}
+use Rattle.bi_blob.specs.Tokens.{Token, BeginNode, EndNode, Prop, End, IsTokenAt}
 use Rattle.bi_blob.specs.Tree.{IsChildName, IsPropertyName}
-use Rattle.bi_blob.specs.Stages.{BeforeRoot, Inside, Open}
+use Rattle.bi_blob.specs.Stages.{BeforeRoot, Inside, OpenNode}
 use Rattle.bi_blob.specs.Blob.{TreeBlocks, tree_blocks, off_mem_rsvmap, totalsize}
-use Rattle.bi_blob.specs.BlobFaults.{header_checks, Walked, place_after, opened, IsStructureFault, IsBlobFault, InStructure}
-use Rattle.bi_blob.specs.Layout.{text_of}
+use Rattle.bi_blob.specs.BlobFaults.{header_checks, ArePassed, place_after, stage_after, IsStructureFault, IsBlobFault, InStructure}
+use Rattle.bi_blob.specs.Layout.{text_of_blocks}
 use Rattle.bi_blob.specs.KnownTexts.{smallest_text}
 use Rattle.bi_blob.specs.KnownFaults.{widest, with_cell, file_with_end_in_root, file_with_two_children, file_with_late_property, file_with_property, file_with_two_properties, TokensHaveFaults}
 use Rattle.bi_blob.proofs.HeaderTests.{test, fine_by_test}
@@ -54,114 +54,114 @@ to_images = BeginNode (codes "images") ∷ to_root
 
 module _ (blocks : TreeBlocks) (depth_limit : ℕ) where
   -- The root's token passes at the beginning of a structure block.
-  root_passes : 0 < depth_limit → StandsAt blocks.file blocks.begin (BeginNode []) → place_after blocks to_root ≤ blocks.end → Walked blocks depth_limit to_root
-  root_passes shallow stands within = (
+  root_passes : 0 < depth_limit → IsTokenAt blocks.file blocks.begin (BeginNode []) → place_after blocks to_root ≤ blocks.end → ArePassed blocks depth_limit to_root
+  root_passes shallow is_at within = (
     record {
       no_end = λ (e : BeginNode [] ≡ End). absurd cc;
-      stands = stands;
-      passes = begin_passes blocks depth_limit blocks.begin BeforeRoot [] stands within (refl, shallow, refl, tt);
+      is_at = is_at;
+      passes = begin_passes blocks depth_limit blocks.begin BeforeRoot [] is_at within (refl, shallow, refl, tt);
     },
     tt,
   )
 
   -- The token of `images` passes behind the root's.
-  images_passes : 1 < depth_limit → StandsAt blocks.file (place_after blocks to_root) (BeginNode (codes "images")) → place_after blocks to_images ≤ blocks.end → Walked blocks depth_limit to_root → Walked blocks depth_limit to_images
-  images_passes shallow stands within walked = (
+  images_passes : 1 < depth_limit → IsTokenAt blocks.file (place_after blocks to_root) (BeginNode (codes "images")) → place_after blocks to_images ≤ blocks.end → ArePassed blocks depth_limit to_root → ArePassed blocks depth_limit to_images
+  images_passes shallow is_at within passed = (
     record {
       no_end = λ (e : BeginNode (codes "images") ≡ End). absurd cc;
-      stands = stands;
-      passes = begin_passes blocks depth_limit (place_after blocks to_root) (opened blocks.strings to_root) (codes "images") stands within
+      is_at = is_at;
+      passes = begin_passes blocks depth_limit (place_after blocks to_root) (stage_after blocks.strings to_root) (codes "images") is_at within
           (refl, shallow, images_is, tt);
     },
-    walked,
+    passed,
   )
 
   -- FDT_END_NODE passes inside a node.
-  end_passes : (before : List Token) (innermost : Open) (outer : List Open) → opened blocks.strings before ≡ Inside innermost outer → StandsAt blocks.file (place_after blocks before) EndNode → place_after blocks (EndNode ∷ before) ≤ blocks.end → Walked blocks depth_limit before → Walked blocks depth_limit (EndNode ∷ before)
-  end_passes before innermost outer inside stands within walked = (
+  end_passes : (before : List Token) (innermost : OpenNode) (outer : List OpenNode) → stage_after blocks.strings before ≡ Inside innermost outer → IsTokenAt blocks.file (place_after blocks before) EndNode → place_after blocks (EndNode ∷ before) ≤ blocks.end → ArePassed blocks depth_limit before → ArePassed blocks depth_limit (EndNode ∷ before)
+  end_passes before innermost outer inside is_at within passed = (
     record {
       no_end = λ (e : EndNode ≡ End). absurd cc;
-      stands = stands;
-      passes = end_node_passes blocks depth_limit (place_after blocks before) (opened blocks.strings before) stands within (rw inside refl);
+      is_at = is_at;
+      passes = end_node_passes blocks depth_limit (place_after blocks before) (stage_after blocks.strings before) is_at within (rw inside refl);
     },
-    walked,
+    passed,
   )
 
 -- The tokens of a file with the child `images`, up to its FDT_END_NODE, pass where they stand.
-images_end : (blocks : TreeBlocks) → StandsAt blocks.file blocks.begin (BeginNode []) → StandsAt blocks.file (place_after blocks to_root) (BeginNode (codes "images")) → StandsAt blocks.file (place_after blocks to_images) EndNode → place_after blocks to_root ≤ blocks.end → place_after blocks to_images ≤ blocks.end → place_after blocks (EndNode ∷ to_images) ≤ blocks.end → Walked blocks 64 (EndNode ∷ to_images)
+images_end : (blocks : TreeBlocks) → IsTokenAt blocks.file blocks.begin (BeginNode []) → IsTokenAt blocks.file (place_after blocks to_root) (BeginNode (codes "images")) → IsTokenAt blocks.file (place_after blocks to_images) EndNode → place_after blocks to_root ≤ blocks.end → place_after blocks to_images ≤ blocks.end → place_after blocks (EndNode ∷ to_images) ≤ blocks.end → ArePassed blocks 64 (EndNode ∷ to_images)
 images_end blocks root images end root_within images_within end_within =
     end_passes blocks 64 to_images _ _ refl end end_within
     (images_passes blocks 64 (lit< tt) images images_within (root_passes blocks 64 (lit< tt) root root_within))
 
 -- The tokens that stand before the one at fault, and its checks up to the one that fails.
 pub tokens_have_faults : TokensHaveFaults
-unfolding u32_at u64_at cell cell8 text_of test
+unfolding u32_at u64_at cell cell8 text_of_blocks test
 tokens_have_faults = record {
   no_number = in_structure widest (with_cell smallest_text 36 28) _ refl refl refl (lit≤ tt) (record {
     before = EndNode ∷ EndNode ∷ to_images;
-    walked = end_passes (tree_blocks (with_cell smallest_text 36 28)) 64 (EndNode ∷ to_images) _ _ refl (record { is_token = tt; stands = refl }) (lit≤ tt)
-        (images_end (tree_blocks (with_cell smallest_text 36 28)) (record { is_token = tt; stands = refl }) (record { is_token = images_is.no_zero; stands = refl }) (record { is_token = tt; stands = refl }) (lit≤ tt) (lit≤ tt) (lit≤ tt));
+    passed = end_passes (tree_blocks (with_cell smallest_text 36 28)) 64 (EndNode ∷ to_images) _ _ refl (record { is_token = tt; is_at = refl }) (lit≤ tt)
+        (images_end (tree_blocks (with_cell smallest_text 36 28)) (record { is_token = tt; is_at = refl }) (record { is_token = images_is.no_zero; is_at = refl }) (record { is_token = tt; is_at = refl }) (lit≤ tt) (lit≤ tt) (lit≤ tt));
     first = inl ((λ (within : 88 ≤ 84). omega arith), refl);
   });
   unknown_number = in_structure widest (with_cell smallest_text 56 5) _ refl refl refl (lit≤ tt) (record {
     before = [];
-    walked = tt;
+    passed = tt;
     first = inr (lit≤ tt, inl (false≢true, refl));
   });
   end_in_root = in_structure widest file_with_end_in_root _ refl refl refl (lit≤ tt) (record {
     before = to_root;
-    walked = root_passes (tree_blocks file_with_end_in_root) 64 (lit< tt) (record { is_token = tt; stands = refl }) (lit≤ tt);
+    passed = root_passes (tree_blocks file_with_end_in_root) 64 (lit< tt) (record { is_token = tt; is_at = refl }) (lit≤ tt);
     first = inr (lit≤ tt, inl (false≢true, refl));
   });
   too_deep = in_structure (record { file = 0x7fffffff; depth = 1 }) smallest_text _ refl refl refl (lit≤ tt) (record {
     before = to_root;
-    walked = root_passes (tree_blocks smallest_text) 1 (lit< tt) (record { is_token = tt; stands = refl }) (lit≤ tt);
+    passed = root_passes (tree_blocks smallest_text) 1 (lit< tt) (record { is_token = tt; is_at = refl }) (lit≤ tt);
     first = inr (lit≤ tt, inr (refl, inl ((λ (few : 1 < 1). omega arith), refl)));
   });
   endless_node_name = in_structure widest (with_cell smallest_text 36 18) _ refl refl refl (lit≤ tt) (record {
     before = to_root;
-    walked = root_passes (tree_blocks (with_cell smallest_text 36 18)) 64 (lit< tt) (record { is_token = tt; stands = refl }) (lit≤ tt);
+    passed = root_passes (tree_blocks (with_cell smallest_text 36 18)) 64 (lit< tt) (record { is_token = tt; is_at = refl }) (lit≤ tt);
     first = inr (lit≤ tt, inr (refl, inr (lit< tt, inl ((λ (ends : 74 < 74). omega arith), refl))));
   });
   named_root = in_structure widest (with_cell smallest_text 60 0x78000000) _ refl refl refl (lit≤ tt) (record {
     before = [];
-    walked = tt;
+    passed = tt;
     first = inr (lit≤ tt, inr (refl, inr (lit< tt, inr (lit< tt, inl ((λ (e : codes "x" ≡ []). absurd cc), refl)))));
   });
   second_child_of_name = in_structure widest file_with_two_children _ refl refl refl (lit≤ tt) (record {
     before = EndNode ∷ to_images;
-    walked = images_end (tree_blocks file_with_two_children) (record { is_token = tt; stands = refl }) (record { is_token = images_is.no_zero; stands = refl }) (record { is_token = tt; stands = refl }) (lit≤ tt) (lit≤ tt) (lit≤ tt);
+    passed = images_end (tree_blocks file_with_two_children) (record { is_token = tt; is_at = refl }) (record { is_token = images_is.no_zero; is_at = refl }) (record { is_token = tt; is_at = refl }) (lit≤ tt) (lit≤ tt) (lit≤ tt);
     first = inr (lit≤ tt, inr (refl, inr (lit< tt, inr (lit< tt, inr (images_is, inl ((λ is_new. is_new.0 refl), refl))))));
   });
-  behind_child = in_structure widest file_with_late_property _ refl refl refl (lit≤ tt) (record {
+  after_child = in_structure widest file_with_late_property _ refl refl refl (lit≤ tt) (record {
     before = EndNode ∷ to_images;
-    walked = images_end (tree_blocks file_with_late_property) (record { is_token = tt; stands = refl }) (record { is_token = images_is.no_zero; stands = refl }) (record { is_token = tt; stands = refl }) (lit≤ tt) (lit≤ tt) (lit≤ tt);
+    passed = images_end (tree_blocks file_with_late_property) (record { is_token = tt; is_at = refl }) (record { is_token = images_is.no_zero; is_at = refl }) (record { is_token = tt; is_at = refl }) (lit≤ tt) (lit≤ tt) (lit≤ tt);
     first = inr (lit≤ tt, inr (refl, inl ((λ (childless : ◌≡◌ {A = List (List ℕ)} (codes "images" ∷ []) []). absurd cc), refl)));
   });
   value_past_end = in_structure widest (with_cell (file_with_property 0) 68 9) _ refl refl refl (lit≤ tt) (record {
     before = to_root;
-    walked = root_passes (tree_blocks (with_cell (file_with_property 0) 68 9)) 64 (lit< tt) (record { is_token = tt; stands = refl }) (lit≤ tt);
+    passed = root_passes (tree_blocks (with_cell (file_with_property 0) 68 9)) 64 (lit< tt) (record { is_token = tt; is_at = refl }) (lit≤ tt);
     first = inr (lit≤ tt, inr (refl, inr (refl, inl ((λ (within : 85 ≤ 84). omega arith), refl))));
   });
   no_property_name = in_structure widest (file_with_property 2) _ refl refl refl (lit≤ tt) (record {
     before = to_root;
-    walked = root_passes (tree_blocks (file_with_property 2)) 64 (lit< tt) (record { is_token = tt; stands = refl }) (lit≤ tt);
+    passed = root_passes (tree_blocks (file_with_property 2)) 64 (lit< tt) (record { is_token = tt; is_at = refl }) (lit≤ tt);
     first = inr (lit≤ tt, inr (refl, inr (refl, inr (lit≤ tt, inl ((λ (ends : 2 < 2). omega arith), refl)))));
   });
   empty_property_name = in_structure widest (file_with_property 1) _ refl refl refl (lit≤ tt) (record {
     before = to_root;
-    walked = root_passes (tree_blocks (file_with_property 1)) 64 (lit< tt) (record { is_token = tt; stands = refl }) (lit≤ tt);
+    passed = root_passes (tree_blocks (file_with_property 1)) 64 (lit< tt) (record { is_token = tt; is_at = refl }) (lit≤ tt);
     first = inr (lit≤ tt, inr (refl, inr (refl, inr (lit≤ tt, inr (lit< tt, inl ((λ is. is.some refl), refl))))));
   });
   second_property_of_name = in_structure widest file_with_two_properties _ refl refl refl (lit≤ tt) (record {
     before = Prop 0 [] ∷ to_root;
-    walked = (
+    passed = (
       record {
         no_end = λ (e : Prop 0 [] ≡ End). absurd cc;
-        stands = record { is_token = (lit< tt, lit< tt); stands = refl };
+        is_at = record { is_token = (lit< tt, lit< tt); is_at = refl };
         passes = (lit≤ tt, (refl, (refl, (lit≤ tt, (lit< tt, (x_is, (tt, tt)))))));
       },
-      root_passes (tree_blocks file_with_two_properties) 64 (lit< tt) (record { is_token = tt; stands = refl }) (lit≤ tt),
+      root_passes (tree_blocks file_with_two_properties) 64 (lit< tt) (record { is_token = tt; is_at = refl }) (lit≤ tt),
     );
     first = inr (lit≤ tt, inr (refl, inr (refl, inr (lit≤ tt, inr (lit< tt, inr (x_is, inl ((λ is_new. is_new.0 refl), refl)))))));
   });

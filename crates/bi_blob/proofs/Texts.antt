@@ -1,17 +1,17 @@
 -- Lemmas on the text that a blob is laid out as: its names, its tokens and their places, and its blocks.
 pub mod Members
 pub mod Names
-pub mod Spelling
+pub mod TokenEncoding
 pub mod Places
 pub mod Trees
-pub mod Saying
+pub mod EventEncoding
 pub mod Length
 pub mod Structure
 pub mod Header
 pub mod Blocks
 pub mod TextBytes
 pub mod TextBlob
-pub mod SaidBytes
+pub mod EncodedBytes
 pub mod Content
 pub mod Normal
 pub mod Ordering

@@ -2,9 +2,9 @@ use Rattle.std.specs.Prelude.{◌≡◌, ℕ, ◌+◌, ◌-◌, ◌%◌, ◌^◌
 use Rattle.std.specs.List.{AllByRecursion}
 use Rattle.bi_base.specs.Cells.{cell8, slice, u32_at, AreBytes}
 use Rattle.bi_base.specs.Limits.{Bounds}
-use Rattle.bi_blob.specs.Tokens.{Token, End, Spelled}
-use Rattle.bi_blob.specs.Tree.{Root, Located, IsTree, AreProperties, plain_tree, depth_of}
-use Rattle.bi_blob.specs.Marks.{Say, placed_marks_of}
+use Rattle.bi_blob.specs.Tokens.{Token, End, AreEncodings}
+use Rattle.bi_blob.specs.Tree.{Root, FileNode, IsTree, AreProperties, tree_without_places, depth_of}
+use Rattle.bi_blob.specs.Events.{EncodeEvents, file_events_of}
 
 -- What a file says as a devicetree blob (Devicetree Specification, chapter 5): the number of the boot processor, the
 -- memory reservations, and the tree. A file may be longer than its blob
@@ -75,14 +75,14 @@ pub record Header (file : List ℕ) : Type 0 where
   pub is_understood : last_comp_version file ≤ reader_version
   pub total_holds_header : header_length file ≤ totalsize file
   pub file_holds_total : totalsize file ≤ length file
-  pub reservations_behind_header : header_length file ≤ off_mem_rsvmap file
+  pub reservations_after_header : header_length file ≤ off_mem_rsvmap file
   pub reservations_aligned : off_mem_rsvmap file % 8 ≡ 0
   pub reservations_within : off_mem_rsvmap file ≤ totalsize file
-  pub structure_behind_header : header_length file ≤ off_dt_struct file
+  pub structure_after_header : header_length file ≤ off_dt_struct file
   pub structure_aligned : off_dt_struct file % 4 ≡ 0
   pub structure_ordered : off_dt_struct file ≤ structure_end file
   pub structure_within : structure_end file ≤ totalsize file
-  pub strings_behind_header : header_length file ≤ off_dt_strings file
+  pub strings_after_header : header_length file ≤ off_dt_strings file
   pub strings_within : strings_end file ≤ totalsize file
 
 -- A memory reservation: a range of memory (5.3).
@@ -106,14 +106,14 @@ pub record IsReservation (reservation : Reservation) : Type 0 where
   pub some : 0 < reservation.address + reservation.size
 
 -- The reservation block with these reservations (5.3.2).
-abbrev pub reserved_block : List Reservation → List ℕ
-reserved_block reservations = flat_map pair_bytes reservations ++ pair_bytes end_pair
+abbrev pub reservation_block : List Reservation → List ℕ
+reservation_block reservations = flat_map pair_bytes reservations ++ pair_bytes end_pair
 
 -- These bytes begin with the reservation block that has these reservations (5.3).
-pub record Reserved (bytes : List ℕ) (reservations : List Reservation) : Type 0 where
+pub record BeginsWithReservations (bytes : List ℕ) (reservations : List Reservation) : Type 0 where
   pub are_reservations : AllByRecursion IsReservation reservations
-  pub behind : List ℕ
-  pub stands : bytes ≡ reserved_block reservations ++ behind
+  pub trailing : List ℕ
+  pub is_at : bytes ≡ reservation_block reservations ++ trailing
 
 -- Where a file has its tree: the structure block from `begin` on and before `end`, and the strings block (5.4, 5.5).
 pub record TreeBlocks : Type 0 where
@@ -138,26 +138,26 @@ pub record IsReadable (blocks : TreeBlocks) : Type 0 where
 
 -- The structure block holds this tree: it begins with tokens that say the tree, and FDT_END behind them (5.4.2; that bytes
 -- may stand behind FDT_END is profile of this project).
-pub record HoldsTree (blocks : TreeBlocks) (root : Root Located) : Type 0 where
+pub record HoldsTree (blocks : TreeBlocks) (root : Root FileNode) : Type 0 where
   pub tokens : List Token
   pub structure : List ℕ
-  pub behind : List ℕ
-  pub stands : slice blocks.file blocks.begin (blocks.end - blocks.begin) ≡ structure ++ behind
-  pub spelled : Spelled (tokens ++ End ∷ []) structure
-  pub say : Say blocks.strings blocks.begin tokens (placed_marks_of root)
-  pub is_tree : IsTree AreProperties (plain_tree root)
+  pub trailing : List ℕ
+  pub is_at : slice blocks.file blocks.begin (blocks.end - blocks.begin) ≡ structure ++ trailing
+  pub is_encoded : AreEncodings (tokens ++ End ∷ []) structure
+  pub encodes : EncodeEvents blocks.strings blocks.begin tokens (file_events_of root)
+  pub is_tree : IsTree AreProperties (tree_without_places root)
 
 -- This file begins with a blob that has this boot processor, these memory reservations and this tree (chapter 5; that a
 -- file may be longer than its blob is profile of this project).
-pub record IsBlob (file : List ℕ) (cpu : ℕ) (reservations : List Reservation) (root : Root Located) : Type 0 where
+pub record IsBlob (file : List ℕ) (cpu : ℕ) (reservations : List Reservation) (root : Root FileNode) : Type 0 where
   pub bytes : AreBytes file
   pub header : Header file
   pub is_cpu : boot_cpuid_phys file ≡ cpu
-  pub reserved : Reserved (slice file (off_mem_rsvmap file) (totalsize file - off_mem_rsvmap file)) reservations
+  pub reserved : BeginsWithReservations (slice file (off_mem_rsvmap file) (totalsize file - off_mem_rsvmap file)) reservations
   pub holds : HoldsTree (tree_blocks file) root
 
 -- A file and its tree are no larger than the limits allow (profile of this project).
-pub record IsWithin (bounds : Bounds) (file : List ℕ) (root : Root Located) : Type 0 where
+pub record IsWithin (bounds : Bounds) (file : List ℕ) (root : Root FileNode) : Type 0 where
   pub short : length file ≤ bounds.file
   pub shallow : depth_of root ≤ bounds.depth
 
@@ -165,6 +165,6 @@ pub record IsWithin (bounds : Bounds) (file : List ℕ) (root : Root Located) : 
 pub record IsBlobWithin (bounds : Bounds) (file : List ℕ) : Type 0 where
   pub cpu : ℕ
   pub reservations : List Reservation
-  pub root : Root Located
+  pub root : Root FileNode
   pub blob : IsBlob file cpu reservations root
   pub within : IsWithin bounds file root

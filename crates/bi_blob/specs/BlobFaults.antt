@@ -5,10 +5,10 @@ use Rattle.bi_base.specs.declared.fault.Fault.{Fault}
 use Rattle.bi_base.specs.Cells.{u32_at, u64_at}
 use Rattle.bi_base.specs.Checks.{IsFirstFault, HasNoFault}
 use Rattle.bi_base.specs.Limits.{Bounds}
-use Rattle.bi_blob.specs.Tokens.{Token, BeginNode, EndNode, Prop, End, width, StandsAt, name_from, begin_node_number, prop_number}
+use Rattle.bi_blob.specs.Tokens.{Token, BeginNode, EndNode, Prop, End, width, IsTokenAt, name_from, begin_node_number, prop_number}
 use Rattle.bi_blob.specs.Tree.{IsChildName, IsPropertyName, IsNew}
-use Rattle.bi_blob.specs.Marks.{Mark, Opens, Has, Closes}
-use Rattle.bi_blob.specs.Stages.{Stage, BeforeRoot, Inside, AfterRoot, after, open_nodes, child_names, property_names, may_stand}
+use Rattle.bi_blob.specs.Events.{Event, NodeStart, NodeProperty, NodeEnd}
+use Rattle.bi_blob.specs.Stages.{Stage, BeforeRoot, Inside, AfterRoot, next_stage, open_nodes, child_names, property_names, is_expected}
 use Rattle.bi_blob.specs.Blob.{magic, totalsize, off_dt_struct, off_dt_strings, off_mem_rsvmap, version, last_comp_version, blob_magic, least_version, reader_version, header_length, structure_end, strings_end, TreeBlocks, tree_blocks}
 
 -- Why a file is no blob within limits, and at which offset: the first check that fails (profile of this project, with
@@ -97,7 +97,7 @@ pub record IsReservationsFault (file : List ℕ) (at total : ℕ) (fault : Fault
 -- The checks of one token (5.4.1, 5.4.2).
 pub data TokenCheck : Type 0 where
   HasTokenNumber : TokenCheck
-  MayStand : TokenCheck
+  IsExpected : TokenCheck
   IsWithinDepth : TokenCheck
   HasNodeName : TokenCheck
   MayNameNode : TokenCheck
@@ -120,7 +120,7 @@ property_checks = IsBeforeChildren ∷ HasValue ∷ HasPropertyName ∷ MayNameP
 -- fails, whatever is read there (5.4.1).
 abbrev pub token_checks : ℕ → List TokenCheck
 token_checks number =
-    HasTokenNumber ∷ MayStand
+    HasTokenNumber ∷ IsExpected
     ∷ (if number == begin_node_number then begin_checks
     else if number == prop_number then property_checks
     else [])
@@ -139,7 +139,7 @@ HasName bytes at end = at + length (name_from bytes at) < end
 -- number; a property's number is followed by the length of its value, the offset of its name, and its value.
 abbrev pub TokenPasses : TreeBlocks → (depth_limit place : ℕ) → Stage → TokenCheck → Type 0
 TokenPasses blocks depth_limit place stage HasTokenNumber = place + 4 ≤ blocks.end
-TokenPasses blocks depth_limit place stage MayStand = IsTrue (may_stand stage (u32_at blocks.file place))
+TokenPasses blocks depth_limit place stage IsExpected = IsTrue (is_expected stage (u32_at blocks.file place))
 TokenPasses blocks depth_limit place stage IsWithinDepth = length (open_nodes stage) < depth_limit
 TokenPasses blocks depth_limit place stage HasNodeName = HasName blocks.file (place + 4) blocks.end
 TokenPasses blocks depth_limit place stage MayNameNode = MayBeNamed stage (name_from blocks.file (place + 4))
@@ -156,7 +156,7 @@ TokenPasses blocks depth_limit place stage IsNewProperty =
 -- The cause that each of them gives.
 abbrev pub token_cause : TokenCheck → Cause
 token_cause HasTokenNumber = Truncated
-token_cause MayStand = BadToken
+token_cause IsExpected = BadToken
 token_cause IsWithinDepth = TooDeep
 token_cause HasNodeName = Truncated
 token_cause MayNameNode = BadName
@@ -172,16 +172,16 @@ abbrev pub token_fault : ℕ → TokenCheck → Fault
 token_fault place check = record { cause = token_cause check; offset = place }
 
 -- What a token says, by the strings block alone.
-abbrev pub said : List ℕ → Token → List Mark
-said strings (BeginNode name) = Opens name ∷ []
-said strings (Prop name_offset value) = Has (name_from strings name_offset, value) ∷ []
-said strings EndNode = Closes ∷ []
-said strings token = []
+abbrev pub token_events : List ℕ → Token → List Event
+token_events strings (BeginNode name) = NodeStart name ∷ []
+token_events strings (Prop name_offset value) = NodeProperty (name_from strings name_offset, value) ∷ []
+token_events strings EndNode = NodeEnd ∷ []
+token_events strings token = []
 
 -- The stage after these tokens, the newest first.
-abbrev pub opened : List ℕ → List Token → Stage
-opened strings [] = BeforeRoot
-opened strings (token ∷ before) = fold after (opened strings before) (said strings token)
+abbrev pub stage_after : List ℕ → List Token → Stage
+stage_after strings [] = BeforeRoot
+stage_after strings (token ∷ before) = fold next_stage (stage_after strings before) (token_events strings token)
 
 -- Where the token after these stands, the newest first.
 abbrev pub place_after : TreeBlocks → List Token → ℕ
@@ -191,21 +191,21 @@ place_after blocks (token ∷ before) = place_after blocks before + width token
 -- This token stands after these, the newest first; it passes its checks, and it is not FDT_END.
 pub record IsPassed (blocks : TreeBlocks) (depth_limit : ℕ) (before : List Token) (token : Token) : Type 0 where
   pub no_end : token ≢ End
-  pub stands : StandsAt blocks.file (place_after blocks before) token
-  pub passes : HasNoFault (TokenPasses blocks depth_limit (place_after blocks before) (opened blocks.strings before))
+  pub is_at : IsTokenAt blocks.file (place_after blocks before) token
+  pub passes : HasNoFault (TokenPasses blocks depth_limit (place_after blocks before) (stage_after blocks.strings before))
       (token_checks (u32_at blocks.file (place_after blocks before)))
 
 -- The structure block begins with these tokens, the newest first; each of them passes its checks, and none is FDT_END.
-abbrev pub Walked : TreeBlocks → ℕ → List Token → Type 0
-Walked blocks depth_limit [] = Unit {0}
-Walked blocks depth_limit (token ∷ before) = IsPassed blocks depth_limit before token × Walked blocks depth_limit before
+abbrev pub ArePassed : TreeBlocks → ℕ → List Token → Type 0
+ArePassed blocks depth_limit [] = Unit {0}
+ArePassed blocks depth_limit (token ∷ before) = IsPassed blocks depth_limit before token × ArePassed blocks depth_limit before
 
 -- Some tokens of the structure block pass, and of the checks of the token after them the first that fails gives this fault.
 pub record IsStructureFault (blocks : TreeBlocks) (depth_limit : ℕ) (fault : Fault) : Type 0 where
   pub before : List Token
-  pub walked : Walked blocks depth_limit before
+  pub passed : ArePassed blocks depth_limit before
   pub first : IsFirstFault
-      (TokenPasses blocks depth_limit (place_after blocks before) (opened blocks.strings before))
+      (TokenPasses blocks depth_limit (place_after blocks before) (stage_after blocks.strings before))
       (token_fault (place_after blocks before))
       (token_checks (u32_at blocks.file (place_after blocks before)))
       fault

@@ -3,24 +3,24 @@ use Rattle.bi_base.specs.declared.fault.Fault.{Fault}
 use Rattle.bi_base.specs.Cells.{AreBytes, slice, u32_at}
 use Rattle.bi_base.specs.Checks.{HasNoFault}
 use Rattle.bi_base.specs.Limits.{Bounds}
-use Rattle.bi_blob.specs.Tokens.{Token, End, Spelled}
-use Rattle.bi_blob.specs.Tree.{Root, Located}
+use Rattle.bi_blob.specs.Tokens.{Token, End, AreEncodings}
+use Rattle.bi_blob.specs.Tree.{Root, FileNode}
 use Rattle.bi_blob.specs.Blob.{Reservation, IsBlob, IsBlobWithin, TreeBlocks, IsReadable}
-use Rattle.bi_blob.specs.BlobFaults.{IsBlobFault, TokenPasses, token_checks, opened, place_after, Walked}
+use Rattle.bi_blob.specs.BlobFaults.{IsBlobFault, TokenPasses, token_checks, stage_after, place_after, ArePassed}
 
 -- Laws of what a blob is (Devicetree Specification, chapter 5), and of its faults (profile of this project).
 
 -- Two boot processors, lists of memory reservations and trees are the same.
-pub record AreSame {Own : Type 0} (cpu other_cpu : ℕ) (reservations other_reservations : List Reservation) (root other_root : Root Own) : Type 0 where
+pub record SameContent {Own : Type 0} (cpu other_cpu : ℕ) (reservations other_reservations : List Reservation) (root other_root : Root Own) : Type 0 where
   pub same_cpu : cpu ≡ other_cpu
   pub same_reservations : reservations ≡ other_reservations
   pub same_root : root ≡ other_root
 
 -- A file is a blob of at most one boot processor, one list of memory reservations and one tree with its places.
 abbrev pub OneBlob : Type 0
-OneBlob = (file : List ℕ) (cpu other_cpu : ℕ) (reservations other_reservations : List Reservation) (root other_root : Root Located)
+OneBlob = (file : List ℕ) (cpu other_cpu : ℕ) (reservations other_reservations : List Reservation) (root other_root : Root FileNode)
     → IsBlob file cpu reservations root → IsBlob file other_cpu other_reservations other_root
-    → AreSame cpu other_cpu reservations other_reservations root other_root
+    → SameContent cpu other_cpu reservations other_reservations root other_root
 
 -- A file that is a blob within limits has no fault under them.
 abbrev pub BlobHasNoFault : Type 0
@@ -44,15 +44,15 @@ abbrev pub AllTokensPass : TreeBlocks → ℕ → List Token → Type 0
 AllTokensPass blocks depth_limit [] = Unit {0}
 AllTokensPass blocks depth_limit (token ∷ before) =
     (token ≢ End)
-    × HasNoFault (TokenPasses blocks depth_limit (place_after blocks before) (opened blocks.strings before))
+    × HasNoFault (TokenPasses blocks depth_limit (place_after blocks before) (stage_after blocks.strings before))
     (token_checks (u32_at blocks.file (place_after blocks before)))
     × AllTokensPass blocks depth_limit before
 
 -- A structure block begins with tokens that pass exactly where these pass and the bytes up to the place behind them spell
 -- them, in the file with any three bytes put behind it, in which the padding of the last token may end.
-abbrev pub WalkedWhereSpelled : Type 0
-WalkedWhereSpelled = (blocks : TreeBlocks) (depth_limit : ℕ) (tokens : List Token) (behind : List ℕ)
-    → IsReadable blocks → length behind ≡ 3
-    → Walked blocks depth_limit tokens
+abbrev pub PassedWhereEncoded : Type 0
+PassedWhereEncoded = (blocks : TreeBlocks) (depth_limit : ℕ) (tokens : List Token) (trailing : List ℕ)
+    → IsReadable blocks → length trailing ≡ 3
+    → ArePassed blocks depth_limit tokens
     ↔ (AllTokensPass blocks depth_limit tokens
-    × Spelled (reverse tokens) (slice (blocks.file ++ behind) blocks.begin (place_after blocks tokens - blocks.begin)))
+    × AreEncodings (reverse tokens) (slice (blocks.file ++ trailing) blocks.begin (place_after blocks tokens - blocks.begin)))

@@ -4,9 +4,9 @@ use Rattle.bi_base.specs.declared.fault.Cause.TheVariants.{Truncated, BadMagic, 
 use Rattle.bi_base.specs.Cells.{cell}
 use Rattle.bi_base.specs.Limits.{Bounds}
 use Rattle.bi_blob.specs.Tokens.{Token, BeginNode, EndNode, Prop, End}
-use Rattle.bi_blob.specs.Blob.{reserved_block}
+use Rattle.bi_blob.specs.Blob.{reservation_block}
 use Rattle.bi_blob.specs.BlobFaults.{IsBlobFault}
-use Rattle.bi_blob.specs.Layout.{text_of, spelling}
+use Rattle.bi_blob.specs.Layout.{text_of_blocks, encoding}
 use Rattle.bi_blob.specs.KnownTexts.{smallest_text}
 
 -- Small files that are refused, each with its fault, by which a reader can judge the definitions: each check of a header
@@ -23,7 +23,7 @@ with_cell file at number = take at file ++ (cell number ++ drop (at + 4) file)
 -- A file of a header, no memory reservations, a structure block of these tokens and this strings block. The first token
 -- stands at offset 56.
 abbrev pub file_of : List Token → List ℕ → List ℕ
-file_of tokens strings = text_of 0 (reserved_block []) (flat_map spelling tokens) strings
+file_of tokens strings = text_of_blocks 0 (reservation_block []) (flat_map encoding tokens) strings
 
 -- A file whose root holds FDT_END.
 abbrev pub file_with_end_in_root : List ℕ
@@ -102,7 +102,7 @@ pub record TokensHaveFaults : Type 0 where
   pub endless_node_name : HasFault widest (with_cell smallest_text 36 18) Truncated 64
   pub named_root : HasFault widest (with_cell smallest_text 60 0x78000000) BadName 56
   pub second_child_of_name : HasFault widest file_with_two_children DuplicateNode 80
-  pub behind_child : HasFault widest file_with_late_property PropertyAfterChild 80
+  pub after_child : HasFault widest file_with_late_property PropertyAfterChild 80
   pub value_past_end : HasFault widest (with_cell (file_with_property 0) 68 9) Truncated 64
   pub no_property_name : HasFault widest (file_with_property 2) BadNameOffset 64
   pub empty_property_name : HasFault widest (file_with_property 1) BadName 64

@@ -1,8 +1,8 @@
 use Rattle.std.specs.Prelude.{◌≡◌, ℕ, List, [], ◌∷◌, ◌++◌, length, codes}
 use Rattle.bi_blob.specs.Tree.{none, node, Root, Property, IsNormal}
-use Rattle.bi_blob.specs.Marks.{marks_of}
+use Rattle.bi_blob.specs.Events.{events_of}
 use Rattle.bi_blob.specs.Blob.{totalsize, off_dt_struct, size_dt_struct, off_dt_strings, size_dt_strings}
-use Rattle.bi_blob.specs.Layout.{distinct_names, used_names, offset_in, strings_block, tree_text, IsNormalText}
+use Rattle.bi_blob.specs.Layout.{distinct_names, used_names, offset_in, strings_block, text_of_tree, IsNormalText}
 
 -- Texts of two small trees, by which a reader can judge the definitions (Devicetree Specification, chapter 5; the order of
 -- the blocks is profile of this project).
@@ -35,11 +35,11 @@ tree_with_properties = record {
 
 -- Its normal text, with boot processor 0 and no memory reservations.
 abbrev pub text_with_properties : List ℕ
-text_with_properties = tree_text 0 [] tree_with_properties
+text_with_properties = text_of_tree 0 [] tree_with_properties
 
 -- The names in its strings block.
 abbrev pub names_of_properties : List (List ℕ)
-names_of_properties = distinct_names (used_names (marks_of tree_with_properties))
+names_of_properties = distinct_names (used_names (events_of tree_with_properties))
 
 -- How this text is laid out: the structure block has 64 bytes, the strings block 14, the whole 136. The name `name` shares
 -- no bytes with the end of `filename`.
@@ -49,7 +49,7 @@ pub record IsLaidOut : Type 0 where
   pub structure_size : size_dt_struct text_with_properties ≡ 64
   pub strings_begin : off_dt_strings text_with_properties ≡ 120
   pub strings_size : size_dt_strings text_with_properties ≡ 14
-  pub strings : strings_block (marks_of tree_with_properties) ≡ codes "filename" ++ (0 ∷ (codes "name" ++ 0 ∷ []))
+  pub strings : strings_block (events_of tree_with_properties) ≡ codes "filename" ++ (0 ∷ (codes "name" ++ 0 ∷ []))
   pub first_name : offset_in names_of_properties (codes "filename") ≡ 0
   pub second_name : offset_in names_of_properties (codes "name") ≡ 9
   pub total : totalsize text_with_properties ≡ 136

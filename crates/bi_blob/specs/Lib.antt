@@ -1,6 +1,6 @@
 pub mod Tree
 pub mod Tokens
-pub mod Marks
+pub mod Events
 pub mod Stages
 pub mod Blob
 pub mod BlobFaults

@@ -2,77 +2,77 @@ use Rattle.std.specs.Prelude.{◌≡◌, ℕ, ◌%◌, ◌≤◌, List, [], ◌�
 use Rattle.bi_base.specs.declared.fault.Fault.{Fault}
 use Rattle.bi_base.specs.Cells.{up4, AreBytes}
 use Rattle.bi_base.specs.Limits.{Bounds}
-use Rattle.bi_blob.specs.Tokens.{End, Spelled, NameAt}
-use Rattle.bi_blob.specs.Tree.{Root, Property, PropertyMap, Located, HasNoZero, AreDistinct, IsNormal, plain_tree, forget, depth_of}
-use Rattle.bi_blob.specs.Marks.{Mark, Has, marks_of, placed_marks_of, Say}
-use Rattle.bi_blob.specs.Blob.{Reservation, reserved_block, IsBlob, IsWithin, totalsize}
+use Rattle.bi_blob.specs.Tokens.{End, AreEncodings, IsNameAt}
+use Rattle.bi_blob.specs.Tree.{Root, Property, PropertyMap, FileNode, HasNoZero, AreDistinct, IsNormal, tree_without_places, tree_without_order, depth_of}
+use Rattle.bi_blob.specs.Events.{Event, NodeProperty, events_of, file_events_of, EncodeEvents}
+use Rattle.bi_blob.specs.Blob.{Reservation, reservation_block, IsBlob, IsWithin, totalsize}
 use Rattle.bi_blob.specs.BlobFaults.{IsBlobFault}
-use Rattle.bi_blob.specs.BlobLaws.{AreSame}
-use Rattle.bi_blob.specs.Layout.{names_in, used_names, distinct_names, offset_in, tokens_of, structure_block, strings_block, tree_text, unfilled, structure_place, located_tree, in_order, IsContent, IsNormalText, longest_text}
+use Rattle.bi_blob.specs.BlobLaws.{SameContent}
+use Rattle.bi_blob.specs.Layout.{event_names, used_names, distinct_names, offset_in, tokens_of, structure_block, strings_block, text_of_tree, length_before_padding, structure_place, tree_with_places, in_byte_order, IsContent, IsNormalText, longest_text}
 
 -- Laws of the text that a blob is laid out as (profile of this project). Each is the contract of a function in `text_laws`.
 
 -- The strings block of these marks has the names that they use, each once.
-pub record HasNamesOnce (marks : List Mark) : Type 0 where
-  pub same : (name : List ℕ) → Contains (distinct_names (used_names marks)) name ↔ Contains (used_names marks) name
-  pub distinct : AreDistinct (distinct_names (used_names marks))
+pub record HasNamesOnce (events : List Event) : Type 0 where
+  pub same : (name : List ℕ) → Contains (distinct_names (used_names events)) name ↔ Contains (used_names events) name
+  pub distinct : AreDistinct (distinct_names (used_names events))
 
 -- Any marks have their names once in their strings block.
 abbrev pub EachNameIsThereOnce : Type 0
-EachNameIsThereOnce = (marks : List Mark) → HasNamesOnce marks
+EachNameIsThereOnce = (events : List Event) → HasNamesOnce events
 
 -- The strings block of these marks with one more: a name that was not used yet stands behind the others.
-pub record GrowsByUse (marks : List Mark) : Type 0 where
+pub record GrowsByUse (events : List Event) : Type 0 where
   pub empty : strings_block [] ≡ []
-  pub other : (mark : Mark) → names_in mark ≡ [] → strings_block (marks ++ mark ∷ []) ≡ strings_block marks
-  pub known : (property : Property) → Contains (used_names marks) property.0
-      → strings_block (marks ++ Has property ∷ []) ≡ strings_block marks
-  pub new : (property : Property) → ¬ (Contains (used_names marks) property.0)
-      → strings_block (marks ++ Has property ∷ []) ≡ strings_block marks ++ (property.0 ++ 0 ∷ [])
+  pub other : (event : Event) → event_names event ≡ [] → strings_block (events ++ event ∷ []) ≡ strings_block events
+  pub known : (property : Property) → Contains (used_names events) property.0
+      → strings_block (events ++ NodeProperty property ∷ []) ≡ strings_block events
+  pub new : (property : Property) → ¬ (Contains (used_names events) property.0)
+      → strings_block (events ++ NodeProperty property ∷ []) ≡ strings_block events ++ (property.0 ++ 0 ∷ [])
 
 -- A strings block has names in the order of their first use.
 abbrev pub StringsGrowByUse : Type 0
-StringsGrowByUse = (marks : List Mark) → GrowsByUse marks
+StringsGrowByUse = (events : List Event) → GrowsByUse events
 
 -- Each name that marks use stands at its offset of their strings block.
-abbrev pub EachNameStands : Type 0
-EachNameStands =
-    (marks : List Mark) (name : List ℕ) → Contains (used_names marks) name → HasNoZero name
-    → NameAt (strings_block marks) (offset_in (distinct_names (used_names marks)) name) name
+abbrev pub EachNameIsFound : Type 0
+EachNameIsFound =
+    (events : List Event) (name : List ℕ) → Contains (used_names events) name → HasNoZero name
+    → IsNameAt (strings_block events) (offset_in (distinct_names (used_names events)) name) name
 
 -- The structure block of a text spells tokens and FDT_END, and these say the tree over the strings block, at its places.
-pub record SaysTree (reservations : List Reservation) (root : Root (List Property)) : Type 0 where
-  pub spelled : Spelled (tokens_of (marks_of root) ++ End ∷ []) (structure_block (marks_of root))
-  pub say : Say (strings_block (marks_of root)) (structure_place reservations) (tokens_of (marks_of root)) (placed_marks_of (located_tree reservations root))
+pub record EncodesTree (reservations : List Reservation) (root : Root (List Property)) : Type 0 where
+  pub is_encoded : AreEncodings (tokens_of (events_of root) ++ End ∷ []) (structure_block (events_of root))
+  pub encodes : EncodeEvents (strings_block (events_of root)) (structure_place reservations) (tokens_of (events_of root)) (file_events_of (tree_with_places reservations root))
 
 -- The blocks of a text that is not too long say its tree.
-abbrev pub TextSaysItsTree : Type 0
-TextSaysItsTree =
+abbrev pub TextEncodesItsTree : Type 0
+TextEncodesItsTree =
     (cpu : ℕ) (reservations : List Reservation) (root : Root (List Property)) → IsContent cpu reservations root
-    → length (tree_text cpu reservations root) ≤ longest_text → SaysTree reservations root
+    → length (text_of_tree cpu reservations root) ≤ longest_text → EncodesTree reservations root
 
 -- This file is a blob of these and of nothing else. Its tree stands at the places of the layout and is as deep, and its
 -- total size is the length of the text.
 pub record IsBlobOf (file : List ℕ) (cpu : ℕ) (reservations : List Reservation) (root : Root (List Property)) : Type 0 where
-  pub blob : IsBlob file cpu reservations (located_tree reservations root)
-  pub same_tree : plain_tree (located_tree reservations root) ≡ root
-  pub same_depth : depth_of (located_tree reservations root) ≡ depth_of root
-  pub only : (other_cpu : ℕ) (other_reservations : List Reservation) (other_root : Root Located)
+  pub blob : IsBlob file cpu reservations (tree_with_places reservations root)
+  pub same_tree : tree_without_places (tree_with_places reservations root) ≡ root
+  pub same_depth : depth_of (tree_with_places reservations root) ≡ depth_of root
+  pub only : (other_cpu : ℕ) (other_reservations : List Reservation) (other_root : Root FileNode)
       → IsBlob file other_cpu other_reservations other_root
-      → AreSame cpu other_cpu reservations other_reservations (located_tree reservations root) other_root
-  pub is_total : totalsize file ≡ length (tree_text cpu reservations root)
+      → SameContent cpu other_cpu reservations other_reservations (tree_with_places reservations root) other_root
+  pub is_total : totalsize file ≡ length (text_of_tree cpu reservations root)
 
 -- A text that is not too long, with any bytes behind it, is a blob of exactly what it was made from.
 abbrev pub TextIsBlob : Type 0
 TextIsBlob =
     (cpu : ℕ) (reservations : List Reservation) (root : Root (List Property)) (rest : List ℕ) → IsContent cpu reservations root
-    → length (tree_text cpu reservations root) ≤ longest_text → AreBytes rest
-    → IsBlobOf (tree_text cpu reservations root ++ rest) cpu reservations root
+    → length (text_of_tree cpu reservations root) ≤ longest_text → AreBytes rest
+    → IsBlobOf (text_of_tree cpu reservations root ++ rest) cpu reservations root
 
 -- A file is a blob of these alone within limits, and has no fault under them.
 pub record IsAccepted (bounds : Bounds) (file : List ℕ) (cpu : ℕ) (reservations : List Reservation) (root : Root (List Property)) : Type 0 where
   pub is_blob : IsBlobOf file cpu reservations root
-  pub is_within : IsWithin bounds file (located_tree reservations root)
+  pub is_within : IsWithin bounds file (tree_with_places reservations root)
   pub no_fault : (fault : Fault) → ¬ (IsBlobFault bounds file fault)
 
 -- A text that is not too long, with any bytes behind it, is accepted under limits that hold all of it and its tree.
@@ -80,9 +80,9 @@ abbrev pub TextIsAccepted : Type 0
 TextIsAccepted =
     (bounds : Bounds) (cpu : ℕ) (reservations : List Reservation) (root : Root (List Property)) (rest : List ℕ)
     → IsContent cpu reservations root
-    → length (tree_text cpu reservations root) ≤ longest_text → AreBytes rest
-    → length (tree_text cpu reservations root ++ rest) ≤ bounds.file → depth_of root ≤ bounds.depth
-    → IsAccepted bounds (tree_text cpu reservations root ++ rest) cpu reservations root
+    → length (text_of_tree cpu reservations root) ≤ longest_text → AreBytes rest
+    → length (text_of_tree cpu reservations root ++ rest) ≤ bounds.file → depth_of root ≤ bounds.depth
+    → IsAccepted bounds (text_of_tree cpu reservations root ++ rest) cpu reservations root
 
 -- The same of a normal text.
 abbrev pub NormalTextIsAccepted : Type 0
@@ -95,9 +95,9 @@ NormalTextIsAccepted =
 
 -- How long a text is.
 pub record HasTextLength (cpu : ℕ) (reservations : List Reservation) (root : Root (List Property)) : Type 0 where
-  pub is_length : length (tree_text cpu reservations root)
-      ≡ up4 (unfilled (length (reserved_block reservations)) (length (structure_block (marks_of root))) (length (strings_block (marks_of root))))
-  pub is_whole : length (tree_text cpu reservations root) % 4 ≡ 0
+  pub is_length : length (text_of_tree cpu reservations root)
+      ≡ up4 (length_before_padding (length (reservation_block reservations)) (length (structure_block (events_of root))) (length (strings_block (events_of root))))
+  pub is_whole : length (text_of_tree cpu reservations root) % 4 ≡ 0
 
 -- Each text is as long as its header and its blocks, filled up to a multiple of four.
 abbrev pub EachTextHasItsLength : Type 0
@@ -106,23 +106,23 @@ EachTextHasItsLength = (cpu : ℕ) (reservations : List Reservation) (root : Roo
 -- What a file says as a blob is content: it can be written again.
 abbrev pub BlobHasContent : Type 0
 BlobHasContent =
-    (file : List ℕ) (cpu : ℕ) (reservations : List Reservation) (root : Root Located) → IsBlob file cpu reservations root
-    → IsContent cpu reservations (plain_tree root)
+    (file : List ℕ) (cpu : ℕ) (reservations : List Reservation) (root : Root FileNode) → IsBlob file cpu reservations root
+    → IsContent cpu reservations (tree_without_places root)
 
 -- Contents with one text, which is not too long, are the same: distinct ones have distinct texts.
 abbrev pub TextHasOneContent : Type 0
 TextHasOneContent =
     (cpu other_cpu : ℕ) (reservations other_reservations : List Reservation) (root other_root : Root (List Property))
     → IsContent cpu reservations root → IsContent other_cpu other_reservations other_root
-    → length (tree_text cpu reservations root) ≤ longest_text
-    → tree_text cpu reservations root ≡ tree_text other_cpu other_reservations other_root
-    → AreSame cpu other_cpu reservations other_reservations root other_root
+    → length (text_of_tree cpu reservations root) ≤ longest_text
+    → text_of_tree cpu reservations root ≡ text_of_tree other_cpu other_reservations other_root
+    → SameContent cpu other_cpu reservations other_reservations root other_root
 
 -- A tree of properties by name has one order of them that is normal.
 pub record HasOneOrder (root : Root PropertyMap) : Type 0 where
-  pub is_normal : IsNormal (in_order root)
-  pub is_same : forget (in_order root) ≡ root
-  pub only : (other : Root (List Property)) → IsNormal other → forget other ≡ root → other ≡ in_order root
+  pub is_normal : IsNormal (in_byte_order root)
+  pub is_same : tree_without_order (in_byte_order root) ≡ root
+  pub only : (other : Root (List Property)) → IsNormal other → tree_without_order other ≡ root → other ≡ in_byte_order root
 
 -- Each tree has.
 abbrev pub EachTreeHasOneOrder : Type 0
@@ -130,8 +130,8 @@ EachTreeHasOneOrder = (root : Root PropertyMap) → HasOneOrder root
 
 -- What may be laid out may be so in normal order, and is as deep then.
 pub record MayBeOrdered (cpu : ℕ) (reservations : List Reservation) (root : Root (List Property)) : Type 0 where
-  pub is_content : IsContent cpu reservations (in_order (forget root))
-  pub same_depth : depth_of (in_order (forget root)) ≡ depth_of root
+  pub is_content : IsContent cpu reservations (in_byte_order (tree_without_order root))
+  pub same_depth : depth_of (in_byte_order (tree_without_order root)) ≡ depth_of root
 
 -- All content may.
 abbrev pub ContentMayBeOrdered : Type 0
@@ -148,4 +148,4 @@ NormalTextTellsContent =
     → IsContent cpu reservations root → IsContent other_cpu other_reservations other_root
     → IsNormalText cpu reservations root text → IsNormalText other_cpu other_reservations other_root other_text
     → length text ≤ longest_text
-    → (text ≡ other_text) ↔ AreSame cpu other_cpu reservations other_reservations (forget root) (forget other_root)
+    → (text ≡ other_text) ↔ SameContent cpu other_cpu reservations other_reservations (tree_without_order root) (tree_without_order other_root)

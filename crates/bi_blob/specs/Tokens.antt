@@ -30,16 +30,16 @@ abbrev pub end_number : ℕ
 end_number = 9
 
 -- The bytes of a token without the padding behind them.
-abbrev pub unpadded : Token → List ℕ
-unpadded (BeginNode name) = cell begin_node_number ++ (name ++ 0 ∷ [])
-unpadded EndNode = cell end_node_number
-unpadded (Prop name_offset value) = cell prop_number ++ (cell (length value) ++ (cell name_offset ++ value))
-unpadded Nop = cell nop_number
-unpadded End = cell end_number
+abbrev pub token_bytes : Token → List ℕ
+token_bytes (BeginNode name) = cell begin_node_number ++ (name ++ 0 ∷ [])
+token_bytes EndNode = cell end_node_number
+token_bytes (Prop name_offset value) = cell prop_number ++ (cell (length value) ++ (cell name_offset ++ value))
+token_bytes Nop = cell nop_number
+token_bytes End = cell end_number
 
 -- How many bytes a token takes, its padding included: the next token begins at a multiple of four.
 abbrev pub width : Token → ℕ
-width token = up4 (length (unpadded token))
+width token = up4 (length (token_bytes token))
 
 -- The numbers of a token are cells, and a zero byte ends its name.
 abbrev pub IsToken : Token → Type 0
@@ -49,27 +49,27 @@ IsToken token = Unit {0}
 
 -- These bytes are a token with its padding (that the padding may hold anything, and not zeros alone, is profile of this
 -- project).
-pub record Spells (token : Token) (bytes : List ℕ) : Type 0 where
+pub record IsEncoding (token : Token) (bytes : List ℕ) : Type 0 where
   pub is_token : IsToken token
   pub padding : List ℕ
-  pub spelled : bytes ≡ unpadded token ++ padding
+  pub is_encoded : bytes ≡ token_bytes token ++ padding
   pub whole : length bytes ≡ width token
 
 -- These bytes are these tokens, one after the other.
-abbrev pub Spelled : List Token → List ℕ → Type 0
-Spelled [] bytes = bytes ≡ []
-Spelled (token ∷ later) bytes = Spells token (take (width token) bytes) × Spelled later (drop (width token) bytes)
+abbrev pub AreEncodings : List Token → List ℕ → Type 0
+AreEncodings [] bytes = bytes ≡ []
+AreEncodings (token ∷ later) bytes = IsEncoding token (take (width token) bytes) × AreEncodings later (drop (width token) bytes)
 
 -- A token stands at this offset of a file, whatever its padding is and whether or not the file has it.
-pub record StandsAt (file : List ℕ) (at : ℕ) (token : Token) : Type 0 where
+pub record IsTokenAt (file : List ℕ) (at : ℕ) (token : Token) : Type 0 where
   pub is_token : IsToken token
-  pub stands : slice file at (length (unpadded token)) ≡ unpadded token
+  pub is_at : slice file at (length (token_bytes token)) ≡ token_bytes token
 
 -- This name stands at this offset of the strings block: a zero byte ends it there (5.5).
-pub record NameAt (strings : List ℕ) (offset : ℕ) (name : List ℕ) : Type 0 where
+pub record IsNameAt (strings : List ℕ) (offset : ℕ) (name : List ℕ) : Type 0 where
   pub no_zero : HasNoZero name
-  pub behind : List ℕ
-  pub stands : drop offset strings ≡ name ++ 0 ∷ behind
+  pub trailing : List ℕ
+  pub is_at : drop offset strings ≡ name ++ 0 ∷ trailing
 
 -- The bytes from this offset on and before the first zero byte, or all of them where none is zero: the name of a node
 -- (5.4.1) or of a property (5.5).

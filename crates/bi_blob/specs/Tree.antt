@@ -54,31 +54,31 @@ abbrev pub PropertyMap : Type 0
 PropertyMap = FinMap (slice_cmp nat_cmp) (List ℕ)
 
 -- A property in a file: the place of a property is the offset of its FDT_PROP token (5.4.1).
-pub record Placed : Type 0 where
+pub record FileProperty : Type 0 where
   pub name : List ℕ
   pub value : List ℕ
   pub place : ℕ
 
 -- What a node has in a file: the place of a node is the offset of its FDT_BEGIN_NODE token (5.4.1).
-pub record Located : Type 0 where
+pub record FileNode : Type 0 where
   pub place : ℕ
-  pub properties : List Placed
+  pub properties : List FileProperty
 
 -- A property without its place.
-abbrev pub property_of : Placed → Property
+abbrev pub property_of : FileProperty → Property
 property_of placed = (placed.name, placed.value)
 
 -- The properties of a node without the places.
-abbrev pub plain : Located → List Property
-plain located = map property_of located.properties
+abbrev pub properties_of : FileNode → List Property
+properties_of with_places = map property_of with_places.properties
 
 -- A tree of a file without the places.
-abbrev pub plain_tree : Root Located → Root (List Property)
-plain_tree root = with_each_node plain root
+abbrev pub tree_without_places : Root FileNode → Root (List Property)
+tree_without_places root = with_each_node properties_of root
 
 -- A tree without the order of the properties. The order of the children stays.
-abbrev pub forget : Root (List Property) → Root PropertyMap
-forget root = with_each_node from_entries root
+abbrev pub tree_without_order : Root (List Property) → Root PropertyMap
+tree_without_order root = with_each_node from_entries root
 
 -- No byte of this name is zero, so a zero byte ends it (5.4.1, 5.5).
 abbrev pub HasNoZero : List ℕ → Type 0

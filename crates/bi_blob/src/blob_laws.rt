@@ -1,6 +1,6 @@
 //! Laws of what a devicetree blob is. Their functions do nothing: what each of them ensures is the law.
 
-ghost use Rattle.bi_blob.specs.BlobLaws.{OneBlob, BlobHasNoFault, OneFault, BlobOrFault, BlobWhereNoFault, WalkedWhereSpelled};
+ghost use Rattle.bi_blob.specs.BlobLaws.{OneBlob, BlobHasNoFault, OneFault, BlobOrFault, BlobWhereNoFault, PassedWhereEncoded};
 ghost use Rattle.bi_blob.specs.KnownFaults.{HeadersHaveFaults, ReservationsHaveFaults, TokensHaveFaults};
 
 /// A file is a blob of at most one boot processor, one list of memory reservations and one tree.
@@ -31,7 +31,7 @@ pub fn a_file_is_a_blob_where_it_has_no_fault()
 /// Tokens of a structure block that pass their checks stand in the file as their spellings, the last of which may end
 /// in any three bytes behind the file.
 pub fn passed_tokens_are_spelled()
-    ensures { WalkedWhereSpelled }
+    ensures { PassedWhereEncoded }
 {}
 
 /// Small files that are at fault in their headers have known faults: each check of a header is the first that fails in one.

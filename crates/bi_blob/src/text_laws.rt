@@ -1,7 +1,7 @@
 //! Laws of the text that a blob is laid out as, and of the normal text among these. Their functions do nothing: what each
 //! of them ensures is the law.
 
-ghost use Rattle.bi_blob.specs.TextLaws.{EachNameIsThereOnce, StringsGrowByUse, EachNameStands, TextSaysItsTree, EachTextHasItsLength, TextIsBlob, TextIsAccepted, NormalTextIsAccepted, BlobHasContent, TextHasOneContent, EachTreeHasOneOrder, ContentMayBeOrdered, NormalTextTellsContent};
+ghost use Rattle.bi_blob.specs.TextLaws.{EachNameIsThereOnce, StringsGrowByUse, EachNameIsFound, TextEncodesItsTree, EachTextHasItsLength, TextIsBlob, TextIsAccepted, NormalTextIsAccepted, BlobHasContent, TextHasOneContent, EachTreeHasOneOrder, ContentMayBeOrdered, NormalTextTellsContent};
 ghost use Rattle.bi_blob.specs.KnownTexts.{HasSmallestText, IsLaidOut};
 
 /// The strings block of a text has each name that the marks use once, and no other name (profile of this project;
@@ -18,14 +18,14 @@ pub fn strings_grow_by_use()
 
 /// Each name that marks use, if it has no zero byte, stands in the strings block of their text at its offset, with a zero
 /// byte behind it (Devicetree Specification, 5.5).
-pub fn each_name_stands()
-    ensures { EachNameStands }
+pub fn each_name_is_found()
+    ensures { EachNameIsFound }
 {}
 
 /// The structure block of a text of at most 0x7fffffff bytes spells tokens with FDT_END behind them, and over its strings
 /// block these tokens say the tree, each at the place that the layout gives it (Devicetree Specification, 5.4).
-pub fn text_says_its_tree()
-    ensures { TextSaysItsTree }
+pub fn text_encodes_its_tree()
+    ensures { TextEncodesItsTree }
 {}
 
 /// A text is as long as its header, reservation block, structure block and strings block together, filled up to a multiple

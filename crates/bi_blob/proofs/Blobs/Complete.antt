@@ -2,37 +2,37 @@ use Rattle.std.proofs.Common.{◌≡◌, ℕ, ◌+◌, ◌-◌, ◌≤◌, List,
 use Rattle.std.proofs.lemmas.List.{length-append, length-take, map-append}
 use Rattle.bi_base.specs.Cells.{slice}
 use Rattle.bi_blob.specs.Tokens.{Token, BeginNode, EndNode, Prop, Nop, End, width, name_from}
-use Rattle.bi_blob.specs.Tree.{Nodes, none, node, Root, Property, Placed, Located, property_of, plain, plain_tree, with_each, depth, depth_of}
-use Rattle.bi_blob.specs.Marks.{Opens, Has, Closes, marks, marks_of, PlacedMark, OpensAt, HasAt, ClosesAt, placed_marks, placed_marks_of, Say}
-use Rattle.bi_blob.specs.Stages.{BeforeRoot, after}
+use Rattle.bi_blob.specs.Tree.{Nodes, none, node, Root, Property, FileProperty, FileNode, property_of, properties_of, tree_without_places, with_each, depth, depth_of}
+use Rattle.bi_blob.specs.Events.{NodeStart, NodeProperty, NodeEnd, events, events_of, FileEvent, FileNodeStart, FileNodeProperty, FileNodeEnd, file_events, file_events_of, EncodeEvents}
+use Rattle.bi_blob.specs.Stages.{BeforeRoot, next_stage}
 use Rattle.bi_blob.specs.Blob.{TreeBlocks, HoldsTree}
-use Rattle.bi_blob.specs.BlobFaults.{opened, place_after, Walked}
-use Rattle.bi_blob.proofs.Blobs.Names.{name_from-NameAt}
-use Rattle.bi_blob.proofs.Blobs.Spelling.{behind_all, AllStand, Spelled-length}
+use Rattle.bi_blob.specs.BlobFaults.{stage_after, place_after, ArePassed}
+use Rattle.bi_blob.proofs.Blobs.Names.{name_from-IsNameAt}
+use Rattle.bi_blob.proofs.Blobs.TokenEncoding.{behind_all, AllStand, AreEncodings-length}
 use Rattle.bi_blob.proofs.Blobs.OneBlob.{HoldsTree-stand}
 use Rattle.bi_blob.proofs.Blobs.OneFault.{IsEnded}
 use Rattle.bi_blob.proofs.Blobs.Following.{AllFollow, tree_follows}
-use Rattle.bi_blob.proofs.Blobs.Walking.{behind_all-past}
+use Rattle.bi_blob.proofs.Blobs.PassedTokens.{behind_all-past}
 use Rattle.bi_blob.proofs.Blobs.Passing.{plain_mark, nop_passes, begin_passes, prop_passes, end_node_passes, end_passes}
 
 -- A block that holds a tree within the depth limit ends: its tokens pass up to FDT_END.
 
 -- What nodes of a file say is what they say without their places.
-pub plain_marks : (nodes : Nodes Located) → map plain_mark (placed_marks nodes) ≡ marks (with_each plain nodes)
+pub plain_marks : (nodes : Nodes FileNode) → map plain_mark (file_events nodes) ≡ events (with_each properties_of nodes)
 plain_marks none = refl
-plain_marks (node name located children later) =
-    ap (λ l. Opens name ∷ l)
-    (map-append plain_mark (map HasAt located.properties) (placed_marks children ++ (ClosesAt ∷ placed_marks later))
-    ∙ ap (λ l. l ++ map plain_mark (placed_marks children ++ (ClosesAt ∷ placed_marks later))) (plain_properties located.properties)
-    ∙ ap (λ l. map Has (plain located) ++ l)
-    (map-append plain_mark (placed_marks children) (ClosesAt ∷ placed_marks later)
-    ∙ ap (λ l. l ++ (Closes ∷ map plain_mark (placed_marks later))) (plain_marks children)
-    ∙ ap (λ l. marks (with_each plain children) ++ (Closes ∷ l)) (plain_marks later))) where
-      plain_properties : (ps : List Placed) → map plain_mark (map HasAt ps) ≡ map Has (map property_of ps)
+plain_marks (node name with_places children later) =
+    ap (λ l. NodeStart name ∷ l)
+    (map-append plain_mark (map FileNodeProperty with_places.properties) (file_events children ++ (FileNodeEnd ∷ file_events later))
+    ∙ ap (λ l. l ++ map plain_mark (file_events children ++ (FileNodeEnd ∷ file_events later))) (plain_properties with_places.properties)
+    ∙ ap (λ l. map NodeProperty (properties_of with_places) ++ l)
+    (map-append plain_mark (file_events children) (FileNodeEnd ∷ file_events later)
+    ∙ ap (λ l. l ++ (NodeEnd ∷ map plain_mark (file_events later))) (plain_marks children)
+    ∙ ap (λ l. events (with_each properties_of children) ++ (NodeEnd ∷ l)) (plain_marks later))) where
+      plain_properties : (ps : List FileProperty) → map plain_mark (map FileNodeProperty ps) ≡ map NodeProperty (map property_of ps)
       plain_properties [] = refl
-      plain_properties (p ∷ ps) = ap (λ l. Has (property_of p) ∷ l) (plain_properties ps)
+      plain_properties (p ∷ ps) = ap (λ l. NodeProperty (property_of p) ∷ l) (plain_properties ps)
 
-pub plain_marks_of : (root : Root Located) → map plain_mark (placed_marks_of root) ≡ marks_of (plain_tree root)
+pub plain_marks_of : (root : Root FileNode) → map plain_mark (file_events_of root) ≡ events_of (tree_without_places root)
 plain_marks_of root = plain_marks (node [] root.own root.children none)
 
 -- The places make a tree no deeper.
@@ -41,97 +41,97 @@ depth-with_each change none = refl
 depth-with_each change (node name own children later) =
     ap (λ n. max (n + 1) (depth later)) (depth-with_each change children) ∙ ap (λ n. max (depth (with_each change children) + 1) n) (depth-with_each change later)
 
-pub depth-plain : (root : Root Located) → depth_of root ≡ depth_of (plain_tree root)
-depth-plain root = depth-with_each plain (node [] root.own root.children none)
+pub depth-properties_of : (root : Root FileNode) → depth_of root ≡ depth_of (tree_without_places root)
+depth-properties_of root = depth-with_each properties_of (node [] root.own root.children none)
 
 module _ (blocks : TreeBlocks) (depth_limit : ℕ) where
   -- The block ends behind tokens that pass, where those that follow say what may stand.
-  pub ends_from : (ts : List Token) (before : List Token) (said : List PlacedMark) → Walked blocks depth_limit before → AllStand blocks.file (place_after blocks before) (ts ++ End ∷ []) → behind_all (place_after blocks before) (ts ++ End ∷ []) ≤ blocks.end → Say blocks.strings (place_after blocks before) ts said → AllFollow depth_limit (opened blocks.strings before) (map plain_mark said) → (tokens : List Token) × IsEnded blocks depth_limit tokens
-  ends_from [] before [] walked stand within say follow = (
+  pub ends_from : (ts : List Token) (before : List Token) (token_events : List FileEvent) → ArePassed blocks depth_limit before → AllStand blocks.file (place_after blocks before) (ts ++ End ∷ []) → behind_all (place_after blocks before) (ts ++ End ∷ []) ≤ blocks.end → EncodeEvents blocks.strings (place_after blocks before) ts token_events → AllFollow depth_limit (stage_after blocks.strings before) (map plain_mark token_events) → (tokens : List Token) × IsEnded blocks depth_limit tokens
+  ends_from [] before [] passed stand within encodes follow = (
     before,
     record {
-      walked = walked;
+      passed = passed;
       end = stand.0;
-      passes = end_passes blocks depth_limit (place_after blocks before) (opened blocks.strings before) stand.0 within follow;
+      passes = end_passes blocks depth_limit (place_after blocks before) (stage_after blocks.strings before) stand.0 within follow;
     },
   )
-  ends_from (Nop ∷ ts) before said walked stand within say follow =
+  ends_from (Nop ∷ ts) before token_events passed stand within encodes follow =
       let place : ℕ = place_after blocks before in
       let here : place + width Nop ≤ behind_all (place + width Nop) (ts ++ End ∷ []) = behind_all-past (place + width Nop) (ts ++ End ∷ []) in
       let fits : place + width Nop ≤ blocks.end = omega arith in
-      ends_from ts (Nop ∷ before) said (
+      ends_from ts (Nop ∷ before) token_events (
         record {
           no_end = λ (e : Nop ≡ End). absurd cc;
-          stands = stand.0;
-          passes = nop_passes blocks depth_limit place (opened blocks.strings before) stand.0 fits;
+          is_at = stand.0;
+          passes = nop_passes blocks depth_limit place (stage_after blocks.strings before) stand.0 fits;
         },
-        walked,
+        passed,
       )
-      stand.1 within say follow
-  ends_from (BeginNode name ∷ ts) before (OpensAt there named ∷ said) walked stand within say follow =
+      stand.1 within encodes follow
+  ends_from (BeginNode name ∷ ts) before (FileNodeStart there named ∷ token_events) passed stand within encodes follow =
       let place : ℕ = place_after blocks before in
       let here : place + width (BeginNode name) ≤ behind_all (place + width (BeginNode name)) (ts ++ End ∷ []) =
       behind_all-past (place + width (BeginNode name)) (ts ++ End ∷ []) in
       let fits : place + width (BeginNode name) ≤ blocks.end = omega arith in
-      let both : AllFollow depth_limit (opened blocks.strings before) (Opens name ∷ map plain_mark said) =
-      subst (λ n. AllFollow depth_limit (opened blocks.strings before) (Opens n ∷ map plain_mark said)) (sym say.0.same_name) follow in
-      ends_from ts (BeginNode name ∷ before) said (
+      let both : AllFollow depth_limit (stage_after blocks.strings before) (NodeStart name ∷ map plain_mark token_events) =
+      subst (λ n. AllFollow depth_limit (stage_after blocks.strings before) (NodeStart n ∷ map plain_mark token_events)) (sym encodes.0.same_name) follow in
+      ends_from ts (BeginNode name ∷ before) token_events (
         record {
           no_end = λ (e : BeginNode name ≡ End). absurd cc;
-          stands = stand.0;
-          passes = begin_passes blocks depth_limit place (opened blocks.strings before) name stand.0 fits both.0;
+          is_at = stand.0;
+          passes = begin_passes blocks depth_limit place (stage_after blocks.strings before) name stand.0 fits both.0;
         },
-        walked,
+        passed,
       )
-      stand.1 within say.1 both.1
-  ends_from (Prop offset value ∷ ts) before (HasAt property ∷ said) walked stand within say follow =
+      stand.1 within encodes.1 both.1
+  ends_from (Prop offset value ∷ ts) before (FileNodeProperty property ∷ token_events) passed stand within encodes follow =
       let place : ℕ = place_after blocks before in
       let here : place + width (Prop offset value) ≤ behind_all (place + width (Prop offset value)) (ts ++ End ∷ []) =
       behind_all-past (place + width (Prop offset value)) (ts ++ End ∷ []) in
       let fits : place + width (Prop offset value) ≤ blocks.end = omega arith in
       let same_name : property.name ≡ name_from blocks.strings offset =
-      sym (name_from-NameAt blocks.strings offset property.name say.0.name) in
-      let same : property_of property ≡ (name_from blocks.strings offset, value) = λ i. (same_name i, sym say.0.value i) in
-      ends_from ts (Prop offset value ∷ before) said (
+      sym (name_from-IsNameAt blocks.strings offset property.name encodes.0.name) in
+      let same : property_of property ≡ (name_from blocks.strings offset, value) = λ i. (same_name i, sym encodes.0.value i) in
+      ends_from ts (Prop offset value ∷ before) token_events (
         record {
           no_end = λ (e : Prop offset value ≡ End). absurd cc;
-          stands = stand.0;
-          passes = prop_passes blocks depth_limit place (opened blocks.strings before) offset value (property_of property) stand.0 fits say.0.name follow.0;
+          is_at = stand.0;
+          passes = prop_passes blocks depth_limit place (stage_after blocks.strings before) offset value (property_of property) stand.0 fits encodes.0.name follow.0;
         },
-        walked,
+        passed,
       )
-      stand.1 within say.1
-      (subst (λ (p : Property). AllFollow depth_limit (after (opened blocks.strings before) (Has p)) (map plain_mark said)) same follow.1)
-  ends_from (EndNode ∷ ts) before (ClosesAt ∷ said) walked stand within say follow =
+      stand.1 within encodes.1
+      (subst (λ (p : Property). AllFollow depth_limit (next_stage (stage_after blocks.strings before) (NodeProperty p)) (map plain_mark token_events)) same follow.1)
+  ends_from (EndNode ∷ ts) before (FileNodeEnd ∷ token_events) passed stand within encodes follow =
       let place : ℕ = place_after blocks before in
       let here : place + width EndNode ≤ behind_all (place + width EndNode) (ts ++ End ∷ []) = behind_all-past (place + width EndNode) (ts ++ End ∷ []) in
       let fits : place + width EndNode ≤ blocks.end = omega arith in
-      ends_from ts (EndNode ∷ before) said (
+      ends_from ts (EndNode ∷ before) token_events (
         record {
           no_end = λ (e : EndNode ≡ End). absurd cc;
-          stands = stand.0;
-          passes = end_node_passes blocks depth_limit place (opened blocks.strings before) stand.0 fits follow.0;
+          is_at = stand.0;
+          passes = end_node_passes blocks depth_limit place (stage_after blocks.strings before) stand.0 fits follow.0;
         },
-        walked,
+        passed,
       )
-      stand.1 within say follow.1
-  ends_from ts before said walked stand within say follow = absurd say
+      stand.1 within encodes follow.1
+  ends_from ts before token_events passed stand within encodes follow = absurd encodes
 
   -- The tokens of a block that holds a tree end in the block.
-  holds_within : (root : Root Located) (holds : HoldsTree blocks root) → blocks.begin ≤ blocks.end → behind_all blocks.begin (holds.tokens ++ End ∷ []) ≤ blocks.end
+  holds_within : (root : Root FileNode) (holds : HoldsTree blocks root) → blocks.begin ≤ blocks.end → behind_all blocks.begin (holds.tokens ++ End ∷ []) ≤ blocks.end
   holds_within root holds ordered =
       let size : ℕ = blocks.end - blocks.begin in
       let whole : blocks.begin + length holds.structure ≡ behind_all blocks.begin (holds.tokens ++ End ∷ []) =
-      Spelled-length blocks.begin (holds.tokens ++ End ∷ []) holds.structure holds.spelled in
-      let long : length (slice blocks.file blocks.begin size) ≡ length holds.structure + length holds.behind =
-      ap length holds.stands ∙ length-append holds.structure holds.behind in
+      AreEncodings-length blocks.begin (holds.tokens ++ End ∷ []) holds.structure holds.is_encoded in
+      let long : length (slice blocks.file blocks.begin size) ≡ length holds.structure + length holds.trailing =
+      ap length holds.is_at ∙ length-append holds.structure holds.trailing in
       let short : length (slice blocks.file blocks.begin size) ≡ min size (length (drop blocks.begin blocks.file)) =
       length-take size (drop blocks.begin blocks.file) in
       omega arith
 
   -- A block that holds a tree within the depth limit ends.
-  pub tree_ends : (root : Root Located) → HoldsTree blocks root → blocks.begin ≤ blocks.end → depth_of root ≤ depth_limit → (tokens : List Token) × IsEnded blocks depth_limit tokens
+  pub tree_ends : (root : Root FileNode) → HoldsTree blocks root → blocks.begin ≤ blocks.end → depth_of root ≤ depth_limit → (tokens : List Token) × IsEnded blocks depth_limit tokens
   tree_ends root holds ordered shallow =
-      ends_from holds.tokens [] (placed_marks_of root) tt (HoldsTree-stand blocks root holds) (holds_within root holds ordered) holds.say
+      ends_from holds.tokens [] (file_events_of root) tt (HoldsTree-stand blocks root holds) (holds_within root holds ordered) holds.encodes
       (subst (AllFollow depth_limit BeforeRoot) (sym (plain_marks_of root))
-      (tree_follows depth_limit (plain_tree root) holds.is_tree (subst (λ n. n ≤ depth_limit) (depth-plain root) shallow)))
+      (tree_follows depth_limit (tree_without_places root) holds.is_tree (subst (λ n. n ≤ depth_limit) (depth-properties_of root) shallow)))

@@ -7,9 +7,9 @@ use Rattle.bi_base.specs.Cells.{u32_at, u64_at}
 use Rattle.bi_base.specs.Limits.{Bounds}
 use Rattle.bi_blob.specs.Tokens.{name_from}
 use Rattle.bi_blob.specs.Tree.{IsChildName, IsPropertyName, IsNew, HasNoZero}
-use Rattle.bi_blob.specs.Stages.{Stage, BeforeRoot, Inside, AfterRoot, child_names, property_names, may_stand}
+use Rattle.bi_blob.specs.Stages.{Stage, BeforeRoot, Inside, AfterRoot, child_names, property_names, is_expected}
 use Rattle.bi_blob.specs.Blob.{TreeBlocks}
-use Rattle.bi_blob.specs.BlobFaults.{HeaderCheck, IsWithinLimit, HasMagicCell, HasMagic, HasHeader, HasVersion, HasCompatibleVersion, TotalHoldsHeader, FileHoldsTotal, PlacesReservations, PlacesStructure, PlacesStrings, HeaderPasses, TokenCheck, HasTokenNumber, MayStand, IsWithinDepth, HasNodeName, MayNameNode, IsNewNode, IsBeforeChildren, HasValue, HasPropertyName, MayNameProperty, IsNewProperty, TokenPasses, MayBeNamed, IsEndPair}
+use Rattle.bi_blob.specs.BlobFaults.{HeaderCheck, IsWithinLimit, HasMagicCell, HasMagic, HasHeader, HasVersion, HasCompatibleVersion, TotalHoldsHeader, FileHoldsTotal, PlacesReservations, PlacesStructure, PlacesStrings, HeaderPasses, TokenCheck, HasTokenNumber, IsExpected, IsWithinDepth, HasNodeName, MayNameNode, IsNewNode, IsBeforeChildren, HasValue, HasPropertyName, MayNameProperty, IsNewProperty, TokenPasses, MayBeNamed, IsEndPair}
 
 -- Each check passes or fails.
 
@@ -76,7 +76,7 @@ MayBeNamed_decided AfterRoot name = inr (λ may. may)
 -- Each check of a token passes or fails.
 pub token_decided : (blocks : TreeBlocks) (depth_limit place : ℕ) (stage : Stage) (check : TokenCheck) → Decided (TokenPasses blocks depth_limit place stage check)
 token_decided blocks depth_limit place stage HasTokenNumber = le_decided _ _
-token_decided blocks depth_limit place stage MayStand = IsTrue_decided (may_stand stage (u32_at blocks.file place))
+token_decided blocks depth_limit place stage IsExpected = IsTrue_decided (is_expected stage (u32_at blocks.file place))
 token_decided blocks depth_limit place stage IsWithinDepth = lt_decided _ _
 token_decided blocks depth_limit place stage HasNodeName = lt_decided _ _
 token_decided blocks depth_limit place stage MayNameNode = MayBeNamed_decided stage (name_from blocks.file (place + 4))

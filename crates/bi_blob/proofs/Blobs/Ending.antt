@@ -1,15 +1,15 @@
 use Rattle.std.proofs.Common.{◌≡◌, ℕ, ◌+◌, ◌-◌, ◌≤◌, List, [], ◌∷◌, ◌++◌, length, take, drop, reverse, sym, ap, subst, ◌∙◌, arith}
 use Rattle.std.proofs.Math.Seq.{take-add}
 use Rattle.bi_base.specs.Cells.{slice}
-use Rattle.bi_blob.specs.Tokens.{Token, End, width, StandsAt, end_number}
-use Rattle.bi_blob.specs.Tree.{Root, Located, depth_of}
+use Rattle.bi_blob.specs.Tokens.{Token, End, width, IsTokenAt, end_number}
+use Rattle.bi_blob.specs.Tree.{Root, FileNode, depth_of}
 use Rattle.bi_blob.specs.Stages.{AfterRoot}
 use Rattle.bi_blob.specs.Blob.{TreeBlocks, HoldsTree}
 use Rattle.bi_blob.specs.BlobFaults.{place_after}
-use Rattle.bi_blob.proofs.Blobs.OpenNodes.{Grown, Standing}
-use Rattle.bi_blob.proofs.Blobs.Tokens.{End-stands}
-use Rattle.bi_blob.proofs.Blobs.Spelling.{behind_all, behind_all-append, AllStand}
-use Rattle.bi_blob.proofs.Blobs.Walking.{width-End, behind_all-reverse, behind_all-past, Walked-stand-push, stand_Spelled}
+use Rattle.bi_blob.proofs.Blobs.PartialNodes.{Grown, Standing}
+use Rattle.bi_blob.proofs.Blobs.Tokens.{End-is_at}
+use Rattle.bi_blob.proofs.Blobs.TokenEncoding.{behind_all, behind_all-append, AllStand}
+use Rattle.bi_blob.proofs.Blobs.PassedTokens.{width-End, behind_all-reverse, behind_all-past, ArePassed-stand-push, stand_Spelled}
 use Rattle.bi_blob.proofs.Blobs.Steps.{IsNext, word_within}
 
 -- A slice is its first part and the rest.
@@ -17,18 +17,18 @@ slice-split : (file : List ℕ) (at m k n : ℕ) → n ≡ m + k → slice file 
 slice-split file at m k n e = ap (λ l. take l (drop at file)) e ∙ take-add m k (drop at file)
 
 -- FDT_END after the root ends the structure block: it holds the tree that was read, which is no deeper than the limit.
-pub last_token : (blocks : TreeBlocks) (depth_limit place : ℕ) (root : Root Located) → Standing blocks depth_limit place (Grown root) → IsNext blocks depth_limit place AfterRoot end_number → HoldsTree blocks root × (depth_of root ≤ depth_limit)
+pub last_token : (blocks : TreeBlocks) (depth_limit place : ℕ) (root : Root FileNode) → Standing blocks depth_limit place (Grown root) → IsNext blocks depth_limit place AfterRoot end_number → HoldsTree blocks root × (depth_of root ≤ depth_limit)
 last_token blocks depth_limit place root standing next =
     let tokens : List Token = reverse standing.tokens in
     let before : behind_all blocks.begin tokens ≡ place = behind_all-reverse blocks standing.tokens ∙ standing.is_place in
     let whole : behind_all blocks.begin (tokens ++ End ∷ []) ≡ place + 4 =
     behind_all-append blocks.begin tokens (End ∷ []) ∙ ap (λ p. p + width End) before ∙ ap (λ w. place + w) width-End in
     let past : blocks.begin ≤ behind_all blocks.begin (tokens ++ End ∷ []) = behind_all-past blocks.begin (tokens ++ End ∷ []) in
-    let end_there : StandsAt blocks.file (place_after blocks standing.tokens) End =
-    subst (λ p. StandsAt blocks.file p End) (sym standing.is_place)
-    (End-stands blocks.file place standing.readable.bytes (word_within blocks depth_limit place end_number AfterRoot standing.readable next) next.is_number) in
+    let end_there : IsTokenAt blocks.file (place_after blocks standing.tokens) End =
+    subst (λ p. IsTokenAt blocks.file p End) (sym standing.is_place)
+    (End-is_at blocks.file place standing.readable.bytes (word_within blocks depth_limit place end_number AfterRoot standing.readable next) next.is_number) in
     let stand : AllStand blocks.file blocks.begin (tokens ++ End ∷ []) =
-    Walked-stand-push blocks depth_limit standing.tokens End standing.walked end_there in
+    ArePassed-stand-push blocks depth_limit standing.tokens End standing.passed end_there in
     let word : place + 4 ≤ blocks.end = next.passes.0 in
     let inside : blocks.end ≤ length blocks.file = standing.readable.within in
     let size : ℕ = behind_all blocks.begin (tokens ++ End ∷ []) - blocks.begin in
@@ -36,10 +36,10 @@ last_token blocks depth_limit place root standing next =
       record {
         tokens = tokens;
         structure = slice blocks.file blocks.begin size;
-        behind = take rest (drop size (drop blocks.begin blocks.file));
-        stands = slice-split blocks.file blocks.begin size rest (blocks.end - blocks.begin) (omega arith);
-        spelled = stand_Spelled blocks.file blocks.begin (tokens ++ End ∷ []) stand (omega arith);
-        say = standing.say;
+        trailing = take rest (drop size (drop blocks.begin blocks.file));
+        is_at = slice-split blocks.file blocks.begin size rest (blocks.end - blocks.begin) (omega arith);
+        is_encoded = stand_Spelled blocks.file blocks.begin (tokens ++ End ∷ []) stand (omega arith);
+        encodes = standing.encodes;
         is_tree = standing.is_growth.is_tree;
       },
       standing.is_growth.shallow,

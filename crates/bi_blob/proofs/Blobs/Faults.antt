@@ -9,7 +9,7 @@ use Rattle.bi_blob.specs.BlobLaws.{BlobHasNoFault, OneFault, BlobOrFault, BlobWh
 use Rattle.bi_base.proofs.FirstFault.{one_fault, not_both, fault_or_none}
 use Rattle.bi_blob.proofs.Blobs.Decided.{header_decided}
 use Rattle.bi_blob.proofs.Blobs.Headers.{HasNoHeaderFault-Header, Header-HasNoHeaderFault, Header-IsReadable}
-use Rattle.bi_blob.proofs.Blobs.ReservationFaults.{Found, reservations_or_fault, one_reservations_fault, no_reservations_with_fault, reservations_at, HasReservations-Reserved, Reserved-HasReservations}
+use Rattle.bi_blob.proofs.Blobs.ReservationFaults.{Found, reservations_or_fault, one_reservations_fault, no_reservations_with_fault, reservations_at, HasReservations-BeginsWithReservations, BeginsWithReservations-HasReservations}
 use Rattle.bi_blob.proofs.Blobs.Whole.{HasTree, tree_or_fault}
 use Rattle.bi_blob.proofs.Blobs.OneFault.{IsEnded, one_structure_fault, no_fault_in_ended}
 use Rattle.bi_blob.proofs.Blobs.Complete.{tree_ends}
@@ -22,7 +22,7 @@ blob_has_no_fault bounds file fault within (InHeader first) =
 blob_has_no_fault bounds file fault within (InReservations fine faulty) =
     let header : Header file = within.blob.header in
     no_reservations_with_fault file (off_mem_rsvmap file) (totalsize file) (length within.reservations) fault
-    (Reserved-HasReservations file (off_mem_rsvmap file) (totalsize file) within.reservations header.reservations_within header.file_holds_total within.blob.reserved)
+    (BeginsWithReservations-HasReservations file (off_mem_rsvmap file) (totalsize file) within.reservations header.reservations_within header.file_holds_total within.blob.reserved)
     faulty
 blob_has_no_fault bounds file fault within (InStructure fine count has faulty) =
     let ends : (tokens : List Token) × IsEnded (tree_blocks file) bounds.depth tokens =
@@ -60,7 +60,7 @@ blob_of_parts bounds file count bytes fine has tree =
         bytes = bytes;
         header = header;
         is_cpu = refl;
-        reserved = HasReservations-Reserved file (off_mem_rsvmap file) (totalsize file) count bytes header.file_holds_total has;
+        reserved = HasReservations-BeginsWithReservations file (off_mem_rsvmap file) (totalsize file) count bytes header.file_holds_total has;
         holds = tree.holds;
       };
       within = record { short = fine.0; shallow = tree.shallow };

@@ -1,10 +1,10 @@
 use Rattle.std.proofs.Common.{◌≡◌, ◌≢◌, ℕ, ◌+◌, ◌≤◌, List, [], ◌∷◌, ◌++◌, map, refl, sym, ap, subst, ◌∙◌, arith}
 use Rattle.std.specs.List.{AllByRecursion}
 use Rattle.std.proofs.lemmas.List.{append_assoc, append-nil, map_push}
-use Rattle.bi_blob.specs.Tree.{Nodes, none, node, Property, Placed, Located, names, with_each, depth, property_of, AreNodes, AreProperties, IsChildName, IsPropertyName, IsNew, AreDistinct}
-use Rattle.bi_blob.specs.Marks.{OpensAt, HasAt, ClosesAt, placed_marks, placed_marks_of}
+use Rattle.bi_blob.specs.Tree.{Nodes, none, node, Property, FileProperty, FileNode, names, with_each, depth, property_of, AreNodes, AreProperties, IsChildName, IsPropertyName, IsNew, AreDistinct}
+use Rattle.bi_blob.specs.Events.{FileNodeStart, FileNodeProperty, FileNodeEnd, file_events, file_events_of}
 use Rattle.bi_blob.specs.Stages.{with_property, with_child}
-use Rattle.bi_blob.proofs.Blobs.OpenNodes.{OpenNode, with_one_property, with_one_child, with_last, located_of, root_of, open_of, said_of, said_by}
+use Rattle.bi_blob.proofs.Blobs.PartialNodes.{PartialNode, with_one_property, with_one_child, with_last, located_of, root_of, open_of, said_of, said_by}
 
 -- What one more property or child does to open nodes.
 
@@ -22,12 +22,12 @@ AreDistinct-push (m ∷ ns) n apart is_new = (
 )
 
 -- The names of properties are those of the properties without their places.
-pub names_of_properties : (ps : List Placed) → map (λ (q : Property). q.0) (map property_of ps) ≡ map (λ (p : Placed). p.name) ps
+pub names_of_properties : (ps : List FileProperty) → map (λ (q : Property). q.0) (map property_of ps) ≡ map (λ (p : FileProperty). p.name) ps
 names_of_properties [] = refl
 names_of_properties (p ∷ ps) = ap (λ l. p.name ∷ l) (names_of_properties ps)
 
 -- Good properties stay so with one more whose name is good and new.
-pub AreProperties-push : (ps : List Placed) (p : Placed) → AreProperties (map property_of ps) → IsPropertyName p.name → IsNew p.name (map (λ (q : Placed). q.name) ps) → AreProperties (map property_of (ps ++ p ∷ []))
+pub AreProperties-push : (ps : List FileProperty) (p : FileProperty) → AreProperties (map property_of ps) → IsPropertyName p.name → IsNew p.name (map (λ (q : FileProperty). q.name) ps) → AreProperties (map property_of (ps ++ p ∷ []))
 AreProperties-push ps p are is_name is_new =
     subst AreProperties (sym (map_push property_of ps p)) (record {
       named = All-push (λ (q : Property). IsPropertyName q.0) (map property_of ps) (property_of p) are.named is_name;
@@ -45,13 +45,13 @@ with_each-with_last change none name own children = refl
 with_each-with_last change (node n o cs later) name own children =
     ap (λ l. node n (change o) (with_each change cs) l) (with_each-with_last change later name own children)
 
-pub placed_marks-with_last : (nodes : Nodes Located) (name : List ℕ) (located : Located) (children : Nodes Located) → placed_marks (with_last nodes name located children) ≡ placed_marks nodes ++ placed_marks (node name located children none)
-placed_marks-with_last none name located children = refl
-placed_marks-with_last (node n l cs later) name located children =
-    ap (λ x. OpensAt l.place n ∷ (map HasAt l.properties ++ (placed_marks cs ++ (ClosesAt ∷ x)))) (placed_marks-with_last later name located children)
-    ∙ ap (λ x. OpensAt l.place n ∷ x)
-    (ap (λ x. map HasAt l.properties ++ x) (sym (append_assoc (placed_marks cs) (ClosesAt ∷ placed_marks later) (placed_marks (node name located children none))))
-    ∙ sym (append_assoc (map HasAt l.properties) (placed_marks cs ++ (ClosesAt ∷ placed_marks later)) (placed_marks (node name located children none))))
+pub file_events-with_last : (nodes : Nodes FileNode) (name : List ℕ) (with_places : FileNode) (children : Nodes FileNode) → file_events (with_last nodes name with_places children) ≡ file_events nodes ++ file_events (node name with_places children none)
+file_events-with_last none name with_places children = refl
+file_events-with_last (node n l cs later) name with_places children =
+    ap (λ x. FileNodeStart l.place n ∷ (map FileNodeProperty l.properties ++ (file_events cs ++ (FileNodeEnd ∷ x)))) (file_events-with_last later name with_places children)
+    ∙ ap (λ x. FileNodeStart l.place n ∷ x)
+    (ap (λ x. map FileNodeProperty l.properties ++ x) (sym (append_assoc (file_events cs) (FileNodeEnd ∷ file_events later) (file_events (node name with_places children none))))
+    ∙ sym (append_assoc (map FileNodeProperty l.properties) (file_events cs ++ (FileNodeEnd ∷ file_events later)) (file_events (node name with_places children none))))
 
 -- A list of nodes is as deep as what it had, or as its last node.
 pub depth-with_last : {Own : Type 0} (nodes : Nodes Own) (name : List ℕ) (own : Own) (children : Nodes Own) (limit : ℕ) → depth nodes ≤ limit → depth children + 1 ≤ limit → depth (with_last nodes name own children) ≤ limit
@@ -76,55 +76,55 @@ AreNodes-with_last IsOwn (node n o cs later) name own children are is_name is_ne
 )
 
 -- The names of an open node after one more property.
-pub open_of-property : (o : OpenNode) (p : Placed) → open_of (with_one_property o p) ≡ with_property (open_of o) p.name
-open_of-property o p = λ i. record { properties = map_push (λ (q : Placed). q.name) o.properties p i; children = names o.children }
+pub open_of-property : (o : PartialNode) (p : FileProperty) → open_of (with_one_property o p) ≡ with_property (open_of o) p.name
+open_of-property o p = λ i. record { properties = map_push (λ (q : FileProperty). q.name) o.properties p i; children = names o.children }
 
 -- The names of an open node after one more child.
-pub open_of-child : (parent child : OpenNode) → open_of (with_one_child parent child) ≡ with_child (open_of parent) child.name
+pub open_of-child : (parent child : PartialNode) → open_of (with_one_child parent child) ≡ with_child (open_of parent) child.name
 open_of-child parent child =
     λ i. record { properties = map (λ p. p.name) parent.properties; children = names-with_last parent.children child.name (located_of child) child.children i }
 
 -- A node without names of children has none.
-no_children : (nodes : Nodes Located) → names nodes ≡ [] → nodes ≡ none
+no_children : (nodes : Nodes FileNode) → names nodes ≡ [] → nodes ≡ none
 no_children none e = refl
 no_children (node n l cs later) e = absurd cc
 
 -- An open node without children says one thing more after one more property.
-said_of-property : (o : OpenNode) (p : Placed) → names o.children ≡ [] → said_of (with_one_property o p) ≡ said_of o ++ HasAt p ∷ []
+said_of-property : (o : PartialNode) (p : FileProperty) → names o.children ≡ [] → said_of (with_one_property o p) ≡ said_of o ++ FileNodeProperty p ∷ []
 said_of-property o p childless =
     let bare : o.children ≡ none = no_children o.children childless in
-    ap (λ l. OpensAt o.place o.name ∷ l)
-    (ap (λ c. map HasAt (o.properties ++ p ∷ []) ++ placed_marks c) bare
-    ∙ append-nil (map HasAt (o.properties ++ p ∷ []))
-    ∙ map_push HasAt o.properties p
-    ∙ ap (λ l. l ++ HasAt p ∷ []) (sym (append-nil (map HasAt o.properties)) ∙ ap (λ c. map HasAt o.properties ++ placed_marks c) (sym bare)))
+    ap (λ l. FileNodeStart o.place o.name ∷ l)
+    (ap (λ c. map FileNodeProperty (o.properties ++ p ∷ []) ++ file_events c) bare
+    ∙ append-nil (map FileNodeProperty (o.properties ++ p ∷ []))
+    ∙ map_push FileNodeProperty o.properties p
+    ∙ ap (λ l. l ++ FileNodeProperty p ∷ []) (sym (append-nil (map FileNodeProperty o.properties)) ∙ ap (λ c. map FileNodeProperty o.properties ++ file_events c) (sym bare)))
 
 -- What all open nodes say after one more property of the innermost.
-pub said_by-property : (o : OpenNode) (outer : List OpenNode) (p : Placed) → names o.children ≡ [] → said_by (with_one_property o p) outer ≡ said_by o outer ++ HasAt p ∷ []
+pub said_by-property : (o : PartialNode) (outer : List PartialNode) (p : FileProperty) → names o.children ≡ [] → said_by (with_one_property o p) outer ≡ said_by o outer ++ FileNodeProperty p ∷ []
 said_by-property o [] p childless = said_of-property o p childless
 said_by-property o (parent ∷ outer) p childless =
-    ap (λ l. said_by parent outer ++ l) (said_of-property o p childless) ∙ sym (append_assoc (said_by parent outer) (said_of o) (HasAt p ∷ []))
+    ap (λ l. said_by parent outer ++ l) (said_of-property o p childless) ∙ sym (append_assoc (said_by parent outer) (said_of o) (FileNodeProperty p ∷ []))
 
 -- What a node says when it is closed.
-said_of-closed : (child : OpenNode) → placed_marks (node child.name (located_of child) child.children none) ≡ said_of child ++ ClosesAt ∷ []
+said_of-closed : (child : PartialNode) → file_events (node child.name (located_of child) child.children none) ≡ said_of child ++ FileNodeEnd ∷ []
 said_of-closed child =
-    ap (λ l. OpensAt child.place child.name ∷ l) (sym (append_assoc (map HasAt child.properties) (placed_marks child.children) (ClosesAt ∷ [])))
+    ap (λ l. FileNodeStart child.place child.name ∷ l) (sym (append_assoc (map FileNodeProperty child.properties) (file_events child.children) (FileNodeEnd ∷ [])))
 
-said_of-child : (parent child : OpenNode) → said_of (with_one_child parent child) ≡ said_of parent ++ (said_of child ++ ClosesAt ∷ [])
+said_of-child : (parent child : PartialNode) → said_of (with_one_child parent child) ≡ said_of parent ++ (said_of child ++ FileNodeEnd ∷ [])
 said_of-child parent child =
-    ap (λ l. OpensAt parent.place parent.name ∷ (map HasAt parent.properties ++ l))
-    (placed_marks-with_last parent.children child.name (located_of child) child.children ∙ ap (λ l. placed_marks parent.children ++ l) (said_of-closed child))
-    ∙ ap (λ l. OpensAt parent.place parent.name ∷ l) (sym (append_assoc (map HasAt parent.properties) (placed_marks parent.children) (said_of child ++ ClosesAt ∷ [])))
+    ap (λ l. FileNodeStart parent.place parent.name ∷ (map FileNodeProperty parent.properties ++ l))
+    (file_events-with_last parent.children child.name (located_of child) child.children ∙ ap (λ l. file_events parent.children ++ l) (said_of-closed child))
+    ∙ ap (λ l. FileNodeStart parent.place parent.name ∷ l) (sym (append_assoc (map FileNodeProperty parent.properties) (file_events parent.children) (said_of child ++ FileNodeEnd ∷ [])))
 
 -- What all open nodes say after the innermost is closed.
-pub said_by-child : (parent child : OpenNode) (outer : List OpenNode) → said_by (with_one_child parent child) outer ≡ said_by child (parent ∷ outer) ++ ClosesAt ∷ []
-said_by-child parent child [] = said_of-child parent child ∙ sym (append_assoc (said_of parent) (said_of child) (ClosesAt ∷ []))
+pub said_by-child : (parent child : PartialNode) (outer : List PartialNode) → said_by (with_one_child parent child) outer ≡ said_by child (parent ∷ outer) ++ FileNodeEnd ∷ []
+said_by-child parent child [] = said_of-child parent child ∙ sym (append_assoc (said_of parent) (said_of child) (FileNodeEnd ∷ []))
 said_by-child parent child (grandparent ∷ outer) =
     ap (λ l. said_by grandparent outer ++ l) (said_of-child parent child)
-    ∙ sym (append_assoc (said_by grandparent outer) (said_of parent) (said_of child ++ ClosesAt ∷ []))
-    ∙ sym (append_assoc (said_by grandparent outer ++ said_of parent) (said_of child) (ClosesAt ∷ []))
+    ∙ sym (append_assoc (said_by grandparent outer) (said_of parent) (said_of child ++ FileNodeEnd ∷ []))
+    ∙ sym (append_assoc (said_by grandparent outer ++ said_of parent) (said_of child) (FileNodeEnd ∷ []))
 
 -- What a tree says is what its root says when it is closed.
-pub said_by-root : (outermost : OpenNode) → outermost.name ≡ [] → placed_marks_of (root_of outermost) ≡ said_of outermost ++ ClosesAt ∷ []
+pub said_by-root : (outermost : PartialNode) → outermost.name ≡ [] → file_events_of (root_of outermost) ≡ said_of outermost ++ FileNodeEnd ∷ []
 said_by-root outermost unnamed =
-    ap (λ n. placed_marks (node n (located_of outermost) outermost.children none)) (sym unnamed) ∙ said_of-closed outermost
+    ap (λ n. file_events (node n (located_of outermost) outermost.children none)) (sym unnamed) ∙ said_of-closed outermost

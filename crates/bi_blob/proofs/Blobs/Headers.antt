@@ -23,14 +23,14 @@ HasNoHeaderFault-Header bounds file fine =
       is_understood = version.1.0;
       total_holds_header = total.0;
       file_holds_total = total.1.0;
-      reservations_behind_header = blocks.0.0;
+      reservations_after_header = blocks.0.0;
       reservations_aligned = blocks.0.1;
       reservations_within = blocks.0.2;
-      structure_behind_header = blocks.1.0.0;
+      structure_after_header = blocks.1.0.0;
       structure_aligned = blocks.1.0.1;
       structure_ordered = blocks.1.0.2;
       structure_within = blocks.1.0.3;
-      strings_behind_header = blocks.1.1.0.0;
+      strings_after_header = blocks.1.1.0.0;
       strings_within = blocks.1.1.0.1;
     }
 
@@ -55,10 +55,10 @@ Header-HasNoHeaderFault bounds file short header =
                   (
                     header.file_holds_total,
                     (
-                      (header.reservations_behind_header, header.reservations_aligned, header.reservations_within),
+                      (header.reservations_after_header, header.reservations_aligned, header.reservations_within),
                       (
-                        (header.structure_behind_header, header.structure_aligned, header.structure_ordered, header.structure_within),
-                        ((header.strings_behind_header, header.strings_within), tt),
+                        (header.structure_after_header, header.structure_aligned, header.structure_ordered, header.structure_within),
+                        ((header.strings_after_header, header.strings_within), tt),
                       ),
                     ),
                   ),

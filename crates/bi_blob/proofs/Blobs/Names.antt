@@ -5,7 +5,7 @@ use Rattle.std.proofs.Math.Numerals.{one-add}
 use Rattle.std.proofs.lemmas.Bool.{eqb-true, eqb-false, ne_eqb}
 use Rattle.std.proofs.lemmas.List.{length-append, length-drop}
 use Rattle.bi_blob.specs.Tree.{HasNoZero}
-use Rattle.bi_blob.specs.Tokens.{NameAt, name_from}
+use Rattle.bi_blob.specs.Tokens.{IsNameAt, name_from}
 use Rattle.bi_blob.specs.BlobFaults.{HasName}
 
 -- The bytes before the first zero byte.
@@ -66,29 +66,29 @@ pub names_agree : (m n x y : List ℕ) → HasNoZero m → HasNoZero n → m ++ 
 names_agree m n x y m_name n_name e = sym (before_zero-name m x m_name) ∙ ap before_zero e ∙ before_zero-name n y n_name
 
 -- One name at most stands at an offset.
-pub one_name : (strings : List ℕ) (offset : ℕ) (m n : List ℕ) → NameAt strings offset m → NameAt strings offset n → m ≡ n
+pub one_name : (strings : List ℕ) (offset : ℕ) (m n : List ℕ) → IsNameAt strings offset m → IsNameAt strings offset n → m ≡ n
 one_name strings offset m n one other =
-    names_agree m n one.behind other.behind one.no_zero other.no_zero (sym one.stands ∙ other.stands)
+    names_agree m n one.trailing other.trailing one.no_zero other.no_zero (sym one.is_at ∙ other.is_at)
 
 -- A name that stands at an offset is the one that is read from there.
-pub name_from-NameAt : (strings : List ℕ) (offset : ℕ) (name : List ℕ) → NameAt strings offset name → name_from strings offset ≡ name
-name_from-NameAt strings offset name at = ap before_zero at.stands ∙ before_zero-name name at.behind at.no_zero
+pub name_from-IsNameAt : (strings : List ℕ) (offset : ℕ) (name : List ℕ) → IsNameAt strings offset name → name_from strings offset ≡ name
+name_from-IsNameAt strings offset name at = ap before_zero at.is_at ∙ before_zero-name name at.trailing at.no_zero
 
 -- Where a name stands, its zero byte stands before the end.
-pub NameAt-within : (strings : List ℕ) (offset : ℕ) (name : List ℕ) → NameAt strings offset name → offset + length name < length strings
-NameAt-within strings offset name at =
-    let long : length (drop offset strings) ≡ length name + suc (length at.behind) = ap length at.stands ∙ simp length-append refl in
+pub IsNameAt-within : (strings : List ℕ) (offset : ℕ) (name : List ℕ) → IsNameAt strings offset name → offset + length name < length strings
+IsNameAt-within strings offset name at =
+    let long : length (drop offset strings) ≡ length name + suc (length at.trailing) = ap length at.is_at ∙ simp length-append refl in
     let short : length (drop offset strings) ≡ length strings - offset = length-drop offset strings in
     omega arith
 
-pub NameAt-HasName : (strings : List ℕ) (offset : ℕ) (name : List ℕ) → NameAt strings offset name → HasName strings offset (length strings)
-NameAt-HasName strings offset name at =
-    subst (λ read. offset + length read < length strings) (sym (name_from-NameAt strings offset name at)) (NameAt-within strings offset name at)
+pub IsNameAt-HasName : (strings : List ℕ) (offset : ℕ) (name : List ℕ) → IsNameAt strings offset name → HasName strings offset (length strings)
+IsNameAt-HasName strings offset name at =
+    subst (λ read. offset + length read < length strings) (sym (name_from-IsNameAt strings offset name at)) (IsNameAt-within strings offset name at)
 
 -- Where a zero byte follows an offset before an end, a name stands there.
-pub HasName-NameAt : (bytes : List ℕ) (offset end : ℕ) → end ≤ length bytes → HasName bytes offset end → NameAt bytes offset (name_from bytes offset)
-HasName-NameAt bytes offset end within has = record {
+pub HasName-IsNameAt : (bytes : List ℕ) (offset end : ℕ) → end ≤ length bytes → HasName bytes offset end → IsNameAt bytes offset (name_from bytes offset)
+HasName-IsNameAt bytes offset end within has = record {
   no_zero = HasNoZero-before_zero (drop offset bytes);
-  behind = drop (suc (length (name_from bytes offset))) (drop offset bytes);
-  stands = zero_behind (drop offset bytes) (rw (length-drop offset bytes) (omega arith));
+  trailing = drop (suc (length (name_from bytes offset))) (drop offset bytes);
+  is_at = zero_behind (drop offset bytes) (rw (length-drop offset bytes) (omega arith));
 }

@@ -3,9 +3,9 @@ use Rattle.std.proofs.lemmas.Bool.{cases_order}
 use Rattle.bi_base.specs.declared.fault.Fault.{Fault}
 use Rattle.bi_base.specs.Cells.{u32_at}
 use Rattle.bi_base.specs.Checks.{IsFirstFault, HasNoFault}
-use Rattle.bi_blob.specs.Tokens.{Token, End, StandsAt}
+use Rattle.bi_blob.specs.Tokens.{Token, End, IsTokenAt}
 use Rattle.bi_blob.specs.Blob.{TreeBlocks}
-use Rattle.bi_blob.specs.BlobFaults.{TokenPasses, token_checks, token_fault, opened, place_after, IsPassed, Walked, IsStructureFault}
+use Rattle.bi_blob.specs.BlobFaults.{TokenPasses, token_checks, token_fault, stage_after, place_after, IsPassed, ArePassed, IsStructureFault}
 use Rattle.bi_base.proofs.FirstFault.{one_fault, not_both}
 use Rattle.bi_blob.proofs.Blobs.Tokens.{one_token}
 
@@ -15,30 +15,30 @@ module _ (blocks : TreeBlocks) (depth_limit : ℕ) where
   -- The token behind these passes its checks.
   abbrev pub TokenIsFine : List Token → Type 0
   TokenIsFine before =
-      HasNoFault (TokenPasses blocks depth_limit (place_after blocks before) (opened blocks.strings before))
+      HasNoFault (TokenPasses blocks depth_limit (place_after blocks before) (stage_after blocks.strings before))
       (token_checks (u32_at blocks.file (place_after blocks before)))
 
   -- The first check that fails of the token behind these gives this fault.
   abbrev pub TokenFault : List Token → Fault → Type 0
   TokenFault before fault =
-      IsFirstFault (TokenPasses blocks depth_limit (place_after blocks before) (opened blocks.strings before))
+      IsFirstFault (TokenPasses blocks depth_limit (place_after blocks before) (stage_after blocks.strings before))
       (token_fault (place_after blocks before))
       (token_checks (u32_at blocks.file (place_after blocks before)))
       fault
 
   -- Two equally long lists of tokens that pass are one.
-  pub same_walk : (ts us : List Token) → Walked blocks depth_limit ts → Walked blocks depth_limit us → length ts ≡ length us → ts ≡ us
+  pub same_walk : (ts us : List Token) → ArePassed blocks depth_limit ts → ArePassed blocks depth_limit us → length ts ≡ length us → ts ≡ us
   same_walk [] [] one other e = refl
   same_walk [] (u ∷ us) one other e = absurd (omega arith)
   same_walk (t ∷ ts) [] one other e = absurd (omega arith)
   same_walk (t ∷ ts) (u ∷ us) one other e =
       let before : ts ≡ us = same_walk ts us one.1 other.1 (omega arith) in
       let same : t ≡ u = one_token blocks.file (place_after blocks us) t u
-      (subst (λ vs. StandsAt blocks.file (place_after blocks vs) t) before one.0.stands) other.0.stands in
+      (subst (λ vs. IsTokenAt blocks.file (place_after blocks vs) t) before one.0.is_at) other.0.is_at in
       λ i. same i ∷ before i
 
   -- A list of tokens that pass goes on with one that passes, where a longer list passes.
-  pub passed_behind : (ts us : List Token) → Walked blocks depth_limit ts → Walked blocks depth_limit us → length ts < length us → (u : Token) × IsPassed blocks depth_limit ts u
+  pub passed_behind : (ts us : List Token) → ArePassed blocks depth_limit ts → ArePassed blocks depth_limit us → length ts < length us → (u : Token) × IsPassed blocks depth_limit ts u
   passed_behind ts [] one other less = absurd (omega arith)
   passed_behind ts (u ∷ us) one other less =
       elim (cases_order (length ts) (length us)) [
@@ -50,7 +50,7 @@ module _ (blocks : TreeBlocks) (depth_limit : ℕ) where
       ]
 
   -- No fault stands before the end of tokens that pass.
-  pub no_fault_before : (ts us : List Token) (fault : Fault) → Walked blocks depth_limit ts → Walked blocks depth_limit us → length ts < length us → TokenFault ts fault → ⊥
+  pub no_fault_before : (ts us : List Token) (fault : Fault) → ArePassed blocks depth_limit ts → ArePassed blocks depth_limit us → length ts < length us → TokenFault ts fault → ⊥
   no_fault_before ts us fault one other less first =
       let next : (u : Token) × IsPassed blocks depth_limit ts u = passed_behind ts us one other less in
       not_both _ _ (token_checks (u32_at blocks.file (place_after blocks ts))) fault next.1.passes first
@@ -60,19 +60,19 @@ module _ (blocks : TreeBlocks) (depth_limit : ℕ) where
   one_structure_fault f g one other =
       elim (cases_order (length one.before) (length other.before)) [
         | inl same ↦
-            let before : one.before ≡ other.before = same_walk one.before other.before one.walked other.walked same in
+            let before : one.before ≡ other.before = same_walk one.before other.before one.passed other.passed same in
             one_fault _ _ (token_checks (u32_at blocks.file (place_after blocks other.before))) f g
             (subst (λ ts. TokenFault ts f) before one.first) other.first
         | inr unequal ↦ elim unequal [
-          | inl shorter ↦ absurd (no_fault_before one.before other.before f one.walked other.walked shorter one.first)
-          | inr longer ↦ absurd (no_fault_before other.before one.before g other.walked one.walked longer other.first)
+          | inl shorter ↦ absurd (no_fault_before one.before other.before f one.passed other.passed shorter one.first)
+          | inr longer ↦ absurd (no_fault_before other.before one.before g other.passed one.passed longer other.first)
         ]
       ]
 
   -- The block ends with FDT_END behind these tokens: all pass, and so does it.
   pub record IsEnded (tokens : List Token) : Type 0 where
-    pub walked : Walked blocks depth_limit tokens
-    pub end : StandsAt blocks.file (place_after blocks tokens) End
+    pub passed : ArePassed blocks depth_limit tokens
+    pub end : IsTokenAt blocks.file (place_after blocks tokens) End
     pub passes : TokenIsFine tokens
 
   -- A block that ends has no fault.
@@ -80,13 +80,13 @@ module _ (blocks : TreeBlocks) (depth_limit : ℕ) where
   no_fault_in_ended tokens fault ended other =
       elim (cases_order (length other.before) (length tokens)) [
         | inl same ↦
-            let before : other.before ≡ tokens = same_walk other.before tokens other.walked ended.walked same in
+            let before : other.before ≡ tokens = same_walk other.before tokens other.passed ended.passed same in
             not_both _ _ (token_checks (u32_at blocks.file (place_after blocks tokens))) fault ended.passes
             (subst (λ ts. TokenFault ts fault) before other.first)
         | inr unequal ↦ elim unequal [
-          | inl shorter ↦ no_fault_before other.before tokens fault other.walked ended.walked shorter other.first
-          | inr longer ↦ past_end (passed_behind tokens other.before ended.walked other.walked longer)
+          | inl shorter ↦ no_fault_before other.before tokens fault other.passed ended.passed shorter other.first
+          | inr longer ↦ past_end (passed_behind tokens other.before ended.passed other.passed longer)
         ]
       ] where
         past_end : (u : Token) × IsPassed blocks depth_limit tokens u → ⊥
-        past_end next = next.1.no_end (one_token blocks.file (place_after blocks tokens) next.0 End next.1.stands ended.end)
+        past_end next = next.1.no_end (one_token blocks.file (place_after blocks tokens) next.0 End next.1.is_at ended.end)

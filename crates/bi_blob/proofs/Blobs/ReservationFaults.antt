@@ -6,7 +6,7 @@ use Rattle.std.proofs.Math.Seq.{take-add}
 use Rattle.bi_base.specs.declared.fault.Cause.TheVariants.{Truncated}
 use Rattle.bi_base.specs.declared.fault.Fault.{Fault}
 use Rattle.bi_base.specs.Cells.{cell8, slice, u64_at, AreBytes}
-use Rattle.bi_blob.specs.Blob.{Reservation, IsReservation, pair_bytes, end_pair, reserved_block, Reserved}
+use Rattle.bi_blob.specs.Blob.{Reservation, IsReservation, pair_bytes, end_pair, reservation_block, BeginsWithReservations}
 use Rattle.bi_blob.specs.BlobFaults.{IsEndPair, HasReservations, IsReservationsFault}
 use Rattle.bi_base.proofs.CellLaws.{length-slice}
 use Rattle.bi_blob.proofs.Blobs.Cells.{BytesAt, BytesAt-from, BytesAt-left, BytesAt-right, BytesAt-join, BytesAt-cell8, u64_at-BytesAt, u64_at-fits, length-cell8}
@@ -18,16 +18,16 @@ pub length-pair_bytes : (pair : Reservation) → length (pair_bytes pair) ≡ 16
 length-pair_bytes pair = simp (length-append, length-cell8) refl
 
 -- The block of a first reservation and others is its pair and their block.
-pub reserved_block-first : (pair : Reservation) (later : List Reservation) → reserved_block (pair ∷ later) ≡ pair_bytes pair ++ reserved_block later
-reserved_block-first pair later = append_assoc (pair_bytes pair) (flat_map pair_bytes later) (pair_bytes end_pair)
+pub reservation_block-first : (pair : Reservation) (later : List Reservation) → reservation_block (pair ∷ later) ≡ pair_bytes pair ++ reservation_block later
+reservation_block-first pair later = append_assoc (pair_bytes pair) (flat_map pair_bytes later) (pair_bytes end_pair)
 
-pub length-reserved_block : (reservations : List Reservation) → length (reserved_block reservations) ≡ 16 * length reservations + 16
-length-reserved_block [] = length-pair_bytes end_pair
-length-reserved_block (pair ∷ later) =
-    let rest : length (reserved_block later) ≡ 16 * length later + 16 = length-reserved_block later in
+pub length-reservation_block : (reservations : List Reservation) → length (reservation_block reservations) ≡ 16 * length reservations + 16
+length-reservation_block [] = length-pair_bytes end_pair
+length-reservation_block (pair ∷ later) =
+    let rest : length (reservation_block later) ≡ 16 * length later + 16 = length-reservation_block later in
     let first : length (pair_bytes pair) ≡ 16 = length-pair_bytes pair in
-    let whole : length (reserved_block (pair ∷ later)) ≡ length (pair_bytes pair) + length (reserved_block later) =
-    ap length (reserved_block-first pair later) ∙ length-append (pair_bytes pair) (reserved_block later) in
+    let whole : length (reservation_block (pair ∷ later)) ≡ length (pair_bytes pair) + length (reservation_block later) =
+    ap length (reservation_block-first pair later) ∙ length-append (pair_bytes pair) (reservation_block later) in
     omega arith
 
 -- The pair that is read at an offset.
@@ -44,10 +44,10 @@ pair_stands file at bytes within =
 
 -- A pair that stands at an offset is read there.
 pub pair_read : (file : List ℕ) (at : ℕ) (pair : Reservation) → pair.address < 2 ^ 64 → pair.size < 2 ^ 64 → BytesAt file at (pair_bytes pair) → (u64_at file at ≡ pair.address) × (u64_at file (at + 8) ≡ pair.size)
-pair_read file at pair address_fits size_fits stands = (
-  u64_at-BytesAt file at pair.address address_fits (BytesAt-left file at (cell8 pair.address) (cell8 pair.size) stands),
+pair_read file at pair address_fits size_fits is_at = (
+  u64_at-BytesAt file at pair.address address_fits (BytesAt-left file at (cell8 pair.address) (cell8 pair.size) is_at),
   u64_at-BytesAt file (at + 8) pair.size size_fits
-      (subst (λ n. BytesAt file (at + n) (cell8 pair.size)) (length-cell8 pair.address) (BytesAt-right file at (cell8 pair.address) (cell8 pair.size) stands)),
+      (subst (λ n. BytesAt file (at + n) (cell8 pair.size)) (length-cell8 pair.address) (BytesAt-right file at (cell8 pair.address) (cell8 pair.size) is_at)),
 )
 
 -- A pair that is not the end pair is a reservation.
@@ -212,16 +212,16 @@ end_stands file at bytes within is =
     subst (λ (pair : Reservation). BytesAt file at (pair_bytes pair)) (λ i. record { address = is.address i; size = is.size i }) (pair_stands file at bytes within)
 
 -- Their block stands at the offset.
-reservations_stand : (file : List ℕ) (at total count : ℕ) → AreBytes file → total ≤ length file → HasReservations file at total count → BytesAt file at (reserved_block (reservations_at file at count))
+reservations_stand : (file : List ℕ) (at total count : ℕ) → AreBytes file → total ≤ length file → HasReservations file at total count → BytesAt file at (reservation_block (reservations_at file at count))
 reservations_stand file at total zero bytes inside has =
     let within : at + 16 * 0 + 16 ≤ total = has.within in
     end_stands file at bytes (omega arith) (from_first (IsEndPair file) at has.end)
 reservations_stand file at total (suc count) bytes inside has =
     let within : at + 16 * suc count + 16 ≤ total = has.within in
-    subst (BytesAt file at) (sym (reserved_block-first (pair_at file at) (reservations_at file (at + 16) count)))
-    (BytesAt-join file at (pair_bytes (pair_at file at)) (reserved_block (reservations_at file (at + 16) count))
+    subst (BytesAt file at) (sym (reservation_block-first (pair_at file at) (reservations_at file (at + 16) count)))
+    (BytesAt-join file at (pair_bytes (pair_at file at)) (reservation_block (reservations_at file (at + 16) count))
     (pair_stands file at bytes (omega arith))
-    (subst (λ n. BytesAt file (at + n) (reserved_block (reservations_at file (at + 16) count))) (sym (length-pair_bytes (pair_at file at)))
+    (subst (λ n. BytesAt file (at + n) (reservation_block (reservations_at file (at + 16) count))) (sym (length-pair_bytes (pair_at file at)))
     (reservations_stand file (at + 16) total count bytes inside (HasReservations-later file at total count has))))
 
 length-reservations_at : (file : List ℕ) (at count : ℕ) → length (reservations_at file at count) ≡ count
@@ -230,39 +230,39 @@ length-reservations_at file at (suc count) = ap suc (length-reservations_at file
 
 -- What is before an end begins with what stands there.
 begins : (file : List ℕ) (at total : ℕ) (bytes : List ℕ) → BytesAt file at bytes → length bytes ≤ total - at → slice file at (total - at) ≡ bytes ++ take ((total - at) - length bytes) (drop (length bytes) (drop at file))
-begins file at total bytes stands fits =
+begins file at total bytes is_at fits =
     ap (λ n. take n (drop at file)) sum
     ∙ take-add (length bytes) ((total - at) - length bytes) (drop at file)
-    ∙ ap (λ l. l ++ take ((total - at) - length bytes) (drop (length bytes) (drop at file))) stands where
+    ∙ ap (λ l. l ++ take ((total - at) - length bytes) (drop (length bytes) (drop at file))) is_at where
       sum : total - at ≡ length bytes + ((total - at) - length bytes)
       sum = omega arith
 
 -- A block of reservations is one, byte by byte.
-pub HasReservations-Reserved : (file : List ℕ) (at total count : ℕ) → AreBytes file → total ≤ length file → HasReservations file at total count → Reserved (slice file at (total - at)) (reservations_at file at count)
-HasReservations-Reserved file at total count bytes inside has =
+pub HasReservations-BeginsWithReservations : (file : List ℕ) (at total count : ℕ) → AreBytes file → total ≤ length file → HasReservations file at total count → BeginsWithReservations (slice file at (total - at)) (reservations_at file at count)
+HasReservations-BeginsWithReservations file at total count bytes inside has =
     let all : List Reservation = reservations_at file at count in
     let within : at + 16 * count + 16 ≤ total = has.within in
-    let long : length (reserved_block all) ≡ 16 * length all + 16 = length-reserved_block all in
+    let long : length (reservation_block all) ≡ 16 * length all + 16 = length-reservation_block all in
     let many : length all ≡ count = length-reservations_at file at count in
     record {
       are_reservations = are_reservations_at file at total count bytes has;
-      behind = take ((total - at) - length (reserved_block all)) (drop (length (reserved_block all)) (drop at file));
-      stands = begins file at total (reserved_block all) (reservations_stand file at total count bytes inside has) (omega arith);
+      trailing = take ((total - at) - length (reservation_block all)) (drop (length (reservation_block all)) (drop at file));
+      is_at = begins file at total (reservation_block all) (reservations_stand file at total count bytes inside has) (omega arith);
     }
 
 -- A block that stands at an offset has as many reservations as it is made of.
-block_has : (file : List ℕ) (at total : ℕ) (all : List Reservation) → AllByRecursion IsReservation all → BytesAt file at (reserved_block all) → at + (16 * length all + 16) ≤ total → HasReservations file at total (length all)
-block_has file at total [] are stands fits =
-    let read : (u64_at file at ≡ 0) × (u64_at file (at + 8) ≡ 0) = pair_read file at end_pair (lit< tt) (lit< tt) stands in
+block_has : (file : List ℕ) (at total : ℕ) (all : List Reservation) → AllByRecursion IsReservation all → BytesAt file at (reservation_block all) → at + (16 * length all + 16) ≤ total → HasReservations file at total (length all)
+block_has file at total [] are is_at fits =
+    let read : (u64_at file at ≡ 0) × (u64_at file (at + 8) ≡ 0) = pair_read file at end_pair (lit< tt) (lit< tt) is_at in
     ends_here file at total (omega arith) (record { address = read.0; size = read.1 })
-block_has file at total (pair ∷ later) are stands fits =
-    let split : BytesAt file at (pair_bytes pair ++ reserved_block later) = subst (BytesAt file at) (reserved_block-first pair later) stands in
+block_has file at total (pair ∷ later) are is_at fits =
+    let split : BytesAt file at (pair_bytes pair ++ reservation_block later) = subst (BytesAt file at) (reservation_block-first pair later) is_at in
     let read : (u64_at file at ≡ pair.address) × (u64_at file (at + 8) ≡ pair.size) =
-    pair_read file at pair are.0.address_fits are.0.size_fits (BytesAt-left file at (pair_bytes pair) (reserved_block later) split) in
+    pair_read file at pair are.0.address_fits are.0.size_fits (BytesAt-left file at (pair_bytes pair) (reservation_block later) split) in
     let some : 0 < pair.address + pair.size = are.0.some in
     let rest : HasReservations file (at + 16) total (length later) =
     block_has file (at + 16) total later are.1
-    (subst (λ n. BytesAt file (at + n) (reserved_block later)) (length-pair_bytes pair) (BytesAt-right file at (pair_bytes pair) (reserved_block later) split))
+    (subst (λ n. BytesAt file (at + n) (reservation_block later)) (length-pair_bytes pair) (BytesAt-right file at (pair_bytes pair) (reservation_block later) split))
     (omega arith) in
     subst (HasReservations file at total) (one_more (length later))
     (HasReservations-cons file at total (length later) (λ is. not_end is read some) rest) where
@@ -278,15 +278,15 @@ block_has file at total (pair ∷ later) are stands fits =
           omega arith
 
 -- Reserved bytes have as many reservations as they are made of.
-pub Reserved-HasReservations : (file : List ℕ) (at total : ℕ) (all : List Reservation) → at ≤ total → total ≤ length file → Reserved (slice file at (total - at)) all → HasReservations file at total (length all)
-Reserved-HasReservations file at total all ordered inside reserved =
+pub BeginsWithReservations-HasReservations : (file : List ℕ) (at total : ℕ) (all : List Reservation) → at ≤ total → total ≤ length file → BeginsWithReservations (slice file at (total - at)) all → HasReservations file at total (length all)
+BeginsWithReservations-HasReservations file at total all ordered inside reserved =
     let size : ℕ = total - at in
     let long : length (slice file at size) ≡ size = length-slice file at size (omega arith) in
-    let parts : length (slice file at size) ≡ length (reserved_block all) + length reserved.behind =
-    ap length reserved.stands ∙ length-append (reserved_block all) reserved.behind in
-    let block : length (reserved_block all) ≡ 16 * length all + 16 = length-reserved_block all in
+    let parts : length (slice file at size) ≡ length (reservation_block all) + length reserved.trailing =
+    ap length reserved.is_at ∙ length-append (reservation_block all) reserved.trailing in
+    let block : length (reservation_block all) ≡ 16 * length all + 16 = length-reservation_block all in
     block_has file at total all reserved.are_reservations
-    (BytesAt-from file at (reserved_block all) (reserved.behind ++ drop size (drop at file))
-    (sym (take-append-drop size (drop at file)) ∙ ap (λ l. l ++ drop size (drop at file)) reserved.stands
-    ∙ append_assoc (reserved_block all) reserved.behind (drop size (drop at file))))
+    (BytesAt-from file at (reservation_block all) (reserved.trailing ++ drop size (drop at file))
+    (sym (take-append-drop size (drop at file)) ∙ ap (λ l. l ++ drop size (drop at file)) reserved.is_at
+    ∙ append_assoc (reservation_block all) reserved.trailing (drop size (drop at file))))
     (omega arith)

@@ -2,7 +2,7 @@ use Rattle.std.proofs.Common.{◌≡◌, ℕ, ◌+◌, ◌<◌, ◌^◌, List, [
 use Rattle.std.specs.List.{AllByRecursion, flat_map}
 use Rattle.std.proofs.lemmas.List.{append_assoc}
 use Rattle.bi_base.specs.Cells.{cell8}
-use Rattle.bi_blob.specs.Blob.{Reservation, IsReservation, pair_bytes, end_pair, reserved_block}
+use Rattle.bi_blob.specs.Blob.{Reservation, IsReservation, pair_bytes, end_pair, reservation_block}
 use Rattle.bi_base.proofs.CellLaws.{parts_agree}
 use Rattle.bi_blob.proofs.Blobs.Cells.{length-cell8, cell8_agree}
 
@@ -20,10 +20,10 @@ pairs_agree a b x y a1 a2 b1 b2 e =
     ((λ i. record { address = address i; size = size i }), second.1)
 
 -- A block with a range begins with its pair.
-pub reserved_block-cons : (reservation : Reservation) (later : List Reservation) (x : List ℕ) → reserved_block (reservation ∷ later) ++ x ≡ pair_bytes reservation ++ (reserved_block later ++ x)
-reserved_block-cons reservation later x =
+pub reservation_block-cons : (reservation : Reservation) (later : List Reservation) (x : List ℕ) → reservation_block (reservation ∷ later) ++ x ≡ pair_bytes reservation ++ (reservation_block later ++ x)
+reservation_block-cons reservation later x =
     ap (λ l. l ++ x) (append_assoc (pair_bytes reservation) (flat_map pair_bytes later) (pair_bytes end_pair))
-    ∙ append_assoc (pair_bytes reservation) (reserved_block later) x
+    ∙ append_assoc (pair_bytes reservation) (reservation_block later) x
 
 -- A pair of a range is not the end pair.
 no_end_pair : (reservation : Reservation) (x y : List ℕ) → IsReservation reservation → pair_bytes reservation ++ x ≡ pair_bytes end_pair ++ y → ⊥
@@ -35,15 +35,15 @@ no_end_pair reservation x y is e =
     omega arith
 
 -- Two blocks of reservations that begin one list have the same reservations.
-pub reservations_agree : (rs ss : List Reservation) (x y : List ℕ) → AllByRecursion IsReservation rs → AllByRecursion IsReservation ss → reserved_block rs ++ x ≡ reserved_block ss ++ y → rs ≡ ss
+pub reservations_agree : (rs ss : List Reservation) (x y : List ℕ) → AllByRecursion IsReservation rs → AllByRecursion IsReservation ss → reservation_block rs ++ x ≡ reservation_block ss ++ y → rs ≡ ss
 reservations_agree [] [] x y are_rs are_ss e = refl
 reservations_agree [] (b ∷ ss) x y are_rs are_ss e =
-    absurd (no_end_pair b (reserved_block ss ++ y) x are_ss.0 (sym (reserved_block-cons b ss y) ∙ sym e))
+    absurd (no_end_pair b (reservation_block ss ++ y) x are_ss.0 (sym (reservation_block-cons b ss y) ∙ sym e))
 reservations_agree (a ∷ rs) [] x y are_rs are_ss e =
-    absurd (no_end_pair a (reserved_block rs ++ x) y are_rs.0 (sym (reserved_block-cons a rs x) ∙ e))
+    absurd (no_end_pair a (reservation_block rs ++ x) y are_rs.0 (sym (reservation_block-cons a rs x) ∙ e))
 reservations_agree (a ∷ rs) (b ∷ ss) x y are_rs are_ss e =
-    let first : (a ≡ b) × (reserved_block rs ++ x ≡ reserved_block ss ++ y) =
-    pairs_agree a b (reserved_block rs ++ x) (reserved_block ss ++ y) are_rs.0.address_fits are_rs.0.size_fits are_ss.0.address_fits are_ss.0.size_fits
-    (sym (reserved_block-cons a rs x) ∙ e ∙ reserved_block-cons b ss y) in
+    let first : (a ≡ b) × (reservation_block rs ++ x ≡ reservation_block ss ++ y) =
+    pairs_agree a b (reservation_block rs ++ x) (reservation_block ss ++ y) are_rs.0.address_fits are_rs.0.size_fits are_ss.0.address_fits are_ss.0.size_fits
+    (sym (reservation_block-cons a rs x) ∙ e ∙ reservation_block-cons b ss y) in
     let rest : rs ≡ ss = reservations_agree rs ss x y are_rs.1 are_ss.1 first.1 in
     λ i. first.0 i ∷ rest i

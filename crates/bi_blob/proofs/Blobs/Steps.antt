@@ -2,17 +2,17 @@ use Rattle.std.proofs.Common.{◌≡◌, ℕ, suc, ◌+◌, ◌-◌, ◌<◌, �
 use Rattle.std.proofs.lemmas.List.{append-nil}
 use Rattle.bi_base.specs.Cells.{slice, u32_at}
 use Rattle.bi_base.specs.Checks.{HasNoFault}
-use Rattle.bi_blob.specs.Tokens.{Token, BeginNode, EndNode, Prop, Nop, End, width, StandsAt, NameAt, name_from, begin_node_number, end_node_number, prop_number, nop_number}
-use Rattle.bi_blob.specs.Tree.{Nodes, none, node, Placed, Located, names, with_each, depth, plain, AreNodes, AreProperties, IsNew}
-use Rattle.bi_blob.specs.Marks.{OpensAt, HasAt, ClosesAt}
+use Rattle.bi_blob.specs.Tokens.{Token, BeginNode, EndNode, Prop, Nop, End, width, IsTokenAt, IsNameAt, name_from, begin_node_number, end_node_number, prop_number, nop_number}
+use Rattle.bi_blob.specs.Tree.{Nodes, none, node, FileProperty, FileNode, names, with_each, depth, properties_of, AreNodes, AreProperties, IsNew}
+use Rattle.bi_blob.specs.Events.{FileNodeStart, FileNodeProperty, FileNodeEnd}
 use Rattle.bi_blob.specs.Stages.{Stage, BeforeRoot, Inside}
 use Rattle.bi_blob.specs.Blob.{TreeBlocks, IsReadable}
 use Rattle.bi_blob.specs.BlobFaults.{TokenPasses, token_checks}
-use Rattle.bi_blob.proofs.Blobs.OpenNodes.{OpenNode, Growth, NotBegun, Growing, Grown, begun, with_one_property, with_one_child, with_last, located_of, root_of, opens_of, stage_of, said_so_far, IsOpenNode, AreOpenNodes, MayBeChild, Standing}
-use Rattle.bi_blob.proofs.Blobs.Names.{HasName-NameAt}
-use Rattle.bi_blob.proofs.Blobs.Tokens.{BeginNode-stands, EndNode-stands, Prop-stands, Nop-stands}
+use Rattle.bi_blob.proofs.Blobs.PartialNodes.{PartialNode, Growth, NotBegun, Growing, Grown, begun, with_one_property, with_one_child, with_last, located_of, root_of, opens_of, stage_of, said_so_far, IsOpenNode, AreOpenNodes, MayBeChild, Standing}
+use Rattle.bi_blob.proofs.Blobs.Names.{HasName-IsNameAt}
+use Rattle.bi_blob.proofs.Blobs.Tokens.{BeginNode-is_at, EndNode-is_at, Prop-is_at, Nop-is_at}
 use Rattle.bi_blob.proofs.Blobs.Growing.{with_each-with_last, depth-with_last, AreNodes-with_last, AreProperties-push, open_of-property, open_of-child, said_by-property, said_by-child, said_by-root}
-use Rattle.bi_blob.proofs.Blobs.Walking.{stand_more}
+use Rattle.bi_blob.proofs.Blobs.PassedTokens.{stand_more}
 
 -- What one token that passes its checks does to a reader of the structure block, one lemma for each token.
 
@@ -32,7 +32,7 @@ word_within blocks depth_limit place number stage readable next =
     let within : blocks.end ≤ length blocks.file = readable.within in
     omega arith
 
-length-opens_of : (name : List ℕ) (outer : List OpenNode) → length (opens_of name outer) ≡ length outer
+length-opens_of : (name : List ℕ) (outer : List PartialNode) → length (opens_of name outer) ≡ length outer
 length-opens_of name [] = refl
 length-opens_of name (parent ∷ outer) = ap suc (length-opens_of parent.name outer)
 
@@ -41,7 +41,7 @@ pub next_nop : (blocks : TreeBlocks) (depth_limit place : ℕ) (growth : Growth)
 next_nop blocks depth_limit place growth standing next =
     stand_more blocks depth_limit place growth growth Nop [] standing
     (λ (e : Nop ≡ End). absurd cc)
-    (Nop-stands blocks.file place standing.readable.bytes (word_within blocks depth_limit place nop_number (stage_of growth) standing.readable next) next.is_number)
+    (Nop-is_at blocks.file place standing.readable.bytes (word_within blocks depth_limit place nop_number (stage_of growth) standing.readable next) next.is_number)
     (passes_there blocks depth_limit place nop_number (stage_of growth) next)
     tt
     (sym (append-nil (said_so_far growth)))
@@ -49,11 +49,11 @@ next_nop blocks depth_limit place growth standing next =
     standing.is_growth
 
 -- A node that begins stands there with its name.
-begin_stands : (blocks : TreeBlocks) (depth_limit place : ℕ) (stage : Stage) → IsReadable blocks → IsNext blocks depth_limit place stage begin_node_number → StandsAt blocks.file place (BeginNode (name_from blocks.file (place + 4)))
+begin_stands : (blocks : TreeBlocks) (depth_limit place : ℕ) (stage : Stage) → IsReadable blocks → IsNext blocks depth_limit place stage begin_node_number → IsTokenAt blocks.file place (BeginNode (name_from blocks.file (place + 4)))
 begin_stands blocks depth_limit place stage readable next =
-    BeginNode-stands blocks.file place (name_from blocks.file (place + 4)) readable.bytes
+    BeginNode-is_at blocks.file place (name_from blocks.file (place + 4)) readable.bytes
     (word_within blocks depth_limit place begin_node_number stage readable next) next.is_number
-    (HasName-NameAt blocks.file (place + 4) blocks.end readable.within next.passes.1.1.1.0)
+    (HasName-IsNameAt blocks.file (place + 4) blocks.end readable.within next.passes.1.1.1.0)
 
 -- FDT_BEGIN_NODE before the root begins the root.
 pub next_root : (blocks : TreeBlocks) (depth_limit place : ℕ) → Standing blocks depth_limit place NotBegun → IsNext blocks depth_limit place BeforeRoot begin_node_number → Standing blocks depth_limit (place + width (BeginNode (name_from blocks.file (place + 4)))) (Growing (begun (name_from blocks.file (place + 4)) place) [])
@@ -61,7 +61,7 @@ next_root blocks depth_limit place standing next =
     let name : List ℕ = name_from blocks.file (place + 4) in
     let few : 0 < depth_limit = next.passes.1.1.0 in
     let unnamed : name ≡ [] = next.passes.1.1.1.1.0 in
-    stand_more blocks depth_limit place NotBegun (Growing (begun name place) []) (BeginNode name) (OpensAt place name ∷ []) standing
+    stand_more blocks depth_limit place NotBegun (Growing (begun name place) []) (BeginNode name) (FileNodeStart place name ∷ []) standing
     (λ (e : BeginNode name ≡ End). absurd cc)
     (begin_stands blocks depth_limit place BeforeRoot standing.readable next)
     (passes_there blocks depth_limit place begin_node_number BeforeRoot next)
@@ -71,13 +71,13 @@ next_root blocks depth_limit place standing next =
     (record { properties = record { named = tt; distinct = tt }; children = tt; shallow = omega arith }, unnamed)
 
 -- FDT_BEGIN_NODE inside a node begins a child of it.
-pub next_child : (blocks : TreeBlocks) (depth_limit place : ℕ) (parent : OpenNode) (outer : List OpenNode) → Standing blocks depth_limit place (Growing parent outer) → IsNext blocks depth_limit place (stage_of (Growing parent outer)) begin_node_number → Standing blocks depth_limit (place + width (BeginNode (name_from blocks.file (place + 4)))) (Growing (begun (name_from blocks.file (place + 4)) place) (parent ∷ outer))
+pub next_child : (blocks : TreeBlocks) (depth_limit place : ℕ) (parent : PartialNode) (outer : List PartialNode) → Standing blocks depth_limit place (Growing parent outer) → IsNext blocks depth_limit place (stage_of (Growing parent outer)) begin_node_number → Standing blocks depth_limit (place + width (BeginNode (name_from blocks.file (place + 4)))) (Growing (begun (name_from blocks.file (place + 4)) place) (parent ∷ outer))
 next_child blocks depth_limit place parent outer standing next =
     let name : List ℕ = name_from blocks.file (place + 4) in
     let stage : Stage = stage_of (Growing parent outer) in
     let few : suc (length (opens_of parent.name outer)) < depth_limit = next.passes.1.1.0 in
     let open_here : length (opens_of parent.name outer) ≡ length outer = length-opens_of parent.name outer in
-    stand_more blocks depth_limit place (Growing parent outer) (Growing (begun name place) (parent ∷ outer)) (BeginNode name) (OpensAt place name ∷ []) standing
+    stand_more blocks depth_limit place (Growing parent outer) (Growing (begun name place) (parent ∷ outer)) (BeginNode name) (FileNodeStart place name ∷ []) standing
     (λ (e : BeginNode name ≡ End). absurd cc)
     (begin_stands blocks depth_limit place stage standing.readable next)
     (passes_there blocks depth_limit place begin_node_number stage next)
@@ -90,7 +90,7 @@ next_child blocks depth_limit place parent outer standing next =
     )
 
 -- Good open nodes stay so with one more property of the innermost.
-AreOpenNodes-property : (depth_limit : ℕ) (o : OpenNode) (outer : List OpenNode) (p : Placed) → AreOpenNodes depth_limit o outer → AreProperties (map (λ (q : Placed). (q.name, q.value)) (o.properties ++ p ∷ [])) → AreOpenNodes depth_limit (with_one_property o p) outer
+AreOpenNodes-property : (depth_limit : ℕ) (o : PartialNode) (outer : List PartialNode) (p : FileProperty) → AreOpenNodes depth_limit o outer → AreProperties (map (λ (q : FileProperty). (q.name, q.value)) (o.properties ++ p ∷ [])) → AreOpenNodes depth_limit (with_one_property o p) outer
 AreOpenNodes-property depth_limit o [] p are good = (record { properties = good; children = are.0.children; shallow = are.0.shallow }, are.1)
 AreOpenNodes-property depth_limit o (parent ∷ outer) p are good = (
   record { properties = good; children = are.0.children; shallow = are.0.shallow },
@@ -99,12 +99,12 @@ AreOpenNodes-property depth_limit o (parent ∷ outer) p are good = (
 )
 
 -- The innermost of good open nodes is good.
-innermost_properties : (depth_limit : ℕ) (o : OpenNode) (outer : List OpenNode) → AreOpenNodes depth_limit o outer → AreProperties (map (λ (q : Placed). (q.name, q.value)) o.properties)
+innermost_properties : (depth_limit : ℕ) (o : PartialNode) (outer : List PartialNode) → AreOpenNodes depth_limit o outer → AreProperties (map (λ (q : FileProperty). (q.name, q.value)) o.properties)
 innermost_properties depth_limit o [] are = are.0.properties
 innermost_properties depth_limit o (parent ∷ outer) are = are.0.properties
 
 -- The property that a token at this offset says.
-abbrev pub property_at : TreeBlocks → ℕ → Placed
+abbrev pub property_at : TreeBlocks → ℕ → FileProperty
 property_at blocks place = record {
   name = name_from blocks.strings (u32_at blocks.file (place + 8));
   value = slice blocks.file (place + 12) (u32_at blocks.file (place + 4));
@@ -116,19 +116,19 @@ abbrev pub property_token : TreeBlocks → ℕ → Token
 property_token blocks place = Prop (u32_at blocks.file (place + 8)) (slice blocks.file (place + 12) (u32_at blocks.file (place + 4)))
 
 -- FDT_PROP adds a property to the innermost node.
-pub next_property : (blocks : TreeBlocks) (depth_limit place : ℕ) (o : OpenNode) (outer : List OpenNode) → Standing blocks depth_limit place (Growing o outer) → IsNext blocks depth_limit place (stage_of (Growing o outer)) prop_number → Standing blocks depth_limit (place + width (property_token blocks place)) (Growing (with_one_property o (property_at blocks place)) outer)
+pub next_property : (blocks : TreeBlocks) (depth_limit place : ℕ) (o : PartialNode) (outer : List PartialNode) → Standing blocks depth_limit place (Growing o outer) → IsNext blocks depth_limit place (stage_of (Growing o outer)) prop_number → Standing blocks depth_limit (place + width (property_token blocks place)) (Growing (with_one_property o (property_at blocks place)) outer)
 next_property blocks depth_limit place o outer standing next =
-    let p : Placed = property_at blocks place in
+    let p : FileProperty = property_at blocks place in
     let offset : ℕ = u32_at blocks.file (place + 8) in
     let stage : Stage = stage_of (Growing o outer) in
     let within : place + 12 + u32_at blocks.file (place + 4) ≤ blocks.end = next.passes.1.1.1.0 in
     let inside : blocks.end ≤ length blocks.file = standing.readable.within in
     let childless : names o.children ≡ [] = next.passes.1.1.0 in
-    let named : NameAt blocks.strings offset p.name =
-    HasName-NameAt blocks.strings offset (length blocks.strings) (omega arith) next.passes.1.1.1.1.0 in
-    stand_more blocks depth_limit place (Growing o outer) (Growing (with_one_property o p) outer) (Prop offset p.value) (HasAt p ∷ []) standing
+    let named : IsNameAt blocks.strings offset p.name =
+    HasName-IsNameAt blocks.strings offset (length blocks.strings) (omega arith) next.passes.1.1.1.1.0 in
+    stand_more blocks depth_limit place (Growing o outer) (Growing (with_one_property o p) outer) (Prop offset p.value) (FileNodeProperty p ∷ []) standing
     (λ (e : Prop offset p.value ≡ End). absurd cc)
-    (Prop-stands blocks.file place standing.readable.bytes (omega arith) next.is_number)
+    (Prop-is_at blocks.file place standing.readable.bytes (omega arith) next.is_number)
     (passes_there blocks depth_limit place prop_number stage next)
     (record { name = named; value = refl; place = refl }, tt)
     (said_by-property o outer p childless)
@@ -137,12 +137,12 @@ next_property blocks depth_limit place o outer standing next =
     (AreProperties-push o.properties p (innermost_properties depth_limit o outer standing.is_growth)
     next.passes.1.1.1.1.1.0 next.passes.1.1.1.1.1.1.0))
 
-names-with_each : (nodes : Nodes Located) → names (with_each plain nodes) ≡ names nodes
+names-with_each : (nodes : Nodes FileNode) → names (with_each properties_of nodes) ≡ names nodes
 names-with_each none = refl
 names-with_each (node n l cs later) = ap (λ l. n ∷ l) (names-with_each later)
 
 -- A good open node stays so with one more child that is good.
-IsOpenNode-child : (depth_limit above : ℕ) (parent child : OpenNode) → IsOpenNode depth_limit above parent → IsOpenNode depth_limit (above + 1) child → MayBeChild parent child → IsOpenNode depth_limit above (with_one_child parent child)
+IsOpenNode-child : (depth_limit above : ℕ) (parent child : PartialNode) → IsOpenNode depth_limit above parent → IsOpenNode depth_limit (above + 1) child → MayBeChild parent child → IsOpenNode depth_limit above (with_one_child parent child)
 IsOpenNode-child depth_limit above parent child is is_child may =
     let deep : depth parent.children + above + 1 ≤ depth_limit = is.shallow in
     let child_deep : depth child.children + (above + 1) + 1 ≤ depth_limit = is_child.shallow in
@@ -150,14 +150,14 @@ IsOpenNode-child depth_limit above parent child is is_child may =
     depth-with_last parent.children child.name (located_of child) child.children (depth_limit - (above + 1)) (omega arith) (omega arith) in
     record {
       properties = is.properties;
-      children = subst (AreNodes AreProperties) (sym (with_each-with_last plain parent.children child.name (located_of child) child.children))
-          (AreNodes-with_last AreProperties (with_each plain parent.children) child.name (plain (located_of child)) (with_each plain child.children)
+      children = subst (AreNodes AreProperties) (sym (with_each-with_last properties_of parent.children child.name (located_of child) child.children))
+          (AreNodes-with_last AreProperties (with_each properties_of parent.children) child.name (properties_of (located_of child)) (with_each properties_of child.children)
           is.children may.is_name (subst (λ ns. IsNew child.name ns) (sym (names-with_each parent.children)) may.is_new)
           is_child.properties is_child.children);
       shallow = omega arith;
     }
 
-AreOpenNodes-child : (depth_limit : ℕ) (child parent : OpenNode) (outer : List OpenNode) → AreOpenNodes depth_limit child (parent ∷ outer) → AreOpenNodes depth_limit (with_one_child parent child) outer
+AreOpenNodes-child : (depth_limit : ℕ) (child parent : PartialNode) (outer : List PartialNode) → AreOpenNodes depth_limit child (parent ∷ outer) → AreOpenNodes depth_limit (with_one_child parent child) outer
 AreOpenNodes-child depth_limit child parent [] are =
     (IsOpenNode-child depth_limit 0 parent child are.2.0 are.0 are.1, are.2.1)
 AreOpenNodes-child depth_limit child parent (grandparent ∷ outer) are = (
@@ -167,12 +167,12 @@ AreOpenNodes-child depth_limit child parent (grandparent ∷ outer) are = (
 )
 
 -- FDT_END_NODE in a node with a parent ends a child of the parent.
-pub next_end : (blocks : TreeBlocks) (depth_limit place : ℕ) (child parent : OpenNode) (outer : List OpenNode) → Standing blocks depth_limit place (Growing child (parent ∷ outer)) → IsNext blocks depth_limit place (stage_of (Growing child (parent ∷ outer))) end_node_number → Standing blocks depth_limit (place + width EndNode) (Growing (with_one_child parent child) outer)
+pub next_end : (blocks : TreeBlocks) (depth_limit place : ℕ) (child parent : PartialNode) (outer : List PartialNode) → Standing blocks depth_limit place (Growing child (parent ∷ outer)) → IsNext blocks depth_limit place (stage_of (Growing child (parent ∷ outer))) end_node_number → Standing blocks depth_limit (place + width EndNode) (Growing (with_one_child parent child) outer)
 next_end blocks depth_limit place child parent outer standing next =
     let stage : Stage = stage_of (Growing child (parent ∷ outer)) in
-    stand_more blocks depth_limit place (Growing child (parent ∷ outer)) (Growing (with_one_child parent child) outer) EndNode (ClosesAt ∷ []) standing
+    stand_more blocks depth_limit place (Growing child (parent ∷ outer)) (Growing (with_one_child parent child) outer) EndNode (FileNodeEnd ∷ []) standing
     (λ (e : EndNode ≡ End). absurd cc)
-    (EndNode-stands blocks.file place standing.readable.bytes (word_within blocks depth_limit place end_node_number stage standing.readable next) next.is_number)
+    (EndNode-is_at blocks.file place standing.readable.bytes (word_within blocks depth_limit place end_node_number stage standing.readable next) next.is_number)
     (passes_there blocks depth_limit place end_node_number stage next)
     tt
     (said_by-child parent child outer)
@@ -180,14 +180,14 @@ next_end blocks depth_limit place child parent outer standing next =
     (AreOpenNodes-child depth_limit child parent outer standing.is_growth)
 
 -- FDT_END_NODE in the root ends the tree.
-pub next_last : (blocks : TreeBlocks) (depth_limit place : ℕ) (outermost : OpenNode) → Standing blocks depth_limit place (Growing outermost []) → IsNext blocks depth_limit place (stage_of (Growing outermost [])) end_node_number → Standing blocks depth_limit (place + width EndNode) (Grown (root_of outermost))
+pub next_last : (blocks : TreeBlocks) (depth_limit place : ℕ) (outermost : PartialNode) → Standing blocks depth_limit place (Growing outermost []) → IsNext blocks depth_limit place (stage_of (Growing outermost [])) end_node_number → Standing blocks depth_limit (place + width EndNode) (Grown (root_of outermost))
 next_last blocks depth_limit place outermost standing next =
     let stage : Stage = stage_of (Growing outermost []) in
     let good : IsOpenNode depth_limit 0 outermost = standing.is_growth.0 in
     let shallow : depth outermost.children + 0 + 1 ≤ depth_limit = good.shallow in
-    stand_more blocks depth_limit place (Growing outermost []) (Grown (root_of outermost)) EndNode (ClosesAt ∷ []) standing
+    stand_more blocks depth_limit place (Growing outermost []) (Grown (root_of outermost)) EndNode (FileNodeEnd ∷ []) standing
     (λ (e : EndNode ≡ End). absurd cc)
-    (EndNode-stands blocks.file place standing.readable.bytes (word_within blocks depth_limit place end_node_number stage standing.readable next) next.is_number)
+    (EndNode-is_at blocks.file place standing.readable.bytes (word_within blocks depth_limit place end_node_number stage standing.readable next) next.is_number)
     (passes_there blocks depth_limit place end_node_number stage next)
     tt
     (said_by-root outermost standing.is_growth.1)

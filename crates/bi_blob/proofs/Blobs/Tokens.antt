@@ -1,7 +1,7 @@
 use Rattle.std.proofs.Common.{◌≡◌, ℕ, ◌+◌, ◌<◌, ◌≤◌, ◌^◌, List, [], ◌∷◌, ◌++◌, length, drop, refl, sym, ap, subst, ◌∙◌, arith, lit<}
 use Rattle.std.proofs.lemmas.List.{length-append, append-nil, append_assoc}
 use Rattle.bi_base.specs.Cells.{cell, slice, u32_at, AreBytes}
-use Rattle.bi_blob.specs.Tokens.{Token, BeginNode, EndNode, Prop, Nop, End, unpadded, width, StandsAt, NameAt, begin_node_number, end_node_number, prop_number, nop_number, end_number}
+use Rattle.bi_blob.specs.Tokens.{Token, BeginNode, EndNode, Prop, Nop, End, token_bytes, width, IsTokenAt, IsNameAt, begin_node_number, end_node_number, prop_number, nop_number, end_number}
 use Rattle.bi_base.proofs.CellLaws.{length-cell, length-slice}
 use Rattle.bi_blob.proofs.Blobs.Names.{one_name}
 use Rattle.bi_blob.proofs.Blobs.Cells.{BytesAt, BytesAt-from, BytesAt-drop, BytesAt-within, BytesAt-left, BytesAt-right, BytesAt-join, BytesAt-cell, u32_at-BytesAt}
@@ -21,12 +21,12 @@ operands (BeginNode name) = name ++ 0 ∷ []
 operands (Prop name_offset value) = cell (length value) ++ (cell name_offset ++ value)
 operands token = []
 
-pub unpadded-number : (token : Token) → unpadded token ≡ cell (number token) ++ operands token
-unpadded-number (BeginNode name) = refl
-unpadded-number (Prop name_offset value) = refl
-unpadded-number EndNode = sym (append-nil (cell end_node_number))
-unpadded-number Nop = sym (append-nil (cell nop_number))
-unpadded-number End = sym (append-nil (cell end_number))
+pub token_bytes-number : (token : Token) → token_bytes token ≡ cell (number token) ++ operands token
+token_bytes-number (BeginNode name) = refl
+token_bytes-number (Prop name_offset value) = refl
+token_bytes-number EndNode = sym (append-nil (cell end_node_number))
+token_bytes-number Nop = sym (append-nil (cell nop_number))
+token_bytes-number End = sym (append-nil (cell end_number))
 
 number_fits : (token : Token) → number token < 2 ^ 32
 number_fits (BeginNode name) = lit< tt
@@ -36,37 +36,37 @@ number_fits Nop = lit< tt
 number_fits End = lit< tt
 
 -- How long a token is without its padding.
-pub length-unpadded : (token : Token) → length (unpadded token) ≡ 4 + length (operands token)
-length-unpadded token = ap length (unpadded-number token) ∙ simp (length-append, length-cell) refl
+pub length-token_bytes : (token : Token) → length (token_bytes token) ≡ 4 + length (operands token)
+length-token_bytes token = ap length (token_bytes-number token) ∙ simp (length-append, length-cell) refl
 
 -- A token that stands at an offset is followed by what belongs to it.
-pub StandsAt-bytes : (file : List ℕ) (at : ℕ) (token : Token) → StandsAt file at token → BytesAt file at (cell (number token) ++ operands token)
-StandsAt-bytes file at token stands = subst (BytesAt file at) (unpadded-number token) stands.stands
+pub IsTokenAt-bytes : (file : List ℕ) (at : ℕ) (token : Token) → IsTokenAt file at token → BytesAt file at (cell (number token) ++ operands token)
+IsTokenAt-bytes file at token is_at = subst (BytesAt file at) (token_bytes-number token) is_at.is_at
 
 -- Its number is read there.
-pub StandsAt-number : (file : List ℕ) (at : ℕ) (token : Token) → StandsAt file at token → u32_at file at ≡ number token
-StandsAt-number file at token stands =
+pub IsTokenAt-number : (file : List ℕ) (at : ℕ) (token : Token) → IsTokenAt file at token → u32_at file at ≡ number token
+IsTokenAt-number file at token is_at =
     u32_at-BytesAt file at (number token) (number_fits token)
-    (BytesAt-left file at (cell (number token)) (operands token) (StandsAt-bytes file at token stands))
+    (BytesAt-left file at (cell (number token)) (operands token) (IsTokenAt-bytes file at token is_at))
 
 -- It is within the file, but for its padding.
-pub StandsAt-within : (file : List ℕ) (at : ℕ) (token : Token) → StandsAt file at token → at + length (unpadded token) ≤ length file
-StandsAt-within file at token stands =
-    let long : length (unpadded token) ≡ 4 + length (operands token) = length-unpadded token in
-    BytesAt-within file at (unpadded token) (omega arith) stands.stands
+pub IsTokenAt-within : (file : List ℕ) (at : ℕ) (token : Token) → IsTokenAt file at token → at + length (token_bytes token) ≤ length file
+IsTokenAt-within file at token is_at =
+    let long : length (token_bytes token) ≡ 4 + length (operands token) = length-token_bytes token in
+    BytesAt-within file at (token_bytes token) (omega arith) is_at.is_at
 
 -- What belongs to it stands behind its number.
-pub StandsAt-operands : (file : List ℕ) (at : ℕ) (token : Token) → StandsAt file at token → BytesAt file (at + 4) (operands token)
-StandsAt-operands file at token stands =
+pub IsTokenAt-operands : (file : List ℕ) (at : ℕ) (token : Token) → IsTokenAt file at token → BytesAt file (at + 4) (operands token)
+IsTokenAt-operands file at token is_at =
     subst (λ n. BytesAt file (at + n) (operands token)) (length-cell (number token))
-    (BytesAt-right file at (cell (number token)) (operands token) (StandsAt-bytes file at token stands))
+    (BytesAt-right file at (cell (number token)) (operands token) (IsTokenAt-bytes file at token is_at))
 
 -- The name of a node that begins at an offset stands behind the number.
-pub BeginNode-name : (file : List ℕ) (at : ℕ) (name : List ℕ) → StandsAt file at (BeginNode name) → NameAt file (at + 4) name
-BeginNode-name file at name stands = record {
-  no_zero = stands.is_token;
-  behind = drop (at + 4 + length (name ++ 0 ∷ [])) file;
-  stands = BytesAt-drop file (at + 4) (name ++ 0 ∷ []) (StandsAt-operands file at (BeginNode name) stands) ∙ append_assoc name (0 ∷ []) _;
+pub BeginNode-name : (file : List ℕ) (at : ℕ) (name : List ℕ) → IsTokenAt file at (BeginNode name) → IsNameAt file (at + 4) name
+BeginNode-name file at name is_at = record {
+  no_zero = is_at.is_token;
+  trailing = drop (at + 4 + length (name ++ 0 ∷ [])) file;
+  is_at = BytesAt-drop file (at + 4) (name ++ 0 ∷ []) (IsTokenAt-operands file at (BeginNode name) is_at) ∙ append_assoc name (0 ∷ []) _;
 }
 
 -- What belongs to a property that stands at an offset: the length of its value, the offset of its name, and its value.
@@ -75,19 +75,19 @@ pub record IsPropAt (file : List ℕ) (at name_offset : ℕ) (value : List ℕ) 
   pub is_offset : u32_at file (at + 8) ≡ name_offset
   pub is_value : BytesAt file (at + 12) value
 
-pub Prop-parts : (file : List ℕ) (at name_offset : ℕ) (value : List ℕ) → StandsAt file at (Prop name_offset value) → IsPropAt file at name_offset value
-Prop-parts file at name_offset value stands =
+pub Prop-parts : (file : List ℕ) (at name_offset : ℕ) (value : List ℕ) → IsTokenAt file at (Prop name_offset value) → IsPropAt file at name_offset value
+Prop-parts file at name_offset value is_at =
     let all : BytesAt file (at + 4) (cell (length value) ++ (cell name_offset ++ value)) =
-    StandsAt-operands file at (Prop name_offset value) stands in
-    let behind : BytesAt file (at + 4 + length (cell (length value))) (cell name_offset ++ value) =
+    IsTokenAt-operands file at (Prop name_offset value) is_at in
+    let trailing : BytesAt file (at + 4 + length (cell (length value))) (cell name_offset ++ value) =
     BytesAt-right file (at + 4) (cell (length value)) (cell name_offset ++ value) all in
     let second : at + 4 + length (cell (length value)) ≡ at + 8 = omega (arith, length-cell (length value)) in
-    let two : BytesAt file (at + 8) (cell name_offset ++ value) = subst (λ p. BytesAt file p (cell name_offset ++ value)) second behind in
+    let two : BytesAt file (at + 8) (cell name_offset ++ value) = subst (λ p. BytesAt file p (cell name_offset ++ value)) second trailing in
     let third : at + 8 + length (cell name_offset) ≡ at + 12 = omega (arith, length-cell name_offset) in
     record {
-      is_length = u32_at-BytesAt file (at + 4) (length value) stands.is_token.1
+      is_length = u32_at-BytesAt file (at + 4) (length value) is_at.is_token.1
           (BytesAt-left file (at + 4) (cell (length value)) (cell name_offset ++ value) all);
-      is_offset = u32_at-BytesAt file (at + 8) name_offset stands.is_token.0 (BytesAt-left file (at + 8) (cell name_offset) value two);
+      is_offset = u32_at-BytesAt file (at + 8) name_offset is_at.is_token.0 (BytesAt-left file (at + 8) (cell name_offset) value two);
       is_value = subst (λ p. BytesAt file p value) third (BytesAt-right file (at + 8) (cell name_offset) value two);
     }
 
@@ -100,7 +100,7 @@ one_prop file at o p v w one other =
     λ i. Prop (same_offset i) (same_value i)
 
 -- One token at most stands at an offset.
-pub one_token : (file : List ℕ) (at : ℕ) (t u : Token) → StandsAt file at t → StandsAt file at u → t ≡ u
+pub one_token : (file : List ℕ) (at : ℕ) (t u : Token) → IsTokenAt file at t → IsTokenAt file at u → t ≡ u
 one_token file at (BeginNode m) (BeginNode n) one other =
     ap BeginNode (one_name file (at + 4) m n (BeginNode-name file at m one) (BeginNode-name file at n other))
 one_token file at (Prop o v) (Prop p w) one other =
@@ -109,41 +109,41 @@ one_token file at EndNode EndNode one other = refl
 one_token file at Nop Nop one other = refl
 one_token file at End End one other = refl
 one_token file at t u one other =
-    let same : number t ≡ number u = sym (StandsAt-number file at t one) ∙ StandsAt-number file at u other in
+    let same : number t ≡ number u = sym (IsTokenAt-number file at t one) ∙ IsTokenAt-number file at u other in
     absurd (omega arith)
 
 -- A token without operands stands where its number is read.
 bare_stands : (file : List ℕ) (at n : ℕ) → AreBytes file → at + 4 ≤ length file → u32_at file at ≡ n → BytesAt file at (cell n)
 bare_stands file at n bytes within e = subst (λ m. BytesAt file at (cell m)) e (BytesAt-cell file at bytes within)
 
-pub EndNode-stands : (file : List ℕ) (at : ℕ) → AreBytes file → at + 4 ≤ length file → u32_at file at ≡ end_node_number → StandsAt file at EndNode
-EndNode-stands file at bytes within e = record { is_token = tt; stands = bare_stands file at end_node_number bytes within e }
+pub EndNode-is_at : (file : List ℕ) (at : ℕ) → AreBytes file → at + 4 ≤ length file → u32_at file at ≡ end_node_number → IsTokenAt file at EndNode
+EndNode-is_at file at bytes within e = record { is_token = tt; is_at = bare_stands file at end_node_number bytes within e }
 
-pub Nop-stands : (file : List ℕ) (at : ℕ) → AreBytes file → at + 4 ≤ length file → u32_at file at ≡ nop_number → StandsAt file at Nop
-Nop-stands file at bytes within e = record { is_token = tt; stands = bare_stands file at nop_number bytes within e }
+pub Nop-is_at : (file : List ℕ) (at : ℕ) → AreBytes file → at + 4 ≤ length file → u32_at file at ≡ nop_number → IsTokenAt file at Nop
+Nop-is_at file at bytes within e = record { is_token = tt; is_at = bare_stands file at nop_number bytes within e }
 
-pub End-stands : (file : List ℕ) (at : ℕ) → AreBytes file → at + 4 ≤ length file → u32_at file at ≡ end_number → StandsAt file at End
-End-stands file at bytes within e = record { is_token = tt; stands = bare_stands file at end_number bytes within e }
+pub End-is_at : (file : List ℕ) (at : ℕ) → AreBytes file → at + 4 ≤ length file → u32_at file at ≡ end_number → IsTokenAt file at End
+End-is_at file at bytes within e = record { is_token = tt; is_at = bare_stands file at end_number bytes within e }
 
 -- A node begins where its number is read and a name stands behind it.
-pub BeginNode-stands : (file : List ℕ) (at : ℕ) (name : List ℕ) → AreBytes file → at + 4 ≤ length file → u32_at file at ≡ begin_node_number → NameAt file (at + 4) name → StandsAt file at (BeginNode name)
-BeginNode-stands file at name bytes within e named = record {
+pub BeginNode-is_at : (file : List ℕ) (at : ℕ) (name : List ℕ) → AreBytes file → at + 4 ≤ length file → u32_at file at ≡ begin_node_number → IsNameAt file (at + 4) name → IsTokenAt file at (BeginNode name)
+BeginNode-is_at file at name bytes within e named = record {
   is_token = named.no_zero;
-  stands = BytesAt-join file at (cell begin_node_number) (name ++ 0 ∷ [])
+  is_at = BytesAt-join file at (cell begin_node_number) (name ++ 0 ∷ [])
       (bare_stands file at begin_node_number bytes within e)
       (subst (λ n. BytesAt file (at + n) (name ++ 0 ∷ [])) (sym (length-cell begin_node_number))
-      (BytesAt-from file (at + 4) (name ++ 0 ∷ []) named.behind (named.stands ∙ sym (append_assoc name (0 ∷ []) named.behind))));
+      (BytesAt-from file (at + 4) (name ++ 0 ∷ []) named.trailing (named.is_at ∙ sym (append_assoc name (0 ∷ []) named.trailing))));
 }
 
 -- A property stands where its number is read and the file has its value.
-pub Prop-stands : (file : List ℕ) (at : ℕ) → AreBytes file → at + 12 + u32_at file (at + 4) ≤ length file → u32_at file at ≡ prop_number → StandsAt file at (Prop (u32_at file (at + 8)) (slice file (at + 12) (u32_at file (at + 4))))
-Prop-stands file at bytes within e =
+pub Prop-is_at : (file : List ℕ) (at : ℕ) → AreBytes file → at + 12 + u32_at file (at + 4) ≤ length file → u32_at file at ≡ prop_number → IsTokenAt file at (Prop (u32_at file (at + 8)) (slice file (at + 12) (u32_at file (at + 4))))
+Prop-is_at file at bytes within e =
     let n : ℕ = u32_at file (at + 4) in
     let value : List ℕ = slice file (at + 12) n in
     let long : length value ≡ n = length-slice file (at + 12) n within in
     record {
       is_token = (u32_at-fits file (at + 8) bytes, subst (λ m. m < 2 ^ 32) (sym long) (u32_at-fits file (at + 4) bytes));
-      stands = BytesAt-join file at (cell prop_number) (cell (length value) ++ (cell (u32_at file (at + 8)) ++ value))
+      is_at = BytesAt-join file at (cell prop_number) (cell (length value) ++ (cell (u32_at file (at + 8)) ++ value))
           (bare_stands file at prop_number bytes (omega arith) e)
           (subst (λ m. BytesAt file (at + m) (cell (length value) ++ (cell (u32_at file (at + 8)) ++ value))) (sym (length-cell prop_number))
           (BytesAt-join file (at + 4) (cell (length value)) (cell (u32_at file (at + 8)) ++ value)
@@ -160,7 +160,7 @@ Prop-stands file at bytes within e =
       third_place m = omega (arith, length-cell m)
 
 -- A token takes at least four bytes, and no fewer than it is long.
-pub width-at_least : (token : Token) → (4 ≤ width token) × (length (unpadded token) ≤ width token)
+pub width-at_least : (token : Token) → (4 ≤ width token) × (length (token_bytes token) ≤ width token)
 width-at_least token =
-    let long : length (unpadded token) ≡ 4 + length (operands token) = length-unpadded token in
+    let long : length (token_bytes token) ≡ 4 + length (operands token) = length-token_bytes token in
     (omega arith, omega arith)

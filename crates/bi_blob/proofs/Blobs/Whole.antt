@@ -5,12 +5,12 @@ use Rattle.bi_base.specs.declared.fault.Fault.{Fault}
 use Rattle.bi_base.specs.Cells.{u32_at}
 use Rattle.bi_base.specs.Checks.{IsFirstFault, HasNoFault}
 use Rattle.bi_blob.specs.Tokens.{Token, BeginNode, EndNode, Nop, width, name_from, begin_node_number, end_node_number, prop_number, nop_number, end_number}
-use Rattle.bi_blob.specs.Tree.{Root, Located, depth_of}
+use Rattle.bi_blob.specs.Tree.{Root, FileNode, depth_of}
 use Rattle.bi_blob.specs.Stages.{Stage, BeforeRoot, AfterRoot}
 use Rattle.bi_blob.specs.Blob.{TreeBlocks, HoldsTree, IsReadable}
-use Rattle.bi_blob.specs.BlobFaults.{HasTokenNumber, TokenPasses, token_checks, token_fault, opened, IsStructureFault}
+use Rattle.bi_blob.specs.BlobFaults.{HasTokenNumber, TokenPasses, token_checks, token_fault, stage_after, IsStructureFault}
 use Rattle.bi_base.proofs.FirstFault.{fault_or_none}
-use Rattle.bi_blob.proofs.Blobs.OpenNodes.{OpenNode, Growth, NotBegun, Growing, Grown, begun, with_one_property, with_one_child, root_of, stage_of, Standing}
+use Rattle.bi_blob.proofs.Blobs.PartialNodes.{PartialNode, Growth, NotBegun, Growing, Grown, begun, with_one_property, with_one_child, root_of, stage_of, Standing}
 use Rattle.bi_blob.proofs.Blobs.Tokens.{width-at_least}
 use Rattle.bi_blob.proofs.Blobs.Steps.{IsNext, next_nop, next_root, next_child, property_at, property_token, next_property, next_end, next_last}
 use Rattle.bi_blob.proofs.Blobs.Ending.{last_token}
@@ -20,7 +20,7 @@ use Rattle.bi_blob.proofs.Blobs.Decided.{token_decided}
 
 -- The tree that a structure block holds.
 pub record HasTree (blocks : TreeBlocks) (depth_limit : ℕ) : Type 0 where
-  pub root : Root Located
+  pub root : Root FileNode
   pub holds : HoldsTree blocks root
   pub shallow : depth_of root ≤ depth_limit
 
@@ -36,10 +36,10 @@ pub standing_at_first : (blocks : TreeBlocks) (depth_limit : ℕ) → IsReadable
 standing_at_first blocks depth_limit readable = record {
   readable = readable;
   tokens = [];
-  walked = tt;
+  passed = tt;
   is_place = refl;
   is_stage = refl;
-  say = tt;
+  encodes = tt;
   is_growth = tt;
 }
 
@@ -47,9 +47,9 @@ standing_at_first blocks depth_limit readable = record {
 pub fault_there : (blocks : TreeBlocks) (depth_limit place : ℕ) (growth : Growth) (fault : Fault) → Standing blocks depth_limit place growth → IsFirstFault (TokenPasses blocks depth_limit place (stage_of growth)) (token_fault place) (token_checks (u32_at blocks.file place)) fault → IsStructureFault blocks depth_limit fault
 fault_there blocks depth_limit place growth fault standing first = record {
   before = standing.tokens;
-  walked = standing.walked;
+  passed = standing.passed;
   first =
-      subst (λ p. IsFirstFault (TokenPasses blocks depth_limit p (opened blocks.strings standing.tokens)) (token_fault p) (token_checks (u32_at blocks.file p)) fault) (sym standing.is_place)
+      subst (λ p. IsFirstFault (TokenPasses blocks depth_limit p (stage_after blocks.strings standing.tokens)) (token_fault p) (token_checks (u32_at blocks.file p)) fault) (sym standing.is_place)
       (subst (λ stage. IsFirstFault (TokenPasses blocks depth_limit place stage) (token_fault place) (token_checks (u32_at blocks.file place)) fault) (sym standing.is_stage) first);
 }
 
@@ -69,7 +69,7 @@ module _ (blocks : TreeBlocks) (depth_limit place : ℕ) where
   }
 
   -- FDT_END_NODE in a node.
-  past_end : (o : OpenNode) (outer : List OpenNode) → Standing blocks depth_limit place (Growing o outer) → IsNext blocks depth_limit place (stage_of (Growing o outer)) end_node_number → GoesOn blocks depth_limit place
+  past_end : (o : PartialNode) (outer : List PartialNode) → Standing blocks depth_limit place (Growing o outer) → IsNext blocks depth_limit place (stage_of (Growing o outer)) end_node_number → GoesOn blocks depth_limit place
   past_end o [] standing next = goes_on (Grown (root_of o)) EndNode (next_last blocks depth_limit place o standing next)
   past_end o (parent ∷ outer) standing next =
       goes_on (Growing (with_one_child parent o) outer) EndNode (next_end blocks depth_limit place o parent outer standing next)

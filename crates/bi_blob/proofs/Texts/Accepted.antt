@@ -2,7 +2,7 @@ use Rattle.std.proofs.Common.{ℕ, ◌≤◌, List, ◌++◌, length, sym, subst
 use Rattle.bi_base.specs.Limits.{Bounds}
 use Rattle.bi_blob.specs.Tree.{Root, Property}
 use Rattle.bi_blob.specs.Blob.{Reservation, IsWithin}
-use Rattle.bi_blob.specs.Layout.{tree_text, located_tree, longest_text}
+use Rattle.bi_blob.specs.Layout.{text_of_tree, tree_with_places, longest_text}
 use Rattle.bi_blob.specs.TextLaws.{IsBlobOf, IsAccepted, TextIsAccepted, NormalTextIsAccepted}
 use Rattle.bi_blob.proofs.Blobs.Faults.{blob_has_no_fault}
 use Rattle.bi_blob.proofs.Texts.TextBlob.{text_is_blob}
@@ -10,14 +10,14 @@ use Rattle.bi_blob.proofs.Texts.TextBlob.{text_is_blob}
 -- A text is accepted under limits that hold it.
 
 -- A file that is a blob of these within limits is accepted.
-pub is_accepted : (bounds : Bounds) (file : List ℕ) (cpu : ℕ) (reservations : List Reservation) (root : Root (List Property)) → IsBlobOf file cpu reservations root → IsWithin bounds file (located_tree reservations root) → IsAccepted bounds file cpu reservations root
+pub is_accepted : (bounds : Bounds) (file : List ℕ) (cpu : ℕ) (reservations : List Reservation) (root : Root (List Property)) → IsBlobOf file cpu reservations root → IsWithin bounds file (tree_with_places reservations root) → IsAccepted bounds file cpu reservations root
 is_accepted bounds file cpu reservations root is within = record {
   is_blob = is;
   is_within = within;
   no_fault = λ fault. blob_has_no_fault bounds file fault (record {
     cpu = cpu;
     reservations = reservations;
-    root = located_tree reservations root;
+    root = tree_with_places reservations root;
     blob = is.blob;
     within = within;
   });
@@ -27,7 +27,7 @@ is_accepted bounds file cpu reservations root is within = record {
 pub text_is_accepted : TextIsAccepted
 text_is_accepted bounds cpu reservations root rest is short bytes fits shallow =
     let blob = text_is_blob cpu reservations root rest is short bytes in
-    is_accepted bounds (tree_text cpu reservations root ++ rest) cpu reservations root blob
+    is_accepted bounds (text_of_tree cpu reservations root ++ rest) cpu reservations root blob
     (record { short = fits; shallow = subst (λ n. n ≤ bounds.depth) (sym blob.same_depth) shallow })
 
 -- A normal text is.

@@ -2,8 +2,8 @@ use Rattle.std.proofs.Common.{◌≡◌, ℕ, ◌+◌, ◌-◌, ◌*◌, ◌%◌
 use Rattle.std.proofs.lemmas.List.{take_at, drop_at}
 use Rattle.std.proofs.Math.Seq.{take-append-add}
 use Rattle.bi_base.specs.Cells.{slice, up4}
-use Rattle.bi_blob.specs.Blob.{Header, Reservation, pair_bytes, end_pair, reserved_block}
-use Rattle.bi_blob.specs.Layout.{blob_header, filling, unfilled, text_of}
+use Rattle.bi_blob.specs.Blob.{Header, Reservation, pair_bytes, end_pair, reservation_block}
+use Rattle.bi_blob.specs.Layout.{blob_header, padding_to_4, length_before_padding, text_of_blocks}
 use Rattle.bi_blob.proofs.Blobs.Cells.{length-cell8}
 use Rattle.bi_blob.proofs.Texts.Header.{HasCells}
 
@@ -37,10 +37,10 @@ pub behind_five : (a b c d e rest : List ℕ) → (a ++ (b ++ (c ++ (d ++ e)))) 
 behind_five a b c d e rest = simp append_assoc
 
 -- A text with any bytes behind it: its header and its three blocks in turn.
-pub text_parts : (cpu : ℕ) (reserved structure strings rest : List ℕ) → text_of cpu reserved structure strings ++ rest ≡ blob_header cpu (length reserved) (length structure) (length strings) ++ (reserved ++ (structure ++ (strings ++ (filling (unfilled (length reserved) (length structure) (length strings)) ++ rest))))
-unfolding text_of
+pub text_parts : (cpu : ℕ) (reserved structure strings rest : List ℕ) → text_of_blocks cpu reserved structure strings ++ rest ≡ blob_header cpu (length reserved) (length structure) (length strings) ++ (reserved ++ (structure ++ (strings ++ (padding_to_4 (length_before_padding (length reserved) (length structure) (length strings)) ++ rest))))
+unfolding text_of_blocks
 text_parts cpu reserved structure strings rest =
-    behind_five (blob_header cpu (length reserved) (length structure) (length strings)) reserved structure strings (filling (unfilled (length reserved) (length structure) (length strings))) rest
+    behind_five (blob_header cpu (length reserved) (length structure) (length strings)) reserved structure strings (padding_to_4 (length_before_padding (length reserved) (length structure) (length strings))) rest
 
 -- The reservation block is a whole number of pairs.
 pub length-reservations : (reservations : List Reservation) → length (flat_map pair_bytes reservations) ≡ 16 * length reservations
@@ -53,7 +53,7 @@ length-reservations (reservation ∷ later) =
     length-pair reservation = simp (length-append, length-cell8)
 
 -- So it ends at a multiple of eight.
-pub reserved-aligned : (reservations : List Reservation) → length (reserved_block reservations) % 8 ≡ 0
+pub reserved-aligned : (reservations : List Reservation) → length (reservation_block reservations) % 8 ≡ 0
 reserved-aligned reservations =
     omega (arith, length-append (flat_map pair_bytes reservations) (pair_bytes end_pair), length-reservations reservations, length-pair)
   where
@@ -61,7 +61,7 @@ reserved-aligned reservations =
     length-pair = simp (length-append, length-cell8)
 
 -- What has the cells of a text, and is as long at least, has the header of a blob.
-pub text_header : (file : List ℕ) (cpu reserved structure strings : ℕ) → HasCells file cpu reserved structure strings → reserved % 8 ≡ 0 → up4 (unfilled reserved structure strings) ≤ length file → Header file
+pub text_header : (file : List ℕ) (cpu reserved structure strings : ℕ) → HasCells file cpu reserved structure strings → reserved % 8 ≡ 0 → up4 (length_before_padding reserved structure strings) ≤ length file → Header file
 text_header file cpu reserved structure strings cells aligned long = record {
   whole = omega arith;
   is_magic = cells.is_magic;
@@ -69,13 +69,13 @@ text_header file cpu reserved structure strings cells aligned long = record {
   is_understood = omega (arith, cells.is_compatible);
   total_holds_header = omega (arith, cells.is_total);
   file_holds_total = omega (arith, cells.is_total);
-  reservations_behind_header = omega (arith, cells.is_off_reserved);
+  reservations_after_header = omega (arith, cells.is_off_reserved);
   reservations_aligned = omega (arith, cells.is_off_reserved);
   reservations_within = omega (arith, cells.is_off_reserved, cells.is_total);
-  structure_behind_header = omega (arith, cells.is_off_struct);
+  structure_after_header = omega (arith, cells.is_off_struct);
   structure_aligned = omega (arith, cells.is_off_struct);
   structure_ordered = omega (arith, cells.is_off_struct);
   structure_within = omega (arith, cells.is_off_struct, cells.is_size_struct, cells.is_total);
-  strings_behind_header = omega (arith, cells.is_off_strings);
+  strings_after_header = omega (arith, cells.is_off_strings);
   strings_within = omega (arith, cells.is_off_strings, cells.is_size_strings, cells.is_total);
 }

@@ -2,28 +2,28 @@ use Rattle.std.proofs.Common.{◌-◌, ◌^◌, ◌<◌, ◌≤◌, [], ◌∷�
 use Rattle.std.specs.List.{AllByRecursion}
 use Rattle.bi_base.specs.Cells.{slice, AreBytes}
 use Rattle.bi_blob.specs.Tokens.{End}
-use Rattle.bi_blob.specs.Tree.{Root, Located, plain_tree}
+use Rattle.bi_blob.specs.Tree.{Root, FileNode, tree_without_places}
 use Rattle.bi_blob.specs.Blob.{IsBlob, TreeBlocks, tree_blocks, HoldsTree, off_dt_struct, off_dt_strings, size_dt_strings}
-use Rattle.bi_blob.specs.Layout.{tree_text, located_tree, longest_text}
+use Rattle.bi_blob.specs.Layout.{text_of_tree, tree_with_places, longest_text}
 use Rattle.bi_blob.specs.TextLaws.{BlobHasContent, TextHasOneContent}
 use Rattle.bi_base.proofs.CellLaws.{AreBytes-slice}
 use Rattle.bi_base.proofs.CellLaws.{u32_at-fits}
 use Rattle.bi_blob.proofs.Blobs.OneBlob.{one_blob}
 use Rattle.bi_blob.proofs.Texts.Members.{each-front}
-use Rattle.bi_blob.proofs.Texts.Places.{plain-tree}
+use Rattle.bi_blob.proofs.Texts.Places.{properties_of-tree}
 use Rattle.bi_base.proofs.ByteLists.{AreBytes-none, AreBytes-left}
-use Rattle.bi_blob.proofs.Texts.SaidBytes.{TokenHasBytes, tokens_bytes, tree_bytes}
+use Rattle.bi_blob.proofs.Texts.EncodedBytes.{TokenHasBytes, tokens_bytes, tree_bytes}
 use Rattle.bi_blob.proofs.Texts.TextBlob.{text_blob}
 
 -- What blobs say can be written, and distinct things are written as distinct texts.
 
 -- The tokens that hold a tree have bytes, where the file is bytes.
-pub holds_bytes : (blocks : TreeBlocks) (root : Root Located) (holds : HoldsTree blocks root) → AreBytes blocks.file → AllByRecursion TokenHasBytes holds.tokens
+pub holds_bytes : (blocks : TreeBlocks) (root : Root FileNode) (holds : HoldsTree blocks root) → AreBytes blocks.file → AllByRecursion TokenHasBytes holds.tokens
 holds_bytes blocks root holds bytes =
     each-front TokenHasBytes holds.tokens (End ∷ [])
     (tokens_bytes (holds.tokens ++ End ∷ []) holds.structure
-    (AreBytes-left holds.structure holds.behind (subst AreBytes holds.stands (AreBytes-slice blocks.file blocks.begin (blocks.end - blocks.begin) bytes)))
-    holds.spelled)
+    (AreBytes-left holds.structure holds.trailing (subst AreBytes holds.is_at (AreBytes-slice blocks.file blocks.begin (blocks.end - blocks.begin) bytes)))
+    holds.is_encoded)
 
 -- What a file says as a blob is content.
 pub blob_has_content : BlobHasContent
@@ -34,18 +34,18 @@ blob_has_content file cpu reservations root blob = record {
   bytes = tree_bytes (slice file (off_dt_strings file) (size_dt_strings file)) (off_dt_struct file) blob.holds.tokens root
       (AreBytes-slice file (off_dt_strings file) (size_dt_strings file) blob.bytes)
       (holds_bytes (tree_blocks file) root blob.holds blob.bytes)
-      blob.holds.say;
+      blob.holds.encodes;
 }
 
 -- Contents with one text are the same.
 pub text_has_one_content : TextHasOneContent
 text_has_one_content cpu other_cpu reservations other_reservations root other_root is other_is short same =
-    let one = one_blob (tree_text cpu reservations root ++ []) cpu other_cpu reservations other_reservations (located_tree reservations root) (located_tree other_reservations other_root)
+    let one = one_blob (text_of_tree cpu reservations root ++ []) cpu other_cpu reservations other_reservations (tree_with_places reservations root) (tree_with_places other_reservations other_root)
     (text_blob cpu reservations root [] is short AreBytes-none)
-    (subst (λ text. IsBlob (text ++ []) other_cpu other_reservations (located_tree other_reservations other_root)) (sym same)
+    (subst (λ text. IsBlob (text ++ []) other_cpu other_reservations (tree_with_places other_reservations other_root)) (sym same)
     (text_blob other_cpu other_reservations other_root [] other_is (subst (λ text. length text ≤ longest_text) same short) AreBytes-none)) in
     record {
       same_cpu = one.same_cpu;
       same_reservations = one.same_reservations;
-      same_root = sym (plain-tree reservations root) ∙ ap plain_tree one.same_root ∙ plain-tree other_reservations other_root;
+      same_root = sym (properties_of-tree reservations root) ∙ ap tree_without_places one.same_root ∙ properties_of-tree other_reservations other_root;
     }

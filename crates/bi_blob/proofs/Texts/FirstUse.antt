@@ -4,8 +4,8 @@ use Rattle.std.proofs.lemmas.Slice.Eq.{bytes_eq-Decides}
 use Rattle.std.proofs.lemmas.List.Concat.{flat_map-append}
 use Rattle.std.proofs.lemmas.List.Elements.{filter-append}
 use Rattle.bi_blob.specs.Tree.{Property}
-use Rattle.bi_blob.specs.Marks.{Mark, Has}
-use Rattle.bi_blob.specs.Layout.{names_in, used_names, distinct_names, strings_of, strings_block}
+use Rattle.bi_blob.specs.Events.{Event, NodeProperty}
+use Rattle.bi_blob.specs.Layout.{event_names, used_names, distinct_names, strings_of, strings_block}
 use Rattle.bi_blob.specs.TextLaws.{StringsGrowByUse}
 use Rattle.bi_blob.proofs.Texts.Members.{Contains-none, Contains-cases, Contains-first, Contains-others}
 
@@ -69,18 +69,18 @@ distinct_names-new names name lacks = distinct_names-push names name ∙ where_f
     where_found false is = rw is refl
 
 -- The names that marks use, with one more property.
-pub used_names-push : (marks : List Mark) (property : Property) → used_names (marks ++ Has property ∷ []) ≡ used_names marks ++ property.0 ∷ []
-used_names-push marks property = flat_map-append names_in marks (Has property ∷ [])
+pub used_names-push : (events : List Event) (property : Property) → used_names (events ++ NodeProperty property ∷ []) ≡ used_names events ++ property.0 ∷ []
+used_names-push events property = flat_map-append event_names events (NodeProperty property ∷ [])
 
 -- The strings block grows in the order of use.
 pub strings_grow_by_use : StringsGrowByUse
-strings_grow_by_use marks = record {
+strings_grow_by_use events = record {
   empty = refl;
-  other = λ mark is. ap (λ names. strings_of (distinct_names names)) (flat_map-append names_in marks (mark ∷ []) ∙ ap (λ names. used_names marks ++ (names ++ [])) is ∙ append-nil (used_names marks));
-  known = λ property has. ap (λ names. strings_of (distinct_names names)) (used_names-push marks property) ∙ ap strings_of (distinct_names-known (used_names marks) property.0 has);
+  other = λ event is. ap (λ names. strings_of (distinct_names names)) (flat_map-append event_names events (event ∷ []) ∙ ap (λ names. used_names events ++ (names ++ [])) is ∙ append-nil (used_names events));
+  known = λ property has. ap (λ names. strings_of (distinct_names names)) (used_names-push events property) ∙ ap strings_of (distinct_names-known (used_names events) property.0 has);
   new = λ property lacks.
-      ap (λ names. strings_of (distinct_names names)) (used_names-push marks property)
-      ∙ ap strings_of (distinct_names-new (used_names marks) property.0 lacks)
-      ∙ flat_map-append (λ name. name ++ 0 ∷ []) (distinct_names (used_names marks)) (property.0 ∷ [])
-      ∙ ap (λ l. strings_block marks ++ l) (append-nil (property.0 ++ 0 ∷ []));
+      ap (λ names. strings_of (distinct_names names)) (used_names-push events property)
+      ∙ ap strings_of (distinct_names-new (used_names events) property.0 lacks)
+      ∙ flat_map-append (λ name. name ++ 0 ∷ []) (distinct_names (used_names events)) (property.0 ∷ [])
+      ∙ ap (λ l. strings_block events ++ l) (append-nil (property.0 ++ 0 ∷ []));
 }

@@ -3,7 +3,7 @@ use Rattle.std.proofs.lemmas.Slice.Eq.{bytes_eq-Decides}
 use Rattle.std.proofs.lemmas.List.{drop_at, length_push}
 use Rattle.bi_blob.specs.Tree.{IsNew, AreDistinct}
 use Rattle.bi_blob.specs.Layout.{used_names, distinct_names, strings_of, offset_in}
-use Rattle.bi_blob.specs.TextLaws.{EachNameIsThereOnce, EachNameStands}
+use Rattle.bi_blob.specs.TextLaws.{EachNameIsThereOnce, EachNameIsFound}
 use Rattle.bi_blob.proofs.Texts.Members.{Contains-none, Contains-cases, Contains-first, Contains-others, Contains-filter, Contains-from_filter, each-filter}
 
 -- The names in a strings block: each once, and each at its offset.
@@ -17,17 +17,17 @@ other_names : (name other : List ℕ) → bytes_eq name other ≡ false → name
 other_names name other is same = true≢false (sym ((bytes_eq-Decides name other).1 same) ∙ is)
 
 -- What stands at the offset of a name among names is the name, and a zero byte behind it.
-pub stands_among : (names : List (List ℕ)) (name : List ℕ) → Contains names name → (behind : List ℕ) × (drop (offset_in names name) (strings_of names) ≡ name ++ 0 ∷ behind)
+pub stands_among : (names : List (List ℕ)) (name : List ℕ) → Contains names name → (trailing : List ℕ) × (drop (offset_in names name) (strings_of names) ≡ name ++ 0 ∷ trailing)
 stands_among [] name has = absurd (Contains-none name has)
 stands_among (first ∷ others) name has =
     where_first (bytes_eq first name) refl (Contains-cases first others name has) (λ has. stands_among others name has)
   where
-    where_first : (b : Bool) → bytes_eq first name ≡ b → (first ≡ name) ⊎ Contains others name → (Contains others name → (behind : List ℕ) × (drop (offset_in others name) (strings_of others) ≡ name ++ 0 ∷ behind)) → (behind : List ℕ) × (drop (offset_in (first ∷ others) name) (strings_of (first ∷ others)) ≡ name ++ 0 ∷ behind)
-    where_first true is has stands =
+    where_first : (b : Bool) → bytes_eq first name ≡ b → (first ≡ name) ⊎ Contains others name → (Contains others name → (trailing : List ℕ) × (drop (offset_in others name) (strings_of others) ≡ name ++ 0 ∷ trailing)) → (trailing : List ℕ) × (drop (offset_in (first ∷ others) name) (strings_of (first ∷ others)) ≡ name ++ 0 ∷ trailing)
+    where_first true is has is_at =
         rw is (strings_of others, append_assoc first (0 ∷ []) (strings_of others) ∙ ap (λ l. l ++ 0 ∷ strings_of others) (same_names first name is))
-    where_first false is (inl same) stands = absurd (other_names first name is same)
-    where_first false is (inr has) stands =
-        let there = stands has in
+    where_first false is (inl same) is_at = absurd (other_names first name is same)
+    where_first false is (inr has) is_at =
+        let there = is_at has in
         rw is (
           there.0,
           sym (drop-drop (offset_in others name) (length first + 1) (strings_of (first ∷ others)))
@@ -83,13 +83,13 @@ distinct_names-distinct (first ∷ others) = (new-filter first (distinct_names o
 
 -- Marks have the names that they use in their strings block, each once.
 pub has_names_once : EachNameIsThereOnce
-has_names_once marks = record {
-  same = λ name. (distinct_names-only (used_names marks) name, distinct_names-all (used_names marks) name);
-  distinct = distinct_names-distinct (used_names marks);
+has_names_once events = record {
+  same = λ name. (distinct_names-only (used_names events) name, distinct_names-all (used_names events) name);
+  distinct = distinct_names-distinct (used_names events);
 }
 
 -- A name that marks use stands at its offset.
-pub name_stands : EachNameStands
-name_stands marks name has no_zero =
-    let there = stands_among (distinct_names (used_names marks)) name (distinct_names-all (used_names marks) name has) in
-    record { no_zero = no_zero; behind = there.0; stands = there.1 }
+pub name_stands : EachNameIsFound
+name_stands events name has no_zero =
+    let there = stands_among (distinct_names (used_names events)) name (distinct_names-all (used_names events) name has) in
+    record { no_zero = no_zero; trailing = there.0; is_at = there.1 }

@@ -3,8 +3,8 @@ use Rattle.std.specs.Cmp.Lexicographic.{slice_cmp}
 use Rattle.std.specs.FinMap.{entries, from_entries, is_sorted, entries_sorted, get-entries, get-from_entries, same_map}
 use Rattle.std.specs.FinMap.Entries.{same_entries}
 use Rattle.std.proofs.lemmas.Cmp.{nat_list_cmp_total}
-use Rattle.bi_blob.specs.Tree.{Nodes, none, node, Root, Property, PropertyMap, with_each, forget, EachOwn, IsNormal}
-use Rattle.bi_blob.specs.Layout.{in_order, tree_text, longest_text}
+use Rattle.bi_blob.specs.Tree.{Nodes, none, node, Root, Property, PropertyMap, with_each, tree_without_order, EachOwn, IsNormal}
+use Rattle.bi_blob.specs.Layout.{in_byte_order, text_of_tree, longest_text}
 use Rattle.bi_blob.specs.TextLaws.{EachTreeHasOneOrder, NormalTextTellsContent}
 use Rattle.bi_blob.proofs.Texts.Ordering.{order_tells}
 use Rattle.bi_blob.proofs.Texts.Content.{text_has_one_content}
@@ -44,7 +44,7 @@ ordered-nodes (node name properties children later) normal =
     ∙ ap₂ (λ inner outer. node name properties inner outer) (ordered-nodes children normal.1) (ordered-nodes later normal.2)
 
 -- A normal tree is the one in order of what it says.
-pub ordered-tree : (root : Root (List Property)) → IsNormal root → in_order (forget root) ≡ root
+pub ordered-tree : (root : Root (List Property)) → IsNormal root → in_byte_order (tree_without_order root) ≡ root
 ordered-tree root normal =
     ap₂ (λ own children. record { own = own; children = children })
     (ordered_again root.own normal.0) (ordered-nodes root.children normal.1)
@@ -54,7 +54,7 @@ pub has_one_order : EachTreeHasOneOrder
 has_one_order root = record {
   is_normal = (entries_sorted root.own, normal-nodes root.children, tt);
   is_same = ap₂ (λ own children. record { own = own; children = children }) (made_again root.own) (same-nodes root.children);
-  only = λ other normal same. sym (ordered-tree other normal) ∙ ap in_order same;
+  only = λ other normal same. sym (ordered-tree other normal) ∙ ap in_byte_order same;
 }
 
 -- Normal texts tell what they were made from.
@@ -64,12 +64,12 @@ normal_text_tells_content cpu other_cpu reservations other_reservations root oth
       let one = text_has_one_content cpu other_cpu reservations other_reservations root other_root is other_is
       (subst (λ text. length text ≤ longest_text) normal.is_text short)
       (sym normal.is_text ∙ same ∙ other_normal.is_text) in
-      record { same_cpu = one.same_cpu; same_reservations = one.same_reservations; same_root = ap forget one.same_root }),
+      record { same_cpu = one.same_cpu; same_reservations = one.same_reservations; same_root = ap tree_without_order one.same_root }),
   (λ same.
       normal.is_text
-      ∙ ap (λ cpu. tree_text cpu reservations root) same.same_cpu
-      ∙ ap (λ reservations. tree_text other_cpu reservations root) same.same_reservations
-      ∙ ap (λ root. tree_text other_cpu other_reservations root)
-      (sym (ordered-tree root normal.is_normal) ∙ ap in_order same.same_root ∙ ordered-tree other_root other_normal.is_normal)
+      ∙ ap (λ cpu. text_of_tree cpu reservations root) same.same_cpu
+      ∙ ap (λ reservations. text_of_tree other_cpu reservations root) same.same_reservations
+      ∙ ap (λ root. text_of_tree other_cpu other_reservations root)
+      (sym (ordered-tree root normal.is_normal) ∙ ap in_byte_order same.same_root ∙ ordered-tree other_root other_normal.is_normal)
       ∙ sym other_normal.is_text),
 )

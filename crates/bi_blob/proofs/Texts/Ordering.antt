@@ -88,14 +88,14 @@ each-entries P properties found =
     (λ name value there. found name value (get-entries properties name ∙ there))
 
 -- What holds of each property holds of each of them taken by name and put in order.
-pub each-in_order : (P : Property → Type 0) (properties : List Property) → AllByRecursion P properties → AllByRecursion P (entries (from_entries {R = slice_cmp nat_cmp} properties))
-each-in_order P properties each =
+pub each-in_byte_order : (P : Property → Type 0) (properties : List Property) → AllByRecursion P properties → AllByRecursion P (entries (from_entries {R = slice_cmp nat_cmp} properties))
+each-in_byte_order P properties each =
     each-entries P (from_entries {R = slice_cmp nat_cmp} properties)
     (λ name value there. found-each P properties each name value (sym (get-from_entries nat_list_cmp_total properties name) ∙ there))
 
 -- Properties taken by name and put in order are properties.
-pub AreProperties-in_order : (properties : List Property) → AreProperties properties → AreProperties (entries (from_entries {R = slice_cmp nat_cmp} properties))
-AreProperties-in_order properties are = record {
-  named = each-in_order (λ property. IsPropertyName property.0) properties are.named;
+pub AreProperties-in_byte_order : (properties : List Property) → AreProperties properties → AreProperties (entries (from_entries {R = slice_cmp nat_cmp} properties))
+AreProperties-in_byte_order properties are = record {
+  named = each-in_byte_order (λ property. IsPropertyName property.0) properties are.named;
   distinct = ordered_distinct (entries (from_entries {R = slice_cmp nat_cmp} properties)) (entries_sorted (from_entries {R = slice_cmp nat_cmp} properties));
 }

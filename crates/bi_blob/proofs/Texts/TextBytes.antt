@@ -1,11 +1,11 @@
 use Rattle.std.proofs.Common.{ℕ, ◌+◌, not, List, [], ◌∷◌, ◌++◌, length, map, flat_map, bytes_eq}
 use Rattle.std.specs.List.{AllByRecursion}
 use Rattle.bi_base.specs.Cells.{cell, up4, AreBytes}
-use Rattle.bi_blob.specs.Tokens.{Token, End, unpadded, begin_node_number, end_node_number, prop_number, end_number}
+use Rattle.bi_blob.specs.Tokens.{Token, End, token_bytes, begin_node_number, end_node_number, prop_number, end_number}
 use Rattle.bi_blob.specs.Tree.{Root, Property}
-use Rattle.bi_blob.specs.Marks.{Mark, Opens, Has, Closes, marks_of}
-use Rattle.bi_blob.specs.Blob.{Reservation, pair_bytes, end_pair, reserved_block, blob_magic}
-use Rattle.bi_blob.specs.Layout.{used_names, distinct_names, strings_of, offset_in, filling, spelling, token_of, structure_block, strings_block, unfilled, blob_header, text_of, blob_text, tree_text, HasBytes, IsContent}
+use Rattle.bi_blob.specs.Events.{Event, NodeStart, NodeProperty, NodeEnd, events_of}
+use Rattle.bi_blob.specs.Blob.{Reservation, pair_bytes, end_pair, reservation_block, blob_magic}
+use Rattle.bi_blob.specs.Layout.{used_names, distinct_names, strings_of, offset_in, padding_to_4, encoding, token_of, structure_block, strings_block, length_before_padding, blob_header, text_of_blocks, text_of_events, text_of_tree, AreEventBytes, IsContent}
 use Rattle.bi_blob.proofs.Texts.Members.{each-append, each-filter}
 use Rattle.bi_base.proofs.ByteLists.{AreBytes-none, AreBytes-append, AreBytes-zeros, AreBytes-cell, AreBytes-cell8, AreBytes-flat_map}
 
@@ -14,18 +14,18 @@ use Rattle.bi_base.proofs.ByteLists.{AreBytes-none, AreBytes-append, AreBytes-ze
 -- The header is.
 pub AreBytes-header : (cpu reserved structure strings : ℕ) → AreBytes (blob_header cpu reserved structure strings)
 AreBytes-header cpu reserved structure strings =
-    then blob_magic (then (up4 (unfilled reserved structure strings)) (then (40 + reserved) (then (40 + reserved + structure) (then 40
+    then blob_magic (then (up4 (length_before_padding reserved structure strings)) (then (40 + reserved) (then (40 + reserved + structure) (then 40
     (then 17 (then 16 (then cpu (then strings (AreBytes-cell structure)))))))))
   where
-    then : {behind : List ℕ} (n : ℕ) → AreBytes behind → AreBytes (cell n ++ behind)
-    then {behind = behind} n bytes = AreBytes-append (cell n) behind (AreBytes-cell n) bytes
+    then : {trailing : List ℕ} (n : ℕ) → AreBytes trailing → AreBytes (cell n ++ trailing)
+    then {trailing = trailing} n bytes = AreBytes-append (cell n) trailing (AreBytes-cell n) bytes
 
 -- A pair of the reservation block is.
 pub AreBytes-reservation : (reservation : Reservation) → AreBytes (pair_bytes reservation)
 AreBytes-reservation reservation = AreBytes-append _ _ (AreBytes-cell8 reservation.address) (AreBytes-cell8 reservation.size)
 
 -- The reservation block is.
-pub AreBytes-reserved : (reservations : List Reservation) → AreBytes (reserved_block reservations)
+pub AreBytes-reserved : (reservations : List Reservation) → AreBytes (reservation_block reservations)
 AreBytes-reserved reservations = AreBytes-append (flat_map pair_bytes reservations) (pair_bytes end_pair) (AreBytes-flat_map pair_bytes reservations (each reservations)) (AreBytes-reservation end_pair)
   where
     each : (reservations : List Reservation) → AllByRecursion (λ reservation. AreBytes (pair_bytes reservation)) reservations
@@ -33,37 +33,37 @@ AreBytes-reserved reservations = AreBytes-append (flat_map pair_bytes reservatio
     each (reservation ∷ later) = (AreBytes-reservation reservation, each later)
 
 -- What a token of a mark holds, without its padding, is.
-pub AreBytes-unpadded : (names : List (List ℕ)) (mark : Mark) → HasBytes mark → AreBytes (unpadded (token_of names mark))
-AreBytes-unpadded names (Opens name) bytes =
+pub AreBytes-token_bytes : (names : List (List ℕ)) (event : Event) → AreEventBytes event → AreBytes (token_bytes (token_of names event))
+AreBytes-token_bytes names (NodeStart name) bytes =
     AreBytes-append _ _ (AreBytes-cell begin_node_number) (AreBytes-append name (0 ∷ []) bytes (AreBytes-zeros 1))
-AreBytes-unpadded names (Has property) bytes =
+AreBytes-token_bytes names (NodeProperty property) bytes =
     AreBytes-append _ _ (AreBytes-cell prop_number)
     (AreBytes-append _ _ (AreBytes-cell (length property.1))
     (AreBytes-append _ _ (AreBytes-cell (offset_in names property.0)) bytes.1))
-AreBytes-unpadded names Closes bytes = AreBytes-cell end_node_number
+AreBytes-token_bytes names NodeEnd bytes = AreBytes-cell end_node_number
 
 -- A token with zeros as its padding is, where it is without its padding.
-pub AreBytes-spelling : (token : Token) → AreBytes (unpadded token) → AreBytes (spelling token)
-AreBytes-spelling token bytes = AreBytes-append (unpadded token) (filling (length (unpadded token))) bytes (AreBytes-zeros _)
+pub AreBytes-encoding : (token : Token) → AreBytes (token_bytes token) → AreBytes (encoding token)
+AreBytes-encoding token bytes = AreBytes-append (token_bytes token) (padding_to_4 (length (token_bytes token))) bytes (AreBytes-zeros _)
 
 -- The structure block is.
-pub AreBytes-structure : (marks : List Mark) → AllByRecursion HasBytes marks → AreBytes (structure_block marks)
-AreBytes-structure marks bytes =
-    AreBytes-flat_map spelling _
-    (each-append (λ token. AreBytes (spelling token)) (map (token_of (distinct_names (used_names marks))) marks) (End ∷ [])
-    (each (distinct_names (used_names marks)) marks bytes)
-    (AreBytes-spelling End (AreBytes-cell end_number), tt))
+pub AreBytes-structure : (events : List Event) → AllByRecursion AreEventBytes events → AreBytes (structure_block events)
+AreBytes-structure events bytes =
+    AreBytes-flat_map encoding _
+    (each-append (λ token. AreBytes (encoding token)) (map (token_of (distinct_names (used_names events))) events) (End ∷ [])
+    (each (distinct_names (used_names events)) events bytes)
+    (AreBytes-encoding End (AreBytes-cell end_number), tt))
   where
-    each : (names : List (List ℕ)) (marks : List Mark) → AllByRecursion HasBytes marks → AllByRecursion (λ token. AreBytes (spelling token)) (map (token_of names) marks)
+    each : (names : List (List ℕ)) (events : List Event) → AllByRecursion AreEventBytes events → AllByRecursion (λ token. AreBytes (encoding token)) (map (token_of names) events)
     each names [] bytes = tt
-    each names (mark ∷ later) bytes = (AreBytes-spelling (token_of names mark) (AreBytes-unpadded names mark bytes.0), each names later bytes.1)
+    each names (event ∷ later) bytes = (AreBytes-encoding (token_of names event) (AreBytes-token_bytes names event bytes.0), each names later bytes.1)
 
 -- The names that marks use are.
-pub AreBytes-used_names : (marks : List Mark) → AllByRecursion HasBytes marks → AllByRecursion AreBytes (used_names marks)
+pub AreBytes-used_names : (events : List Event) → AllByRecursion AreEventBytes events → AllByRecursion AreBytes (used_names events)
 AreBytes-used_names [] bytes = tt
-AreBytes-used_names (Opens name ∷ later) bytes = AreBytes-used_names later bytes.1
-AreBytes-used_names (Has property ∷ later) bytes = (bytes.0.0, AreBytes-used_names later bytes.1)
-AreBytes-used_names (Closes ∷ later) bytes = AreBytes-used_names later bytes.1
+AreBytes-used_names (NodeStart name ∷ later) bytes = AreBytes-used_names later bytes.1
+AreBytes-used_names (NodeProperty property ∷ later) bytes = (bytes.0.0, AreBytes-used_names later bytes.1)
+AreBytes-used_names (NodeEnd ∷ later) bytes = AreBytes-used_names later bytes.1
 
 -- What holds of each name holds of each of the first ones.
 pub each-distinct_names : (P : List ℕ → Type 0) (names : List (List ℕ)) → AllByRecursion P names → AllByRecursion P (distinct_names names)
@@ -78,19 +78,19 @@ AreBytes-strings_of (name ∷ later) bytes =
     AreBytes-append _ _ (AreBytes-append name (0 ∷ []) bytes.0 (AreBytes-zeros 1)) (AreBytes-strings_of later bytes.1)
 
 -- The strings block is.
-pub AreBytes-strings : (marks : List Mark) → AllByRecursion HasBytes marks → AreBytes (strings_block marks)
-AreBytes-strings marks bytes = AreBytes-strings_of (distinct_names (used_names marks)) (each-distinct_names AreBytes (used_names marks) (AreBytes-used_names marks bytes))
+pub AreBytes-strings : (events : List Event) → AllByRecursion AreEventBytes events → AreBytes (strings_block events)
+AreBytes-strings events bytes = AreBytes-strings_of (distinct_names (used_names events)) (each-distinct_names AreBytes (used_names events) (AreBytes-used_names events bytes))
 
 -- A text of three blocks is, where they are.
-pub AreBytes-text_of : (cpu : ℕ) (reserved structure strings : List ℕ) → AreBytes reserved → AreBytes structure → AreBytes strings → AreBytes (text_of cpu reserved structure strings)
-unfolding text_of
-AreBytes-text_of cpu reserved structure strings first second third =
+pub AreBytes-text_of_blocks : (cpu : ℕ) (reserved structure strings : List ℕ) → AreBytes reserved → AreBytes structure → AreBytes strings → AreBytes (text_of_blocks cpu reserved structure strings)
+unfolding text_of_blocks
+AreBytes-text_of_blocks cpu reserved structure strings first second third =
     AreBytes-append _ _ (AreBytes-header cpu (length reserved) (length structure) (length strings))
     (AreBytes-append _ _ first (AreBytes-append _ _ second (AreBytes-append _ _ third (AreBytes-zeros _))))
 
 -- The text of content is.
-pub AreBytes-text : (cpu : ℕ) (reservations : List Reservation) (root : Root (List Property)) → IsContent cpu reservations root → AreBytes (tree_text cpu reservations root)
-unfolding blob_text
+pub AreBytes-text : (cpu : ℕ) (reservations : List Reservation) (root : Root (List Property)) → IsContent cpu reservations root → AreBytes (text_of_tree cpu reservations root)
+unfolding text_of_events
 AreBytes-text cpu reservations root is =
-    AreBytes-text_of cpu (reserved_block reservations) (structure_block (marks_of root)) (strings_block (marks_of root))
-    (AreBytes-reserved reservations) (AreBytes-structure (marks_of root) is.bytes) (AreBytes-strings (marks_of root) is.bytes)
+    AreBytes-text_of_blocks cpu (reservation_block reservations) (structure_block (events_of root)) (strings_block (events_of root))
+    (AreBytes-reserved reservations) (AreBytes-structure (events_of root) is.bytes) (AreBytes-strings (events_of root) is.bytes)

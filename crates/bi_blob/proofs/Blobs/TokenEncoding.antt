@@ -1,7 +1,7 @@
 use Rattle.std.proofs.Common.{◌≡◌, ◌≢◌, ℕ, ◌+◌, ◌-◌, ◌≤◌, List, [], ◌∷◌, ◌++◌, length, take, drop, min, refl, sym, ap, subst, ◌∙◌, arith}
 use Rattle.std.specs.List.{AllByRecursion}
 use Rattle.std.proofs.lemmas.List.{length-take, length-drop, append_assoc, take-append-drop, drop-append-le, drop-drop, take_at, drop_at}
-use Rattle.bi_blob.specs.Tokens.{Token, End, unpadded, width, Spells, Spelled, StandsAt}
+use Rattle.bi_blob.specs.Tokens.{Token, End, token_bytes, width, IsEncoding, AreEncodings, IsTokenAt}
 use Rattle.bi_blob.proofs.Blobs.Cells.{BytesAt-from}
 use Rattle.bi_blob.proofs.Blobs.Tokens.{one_token}
 
@@ -17,58 +17,58 @@ behind_all-append at (token ∷ a) b = behind_all-append (at + width token) a b
 -- These tokens stand in a file one behind the other, from this offset on.
 abbrev pub AllStand : List ℕ → ℕ → List Token → Type 0
 AllStand file at [] = Unit {0}
-AllStand file at (token ∷ later) = StandsAt file at token × AllStand file (at + width token) later
+AllStand file at (token ∷ later) = IsTokenAt file at token × AllStand file (at + width token) later
 
 -- A token that is spelled by the first bytes behind an offset stands there.
-Spells-stands : (file : List ℕ) (at : ℕ) (token : Token) (bytes rest : List ℕ) → Spells token bytes → drop at file ≡ bytes ++ rest → StandsAt file at token
-Spells-stands file at token bytes rest spells e = record {
+IsEncoding-is_at : (file : List ℕ) (at : ℕ) (token : Token) (bytes rest : List ℕ) → IsEncoding token bytes → drop at file ≡ bytes ++ rest → IsTokenAt file at token
+IsEncoding-is_at file at token bytes rest spells e = record {
   is_token = spells.is_token;
-  stands = BytesAt-from file at (unpadded token) (spells.padding ++ rest)
-      (e ∙ ap (λ l. l ++ rest) spells.spelled ∙ append_assoc (unpadded token) spells.padding rest);
+  is_at = BytesAt-from file at (token_bytes token) (spells.padding ++ rest)
+      (e ∙ ap (λ l. l ++ rest) spells.is_encoded ∙ append_assoc (token_bytes token) spells.padding rest);
 }
 
 -- The bytes of spelled tokens are as many as the first token takes, or more.
-Spelled-first : (token : Token) (bytes : List ℕ) → Spells token (take (width token) bytes) → width token ≤ length bytes
-Spelled-first token bytes spells =
+AreEncodings-first : (token : Token) (bytes : List ℕ) → IsEncoding token (take (width token) bytes) → width token ≤ length bytes
+AreEncodings-first token bytes spells =
     let long : length (take (width token) bytes) ≡ width token = spells.whole in
     let short : length (take (width token) bytes) ≡ min (width token) (length bytes) = length-take (width token) bytes in
     omega arith
 
 -- Tokens that are spelled by the first bytes behind an offset stand there.
-pub Spelled-stand : (file : List ℕ) (at : ℕ) (tokens : List Token) (bytes rest : List ℕ) → Spelled tokens bytes → drop at file ≡ bytes ++ rest → AllStand file at tokens
-Spelled-stand file at [] bytes rest spelled e = tt
-Spelled-stand file at (token ∷ later) bytes rest spelled e = (
-  Spells-stands file at token (take (width token) bytes) (drop (width token) bytes ++ rest) spelled.0
+pub AreEncodings-stand : (file : List ℕ) (at : ℕ) (tokens : List Token) (bytes rest : List ℕ) → AreEncodings tokens bytes → drop at file ≡ bytes ++ rest → AllStand file at tokens
+AreEncodings-stand file at [] bytes rest is_encoded e = tt
+AreEncodings-stand file at (token ∷ later) bytes rest is_encoded e = (
+  IsEncoding-is_at file at token (take (width token) bytes) (drop (width token) bytes ++ rest) is_encoded.0
       (e ∙ ap (λ l. l ++ rest) (sym (take-append-drop (width token) bytes)) ∙ append_assoc (take (width token) bytes) (drop (width token) bytes) rest),
-  Spelled-stand file (at + width token) later (drop (width token) bytes) rest spelled.1
-      (sym (drop-drop (width token) at file) ∙ ap (drop (width token)) e ∙ drop-append-le (width token) bytes rest (Spelled-first token bytes spelled.0)),
+  AreEncodings-stand file (at + width token) later (drop (width token) bytes) rest is_encoded.1
+      (sym (drop-drop (width token) at file) ∙ ap (drop (width token)) e ∙ drop-append-le (width token) bytes rest (AreEncodings-first token bytes is_encoded.0)),
 )
 
 -- The bytes of spelled tokens are as many as the tokens take.
-pub Spelled-length : (at : ℕ) (tokens : List Token) (bytes : List ℕ) → Spelled tokens bytes → at + length bytes ≡ behind_all at tokens
-Spelled-length at [] bytes spelled = let none : length bytes ≡ 0 = ap length spelled in omega arith
-Spelled-length at (token ∷ later) bytes spelled =
+pub AreEncodings-length : (at : ℕ) (tokens : List Token) (bytes : List ℕ) → AreEncodings tokens bytes → at + length bytes ≡ behind_all at tokens
+AreEncodings-length at [] bytes is_encoded = let none : length bytes ≡ 0 = ap length is_encoded in omega arith
+AreEncodings-length at (token ∷ later) bytes is_encoded =
     let rest : at + width token + length (drop (width token) bytes) ≡ behind_all (at + width token) later =
-    Spelled-length (at + width token) later (drop (width token) bytes) spelled.1 in
+    AreEncodings-length (at + width token) later (drop (width token) bytes) is_encoded.1 in
     let left : length (drop (width token) bytes) ≡ length bytes - width token = length-drop (width token) bytes in
-    let first : width token ≤ length bytes = Spelled-first token bytes spelled.0 in
+    let first : width token ≤ length bytes = AreEncodings-first token bytes is_encoded.0 in
     let same : at + length bytes ≡ at + width token + length (drop (width token) bytes) = omega arith in
     same ∙ rest
 
 -- What one token is spelled by, and then others, spells all of them.
-pub Spelled-cons : (token : Token) (later : List Token) (a b : List ℕ) → Spells token a → Spelled later b → Spelled (token ∷ later) (a ++ b)
-Spelled-cons token later a b spells spelled = (
-  subst (Spells token) (sym (take_at a b (width token) spells.whole)) spells,
-  subst (Spelled later) (sym (drop_at a b (width token) spells.whole)) spelled,
+pub AreEncodings-cons : (token : Token) (later : List Token) (a b : List ℕ) → IsEncoding token a → AreEncodings later b → AreEncodings (token ∷ later) (a ++ b)
+AreEncodings-cons token later a b spells is_encoded = (
+  subst (IsEncoding token) (sym (take_at a b (width token) spells.whole)) spells,
+  subst (AreEncodings later) (sym (drop_at a b (width token) spells.whole)) is_encoded,
 )
 
 -- What some tokens are spelled by, and then others, spells all of them.
-pub Spelled-append : (ts us : List Token) (a b : List ℕ) → Spelled ts a → Spelled us b → Spelled (ts ++ us) (a ++ b)
-Spelled-append [] us a b first second = subst (λ l. Spelled us (l ++ b)) (sym first) second
-Spelled-append (token ∷ ts) us a b first second =
+pub AreEncodings-append : (ts us : List Token) (a b : List ℕ) → AreEncodings ts a → AreEncodings us b → AreEncodings (ts ++ us) (a ++ b)
+AreEncodings-append [] us a b first second = subst (λ l. AreEncodings us (l ++ b)) (sym first) second
+AreEncodings-append (token ∷ ts) us a b first second =
     let w : ℕ = width token in
-    subst (Spelled (token ∷ (ts ++ us))) (sym (append_assoc (take w a) (drop w a) b) ∙ ap (λ l. l ++ b) (take-append-drop w a))
-    (Spelled-cons token (ts ++ us) (take w a) (drop w a ++ b) first.0 (Spelled-append ts us (drop w a) b first.1 second))
+    subst (AreEncodings (token ∷ (ts ++ us))) (sym (append_assoc (take w a) (drop w a) b) ∙ ap (λ l. l ++ b) (take-append-drop w a))
+    (AreEncodings-cons token (ts ++ us) (take w a) (drop w a ++ b) first.0 (AreEncodings-append ts us (drop w a) b first.1 second))
 
 -- Of two lists of tokens with one FDT_END at their ends, one at most stands at an offset.
 pub one_spelling : (file : List ℕ) (at : ℕ) (ts us : List Token) → AllByRecursion (λ t. t ≢ End) ts → AllByRecursion (λ t. t ≢ End) us → AllStand file at (ts ++ End ∷ []) → AllStand file at (us ++ End ∷ []) → ts ≡ us

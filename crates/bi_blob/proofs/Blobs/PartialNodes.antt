@@ -1,36 +1,36 @@
 use Rattle.std.proofs.Common.{◌≡◌, ℕ, ◌+◌, ◌≤◌, List, [], ◌∷◌, ◌++◌, map, length, reverse}
 use Rattle.bi_blob.specs.Tokens.{Token}
-use Rattle.bi_blob.specs.Tree.{Nodes, none, node, Root, Placed, Located, names, with_each, depth, depth_of, property_of, plain, plain_tree, IsTree, AreNodes, AreProperties, IsChildName, IsNew}
-use Rattle.bi_blob.specs.Marks.{PlacedMark, OpensAt, HasAt, placed_marks, placed_marks_of, Say}
-use Rattle.bi_blob.specs.Stages.{Stage, BeforeRoot, Inside, AfterRoot, Open, with_child}
+use Rattle.bi_blob.specs.Tree.{Nodes, none, node, Root, FileProperty, FileNode, names, with_each, depth, depth_of, property_of, properties_of, tree_without_places, IsTree, AreNodes, AreProperties, IsChildName, IsNew}
+use Rattle.bi_blob.specs.Events.{FileEvent, FileNodeStart, FileNodeProperty, file_events, file_events_of, EncodeEvents}
+use Rattle.bi_blob.specs.Stages.{Stage, BeforeRoot, Inside, AfterRoot, OpenNode, with_child}
 use Rattle.bi_blob.specs.Blob.{TreeBlocks, IsReadable}
-use Rattle.bi_blob.specs.BlobFaults.{opened, Walked, place_after}
+use Rattle.bi_blob.specs.BlobFaults.{stage_after, ArePassed, place_after}
 
 -- What is known of a tree while the structure block that holds it is read, token by token.
 
 -- A node that has begun and has not ended: its name, the place of its token, and its properties and children so far.
-pub record OpenNode : Type 0 where
+pub record PartialNode : Type 0 where
   pub name : List ℕ
   pub place : ℕ
-  pub properties : List Placed
-  pub children : Nodes Located
+  pub properties : List FileProperty
+  pub children : Nodes FileNode
 
 -- How much of the tree has been read: the root has not begun; some nodes are open, each in the next; or all of it.
 pub data Growth : Type 0 where
   NotBegun : Growth
-  Growing : (innermost : OpenNode) → (outer : List OpenNode) → Growth
-  Grown : (root : Root Located) → Growth
+  Growing : (innermost : PartialNode) → (outer : List PartialNode) → Growth
+  Grown : (root : Root FileNode) → Growth
 
 -- A node that has just begun.
-abbrev pub begun : List ℕ → ℕ → OpenNode
+abbrev pub begun : List ℕ → ℕ → PartialNode
 begun name place = record { name = name; place = place; properties = []; children = none }
 
 -- The same open node with one more property.
-abbrev pub with_one_property : OpenNode → Placed → OpenNode
+abbrev pub with_one_property : PartialNode → FileProperty → PartialNode
 with_one_property innermost property = record innermost { properties = innermost.properties ++ property ∷ [] }
 
 -- What an open node has itself.
-abbrev pub located_of : OpenNode → Located
+abbrev pub located_of : PartialNode → FileNode
 located_of innermost = record { place = innermost.place; properties = innermost.properties }
 
 -- A list of nodes with one more at its end.
@@ -40,20 +40,20 @@ with_last (node name own children later) last_name last_own last_children =
     node name own children (with_last later last_name last_own last_children)
 
 -- The same open node with one more child, which has ended.
-abbrev pub with_one_child : OpenNode → OpenNode → OpenNode
+abbrev pub with_one_child : PartialNode → PartialNode → PartialNode
 with_one_child parent child =
     record parent { children = with_last parent.children child.name (located_of child) child.children }
 
 -- The root when it has ended.
-abbrev pub root_of : OpenNode → Root Located
+abbrev pub root_of : PartialNode → Root FileNode
 root_of outermost = record { own = located_of outermost; children = outermost.children }
 
 -- The names that an open node has so far.
-abbrev pub open_of : OpenNode → Open
+abbrev pub open_of : PartialNode → OpenNode
 open_of innermost = record { properties = map (λ p. p.name) innermost.properties; children = names innermost.children }
 
 -- The names that the nodes round an open node of this name have so far, the open node's among them.
-abbrev pub opens_of : List ℕ → List OpenNode → List Open
+abbrev pub opens_of : List ℕ → List PartialNode → List OpenNode
 opens_of name [] = []
 opens_of name (parent ∷ outer) = with_child (open_of parent) name ∷ opens_of parent.name outer
 
@@ -64,41 +64,41 @@ stage_of (Growing innermost outer) = Inside (open_of innermost) (opens_of innerm
 stage_of (Grown root) = AfterRoot
 
 -- What an open node says so far.
-abbrev pub said_of : OpenNode → List PlacedMark
+abbrev pub said_of : PartialNode → List FileEvent
 said_of innermost =
-    OpensAt innermost.place innermost.name ∷ (map HasAt innermost.properties ++ placed_marks innermost.children)
+    FileNodeStart innermost.place innermost.name ∷ (map FileNodeProperty innermost.properties ++ file_events innermost.children)
 
 -- What open nodes say so far, the innermost given apart.
-abbrev pub said_by : OpenNode → List OpenNode → List PlacedMark
+abbrev pub said_by : PartialNode → List PartialNode → List FileEvent
 said_by innermost [] = said_of innermost
 said_by innermost (parent ∷ outer) = said_by parent outer ++ said_of innermost
 
 -- What has been said so far.
-abbrev pub said_so_far : Growth → List PlacedMark
+abbrev pub said_so_far : Growth → List FileEvent
 said_so_far NotBegun = []
 said_so_far (Growing innermost outer) = said_by innermost outer
-said_so_far (Grown root) = placed_marks_of root
+said_so_far (Grown root) = file_events_of root
 
 -- An open node is as it has to be so far, where `above` nodes are open round it.
-pub record IsOpenNode (depth_limit above : ℕ) (innermost : OpenNode) : Type 0 where
+pub record IsOpenNode (depth_limit above : ℕ) (innermost : PartialNode) : Type 0 where
   pub properties : AreProperties (map property_of innermost.properties)
-  pub children : AreNodes AreProperties (with_each plain innermost.children)
+  pub children : AreNodes AreProperties (with_each properties_of innermost.children)
   pub shallow : depth innermost.children + above + 1 ≤ depth_limit
 
 -- An open node may be a child of the node round it.
-pub record MayBeChild (parent child : OpenNode) : Type 0 where
+pub record MayBeChild (parent child : PartialNode) : Type 0 where
   pub is_name : IsChildName child.name
   pub is_new : IsNew child.name (names parent.children)
 
 -- Open nodes are as they have to be so far.
-abbrev pub AreOpenNodes : ℕ → OpenNode → List OpenNode → Type 0
+abbrev pub AreOpenNodes : ℕ → PartialNode → List PartialNode → Type 0
 AreOpenNodes depth_limit innermost [] = IsOpenNode depth_limit 0 innermost × (innermost.name ≡ [])
 AreOpenNodes depth_limit innermost (parent ∷ outer) =
     IsOpenNode depth_limit (length outer + 1) innermost × MayBeChild parent innermost × AreOpenNodes depth_limit parent outer
 
 -- A whole tree is as it has to be.
-pub record IsWholeTree (depth_limit : ℕ) (root : Root Located) : Type 0 where
-  pub is_tree : IsTree AreProperties (plain_tree root)
+pub record IsWholeTree (depth_limit : ℕ) (root : Root FileNode) : Type 0 where
+  pub is_tree : IsTree AreProperties (tree_without_places root)
   pub shallow : depth_of root ≤ depth_limit
 
 -- What has been read is as it has to be.
@@ -112,8 +112,8 @@ IsGrowth depth_limit (Grown root) = IsWholeTree depth_limit root
 pub record Standing (blocks : TreeBlocks) (depth_limit place : ℕ) (growth : Growth) : Type 0 where
   pub readable : IsReadable blocks
   pub tokens : List Token
-  pub walked : Walked blocks depth_limit tokens
+  pub passed : ArePassed blocks depth_limit tokens
   pub is_place : place_after blocks tokens ≡ place
-  pub is_stage : opened blocks.strings tokens ≡ stage_of growth
-  pub say : Say blocks.strings blocks.begin (reverse tokens) (said_so_far growth)
+  pub is_stage : stage_after blocks.strings tokens ≡ stage_of growth
+  pub encodes : EncodeEvents blocks.strings blocks.begin (reverse tokens) (said_so_far growth)
   pub is_growth : IsGrowth depth_limit growth

@@ -1,0 +1,46 @@
+use Rattle.std.proofs.Common.{◌≡◌, ℕ, ◌+◌, List, [], ◌∷◌, length, flat_map, refl, sym, ap, subst, ◌∙◌, arith, length-append}
+use Rattle.std.specs.List.{AllByRecursion}
+use Rattle.std.proofs.lemmas.List.{take_at, drop_at, length-replicate}
+use Rattle.bi_base.specs.Cells.{up4}
+use Rattle.bi_blob.specs.Tokens.{Token, Prop, token_bytes, width, IsToken, IsEncoding, AreEncodings}
+use Rattle.bi_blob.specs.Events.{Event, NodeStart, NodeProperty, NodeEnd}
+use Rattle.bi_blob.specs.Layout.{padding_to_4, encoding, token_of, event_width, offset_in}
+use Rattle.bi_base.proofs.CellLaws.{length-cell}
+
+-- How tokens are spelled in a text, with zeros as their padding.
+
+-- What fills up is as long as is missing to a multiple of four.
+pub length-padding_to_4 : (n : ℕ) → n + length (padding_to_4 n) ≡ up4 n
+length-padding_to_4 n = simp (length-replicate) (omega arith)
+
+-- A token takes its width.
+pub length-encoding : (token : Token) → length (encoding token) ≡ width token
+length-encoding token = length-append (token_bytes token) (padding_to_4 (length (token_bytes token))) ∙ length-padding_to_4 (length (token_bytes token))
+
+-- A token with zeros as its padding is spelled.
+pub spells : (token : Token) → IsToken token → IsEncoding token (encoding token)
+spells token is = record {
+  is_token = is;
+  padding = padding_to_4 (length (token_bytes token));
+  is_encoded = refl;
+  whole = length-encoding token;
+}
+
+-- Tokens with zeros as their padding are spelled.
+pub is_encoded : (tokens : List Token) → AllByRecursion IsToken tokens → AreEncodings tokens (flat_map encoding tokens)
+is_encoded [] each = refl
+is_encoded (token ∷ later) each = (
+  subst (IsEncoding token) (sym (take_at (encoding token) (flat_map encoding later) (width token) (length-encoding token))) (spells token each.0),
+  subst (AreEncodings later) (sym (drop_at (encoding token) (flat_map encoding later) (width token) (length-encoding token))) (is_encoded later each.1),
+)
+
+-- The bytes of an FDT_PROP token but for its padding: three cells and the value.
+pub length_unpadded-prop : (name_offset : ℕ) (value : List ℕ) → length (token_bytes (Prop name_offset value)) ≡ 12 + length value
+length_unpadded-prop name_offset value = simp (length-append, length-cell) (omega arith)
+
+-- The token of a mark takes the mark's width, wherever its name stands.
+pub width-token : (names : List (List ℕ)) (event : Event) → width (token_of names event) ≡ event_width event
+width-token names (NodeStart name) = refl
+width-token names (NodeProperty property) =
+    ap up4 (length_unpadded-prop (offset_in names property.0) property.1 ∙ sym (length_unpadded-prop 0 property.1))
+width-token names NodeEnd = refl

@@ -1,0 +1,65 @@
+use Rattle.std.specs.Prelude.{◌≡◌, ℕ, ◌+◌, List, [], ◌∷◌, ◌++◌, map}
+use Rattle.bi_blob.specs.Tokens.{Token, BeginNode, EndNode, Prop, Nop, IsNameAt, width}
+use Rattle.bi_blob.specs.Tree.{Nodes, none, node, Root, Property, FileProperty, FileNode, as_nodes}
+
+-- What a tree says, in the order of the structure block: each node is opened, has its properties, holds its children and is
+-- closed (Devicetree Specification, 5.4.2). A structure block says the same by its tokens.
+
+-- One thing that a tree says.
+pub data Event : Type 0 where
+  NodeStart : (name : List ℕ) → Event
+  NodeProperty : (property : Property) → Event
+  NodeEnd : Event
+
+-- What these nodes say.
+abbrev pub events : Nodes (List Property) → List Event
+events none = []
+events (node name properties children later) =
+    NodeStart name ∷ (map NodeProperty properties ++ (events children ++ (NodeEnd ∷ events later)))
+
+-- What a tree says.
+abbrev pub events_of : Root (List Property) → List Event
+events_of root = events (as_nodes root)
+
+-- One thing that a tree of a file says, with the places that the tree holds.
+pub data FileEvent : Type 0 where
+  FileNodeStart : (place : ℕ) → (name : List ℕ) → FileEvent
+  FileNodeProperty : (property : FileProperty) → FileEvent
+  FileNodeEnd : FileEvent
+
+-- What these nodes of a file say.
+abbrev pub file_events : Nodes FileNode → List FileEvent
+file_events none = []
+file_events (node name own children later) =
+    FileNodeStart own.place name
+    ∷ (map FileNodeProperty own.properties ++ (file_events children ++ (FileNodeEnd ∷ file_events later)))
+
+-- What a tree of a file says.
+abbrev pub file_events_of : Root FileNode → List FileEvent
+file_events_of root = file_events (as_nodes root)
+
+-- An FDT_PROP token at this place says this property.
+pub record EncodesProperty (strings : List ℕ) (at name_offset : ℕ) (token_value : List ℕ) (property : FileProperty) : Type 0 where
+  pub name : IsNameAt strings name_offset property.name
+  pub value : token_value ≡ property.value
+  pub place : at ≡ property.place
+
+-- An FDT_BEGIN_NODE token at this place opens this node.
+pub record EncodesNode (at : ℕ) (token_name : List ℕ) (place : ℕ) (name : List ℕ) : Type 0 where
+  pub same_name : token_name ≡ name
+  pub same_place : at ≡ place
+
+-- These tokens, the first of which stands at this offset, say this: one token for each mark in order, and FDT_NOP anywhere
+-- (5.4.1, 5.4.2).
+abbrev pub EncodeEvents : List ℕ → ℕ → List Token → List FileEvent → Type 0
+EncodeEvents strings at [] [] = Unit {0}
+EncodeEvents strings at (Nop ∷ tokens) later = EncodeEvents strings (at + width Nop) tokens later
+EncodeEvents strings at (BeginNode token_name ∷ tokens) (FileNodeStart place name ∷ later) =
+    EncodesNode at token_name place name
+    × EncodeEvents strings (at + width (BeginNode token_name)) tokens later
+EncodeEvents strings at (Prop name_offset value ∷ tokens) (FileNodeProperty property ∷ later) =
+    EncodesProperty strings at name_offset value property
+    × EncodeEvents strings (at + width (Prop name_offset value)) tokens later
+EncodeEvents strings at (EndNode ∷ tokens) (FileNodeEnd ∷ later) =
+    EncodeEvents strings (at + width EndNode) tokens later
+EncodeEvents strings at tokens later = ⊥
