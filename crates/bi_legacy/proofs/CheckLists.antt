@@ -23,15 +23,15 @@ IsFirstFault-behind P f [] behind fault none first = first
 IsFirstFault-behind P f (check ∷ front) behind fault none first = inr (none.0, IsFirstFault-behind P f front behind fault none.1 first)
 
 -- A file whose header and whose data pass.
-pub fine_by_both : (file : List ℕ) (limits : Bounds) (image_type : ℕ) (body : List ℕ) → image_type ≡ slice_index file 30 → body ≡ body_of file → HasNoFault (Passes file limits) header_checks → HasNoFault (Passes file limits) (body_checks image_type body) → HasNoLegacyFault file limits
+pub fine_by_both : (file : List ℕ) (limits : Bounds) (image_type : ℕ) (body : List ℕ) → image_type ≡ slice_index file 30 → body ≡ body_of file → HasNoFault (Passes limits file) header_checks → HasNoFault (Passes limits file) (body_checks image_type body) → HasNoLegacyFault limits file
 fine_by_both file limits image_type body type_is body_is none rest =
-    let P : ℕ → Type 0 = λ n. HasNoFault (Passes file limits) (body_checks n body) in
-    let Q : List ℕ → Type 0 = λ b. HasNoFault (Passes file limits) (body_checks (slice_index file 30) b) in
-    HasNoFault-append (Passes file limits) header_checks _ none (subst Q body_is (subst P type_is rest))
+    let P : ℕ → Type 0 = λ n. HasNoFault (Passes limits file) (body_checks n body) in
+    let Q : List ℕ → Type 0 = λ b. HasNoFault (Passes limits file) (body_checks (slice_index file 30) b) in
+    HasNoFault-append (Passes limits file) header_checks _ none (subst Q body_is (subst P type_is rest))
 
 -- A file whose header passes and whose data does not.
-pub fault_in_body : (file : List ℕ) (limits : Bounds) (image_type : ℕ) (body : List ℕ) (fault : Fault) → image_type ≡ slice_index file 30 → body ≡ body_of file → HasNoFault (Passes file limits) header_checks → IsFirstFault (Passes file limits) (fault_of limits) (body_checks image_type body) fault → IsLegacyFault file limits fault
+pub fault_in_body : (file : List ℕ) (limits : Bounds) (image_type : ℕ) (body : List ℕ) (fault : Fault) → image_type ≡ slice_index file 30 → body ≡ body_of file → HasNoFault (Passes limits file) header_checks → IsFirstFault (Passes limits file) (fault_of limits) (body_checks image_type body) fault → IsLegacyFault limits file fault
 fault_in_body file limits image_type body fault type_is body_is none first =
-    let P : ℕ → Type 0 = λ n. IsFirstFault (Passes file limits) (fault_of limits) (body_checks n body) fault in
-    let Q : List ℕ → Type 0 = λ b. IsFirstFault (Passes file limits) (fault_of limits) (body_checks (slice_index file 30) b) fault in
-    IsFirstFault-behind (Passes file limits) (fault_of limits) header_checks _ fault none (subst Q body_is (subst P type_is first))
+    let P : ℕ → Type 0 = λ n. IsFirstFault (Passes limits file) (fault_of limits) (body_checks n body) fault in
+    let Q : List ℕ → Type 0 = λ b. IsFirstFault (Passes limits file) (fault_of limits) (body_checks (slice_index file 30) b) fault in
+    IsFirstFault-behind (Passes limits file) (fault_of limits) header_checks _ fault none (subst Q body_is (subst P type_is first))

@@ -7,14 +7,14 @@ use Rattle.bi_base.specs.Limits.{Bounds}
 use Rattle.bi_base.specs.declared.fault.Fault.{Fault}
 use Rattle.bi_legacy.specs.Emitting.{Passes, fault_of, part_checks, IsNotEmpty, bytes_of}
 use Rattle.bi_legacy.specs.Meaning.{LegacyImage}
-use Rattle.bi_legacy.specs.Parts.{end_from}
+use Rattle.bi_legacy.specs.Parts.{parts_end_from}
 
 -- A walk over the parts of an image to be written: what the next part does, and what the others do.
 
 -- An end is not after the end of the pieces behind it.
-pub end_from-grows : (end : ℕ) (sizes : List ℕ) → end ≤ end_from end sizes
-end_from-grows end [] = omega arith
-end_from-grows end (size ∷ sizes) = omega (arith, end_from-grows (up4 end + size) sizes)
+pub parts_end_from-grows : (end : ℕ) (sizes : List ℕ) → end ≤ parts_end_from end sizes
+parts_end_from-grows end [] = omega arith
+parts_end_from-grows end (size ∷ sizes) = omega (arith, parts_end_from-grows (up4 end + size) sizes)
 
 -- The parts that are left are the next one and those behind it.
 pub drop-bytes_of : (slices : List (Bor (List ℕ))) (i : ℕ) (d : Bor (List ℕ)) → i < length slices → drop i (bytes_of slices) ≡ (get_or slices i d).now ∷ drop (i + 1) (bytes_of slices)
@@ -31,16 +31,16 @@ drop-sizes_of slices i d within =
     ∙ ap (λ later. length (get_or slices i d).now ∷ later) (sym (drop-map length (i + 1) (bytes_of slices)))
 
 -- An empty part is the first fault of those that are left.
-pub empty_here : (image : LegacyImage) (limits : Bounds) (index : ℕ) (part : List ℕ) (parts later : List (List ℕ)) → parts ≡ part ∷ later → length part ≡ 0 → IsFirstFault (Passes image limits) (fault_of limits) (part_checks index parts) (fault_of limits (IsNotEmpty index part))
+pub empty_here : (image : LegacyImage) (limits : Bounds) (index : ℕ) (part : List ℕ) (parts later : List (List ℕ)) → parts ≡ part ∷ later → length part ≡ 0 → IsFirstFault (Passes limits image) (fault_of limits) (part_checks index parts) (fault_of limits (IsNotEmpty index part))
 empty_here image limits index part parts later e empty =
-    subst (λ (left : List (List ℕ)). IsFirstFault (Passes image limits) (fault_of limits) (part_checks index left) (fault_of limits (IsNotEmpty index part))) (sym e) (inl (λ listed. omega arith, refl))
+    subst (λ (left : List (List ℕ)). IsFirstFault (Passes limits image) (fault_of limits) (part_checks index left) (fault_of limits (IsNotEmpty index part))) (sym e) (inl (λ listed. omega arith, refl))
 
 -- Behind a part that is not empty, the first fault is that of the others.
-pub empty_later : (image : LegacyImage) (limits : Bounds) (index : ℕ) (part : List ℕ) (parts later : List (List ℕ)) (fault : Fault) → parts ≡ part ∷ later → 0 < length part → IsFirstFault (Passes image limits) (fault_of limits) (part_checks (index + 1) later) fault → IsFirstFault (Passes image limits) (fault_of limits) (part_checks index parts) fault
+pub empty_later : (image : LegacyImage) (limits : Bounds) (index : ℕ) (part : List ℕ) (parts later : List (List ℕ)) (fault : Fault) → parts ≡ part ∷ later → 0 < length part → IsFirstFault (Passes limits image) (fault_of limits) (part_checks (index + 1) later) fault → IsFirstFault (Passes limits image) (fault_of limits) (part_checks index parts) fault
 empty_later image limits index part parts later fault e listed rest =
-    subst (λ (left : List (List ℕ)). IsFirstFault (Passes image limits) (fault_of limits) (part_checks index left) fault) (sym e) (inr (listed, rest))
+    subst (λ (left : List (List ℕ)). IsFirstFault (Passes limits image) (fault_of limits) (part_checks index left) fault) (sym e) (inr (listed, rest))
 
 -- A part that is not empty passes, and then the others.
-pub none_empty : (image : LegacyImage) (limits : Bounds) (index : ℕ) (part : List ℕ) (parts later : List (List ℕ)) → parts ≡ part ∷ later → 0 < length part → HasNoFault (Passes image limits) (part_checks (index + 1) later) → HasNoFault (Passes image limits) (part_checks index parts)
+pub none_empty : (image : LegacyImage) (limits : Bounds) (index : ℕ) (part : List ℕ) (parts later : List (List ℕ)) → parts ≡ part ∷ later → 0 < length part → HasNoFault (Passes limits image) (part_checks (index + 1) later) → HasNoFault (Passes limits image) (part_checks index parts)
 none_empty image limits index part parts later e listed rest =
-    subst (λ (left : List (List ℕ)). HasNoFault (Passes image limits) (part_checks index left)) (sym e) (listed, rest)
+    subst (λ (left : List (List ℕ)). HasNoFault (Passes limits image) (part_checks index left)) (sym e) (listed, rest)

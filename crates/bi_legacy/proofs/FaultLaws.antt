@@ -7,7 +7,7 @@ use Rattle.bi_base.specs.Crc.{crc32}
 use Rattle.bi_base.specs.Limits.{Bounds}
 use Rattle.bi_base.specs.declared.fault.Fault.{Fault}
 use Rattle.bi_base.proofs.FirstFault.{one_fault, not_both, fault_or_none}
-use Rattle.bi_legacy.specs.Faults.{Check, IsWithinLimit, HasMagicCell, HasMagic, HasHeader, HasHeaderChecksum, HasData, HasDataChecksum, HasListEnd, HasPart, Passes, fault_of, checks, IsLegacyFault, HasNoLegacyFault, body_of, cells_of, summed_header}
+use Rattle.bi_legacy.specs.Faults.{Check, IsWithinLimit, HasMagicCell, HasMagic, HasHeader, HasHeaderChecksum, HasData, HasDataChecksum, HasTableEnd, HasPart, Passes, fault_of, checks, IsLegacyFault, HasNoLegacyFault, body_of, cells_of, header_without_checksum}
 use Rattle.bi_legacy.specs.File.{LegacyMeans}
 use Rattle.bi_legacy.specs.Meaning.{LegacyImage}
 use Rattle.bi_legacy.proofs.MeansNoFault.{means_no_fault}
@@ -31,30 +31,30 @@ zero_decided numbers = elim (cases_lt (zero_place numbers) (length numbers)) [
 ]
 
 -- Each check passes or fails.
-check_decided : (file : List ℕ) (limits : Bounds) (check : Check) → Passes file limits check ⊎ (¬ (Passes file limits check))
+check_decided : (file : List ℕ) (limits : Bounds) (check : Check) → Passes limits file check ⊎ (¬ (Passes limits file check))
 check_decided file limits IsWithinLimit = bound_decided (length file) limits.file
 check_decided file limits HasMagicCell = bound_decided 4 (length file)
 check_decided file limits HasMagic = cases_eq (u32_at file 0) 0x27051956
 check_decided file limits HasHeader = bound_decided 64 (length file)
-check_decided file limits HasHeaderChecksum = cases_eq (u32_at file 4) (crc32 (summed_header file))
+check_decided file limits HasHeaderChecksum = cases_eq (u32_at file 4) (crc32 (header_without_checksum file))
 check_decided file limits HasData = bound_decided (64 + u32_at file 12) (length file)
 check_decided file limits HasDataChecksum = cases_eq (u32_at file 24) (crc32 (body_of file))
-check_decided file limits HasListEnd = zero_decided (cells_of (body_of file))
+check_decided file limits HasTableEnd = zero_decided (cells_of (body_of file))
 check_decided file limits (HasPart index end) = bound_decided end (length (body_of file))
 
 -- A file has no fault or some fault.
-pub fault_or_no_fault : (file : List ℕ) (limits : Bounds) → HasNoLegacyFault file limits ⊎ ((fault : Fault) × IsLegacyFault file limits fault)
-fault_or_no_fault file limits = fault_or_none (Passes file limits) (fault_of limits) (check_decided file limits) (checks file)
+pub fault_or_no_fault : (file : List ℕ) (limits : Bounds) → HasNoLegacyFault limits file ⊎ ((fault : Fault) × IsLegacyFault limits file fault)
+fault_or_no_fault file limits = fault_or_none (Passes limits file) (fault_of limits) (check_decided file limits) (checks file)
 
 -- A file has at most one fault.
-pub one_legacy_fault : (file : List ℕ) (limits : Bounds) (a b : Fault) → IsLegacyFault file limits a → IsLegacyFault file limits b → a ≡ b
-one_legacy_fault file limits a b is_a is_b = one_fault (Passes file limits) (fault_of limits) (checks file) a b is_a is_b
+pub one_legacy_fault : (file : List ℕ) (limits : Bounds) (a b : Fault) → IsLegacyFault limits file a → IsLegacyFault limits file b → a ≡ b
+one_legacy_fault file limits a b is_a is_b = one_fault (Passes limits file) (fault_of limits) (checks file) a b is_a is_b
 
 -- A file without a fault has no fault.
-pub no_fault_no_fault : (file : List ℕ) (limits : Bounds) (fault : Fault) → HasNoLegacyFault file limits → IsLegacyFault file limits fault → ⊥
-no_fault_no_fault file limits fault none is = not_both (Passes file limits) (fault_of limits) (checks file) fault none is
+pub no_fault_no_fault : (file : List ℕ) (limits : Bounds) (fault : Fault) → HasNoLegacyFault limits file → IsLegacyFault limits file fault → ⊥
+no_fault_no_fault file limits fault none is = not_both (Passes limits file) (fault_of limits) (checks file) fault none is
 
 -- A file with a fault means nothing within the limits.
-pub fault_no_meaning : (file : List ℕ) (image : LegacyImage) (limits : Bounds) (fault : Fault) → IsLegacyFault file limits fault → LegacyMeans file image limits → ⊥
+pub fault_no_meaning : (file : List ℕ) (image : LegacyImage) (limits : Bounds) (fault : Fault) → IsLegacyFault limits file fault → LegacyMeans limits file image → ⊥
 fault_no_meaning file image limits fault is means =
     no_fault_no_fault file limits fault (means_no_fault file image limits means) is

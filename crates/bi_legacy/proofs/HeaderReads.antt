@@ -2,7 +2,7 @@ use Rattle.std.proofs.Common.{◌≡◌, ℕ, ◌+◌, List, ◌++◌, length, t
 use Rattle.std.proofs.lemmas.List.{take_at, drop_at, length-append}
 use Rattle.bi_base.specs.Cells.{cell, u32_at, slice}
 use Rattle.bi_base.specs.Crc.{crc32}
-use Rattle.bi_legacy.specs.Faults.{body_of, summed_header}
+use Rattle.bi_legacy.specs.Faults.{body_of, header_without_checksum}
 use Rattle.bi_legacy.specs.File.{header_with, header, IsLegacyFile}
 use Rattle.bi_legacy.specs.Meaning.{LegacyImage}
 use Rattle.bi_legacy.proofs.FileCuts.{cell_read, crc32_fits}
@@ -80,7 +80,7 @@ body_read file image is =
     ∙ take_at is.body is.rest (length is.body) refl
 
 -- The header with zeros in the place of its checksum.
-pub summed_read : (file : List ℕ) (image : LegacyImage) (is : IsLegacyFile file image) → summed_header file ≡ header_with 0 image is.field is.body
+pub summed_read : (file : List ℕ) (image : LegacyImage) (is : IsLegacyFile file image) → header_without_checksum file ≡ header_with 0 image is.field is.body
 unfolding header cell
 summed_read file image is =
     ap (λ bytes. slice bytes 0 4 ++ (cell 0 ++ slice bytes 8 56)) is.spelled

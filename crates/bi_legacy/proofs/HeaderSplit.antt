@@ -5,8 +5,8 @@ use Rattle.bi_base.specs.Crc.{crc32}
 use Rattle.bi_base.proofs.CellLaws.{cell-u32_at, length-cell, length-slice}
 use Rattle.bi_legacy.proofs.FileCuts.{drop_slice, drop_cell}
 use Rattle.bi_legacy.specs.File.{header_with, header}
-use Rattle.bi_legacy.specs.Faults.{body_of, summed_header}
-use Rattle.bi_legacy.specs.Walk.{read_image}
+use Rattle.bi_legacy.specs.Faults.{body_of, header_without_checksum}
+use Rattle.bi_legacy.specs.ReaderState.{read_image}
 
 -- A file of at least a header is the header that its fields spell, and the bytes behind it.
 
@@ -60,14 +60,14 @@ unfolding behind_checksum codes_and_name
 header_behind_checksum file checksum size sum = rw (size, sum)
 
 -- The header with zeros in the place of its checksum, as the file has it.
-header_summed : (file : List ℕ) → AreBytes file → 64 ≤ length file → u32_at file 0 ≡ 0x27051956 → length (body_of file) ≡ u32_at file 12 → crc32 (body_of file) ≡ u32_at file 24 → header_with 0 (read_image file) (slice file 32 32) (body_of file) ≡ summed_header file
+header_summed : (file : List ℕ) → AreBytes file → 64 ≤ length file → u32_at file 0 ≡ 0x27051956 → length (body_of file) ≡ u32_at file 12 → crc32 (body_of file) ≡ u32_at file 24 → header_with 0 (read_image file) (slice file 32 32) (body_of file) ≡ header_without_checksum file
 header_summed file bytes whole magic size sum =
     header_behind_checksum file 0 size sum
     ∙ ap (λ first. first ++ (cell 0 ++ behind_checksum file)) (ap cell (sym magic) ∙ cell-u32_at file 0 bytes (omega arith))
     ∙ ap (λ last. slice file 0 4 ++ (cell 0 ++ last)) (sym (slice_behind_checksum file bytes whole))
 
 -- A file that passes the checks of its header begins with the header of what it reads as.
-pub header_split : (file : List ℕ) → AreBytes file → 64 ≤ length file → u32_at file 0 ≡ 0x27051956 → u32_at file 4 ≡ crc32 (summed_header file) → length (body_of file) ≡ u32_at file 12 → u32_at file 24 ≡ crc32 (body_of file) → file ≡ header (read_image file) (slice file 32 32) (body_of file) ++ drop 64 file
+pub header_split : (file : List ℕ) → AreBytes file → 64 ≤ length file → u32_at file 0 ≡ 0x27051956 → u32_at file 4 ≡ crc32 (header_without_checksum file) → length (body_of file) ≡ u32_at file 12 → u32_at file 24 ≡ crc32 (body_of file) → file ≡ header (read_image file) (slice file 32 32) (body_of file) ++ drop 64 file
 unfolding header
 header_split file bytes whole magic header_sum size data_sum =
     let behind = behind_checksum file in

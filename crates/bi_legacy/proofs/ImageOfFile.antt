@@ -3,8 +3,8 @@ use Rattle.std.specs.List.{AllByRecursion}
 use Rattle.bi_base.specs.Cells.{up4, AreBytes}
 use Rattle.bi_base.proofs.CellLaws.{AreBytes-slice}
 use Rattle.bi_legacy.specs.File.{IsLegacyFile}
-use Rattle.bi_legacy.specs.Meaning.{LegacyImage, IsListedPart, AreParts, has_size_list}
-use Rattle.bi_legacy.specs.Parts.{IsSizeListed}
+use Rattle.bi_legacy.specs.Meaning.{LegacyImage, IsTablePart, AreParts, has_part_table}
+use Rattle.bi_legacy.specs.Parts.{HasPartTable}
 use Rattle.bi_legacy.specs.Text.{IsLegacyImage, legacy_text}
 use Rattle.bi_base.proofs.ByteLists.{AreBytes-left}
 use Rattle.bi_legacy.proofs.HeaderReads.{field_read, body_read, length-file}
@@ -16,23 +16,23 @@ use Rattle.bi_legacy.proofs.Standing.{StandFrom}
 
 -- Parts that stand in bytes are bytes.
 standing_bytes : (at : ℕ) (parts : List (List ℕ)) (body : List ℕ) → AreBytes body → StandFrom at parts body → AllByRecursion AreBytes parts
-standing_bytes at [] body bytes stand = tt
-standing_bytes at (part ∷ parts) body bytes stand =
-    (subst AreBytes stand.1 (AreBytes-slice body at (length part) bytes), standing_bytes (up4 (at + length part)) parts body bytes stand.2)
+standing_bytes at [] body bytes at_offsets = tt
+standing_bytes at (part ∷ parts) body bytes at_offsets =
+    (subst AreBytes at_offsets.1 (AreBytes-slice body at (length part) bytes), standing_bytes (up4 (at + length part)) parts body bytes at_offsets.2)
 
 -- The parts that data of bytes holds, with or without a list of sizes, are bytes.
-held_bytes : (is_listed : Bool) (parts : List (List ℕ)) (body : List ℕ) → AreBytes body → MatchBool is_listed (IsSizeListed parts body) (parts ≡ body ∷ []) → AllByRecursion AreBytes parts
+held_bytes : (is_listed : Bool) (parts : List (List ℕ)) (body : List ℕ) → AreBytes body → MatchBool is_listed (HasPartTable parts body) (parts ≡ body ∷ []) → AllByRecursion AreBytes parts
 held_bytes true parts body bytes holds = standing_bytes _ parts body bytes (held_stands parts body holds)
 held_bytes false parts body bytes holds = rw holds (bytes, tt)
 
 -- The parts that data holds, with or without a list of sizes, are parts that such an image can have.
-held_parts : (is_listed : Bool) (parts : List (List ℕ)) (body : List ℕ) → MatchBool is_listed (IsSizeListed parts body) (parts ≡ body ∷ []) → MatchBool is_listed (AllByRecursion IsListedPart parts) (length parts ≡ 1)
+held_parts : (is_listed : Bool) (parts : List (List ℕ)) (body : List ℕ) → MatchBool is_listed (HasPartTable parts body) (parts ≡ body ∷ []) → MatchBool is_listed (AllByRecursion IsTablePart parts) (length parts ≡ 1)
 held_parts true parts body holds = holds.listed
 held_parts false parts body holds = ap length holds
 
 -- The parts that a file means are parts that its type can have.
 parts_of_file : (file : List ℕ) (image : LegacyImage) (is : IsLegacyFile file image) → AreParts image.image_type image.parts
-parts_of_file file image is = held_parts (has_size_list image.image_type) image.parts is.body is.parts
+parts_of_file file image is = held_parts (has_part_table image.image_type) image.parts is.body is.parts
 
 -- The data of a file is bytes.
 body_bytes : (file : List ℕ) (image : LegacyImage) (is : IsLegacyFile file image) → AreBytes is.body
@@ -52,7 +52,7 @@ image_of_file file image is =
       name = is.name.is_name;
       name_bytes = name_bytes file image is;
       parts = parts;
-      parts_bytes = held_bytes (has_size_list image.image_type) image.parts is.body (body_bytes file image is) is.parts;
+      parts_bytes = held_bytes (has_part_table image.image_type) image.parts is.body (body_bytes file image is) is.parts;
       size = omega (arith, length-normal_body image.image_type image.parts, parts_end_in image.image_type image.parts is.body is.parts, is.size);
     }
 

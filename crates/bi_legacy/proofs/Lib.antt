@@ -21,7 +21,7 @@ pub mod OneMeaning
 pub mod PartEnds
 pub mod PartPieces
 pub mod PartsStand
-pub mod PlacedParts
+pub mod PartPlaces
 pub mod PutSums
 pub mod ReadAnswers
 pub mod SizeCells

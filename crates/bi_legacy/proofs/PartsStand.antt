@@ -3,9 +3,9 @@ use Rattle.std.proofs.Math.Seq.{take-length}
 use Rattle.bi_base.specs.Cells.{slice, up4}
 use Rattle.bi_base.proofs.CellLaws.{slice-first, slice-rest}
 use Rattle.bi_legacy.specs.File.{IsLegacyFile}
-use Rattle.bi_legacy.specs.Meaning.{LegacyImage, has_size_list}
-use Rattle.bi_legacy.specs.Parts.{size_list, IsSizeListed, parts_end}
-use Rattle.bi_legacy.specs.Pieces.{placed_from, placed_parts, StandIn}
+use Rattle.bi_legacy.specs.Meaning.{LegacyImage, has_part_table}
+use Rattle.bi_legacy.specs.Parts.{part_table, HasPartTable, parts_end}
+use Rattle.bi_legacy.specs.PlacedParts.{parts_placed_from, placed_parts, AreAtOffsets}
 use Rattle.bi_legacy.proofs.HeaderReads.{size_read, body_read, length-file}
 use Rattle.bi_legacy.proofs.HeldParts.{held_stands}
 use Rattle.bi_legacy.proofs.NormalLength.{parts_end_in}
@@ -22,24 +22,24 @@ data_slice file size at n within =
     ap (take n) (slice-rest file 64 at size left sum) ∙ slice-first file (64 + at) n left room
 
 -- Parts that stand in the there stand in the file.
-stand_from : (file body : List ℕ) (at : ℕ) (parts : List (List ℕ)) → slice file 64 (length body) ≡ body → StandFrom at parts body → StandIn file (placed_from at parts)
-stand_from file body at [] there stand = tt
-stand_from file body at (part ∷ parts) there stand = (
-  sym (data_slice file (length body) at (length part) stand.0) ∙ ap (λ bytes. slice bytes at (length part)) there ∙ stand.1,
-  stand_from file body (up4 (at + length part)) parts there stand.2,
+stand_from : (file body : List ℕ) (at : ℕ) (parts : List (List ℕ)) → slice file 64 (length body) ≡ body → StandFrom at parts body → AreAtOffsets file (parts_placed_from at parts)
+stand_from file body at [] there at_offsets = tt
+stand_from file body at (part ∷ parts) there at_offsets = (
+  sym (data_slice file (length body) at (length part) at_offsets.0) ∙ ap (λ bytes. slice bytes at (length part)) there ∙ at_offsets.1,
+  stand_from file body (up4 (at + length part)) parts there at_offsets.2,
 )
 
 -- The same of data with or without a list of sizes.
-stand_with : (is_listed : Bool) (file body : List ℕ) (parts : List (List ℕ)) → slice file 64 (length body) ≡ body → MatchBool is_listed (IsSizeListed parts body) (parts ≡ body ∷ []) → StandIn file (placed_from (if is_listed then length (size_list parts) else 0) parts)
-stand_with true file body parts there held = stand_from file body (length (size_list parts)) parts there (held_stands parts body held)
+stand_with : (is_listed : Bool) (file body : List ℕ) (parts : List (List ℕ)) → slice file 64 (length body) ≡ body → MatchBool is_listed (HasPartTable parts body) (parts ≡ body ∷ []) → AreAtOffsets file (parts_placed_from (if is_listed then length (part_table parts) else 0) parts)
+stand_with true file body parts there held = stand_from file body (length (part_table parts)) parts there (held_stands parts body held)
 stand_with false file body parts there alone =
-    subst (λ (them : List (List ℕ)). StandIn file (placed_from 0 them)) (sym alone)
+    subst (λ (them : List (List ℕ)). AreAtOffsets file (parts_placed_from 0 them)) (sym alone)
     (stand_from file body 0 (body ∷ []) there (omega arith, take-length body, tt))
 
 -- The parts of an image stand in its file.
-pub parts_stand : (file : List ℕ) (image : LegacyImage) → IsLegacyFile file image → StandIn file (placed_parts image)
+pub parts_stand : (file : List ℕ) (image : LegacyImage) → IsLegacyFile file image → AreAtOffsets file (placed_parts image)
 parts_stand file image is =
-    stand_with (has_size_list image.image_type) file is.body image.parts
+    stand_with (has_part_table image.image_type) file is.body image.parts
     (ap (slice file 64) (sym (size_read file image is)) ∙ body_read file image is) is.parts
 
 -- They end in the file.

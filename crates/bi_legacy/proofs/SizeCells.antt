@@ -9,8 +9,8 @@ use Rattle.std.proofs.lemmas.List.Sums.{passes_at_first, fails_before_first}
 use Rattle.std.proofs.lemmas.Nat.{be_bytes_4, from_be_bytes-to_be_bytes_4}
 use Rattle.bi_base.specs.Cells.{cell, AreBytes}
 use Rattle.bi_base.proofs.CellLaws.{AreBytes-slice}
-use Rattle.bi_legacy.specs.Faults.{cells_of, listed_sizes}
-use Rattle.bi_legacy.specs.Parts.{size_list}
+use Rattle.bi_legacy.specs.Faults.{cells_of, table_sizes}
+use Rattle.bi_legacy.specs.Parts.{part_table}
 use Rattle.bi_legacy.proofs.ZeroEnded.{zero_place, before_zero_is}
 
 -- Cells one behind another, and the numbers that they spell.
@@ -54,7 +54,7 @@ cells_of-flat_map (size ∷ sizes) later are =
     ∙ ap (λ list. size ∷ list) (cells_of-flat_map sizes later are.1)
 
 -- A list of sizes is the cells of the sizes and a cell of zero.
-pub size_list_is : (parts : List (List ℕ)) → size_list parts ≡ flat_map cell (map length parts) ++ cell 0
+pub size_list_is : (parts : List (List ℕ)) → part_table parts ≡ flat_map cell (map length parts) ++ cell 0
 size_list_is parts = ap (λ list. list ++ cell 0) (of_lengths parts)
   where
     of_lengths : (parts : List (List ℕ)) → flat_map (λ part. cell (length part)) parts ≡ flat_map cell (map length parts)
@@ -69,7 +69,7 @@ sizes_read sizes behind are =
     ∙ ap (λ list. sizes ++ list) (cells_of-cell 0 behind (omega arith))
 
 -- The sizes that a list of sizes before bytes tells are its sizes.
-pub listed_sizes_are : (sizes behind : List ℕ) → AllByRecursion IsSize sizes → listed_sizes ((flat_map cell sizes ++ cell 0) ++ behind) ≡ sizes
+pub listed_sizes_are : (sizes behind : List ℕ) → AllByRecursion IsSize sizes → table_sizes ((flat_map cell sizes ++ cell 0) ++ behind) ≡ sizes
 listed_sizes_are sizes behind are =
     ap (before_first (λ number. number == 0)) (sizes_read sizes behind are)
     ∙ before_zero_is sizes (0 ∷ cells_of behind) (nonzero sizes are) refl
@@ -91,16 +91,16 @@ zero_within numbers there = elim (cases_lt (zero_place numbers) (length numbers)
 ]
 
 -- Data whose cells contain a zero is the list of sizes that it tells, and the bytes behind the list.
-pub size_list_split : (body : List ℕ) → AreBytes body → Contains (cells_of body) 0 → body ≡ (flat_map cell (listed_sizes body) ++ cell 0) ++ drop (4 * (length (listed_sizes body) + 1)) body
+pub size_list_split : (body : List ℕ) → AreBytes body → Contains (cells_of body) 0 → body ≡ (flat_map cell (table_sizes body) ++ cell 0) ++ drop (4 * (length (table_sizes body) + 1)) body
 size_list_split body bytes there =
     let cells = cells_of body in
     let place = zero_place cells in
     let within : place < length cells = zero_within cells there in
-    let long : place ≡ length (listed_sizes body) = omega (arith, length-take place cells) in
-    let first : take (place + 1) cells ≡ listed_sizes body ++ 0 ∷ [] =
+    let long : place ≡ length (table_sizes body) = omega (arith, length-take place cells) in
+    let first : take (place + 1) cells ≡ table_sizes body ++ 0 ∷ [] =
     take_more cells place 0 within ∙ ap (λ n. take place cells ++ n ∷ []) (eqb-true _ _ (passes_at_first (λ number. number == 0) cells 0 within)) in
-    let list : flat_map cell (take (place + 1) cells) ≡ flat_map cell (listed_sizes body) ++ cell 0 =
-    ap (flat_map cell) first ∙ flat_map-append cell (listed_sizes body) (0 ∷ []) ∙ ap (λ end. flat_map cell (listed_sizes body) ++ end) (append-nil (cell 0)) in
+    let list : flat_map cell (take (place + 1) cells) ≡ flat_map cell (table_sizes body) ++ cell 0 =
+    ap (flat_map cell) first ∙ flat_map-append cell (table_sizes body) (0 ∷ []) ∙ ap (λ end. flat_map cell (table_sizes body) ++ end) (append-nil (cell 0)) in
     cells_split body (place + 1) bytes (omega arith)
     ∙ ap (λ first. first ++ drop (4 * (place + 1)) body) list
-    ∙ ap (λ n. (flat_map cell (listed_sizes body) ++ cell 0) ++ drop (4 * (n + 1)) body) long
+    ∙ ap (λ n. (flat_map cell (table_sizes body) ++ cell 0) ++ drop (4 * (n + 1)) body) long

@@ -4,8 +4,8 @@ use Rattle.std.proofs.lemmas.List.Sums.{position_or_len_is}
 use Rattle.std.proofs.lemmas.List.{length-take, length-take-le, get_or-take, drop_more}
 use Rattle.std.proofs.lemmas.Bool.{ne_eqb, eq-eqb}
 use Rattle.bi_base.specs.Cells.{u32_at}
-use Rattle.bi_legacy.specs.Faults.{cells_of, listed_sizes}
-use Rattle.bi_legacy.specs.Walk.{sizes_in, first_in}
+use Rattle.bi_legacy.specs.Faults.{cells_of, table_sizes}
+use Rattle.bi_legacy.specs.ReaderState.{part_sizes, first_part_offset}
 
 -- The whole cells of some bytes are a quarter as many.
 pub length-cells : (bytes : List ℕ) → length (cells_of bytes) ≡ length bytes / 4
@@ -35,19 +35,19 @@ listed_place body count before within ends =
     (λ _. eq-eqb (get_or (cells_of body) count 0) 0 (get_or-cells body count within ∙ ends))
 
 -- So there are as many sizes as cells before it.
-pub listed-count : (body : List ℕ) (count : ℕ) → ((k : ℕ) → k < count → get_or (cells_of body) k 0 ≢ 0) → 4 * (count + 1) ≤ length body → u32_at body (4 * count) ≡ 0 → count ≡ length (listed_sizes body)
+pub listed-count : (body : List ℕ) (count : ℕ) → ((k : ℕ) → k < count → get_or (cells_of body) k 0 ≢ 0) → 4 * (count + 1) ≤ length body → u32_at body (4 * count) ≡ 0 → count ≡ length (table_sizes body)
 listed-count body count before within ends =
     sym (ap (λ n. length (take n (cells_of body))) (listed_place body count before within ends)
     ∙ length-take-le count (cells_of body) (omega (arith, length-cells body)))
 
 -- A size is the number that stands at its offset in the list.
-pub drop-listed : (body : List ℕ) (i : ℕ) → 4 * (i + 1) ≤ length body → i < length (listed_sizes body) → drop i (listed_sizes body) ≡ u32_at body (4 * i) ∷ drop (i + 1) (listed_sizes body)
+pub drop-listed : (body : List ℕ) (i : ℕ) → 4 * (i + 1) ≤ length body → i < length (table_sizes body) → drop i (table_sizes body) ≡ u32_at body (4 * i) ∷ drop (i + 1) (table_sizes body)
 drop-listed body i within below =
     let place = position_or_len (λ number. number == 0) (cells_of body) in
-    let read : get_or (listed_sizes body) i 0 ≡ u32_at body (4 * i) = get_or-take place (cells_of body) i 0 (omega (arith, length-take place (cells_of body))) ∙ get_or-cells body i within in
-    drop_more (listed_sizes body) i 0 below ∙ ap (λ size. size ∷ drop (i + 1) (listed_sizes body)) read
+    let read : get_or (table_sizes body) i 0 ≡ u32_at body (4 * i) = get_or-take place (cells_of body) i 0 (omega (arith, length-take place (cells_of body))) ∙ get_or-cells body i within in
+    drop_more (table_sizes body) i 0 below ∙ ap (λ size. size ∷ drop (i + 1) (table_sizes body)) read
 
 -- The same for data that is known to have a list of sizes.
-pub drop-sizes_in : (is_listed : Bool) (body : List ℕ) (i : ℕ) → is_listed ≡ true → i < length (sizes_in is_listed body) → first_in is_listed body ≤ length body → drop i (sizes_in is_listed body) ≡ u32_at body (4 * i) ∷ drop (i + 1) (sizes_in is_listed body)
-drop-sizes_in true body i e within room = drop-listed body i (omega arith) within
-drop-sizes_in false body i e within room = absurd cc
+pub drop-part_sizes : (is_listed : Bool) (body : List ℕ) (i : ℕ) → is_listed ≡ true → i < length (part_sizes is_listed body) → first_part_offset is_listed body ≤ length body → drop i (part_sizes is_listed body) ≡ u32_at body (4 * i) ∷ drop (i + 1) (part_sizes is_listed body)
+drop-part_sizes true body i e within room = drop-listed body i (omega arith) within
+drop-part_sizes false body i e within room = absurd cc

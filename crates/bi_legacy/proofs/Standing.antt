@@ -3,7 +3,7 @@ use Rattle.std.proofs.Math.Seq.{drop-append_seam}
 use Rattle.std.proofs.lemmas.List.{length-append, take-append-drop}
 use Rattle.bi_base.specs.Cells.{slice, up4}
 use Rattle.bi_base.proofs.CellLaws.{slice-append, length-slice}
-use Rattle.bi_legacy.specs.Parts.{HoldInTurn}
+use Rattle.bi_legacy.specs.Parts.{ArePaddedParts}
 
 -- Parts as a reader finds them, at running offsets, and that these are the parts which stand one behind another.
 
@@ -37,7 +37,7 @@ padded_front front part padding behind =
     append_assoc front (part ++ padding) behind ∙ ap (λ list. front ++ list) (append_assoc part padding behind)
 
 -- Parts that bytes hold in turn stand behind an aligned front.
-pub turn_stands : (front : List ℕ) (parts : List (List ℕ)) (bytes : List ℕ) → up4 (length front) ≡ length front → HoldInTurn parts bytes → StandFrom (length front) parts (front ++ bytes)
+pub turn_stands : (front : List ℕ) (parts : List (List ℕ)) (bytes : List ℕ) → up4 (length front) ≡ length front → ArePaddedParts parts bytes → StandFrom (length front) parts (front ++ bytes)
 turn_stands front [] bytes aligned turn = tt
 turn_stands front (part ∷ []) bytes aligned turn =
     let behind = turn.0 in
@@ -57,26 +57,26 @@ turn_stands front (part ∷ next ∷ later) bytes aligned turn =
 
 -- What stands right behind a front are the first of the bytes there.
 first_stands : (front bytes part : List ℕ) → slice (front ++ bytes) (length front) (length part) ≡ part → bytes ≡ part ++ drop (length part) bytes
-first_stands front bytes part stand =
+first_stands front bytes part at_offsets =
     sym (take-append-drop (length part) bytes)
-    ∙ ap (λ first. first ++ drop (length part) bytes) (ap (take (length part)) (sym (drop-append_seam front bytes)) ∙ stand)
+    ∙ ap (λ first. first ++ drop (length part) bytes) (ap (take (length part)) (sym (drop-append_seam front bytes)) ∙ at_offsets)
 
 -- Parts that stand behind an aligned front are held in turn by the bytes there.
-pub standing_turn : (front : List ℕ) (parts : List (List ℕ)) (bytes : List ℕ) → up4 (length front) ≡ length front → StandFrom (length front) parts (front ++ bytes) → HoldInTurn parts bytes
-standing_turn front [] bytes aligned stand = tt
-standing_turn front (part ∷ []) bytes aligned stand = (drop (length part) bytes, first_stands front bytes part stand.1)
-standing_turn front (part ∷ next ∷ later) bytes aligned stand =
+pub standing_turn : (front : List ℕ) (parts : List (List ℕ)) (bytes : List ℕ) → up4 (length front) ≡ length front → StandFrom (length front) parts (front ++ bytes) → ArePaddedParts parts bytes
+standing_turn front [] bytes aligned at_offsets = tt
+standing_turn front (part ∷ []) bytes aligned at_offsets = (drop (length part) bytes, first_stands front bytes part at_offsets.1)
+standing_turn front (part ∷ next ∷ later) bytes aligned at_offsets =
     let gap : ℕ = up4 (length part) - length part in
     let left = drop (length part) bytes in
     let padding = take gap left in
     let behind = drop gap left in
     let split : bytes ≡ part ++ (padding ++ behind) =
-    first_stands front bytes part stand.1 ∙ ap (λ list. part ++ list) (sym (take-append-drop gap left)) in
+    first_stands front bytes part at_offsets.1 ∙ ap (λ list. part ++ list) (sym (take-append-drop gap left)) in
     let whole : length part + length padding ≡ up4 (length part) =
-    omega (arith, length-slice bytes (length part) gap (omega (arith, stand.2.0, length-append front bytes, aligned))) in
+    omega (arith, length-slice bytes (length part) gap (omega (arith, at_offsets.2.0, length-append front bytes, aligned))) in
     let rest : StandFrom (length (front ++ (part ++ padding))) (next ∷ later) ((front ++ (part ++ padding)) ++ behind) =
     subst₂ (λ at body. StandFrom at (next ∷ later) body)
     (sym (padded_end front part padding aligned whole))
     (ap (λ list. front ++ list) split ∙ sym (padded_front front part padding behind))
-    stand.2 in
+    at_offsets.2 in
     (padding, behind, split, whole, standing_turn (front ++ (part ++ padding)) (next ∷ later) behind (padded_aligned front part padding aligned whole) rest)

@@ -1,6 +1,6 @@
 use Rattle.std.proofs.Common.{◌≡◌, ◌-◌, ℕ, List, ◌++◌, [], length, replicate, refl, sym, ap, arith, zero, suc, append-nil}
 use Rattle.bi_base.specs.Limits.{Bounds}
-use Rattle.bi_legacy.specs.File.{header, IsEmptyOrZeroLed, HoldsName, IsLegacyFile, LegacyMeans}
+use Rattle.bi_legacy.specs.File.{header, IsEmptyOrBeginsWithNul, HoldsName, IsLegacyFile, LegacyMeans}
 use Rattle.bi_legacy.specs.Meaning.{LegacyImage, IsImageName}
 use Rattle.bi_legacy.specs.Text.{normal_body, name_field, legacy_text, IsLegacyImage}
 use Rattle.bi_legacy.proofs.ImageOfFile.{image_of_file, text_no_longer}
@@ -12,7 +12,7 @@ use Rattle.bi_legacy.proofs.OneMeaning.{one_meaning}
 -- The normal text is a legacy image that means what it was made of.
 
 -- Zeros are nothing, or a zero and then anything.
-zeros_zero_led : (n : ℕ) → IsEmptyOrZeroLed (replicate n 0)
+zeros_zero_led : (n : ℕ) → IsEmptyOrBeginsWithNul (replicate n 0)
 zeros_zero_led zero = tt
 zeros_zero_led (suc n) = refl
 
@@ -44,7 +44,7 @@ text_means image is =
     }
 
 -- The normal text of what a file means within the limits means the same within them.
-pub text_means_same : (file : List ℕ) (image : LegacyImage) (limits : Bounds) → LegacyMeans file image limits → LegacyMeans (legacy_text image) image limits
+pub text_means_same : (file : List ℕ) (image : LegacyImage) (limits : Bounds) → LegacyMeans limits file image → LegacyMeans limits (legacy_text image) image
 text_means_same file image limits means = record {
   is_file = text_means image (image_of_file file image means.is_file);
   short = omega (arith, text_no_longer file image means.is_file, means.short);

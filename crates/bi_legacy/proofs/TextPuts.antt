@@ -7,48 +7,48 @@ use Rattle.bi_base.specs.Crc.{crc32}
 use Rattle.bi_legacy.specs.Emitting.{bytes_of}
 use Rattle.bi_legacy.specs.File.{header_cells, header}
 use Rattle.bi_legacy.specs.Meaning.{LegacyImage}
-use Rattle.bi_legacy.specs.Parts.{size_list}
-use Rattle.bi_legacy.specs.Text.{filled, joined}
+use Rattle.bi_legacy.specs.Parts.{part_table}
+use Rattle.bi_legacy.specs.Text.{padded, joined_parts}
 
 -- The normal text, as it is put piece by piece.
 
 -- The parts one behind another are those before the last one, each filled, and then the last one.
-joined-last : (before : List (List ℕ)) (last : List ℕ) → joined (before ++ (last ∷ [])) ≡ flat_map filled before ++ last
-joined-last [] last = refl
-joined-last (part ∷ []) last = ap (λ l. l ++ last) (sym (append-nil (filled part)))
-joined-last (part ∷ next ∷ later) last =
-    ap (λ l. filled part ++ l) (joined-last (next ∷ later) last)
-    ∙ sym (append_assoc (filled part) (flat_map filled (next ∷ later)) last)
+joined_parts-last : (before : List (List ℕ)) (last : List ℕ) → joined_parts (before ++ (last ∷ [])) ≡ flat_map padded before ++ last
+joined_parts-last [] last = refl
+joined_parts-last (part ∷ []) last = ap (λ l. l ++ last) (sym (append-nil (padded part)))
+joined_parts-last (part ∷ next ∷ later) last =
+    ap (λ l. padded part ++ l) (joined_parts-last (next ∷ later) last)
+    ∙ sym (append_assoc (padded part) (flat_map padded (next ∷ later)) last)
 
 -- The same for parts that are lent.
-pub joined-bytes_of : (slices before : List (Bor (List ℕ))) (last : Bor (List ℕ)) → slices ≡ before ++ (last ∷ []) → joined (bytes_of slices) ≡ flat_map (λ slice. filled slice.now) before ++ last.now
-joined-bytes_of slices before last e =
-    ap (λ l. joined (bytes_of l)) e
-    ∙ ap joined (map-append (λ slice. slice.now) before (last ∷ []))
-    ∙ joined-last (bytes_of before) last.now
-    ∙ ap (λ l. l ++ last.now) (flat_map-map filled (λ slice. slice.now) before)
+pub joined_parts-bytes_of : (slices before : List (Bor (List ℕ))) (last : Bor (List ℕ)) → slices ≡ before ++ (last ∷ []) → joined_parts (bytes_of slices) ≡ flat_map (λ slice. padded slice.now) before ++ last.now
+joined_parts-bytes_of slices before last e =
+    ap (λ l. joined_parts (bytes_of l)) e
+    ∙ ap joined_parts (map-append (λ slice. slice.now) before (last ∷ []))
+    ∙ joined_parts-last (bytes_of before) last.now
+    ∙ ap (λ l. l ++ last.now) (flat_map-map padded (λ slice. slice.now) before)
 
 -- The list of sizes of parts that are lent.
-pub size_list-bytes_of : (slices : List (Bor (List ℕ))) → size_list (bytes_of slices) ≡ flat_map (λ slice. cell (length slice.now)) slices ++ cell 0
-size_list-bytes_of slices =
+pub part_table-bytes_of : (slices : List (Bor (List ℕ))) → part_table (bytes_of slices) ≡ flat_map (λ slice. cell (length slice.now)) slices ++ cell 0
+part_table-bytes_of slices =
     ap (λ l. l ++ cell 0) (flat_map-map (λ part. cell (length part)) (λ slice. slice.now) slices)
 
 -- A part is no longer than the parts one behind another.
-part_within : (parts : List (List ℕ)) (i : ℕ) (d : List ℕ) → i < length parts → length (get_or parts i d) ≤ length (joined parts)
+part_within : (parts : List (List ℕ)) (i : ℕ) (d : List ℕ) → i < length parts → length (get_or parts i d) ≤ length (joined_parts parts)
 part_within [] i d within = absurd (omega arith)
 part_within (part ∷ []) zero d within = omega arith
 part_within (part ∷ []) (suc i) d within = absurd (omega arith)
 part_within (part ∷ next ∷ later) zero d within =
     omega (
       arith,
-      length-append (filled part) (joined (next ∷ later)),
+      length-append (padded part) (joined_parts (next ∷ later)),
       length-append part (replicate (up4 (length part) - length part) 0),
     )
 part_within (part ∷ next ∷ later) (suc i) d within =
-    omega (arith, length-append (filled part) (joined (next ∷ later)), part_within (next ∷ later) i d (omega arith))
+    omega (arith, length-append (padded part) (joined_parts (next ∷ later)), part_within (next ∷ later) i d (omega arith))
 
 -- The same for parts that are lent.
-pub slice_within : (slices : List (Bor (List ℕ))) (i : ℕ) (d : Bor (List ℕ)) → i < length slices → length (get_or slices i d).now ≤ length (joined (bytes_of slices))
+pub slice_within : (slices : List (Bor (List ℕ))) (i : ℕ) (d : Bor (List ℕ)) → i < length slices → length (get_or slices i d).now ≤ length (joined_parts (bytes_of slices))
 slice_within slices i d within =
     let now = λ (slice : Bor (List ℕ)). slice.now in
     omega (

@@ -5,7 +5,7 @@ use Rattle.bi_base.specs.declared.fault.Cause.TheVariants.{TooLarge, EmptyPart, 
 use Rattle.bi_base.specs.Limits.{Bounds}
 use Rattle.bi_base.specs.Checks.{IsFirstFault, HasNoFault}
 use Rattle.bi_legacy.specs.declared.fields.Fields.{Fields}
-use Rattle.bi_legacy.specs.Meaning.{LegacyImage, IsImageName, IsListedPart, has_size_list}
+use Rattle.bi_legacy.specs.Meaning.{LegacyImage, IsImageName, IsTablePart, has_part_table}
 use Rattle.bi_legacy.specs.Reading.{image_of}
 use Rattle.bi_legacy.specs.Text.{legacy_text}
 
@@ -27,11 +27,11 @@ pub data Check : Type 0 where
   IsNotEmpty : (index : ℕ) → (part : List ℕ) → Check
 
 -- What each check asks.
-abbrev pub Passes : LegacyImage → Bounds → Check → Type 0
-Passes image limits HasImageName = IsImageName image.name
-Passes image limits HasPartCount = MatchBool (has_size_list image.image_type) ⊤ (length image.parts ≡ 1)
-Passes image limits FitsLimit = length (legacy_text image) ≤ limits.file
-Passes image limits (IsNotEmpty index part) = IsListedPart part
+abbrev pub Passes : Bounds → LegacyImage → Check → Type 0
+Passes limits image HasImageName = IsImageName image.name
+Passes limits image HasPartCount = MatchBool (has_part_table image.image_type) ⊤ (length image.parts ≡ 1)
+Passes limits image FitsLimit = length (legacy_text image) ≤ limits.file
+Passes limits image (IsNotEmpty index part) = IsTablePart part
 
 -- What the image is refused with where a check fails: the place of the field in the image to be written, or the limit.
 abbrev pub fault_of : Bounds → Check → Fault
@@ -48,12 +48,12 @@ part_checks index (part ∷ parts) = IsNotEmpty index part ∷ part_checks (inde
 -- All checks of an image to be written, in their order.
 abbrev pub checks : LegacyImage → List Check
 checks image =
-    HasImageName ∷ HasPartCount ∷ FitsLimit ∷ (if has_size_list image.image_type then part_checks 0 image.parts else [])
+    HasImageName ∷ HasPartCount ∷ FitsLimit ∷ (if has_part_table image.image_type then part_checks 0 image.parts else [])
 
 -- What an image is refused with: the fault of its first failing check.
-abbrev pub IsEmitFault : LegacyImage → Bounds → Fault → Type 0
-IsEmitFault image limits fault = IsFirstFault (Passes image limits) (fault_of limits) (checks image) fault
+abbrev pub IsEmitFault : Bounds → LegacyImage → Fault → Type 0
+IsEmitFault limits image fault = IsFirstFault (Passes limits image) (fault_of limits) (checks image) fault
 
 -- The image fails no check.
-abbrev pub HasNoEmitFault : LegacyImage → Bounds → Type 0
-HasNoEmitFault image limits = HasNoFault (Passes image limits) (checks image)
+abbrev pub HasNoEmitFault : Bounds → LegacyImage → Type 0
+HasNoEmitFault limits image = HasNoFault (Passes limits image) (checks image)

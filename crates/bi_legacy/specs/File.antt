@@ -25,16 +25,16 @@ unfoldable pub header : LegacyImage → List ℕ → List ℕ → List ℕ
 header image field body = header_with (crc32 (header_with 0 image field body)) image field body
 
 -- Nothing, or a zero and then anything.
-abbrev pub IsEmptyOrZeroLed : List ℕ → Type 0
-IsEmptyOrZeroLed [] = Unit {0}
-IsEmptyOrZeroLed (byte ∷ bytes) = byte ≡ 0
+abbrev pub IsEmptyOrBeginsWithNul : List ℕ → Type 0
+IsEmptyOrBeginsWithNul [] = Unit {0}
+IsEmptyOrBeginsWithNul (byte ∷ bytes) = byte ≡ 0
 
 -- The name's 32 bytes hold this name: the bytes before the first zero. That what follows that zero is free, and that a
 -- name may fill all 32 bytes, is profile of this project.
 pub record HoldsName (field name : List ℕ) : Type 0 where
   pub padding : List ℕ
   pub spelled : field ≡ name ++ padding
-  pub unused : IsEmptyOrZeroLed padding
+  pub unused : IsEmptyOrBeginsWithNul padding
   pub whole : length field ≡ 32
   pub is_name : IsImageName name
 
@@ -51,6 +51,6 @@ pub record IsLegacyFile (file : List ℕ) (image : LegacyImage) : Type 0 where
   pub bytes : AreBytes file
 
 -- The file, of at most the limit, means this.
-pub record LegacyMeans (file : List ℕ) (image : LegacyImage) (limits : Bounds) : Type 0 where
+pub record LegacyMeans (limits : Bounds) (file : List ℕ) (image : LegacyImage) : Type 0 where
   pub is_file : IsLegacyFile file image
   pub short : length file ≤ limits.file

@@ -19,24 +19,24 @@ OneMeaning = (file : List ℕ) (a b : LegacyImage) → IsLegacyFile file a → I
 abbrev pub MeaningWithoutFault : Type 0
 MeaningWithoutFault =
     (file : List ℕ) (limits : Bounds) → AreBytes file →
-    ((image : LegacyImage) × LegacyMeans file image limits) ↔ HasNoLegacyFault file limits
+    ((image : LegacyImage) × LegacyMeans limits file image) ↔ HasNoLegacyFault limits file
 
 -- Bytes mean an image within the limits or have a fault.
 abbrev pub MeaningOrFault : Type 0
 MeaningOrFault =
     (file : List ℕ) (limits : Bounds) → AreBytes file →
-    ((image : LegacyImage) × LegacyMeans file image limits) ⊎ ((fault : Fault) × IsLegacyFault file limits fault)
+    ((image : LegacyImage) × LegacyMeans limits file image) ⊎ ((fault : Fault) × IsLegacyFault limits file fault)
 
 -- A file with a fault means no image within the limits.
 abbrev pub NoMeaningWithFault : Type 0
 NoMeaningWithFault =
-    (file : List ℕ) (limits : Bounds) (fault : Fault) → IsLegacyFault file limits fault →
-    (image : LegacyImage) → ¬ (LegacyMeans file image limits)
+    (file : List ℕ) (limits : Bounds) (fault : Fault) → IsLegacyFault limits file fault →
+    (image : LegacyImage) → ¬ (LegacyMeans limits file image)
 
 -- A file has at most one fault.
 abbrev pub OneFault : Type 0
 OneFault =
-    (file : List ℕ) (limits : Bounds) (a b : Fault) → IsLegacyFault file limits a → IsLegacyFault file limits b → a ≡ b
+    (file : List ℕ) (limits : Bounds) (a b : Fault) → IsLegacyFault limits file a → IsLegacyFault limits file b → a ≡ b
 
 -- An image is one that a legacy image can hold exactly where some file means it.
 abbrev pub ImagesOfFiles : Type 0
@@ -45,8 +45,8 @@ ImagesOfFiles = (image : LegacyImage) → IsLegacyImage image ↔ ((file : List 
 -- The normal text of an image that a file means within the limits means it within the same limits.
 abbrev pub TextMeansImage : Type 0
 TextMeansImage =
-    (file : List ℕ) (image : LegacyImage) (limits : Bounds) → LegacyMeans file image limits →
-    LegacyMeans (legacy_text image) image limits
+    (file : List ℕ) (image : LegacyImage) (limits : Bounds) → LegacyMeans limits file image →
+    LegacyMeans limits (legacy_text image) image
 
 -- The normal text of what a file means is no longer than the file.
 abbrev pub TextNoLonger : Type 0
@@ -68,11 +68,11 @@ TextsDiffer =
 -- What a file within the limit means can be written under the limit.
 abbrev pub MeantCanBeWritten : Type 0
 MeantCanBeWritten =
-    (file : List ℕ) (image : LegacyImage) (limits : Bounds) → LegacyMeans file image limits → HasNoEmitFault image limits
+    (file : List ℕ) (image : LegacyImage) (limits : Bounds) → LegacyMeans limits file image → HasNoEmitFault limits image
 
 -- What can be written under the limits means, once it is written, what was to be written.
 abbrev pub WrittenMeansImage : Type 0
 WrittenMeansImage =
     (image : LegacyImage) (limits : Bounds) → FitsFields image → AreBytes image.name →
-    AllByRecursion AreBytes image.parts → limits.file < 2 ^ 32 → HasNoEmitFault image limits →
-    LegacyMeans (legacy_text image) image limits
+    AllByRecursion AreBytes image.parts → limits.file < 2 ^ 32 → HasNoEmitFault limits image →
+    LegacyMeans limits (legacy_text image) image

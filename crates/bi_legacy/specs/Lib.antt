@@ -1,7 +1,7 @@
 pub mod Codes
 pub mod Meaning
 pub mod Parts
-pub mod Pieces
+pub mod PlacedParts
 pub mod File
 pub mod Text
 pub mod Vectors
@@ -10,4 +10,4 @@ pub mod Reading
 pub mod Emitting
 pub mod NormalForm
 pub mod Laws
-pub mod Walk
+pub mod ReaderState

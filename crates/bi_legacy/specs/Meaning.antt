@@ -16,8 +16,8 @@ pub record LegacyImage : Type 0 where
 
 -- Whether the data of this type is a list of sizes and then the parts: 4 is multi, 6 is script (U-Boot,
 -- include/image.h: IH_TYPE_MULTI, IH_TYPE_SCRIPT).
-abbrev pub has_size_list : ℕ → Bool
-has_size_list image_type = (image_type == 4) || (image_type == 6)
+abbrev pub has_part_table : ℕ → Bool
+has_part_table image_type = (image_type == 4) || (image_type == 6)
 
 -- A name that the header can hold: at most 32 bytes, none of them zero (U-Boot, include/image.h: IH_NMLEN).
 pub record IsImageName (name : List ℕ) : Type 0 where
@@ -25,13 +25,13 @@ pub record IsImageName (name : List ℕ) : Type 0 where
   pub no_zero : AllByRecursion (λ byte. byte ≢ 0) name
 
 -- A part that a list of sizes can tell: a size of zero ends the list (U-Boot, include/image.h).
-abbrev pub IsListedPart : List ℕ → Type 0
-IsListedPart part = 0 < length part
+abbrev pub IsTablePart : List ℕ → Type 0
+IsTablePart part = 0 < length part
 
 -- The parts that an image of this type can have: any number of listed parts, or else exactly one part, which may be empty
 -- (U-Boot, include/image.h; that there may be none listed, and that the one may be empty, is profile of this project).
 abbrev pub AreParts : ℕ → List (List ℕ) → Type 0
-AreParts image_type parts = MatchBool (has_size_list image_type) (AllByRecursion IsListedPart parts) (length parts ≡ 1)
+AreParts image_type parts = MatchBool (has_part_table image_type) (AllByRecursion IsTablePart parts) (length parts ≡ 1)
 
 -- Each number of the meaning is one that its field of the header can hold: any code may stand there (profile of this
 -- project).

@@ -7,8 +7,8 @@ use Rattle.bi_legacy.specs.Emitting.{HasNoEmitFault}
 
 -- The image has a normal form within the limits (profile of this project): it can be written, what is written means it, and
 -- of all images that files mean no other is written so.
-pub record HasNormalForm (image : LegacyImage) (limits : Bounds) : Type 0 where
-  pub can_be_written : HasNoEmitFault image limits
-  pub accepted : LegacyMeans (legacy_text image) image limits
+pub record HasNormalForm (limits : Bounds) (image : LegacyImage) : Type 0 where
+  pub can_be_written : HasNoEmitFault limits image
+  pub accepted : LegacyMeans limits (legacy_text image) image
   pub told_apart : (file : List ℕ) (other : LegacyImage) → IsLegacyFile file other →
       legacy_text other ≡ legacy_text image → other ≡ image

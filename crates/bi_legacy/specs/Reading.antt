@@ -4,7 +4,7 @@ use Rattle.bi_legacy.specs.declared.fields.Fields.{Fields}
 use Rattle.bi_legacy.specs.Meaning.{LegacyImage}
 use Rattle.bi_legacy.specs.Parts.{parts_end}
 use Rattle.bi_legacy.specs.File.{LegacyMeans}
-use Rattle.bi_legacy.specs.Pieces.{Piece, placed_parts, StandIn}
+use Rattle.bi_legacy.specs.PlacedParts.{PlacedPart, placed_parts, AreAtOffsets}
 
 -- What reading a legacy image gives (profile of this project).
 
@@ -25,17 +25,17 @@ image_of fields parts =
 
 -- What a reader of a legacy image tells: what the image says, and how many bytes of the file follow the last part, or the
 -- list of sizes where there are no parts.
-pub record Told : Type 0 where
+pub record ParsedImage : Type 0 where
   pub image : LegacyImage
   pub unused : ℕ
 
 -- Where the parts of an image begin in its file.
-abbrev pub file_places : LegacyImage → List ℕ
-file_places image = map (λ (piece : Piece). piece.place) (placed_parts image)
+abbrev pub part_places : LegacyImage → List ℕ
+part_places image = map (λ (placed : PlacedPart). placed.place) (placed_parts image)
 
 -- The file means this image; each part stands in it at its place; and so many of its bytes follow the last part, or the list
 -- of sizes where there are no parts.
-pub record IsTold (file : List ℕ) (limits : Bounds) (told : Told) : Type 0 where
-  pub means : LegacyMeans file told.image limits
-  pub stand : StandIn file (placed_parts told.image)
-  pub unused : 64 + parts_end told.image.image_type told.image.parts + told.unused ≡ length file
+pub record IsParsedImage (limits : Bounds) (file : List ℕ) (parsed : ParsedImage) : Type 0 where
+  pub means : LegacyMeans limits file parsed.image
+  pub at_offsets : AreAtOffsets file (placed_parts parsed.image)
+  pub unused : 64 + parts_end parsed.image.image_type parsed.image.parts + parsed.unused ≡ length file

@@ -5,17 +5,17 @@ ghost use Rattle.bi_base.specs.Checks.{IsFirstFault, HasNoFault};
 ghost use Rattle.bi_base.specs.Limits.{Bounds};
 ghost use Rattle.bi_base.specs.Sinks.{Wrote};
 ghost use Rattle.bi_base.specs.declared.fault.Fault.{Fault};
-ghost use Rattle.bi_legacy.specs.Meaning.{LegacyImage, IsImageName, has_size_list};
-ghost use Rattle.bi_legacy.specs.Parts.{end_from, first_place};
+ghost use Rattle.bi_legacy.specs.Meaning.{LegacyImage, IsImageName, has_part_table};
+ghost use Rattle.bi_legacy.specs.Parts.{parts_end_from, first_part_place};
 ghost use Rattle.bi_legacy.specs.Text.{normal_body, legacy_text};
 ghost use Rattle.bi_legacy.specs.Emitting.{Passes, fault_of, part_checks, IsEmitFault, HasNoEmitFault, bytes_of, image_of_parts};
 
 use crate::cells::up4;
-use crate::fields::{Fields, has_size_list};
+use crate::fields::{Fields, has_part_table};
 use crate::header::{HEADER_SIZE, NAME_SIZE};
+use crate::part_table::table_offset;
 use crate::refusal::refuse;
-use crate::size_list::size_place;
-use crate::text::put_text;
+use crate::text::put_image;
 use bi_base::{Cause, Error, Fault, Limits, Sink};
 
 /// Appends the normal form of a legacy image with these fields and parts (U-Boot, include/image.h): the header, its name
@@ -34,24 +34,24 @@ pub fn emit<S: Sink>(
     sink: &mut S,
 ) -> Result<(), Error>
     ensures refused { let image = image_of_parts fields.entry parts.now in
-        (fault : Fault) → IsEmitFault image limits fault →
+        (fault : Fault) → IsEmitFault limits image fault →
         (result ≡ Err (Error.Refused fault)) × (sink.new ≡ sink.old) }
     ensures written { let image = image_of_parts fields.entry parts.now in
-        HasNoEmitFault image limits →
-        Wrote S.appends S.names sink.old (legacy_text image) result sink.new }
+        HasNoEmitFault limits image →
+        Wrote S.appends S.fails sink.old (legacy_text image) result sink.new }
     ensures refused_or_written { let image = image_of_parts fields.entry parts.now in
-        HasNoEmitFault image limits ⊎ ((fault : Fault) × IsEmitFault image limits fault) }
+        HasNoEmitFault limits image ⊎ ((fault : Fault) × IsEmitFault limits image fault) }
 {
     let data_size = check_image(fields, parts, limits)?;
-    put_text(fields, parts, data_size, sink)
+    put_image(fields, parts, data_size, sink)
 }
 
 /// Makes the checks, and tells the size of the normal data.
 fn check_image(fields: Fields<'_>, parts: &[&[u8]], limits: Limits) -> Result<u32, Fault>
-    ensures ok { OnOk result (HasNoEmitFault (image_of_parts fields.entry parts.now) limits) }
+    ensures ok { OnOk result (HasNoEmitFault limits (image_of_parts fields.entry parts.now)) }
     ensures size { IfOk result (λ size.
         size ≡ length (normal_body fields.entry.image_type (bytes_of parts.now))) }
-    ensures fault { IfErr result (IsEmitFault (image_of_parts fields.entry parts.now) limits) }
+    ensures fault { IfErr result (IsEmitFault limits (image_of_parts fields.entry parts.now)) }
 {
     if !is_image_name(fields.name) {
         return refuse(Cause::BadField, 32);
@@ -63,7 +63,7 @@ fn check_image(fields: Fields<'_>, parts: &[&[u8]], limits: Limits) -> Result<u3
     let Some(size) = data_size(fields.image_type, parts, most) else {
         return refuse(Cause::TooLarge, limits.file());
     };
-    if has_size_list(fields.image_type) {
+    if has_part_table(fields.image_type) {
         check_parts(parts)?;
     }
     Ok(size)
@@ -78,15 +78,15 @@ fn is_image_name(name: &[u8]) -> bool
 
 /// Whether an image of this type can have so many parts.
 fn can_have_parts(image_type: u8, part_count: usize) -> bool
-    ensures { IsTrue result ↔ MatchBool (has_size_list image_type) ⊤ (part_count ≡ 1) }
+    ensures { IsTrue result ↔ MatchBool (has_part_table image_type) ⊤ (part_count ≡ 1) }
 {
-    has_size_list(image_type) || part_count == 1
+    has_part_table(image_type) || part_count == 1
 }
 
 /// The size of the normal data. None exactly where it is more than `most`.
 fn data_size(image_type: u8, parts: &[&[u8]], most: u32) -> Option<u32>
     ensures { let size = length (normal_body image_type (bytes_of parts.now)) in
-        MatchOption result (most < size) (λ told. (told ≡ size) × (told ≤ most)) }
+        MatchOption result (most < size) (λ parsed. (parsed ≡ size) × (parsed ≤ most)) }
 {
     let start = start_of_parts(image_type, parts);
     let end = end_within(start, parts, most as usize)?;
@@ -95,9 +95,9 @@ fn data_size(image_type: u8, parts: &[&[u8]], most: u32) -> Option<u32>
 
 /// Where the first of these parts begins in the normal data.
 fn start_of_parts(image_type: u8, parts: &[&[u8]]) -> usize
-    ensures { result ≡ first_place image_type (bytes_of parts.now) }
+    ensures { result ≡ first_part_place image_type (bytes_of parts.now) }
 {
-    if has_size_list(image_type) {
+    if has_part_table(image_type) {
         4 * (parts.len() + 1)
     } else {
         0
@@ -108,8 +108,8 @@ fn start_of_parts(image_type: u8, parts: &[&[u8]]) -> usize
 /// four. None exactly where that is after `most`.
 fn end_within(start: usize, parts: &[&[u8]], most: usize) -> Option<usize>
     requires { most < 2 ^ 32 }
-    ensures { let end = end_from start (map length (bytes_of parts.now)) in
-        MatchOption result (most < end) (λ told. (told ≡ end) × (told ≤ most)) }
+    ensures { let end = parts_end_from start (map length (bytes_of parts.now)) in
+        MatchOption result (most < end) (λ parsed. (parsed ≡ end) × (parsed ≤ most)) }
 {
     let mut end = start;
     for part in parts {
@@ -125,13 +125,13 @@ fn end_within(start: usize, parts: &[&[u8]], most: usize) -> Option<usize>
 fn check_parts(parts: &[&[u8]]) -> Result<(), Fault>
     requires { 64 + 4 * length parts.now < 2 ^ 32 }
     ensures ok { OnOk result ((image : LegacyImage) (limits : Bounds) →
-        HasNoFault (Passes image limits) (part_checks 0 (bytes_of parts.now))) }
+        HasNoFault (Passes limits image) (part_checks 0 (bytes_of parts.now))) }
     ensures fault { IfErr result (λ fault. (image : LegacyImage) (limits : Bounds) →
-        IsFirstFault (Passes image limits) (fault_of limits) (part_checks 0 (bytes_of parts.now)) fault) }
+        IsFirstFault (Passes limits image) (fault_of limits) (part_checks 0 (bytes_of parts.now)) fault) }
 {
     for (index, part) in parts.iter().enumerate() {
         if part.is_empty() {
-            return refuse(Cause::EmptyPart, size_place(index));
+            return refuse(Cause::EmptyPart, table_offset(index));
         }
     }
     Ok(())

@@ -1,7 +1,7 @@
 //! The fields of a legacy header.
 
 ghost use Rattle.std.specs.Prelude.{◌≡◌};
-ghost use Rattle.bi_legacy.specs.Meaning.{has_size_list as is_size_listed};
+ghost use Rattle.bi_legacy.specs.Meaning.{has_part_table as is_part_table_type};
 
 /// The code of a multi-file image.
 const MULTI: u8 = 4;
@@ -32,8 +32,8 @@ pub struct Fields<'a> {
 }
 
 /// Whether the data of an image of this type is a list of sizes and then the parts.
-pub(crate) fn has_size_list(image_type: u8) -> bool
-    ensures { result ≡ is_size_listed image_type }
+pub(crate) fn has_part_table(image_type: u8) -> bool
+    ensures { result ≡ is_part_table_type image_type }
 {
     image_type == MULTI || image_type == SCRIPT
 }

@@ -5,19 +5,19 @@ ghost use Rattle.std.specs.Option.{option_map};
 ghost use Rattle.std.specs.List.{before_first};
 ghost use Rattle.bi_base.specs.Cells.{u32_at};
 ghost use Rattle.bi_base.specs.declared.fault.Fault.{Fault};
-ghost use Rattle.bi_legacy.specs.Meaning.{LegacyImage, has_size_list};
+ghost use Rattle.bi_legacy.specs.Meaning.{LegacyImage, has_part_table};
 ghost use Rattle.bi_legacy.specs.File.{LegacyMeans};
 ghost use Rattle.bi_legacy.specs.Faults.{IsLegacyFault, HasNoLegacyFault, body_of};
 ghost use Rattle.bi_legacy.specs.NormalForm.{HasNormalForm};
-ghost use Rattle.bi_legacy.specs.Pieces.{piece_of, placed_parts};
-ghost use Rattle.bi_legacy.specs.Reading.{Told, IsTold, image_of, file_places};
-ghost use Rattle.bi_legacy.specs.Walk.{IsExtent, parts_in, read_image, read_end};
+ghost use Rattle.bi_legacy.specs.PlacedParts.{placed_part_of, placed_parts};
+ghost use Rattle.bi_legacy.specs.Reading.{ParsedImage, IsParsedImage, image_of, part_places};
+ghost use Rattle.bi_legacy.specs.ReaderState.{IsPartTable, parts_of_body, read_image, read_end};
 
 use crate::cells::cell_at;
-use crate::fields::{Fields, has_size_list};
+use crate::fields::{Fields, has_part_table};
 use crate::header::{HEADER_SIZE, check_header};
+use crate::part_table::find_parts;
 use crate::parts::{Part, Parts};
-use crate::size_list::extent_of;
 use bi_base::{Fault, Limits};
 use std::marker::Model;
 
@@ -31,14 +31,14 @@ pub struct Legacy<'a> {
 }
 
 impl<'a> Model for Legacy<'a> {
-    ghost Value = { Told };
+    ghost Value = { ParsedImage };
 
     ghost view = { λ legacy. record {
-      image = image_of legacy.fields (parts_in legacy.fields.image_type legacy.body.now);
+      image = image_of legacy.fields (parts_of_body legacy.fields.image_type legacy.body.now);
       unused = legacy.unused;
     } };
 
-    ghost invariant = { λ legacy. IsExtent (has_size_list legacy.fields.image_type) legacy.body.now legacy.part_count };
+    ghost invariant = { λ legacy. IsPartTable (has_part_table legacy.fields.image_type) legacy.body.now legacy.part_count };
 }
 
 impl<'a> Legacy<'a> {
@@ -49,15 +49,15 @@ impl<'a> Legacy<'a> {
     /// BadHeaderCrc at 4; Truncated at 12 where the data ends after the file; BadDataCrc at 24; for multi and script
     /// images BadPartTable at 64, and BadPart at `64 + 4 * k` for the first part k that ends after the data.
     pub fn read(file: &'a [u8], limits: Limits) -> Result<Legacy<'a>, Fault>
-        ensures accepts { IsOk result ↔ ((image : LegacyImage) × LegacyMeans file.entry.now image limits) }
-        ensures told { IfOk result (IsTold file.entry.now limits) }
-        ensures one_meaning { IfOk result (λ told. (image : LegacyImage) → LegacyMeans file.entry.now image limits → image ≡ told.image) }
-        ensures normal_form { IfOk result (λ told. HasNormalForm told.image limits) }
-        ensures no_fault { OnOk result (HasNoLegacyFault file.entry.now limits) }
-        ensures fault { IfErr result (IsLegacyFault file.entry.now limits) }
-        ensures one_fault { IfErr result (λ fault. (other : Fault) → IsLegacyFault file.entry.now limits other → other ≡ fault) }
+        ensures accepts { IsOk result ↔ ((image : LegacyImage) × LegacyMeans limits file.entry.now image) }
+        ensures parsed { IfOk result (IsParsedImage limits file.entry.now) }
+        ensures one_meaning { IfOk result (λ parsed. (image : LegacyImage) → LegacyMeans limits file.entry.now image → image ≡ parsed.image) }
+        ensures normal_form { IfOk result (λ parsed. HasNormalForm limits parsed.image) }
+        ensures no_fault { OnOk result (HasNoLegacyFault limits file.entry.now) }
+        ensures fault { IfErr result (IsLegacyFault limits file.entry.now) }
+        ensures one_fault { IfErr result (λ fault. (other : Fault) → IsLegacyFault limits file.entry.now other → other ≡ fault) }
     {
-        examine(file, limits)
+        parse(file, limits)
     }
 
     /// The fields of the header that carry meaning.
@@ -77,11 +77,11 @@ impl<'a> Legacy<'a> {
     /// The parts in their order, each with its place. Going over all of them takes time linear in their number.
     pub fn parts(&self) -> Parts<'a>
         ensures placed { result ≡ placed_parts self.now.image }
-        ensures bytes { map (λ piece. piece.bytes) result ≡ self.now.image.parts }
+        ensures bytes { map (λ placed. placed.bytes) result ≡ self.now.image.parts }
     {
         Parts::new(
             self.body,
-            has_size_list(self.fields.image_type),
+            has_part_table(self.fields.image_type),
             self.part_count,
         )
     }
@@ -95,7 +95,7 @@ impl<'a> Legacy<'a> {
 
     /// The offset in the file of the first byte of part `index`, from 0. None exactly where there is no such part.
     pub fn part_place(&self, index: usize) -> Option<u32>
-        ensures { result ≡ slice_get (file_places self.now.image) index }
+        ensures { result ≡ slice_get (part_places self.now.image) index }
     {
         Some(self.nth_part(index)?.place)
     }
@@ -108,7 +108,7 @@ impl<'a> Legacy<'a> {
     }
 
     fn nth_part(&self, index: usize) -> Option<Part<'a>>
-        ensures { option_map piece_of result ≡ slice_get (placed_parts self.now.image) index }
+        ensures { option_map placed_part_of result ≡ slice_get (placed_parts self.now.image) index }
     {
         let mut parts = self.parts();
         for _ in 0..index {
@@ -119,21 +119,21 @@ impl<'a> Legacy<'a> {
 }
 
 /// Makes the checks, and finds what they were passed with.
-fn examine<'a>(file: &'a [u8], limits: Limits) -> Result<Legacy<'a>, Fault>
-    ensures no_fault { OnOk result (HasNoLegacyFault file.entry.now limits) }
-    ensures image { IfOk result (λ told. told.image ≡ read_image file.entry.now) }
-    ensures unused { IfOk result (λ told. told.unused ≡ length file.entry.now - (64 + read_end file.entry.now)) }
-    ensures fault { IfErr result (IsLegacyFault file.entry.now limits) }
+fn parse<'a>(file: &'a [u8], limits: Limits) -> Result<Legacy<'a>, Fault>
+    ensures no_fault { OnOk result (HasNoLegacyFault limits file.entry.now) }
+    ensures image { IfOk result (λ parsed. parsed.image ≡ read_image file.entry.now) }
+    ensures unused { IfOk result (λ parsed. parsed.unused ≡ length file.entry.now - (64 + read_end file.entry.now)) }
+    ensures fault { IfErr result (IsLegacyFault limits file.entry.now) }
 {
     check_header(file, limits)?;
     let fields = fields_of(file);
     let body = body_at(file);
-    let extent = extent_of(fields.image_type, body)?;
-    let unused = (file.len() - HEADER_SIZE - extent.end) as u32;
+    let table = find_parts(fields.image_type, body)?;
+    let unused = (file.len() - HEADER_SIZE - table.end) as u32;
     Ok(Legacy {
         fields,
         body,
-        part_count: extent.part_count,
+        part_count: table.part_count,
         unused,
     })
 }

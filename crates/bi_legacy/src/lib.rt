@@ -8,9 +8,9 @@ mod fields;
 mod header;
 pub mod laws;
 mod legacy;
+mod part_table;
 mod parts;
 mod refusal;
-mod size_list;
 mod text;
 
 pub use emitting::emit;

@@ -2,8 +2,8 @@
 
 ghost use Rattle.std.specs.Prelude.{◌≡◌, ◌+◌, ◌^◌, ◌<◌, ◌≤◌, List, ◌∷◌, length, drop};
 ghost use Rattle.std.specs.Iterator.{at_most};
-ghost use Rattle.bi_legacy.specs.Pieces.{Piece, GivesPart};
-ghost use Rattle.bi_legacy.specs.Walk.{IsPartsState, cut_from, sizes_in, first_in, FitFrom};
+ghost use Rattle.bi_legacy.specs.PlacedParts.{PlacedPart, TakesFirstPart};
+ghost use Rattle.bi_legacy.specs.ReaderState.{IsPartsState, placed_slices, part_sizes, first_part_offset, FitWithin};
 
 use crate::cells::{cell_at, up4};
 use crate::header::HEADER_SIZE;
@@ -29,9 +29,9 @@ pub struct Parts<'a> {
 }
 
 impl<'a> Model for Parts<'a> {
-    ghost Value = { List Piece };
+    ghost Value = { List PlacedPart };
 
-    ghost view = { λ parts. cut_from parts.body.now parts.place (drop parts.index (sizes_in parts.is_listed parts.body.now)) };
+    ghost view = { λ parts. placed_slices parts.body.now parts.place (drop parts.index (part_sizes parts.is_listed parts.body.now)) };
 
     ghost invariant = { λ parts. IsPartsState parts.is_listed parts.body.now parts.part_count parts.index parts.place };
 }
@@ -39,11 +39,11 @@ impl<'a> Model for Parts<'a> {
 impl<'a> Parts<'a> {
     /// The parts of some data: those that its list of sizes tells, or the whole as the one part.
     pub(crate) fn new(body: &'a [u8], is_listed: bool, part_count: usize) -> Parts<'a>
-        requires count { part_count ≡ length (sizes_in is_listed body.now) }
-        requires room { first_in is_listed body.now ≤ length body.now }
-        requires fit { FitFrom (length body.now) (first_in is_listed body.now) (sizes_in is_listed body.now) }
+        requires count { part_count ≡ length (part_sizes is_listed body.now) }
+        requires room { first_part_offset is_listed body.now ≤ length body.now }
+        requires fit { FitWithin (length body.now) (first_part_offset is_listed body.now) (part_sizes is_listed body.now) }
         requires small { length body.now < 2 ^ 31 }
-        ensures { result ≡ cut_from body.entry.now (first_in is_listed body.entry.now) (sizes_in is_listed body.entry.now) }
+        ensures { result ≡ placed_slices body.entry.now (first_part_offset is_listed body.entry.now) (part_sizes is_listed body.entry.now) }
     {
         let place = if is_listed { 4 * (part_count + 1) } else { 0 };
         Parts {
@@ -59,7 +59,7 @@ impl<'a> Parts<'a> {
 impl<'a> Iterator for Parts<'a> {
     type Item = Part<'a>;
 
-    ghost next_gives = { GivesPart };
+    ghost next_gives = { TakesFirstPart };
 
     ghost remaining = { λ parts. at_most (length parts) };
 
@@ -80,9 +80,9 @@ impl<'a> Iterator for Parts<'a> {
 
 /// The size of a part: what the list of sizes tells, or that of the whole data.
 fn size_at(body: &[u8], is_listed: bool, index: usize) -> usize
-    requires within { index < length (sizes_in is_listed body.now) }
-    requires room { first_in is_listed body.now ≤ length body.now }
-    ensures { drop index (sizes_in is_listed body.now) ≡ result ∷ drop (index + 1) (sizes_in is_listed body.now) }
+    requires within { index < length (part_sizes is_listed body.now) }
+    requires room { first_part_offset is_listed body.now ≤ length body.now }
+    ensures { drop index (part_sizes is_listed body.now) ≡ result ∷ drop (index + 1) (part_sizes is_listed body.now) }
 {
     if is_listed {
         cell_at(body, 4 * index) as usize

@@ -14,18 +14,18 @@ unfolding u32_at
 begins_legacy bytes = record { whole = omega arith; magic = refl }
 
 -- A file that means an image has the magic number of a legacy image.
-pub means_legacy : (file : List ℕ) (image : LegacyImage) (limits : Bounds) → LegacyMeans file image limits → BeginsAs file Legacy
+pub means_legacy : (file : List ℕ) (image : LegacyImage) (limits : Bounds) → LegacyMeans limits file image → BeginsAs file Legacy
 unfolding header cell
 means_legacy file image limits means =
     subst (λ (bytes : List ℕ). BeginsAs bytes Legacy) (sym means.is_file.spelled) (begins_legacy _)
 
 -- A file of no known kind means nothing.
-pub kind_fault_means_nothing : (file : List ℕ) (limits : Bounds) (fault : Fault) → IsKindFault file fault → MeansNothing file limits
+pub kind_fault_means_nothing : (file : List ℕ) (limits : Bounds) (fault : Fault) → IsKindFault file fault → MeansNothing limits file
 kind_fault_means_nothing file limits fault (inl short) image means = short.0 (means_legacy file image limits means).whole
 kind_fault_means_nothing file limits fault (inr (whole, inl unknown)) image means =
     unknown.0 (inl (means_legacy file image limits means).magic)
 kind_fault_means_nothing file limits fault (inr (whole, inr (known, none))) image means = none
 
 -- A flattened image tree means no legacy image.
-pub tree_means_nothing : (file : List ℕ) (limits : Bounds) → BeginsAs file Fit → MeansNothing file limits
+pub tree_means_nothing : (file : List ℕ) (limits : Bounds) → BeginsAs file Fit → MeansNothing limits file
 tree_means_nothing file limits begins image means = omega (arith, begins.magic, (means_legacy file image limits means).magic)

@@ -20,23 +20,23 @@ Chooses (Image name) image bytes = ⊥
 -- The file means a legacy image, of which the selection chooses these bytes.
 pub record IsChosen (select : Select) (limits : Bounds) (file bytes : List ℕ) : Type 0 where
   pub image : LegacyImage
-  pub means : LegacyMeans file image limits
+  pub means : LegacyMeans limits file image
   pub chosen : Chooses select image bytes
 
 -- The file means a legacy image, and the selection is one of another kind of image.
 abbrev pub IsOfOtherKind : Select → Bounds → List ℕ → Type 0
 IsOfOtherKind (Part index) limits file = ⊥
-IsOfOtherKind (Image name) limits file = (image : LegacyImage) × LegacyMeans file image limits
+IsOfOtherKind (Image name) limits file = (image : LegacyImage) × LegacyMeans limits file image
 
 -- The file means a legacy image, and the selection is a part that it does not have.
 abbrev pub IsPastParts : Select → Bounds → List ℕ → Type 0
-IsPastParts (Part index) limits file = (image : LegacyImage) × LegacyMeans file image limits × (length image.parts ≤ index)
+IsPastParts (Part index) limits file = (image : LegacyImage) × LegacyMeans limits file image × (length image.parts ≤ index)
 IsPastParts (Image name) limits file = ⊥
 
 -- What an error says of a file in memory and the selection, where nothing is read or written and no memory is wanted: a refusal
 -- is the file's first fault, and the file means nothing.
 abbrev pub IsExtractRefusal : Select → Bounds → List ℕ → ExtractError → Type 0
-IsExtractRefusal select limits file (Failed (Refused fault)) = IsFileFault file limits fault × MeansNothing file limits
+IsExtractRefusal select limits file (Failed (Refused fault)) = IsFileFault limits file fault × MeansNothing limits file
 IsExtractRefusal select limits file (Failed OutOfMemory) = ⊥
 IsExtractRefusal select limits file (Failed ReadFailed) = ⊥
 IsExtractRefusal select limits file (Failed WriteFailed) = ⊥

@@ -26,8 +26,8 @@ pub data Check : Type 0 where
 
 -- What each check asks.
 abbrev pub Passes : List ℕ → Check → Type 0
-Passes file HasMagicCell = 4 ≤ length file
-Passes file HasKnownMagic = (u32_at file 0 ≡ magic_of Legacy) ⊎ (u32_at file 0 ≡ magic_of Fit)
+Passes HasMagicCell file = 4 ≤ length file
+Passes HasKnownMagic file = (u32_at file 0 ≡ magic_of Legacy) ⊎ (u32_at file 0 ≡ magic_of Fit)
 
 -- What a file is refused with where a check fails.
 abbrev pub fault_of : Check → Fault

@@ -5,7 +5,7 @@ ghost use Rattle.std.specs.Fmt.{decimal};
 ghost use Rattle.std.specs.Io.KnownBytes.{Keeps};
 ghost use Rattle.bi_base.specs.Outcomes.{HasToStop, CannotGoOn, GoesWell, IsFlushed};
 ghost use Rattle.bi_base.specs.Reading.{TakesAtMost};
-ghost use Rattle.bi_legacy.specs.Pieces.{piece_of};
+ghost use Rattle.bi_legacy.specs.PlacedParts.{placed_part_of};
 ghost use Rattle.bootimg.specs.Normalising.{IsRefusalOf, IsStreamRefusalOf};
 ghost use Rattle.bootimg.specs.Listing.{IsListing, legacy_listing as listing_of, field_lines, code_lines, parts_lines, part_line};
 ghost use Rattle.bootimg.specs.Shown.{line, hexadecimal};
@@ -27,7 +27,7 @@ use std::io::{Read, Write};
 /// in place of a listing alone: a file is refused before memory is asked for.
 pub fn listing(alloc: Global, file: &[u8], limits: Limits) -> Result<String, Error>
     ensures lists { IfOk result (λ text. IsListing limits file.now (string_bytes text)) }
-    ensures refused_with_the_first_fault { IfErr result (IsRefusalOf file.now limits) }
+    ensures refused_with_the_first_fault { IfErr result (IsRefusalOf limits file.now) }
 {
     let image = read_legacy(file, limits)?;
     let text = legacy_listing(alloc, &image)?;
@@ -51,7 +51,7 @@ pub fn list_through<S: Source, T: Target>(
     ensures lists { OnOk result (Streamed (S.left source.old) (S.left source.new)
         (T.contents target.old) (T.contents target.new) (IsListing limits)) }
     ensures refused_with_the_first_fault { IfErr result (λ error.
-        IfSome (S.left source.old) (λ file. IsStreamRefusalOf file limits error)) }
+        IfSome (S.left source.old) (λ file. IsStreamRefusalOf limits file error)) }
     ensures writes_a_prefix { IsErrOf result Error.WriteFailed →
         StreamedPrefix (S.left source.old) (S.left source.new)
         (T.contents target.old) (T.contents target.new) (T.flushing target.new) (IsListing limits) }
@@ -90,7 +90,7 @@ pub fn list_to<R: Read, W: Write>(
     ensures lists { OnOk result (Streamed (R.remaining reader.old) (R.remaining reader.new)
         (W.contents writer.old) (W.contents writer.new) (IsListing limits)) }
     ensures refused_with_the_first_fault { IfErr result (λ error.
-        IfSome (R.remaining reader.old) (λ file. IsStreamRefusalOf file limits error)) }
+        IfSome (R.remaining reader.old) (λ file. IsStreamRefusalOf limits file error)) }
     ensures writes_a_prefix { IsErrOf result Error.WriteFailed →
         StreamedPrefix (R.remaining reader.old) (R.remaining reader.new)
         (W.contents writer.old) (W.contents writer.new) false (IsListing limits) }
@@ -164,7 +164,7 @@ fn put_parts(text: &mut String, image: &Legacy) -> Result<(), AllocError>
 
 /// Appends the line of a part.
 fn put_part(text: &mut String, index: usize, part: &Part) -> Result<(), AllocError>
-    ensures { OnOk result (string_bytes text.new ≡ string_bytes text.old ++ part_line index (piece_of part.now)) }
+    ensures { OnOk result (string_bytes text.new ≡ string_bytes text.old ++ part_line index (placed_part_of part.now)) }
 {
     let (size, place) = (part.bytes.len(), part.place);
     writeln!(text, "part {index} size {size} at {place}")

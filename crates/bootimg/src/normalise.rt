@@ -33,7 +33,7 @@ pub fn normalise(alloc: Global, file: &[u8], form: Form, limits: Limits) -> Resu
     ensures stands_for_the_file { IfOk result (λ text. StandsFor limits file.now text.items) }
     ensures tells_meanings_apart { IfOk result (λ text. TellsApart limits file.now text.items) }
     ensures is_its_own_normal_form { IfOk result (λ text. IsOwnNormalForm limits file.now text.items) }
-    ensures refused_with_the_first_fault { IfErr result (IsRefusalOf file.now limits) }
+    ensures refused_with_the_first_fault { IfErr result (IsRefusalOf limits file.now) }
 {
     let image = read_legacy(file, limits)?;
     normal_text(alloc, &image, limits)
@@ -41,8 +41,8 @@ pub fn normalise(alloc: Global, file: &[u8], form: Form, limits: Limits) -> Resu
 
 /// The normal text of a legacy image that was read under the limits.
 fn normal_text(alloc: Global, image: &Legacy<'_>, limits: Limits) -> Result<Vec<u8>, Error>
-    ensures text { IfOk result (λ text. HasNormalForm image.now.image limits → text.items ≡ legacy_text image.now.image) }
-    ensures error { IfErr result (λ error. HasNormalForm image.now.image limits → error ≡ Error.OutOfMemory) }
+    ensures text { IfOk result (λ text. HasNormalForm limits image.now.image → text.items ≡ legacy_text image.now.image) }
+    ensures error { IfErr result (λ error. HasNormalForm limits image.now.image → error ≡ Error.OutOfMemory) }
 {
     let parts = parts_of(alloc, image)?;
     let mut sink = VecSink::new(alloc);
@@ -85,7 +85,7 @@ pub fn normalise_through<S: Source, T: Target>(
         (T.contents target.old) (T.contents target.new) (IsOwnNormalForm limits)) }
     ensures no_signatures { IfOk result (λ count. count ≡ 0) }
     ensures refused_with_the_first_fault { IfErr result (λ error.
-        IfSome (S.left source.old) (λ file. IsStreamRefusalOf file limits error)) }
+        IfSome (S.left source.old) (λ file. IsStreamRefusalOf limits file error)) }
     ensures writes_a_prefix { IsErrOf result Error.WriteFailed →
         StreamedPrefix (S.left source.old) (S.left source.new)
         (T.contents target.old) (T.contents target.new) (T.flushing target.new) (StandsFor limits) }
@@ -131,7 +131,7 @@ pub fn normalise_to<R: Read, W: Write>(
         (W.contents writer.old) (W.contents writer.new) (IsOwnNormalForm limits)) }
     ensures no_signatures { IfOk result (λ count. count ≡ 0) }
     ensures refused_with_the_first_fault { IfErr result (λ error.
-        IfSome (R.remaining reader.old) (λ file. IsStreamRefusalOf file limits error)) }
+        IfSome (R.remaining reader.old) (λ file. IsStreamRefusalOf limits file error)) }
     ensures writes_a_prefix { IsErrOf result Error.WriteFailed →
         StreamedPrefix (R.remaining reader.old) (R.remaining reader.new)
         (W.contents writer.old) (W.contents writer.new) false (StandsFor limits) }

@@ -4,7 +4,7 @@ ghost use Rattle.std.specs.Prelude.{◌≡◌, IfOk, OnErr, IfErr};
 ghost use Rattle.bi_legacy.specs.File.{LegacyMeans};
 ghost use Rattle.bi_legacy.specs.Meaning.{LegacyImage};
 ghost use Rattle.bi_legacy.specs.NormalForm.{HasNormalForm};
-ghost use Rattle.bi_legacy.specs.Reading.{IsTold};
+ghost use Rattle.bi_legacy.specs.Reading.{IsParsedImage};
 ghost use Rattle.bootimg.specs.Normalising.{IsFileFault, MeansNothing};
 
 use crate::kind::{Kind, kind_of};
@@ -16,11 +16,11 @@ use bi_legacy::Legacy;
 /// Refusals, the first that applies: TooLarge at the limit, where the file is longer; Truncated at 0 below four bytes;
 /// BadMagic at 0; for a legacy image those of `Legacy::read`; Unsupported at 0 for a flattened image tree.
 pub fn read_legacy<'a>(file: &'a [u8], limits: Limits) -> Result<Legacy<'a>, Fault>
-    ensures told { IfOk result (IsTold file.entry.now limits) }
-    ensures one_meaning { IfOk result (λ told. (image : LegacyImage) → LegacyMeans file.entry.now image limits → image ≡ told.image) }
-    ensures normal_form { IfOk result (λ told. HasNormalForm told.image limits) }
-    ensures first_fault { IfErr result (IsFileFault file.entry.now limits) }
-    ensures means_nothing { OnErr result (MeansNothing file.entry.now limits) }
+    ensures parsed { IfOk result (IsParsedImage limits file.entry.now) }
+    ensures one_meaning { IfOk result (λ parsed. (image : LegacyImage) → LegacyMeans limits file.entry.now image → image ≡ parsed.image) }
+    ensures normal_form { IfOk result (λ parsed. HasNormalForm limits parsed.image) }
+    ensures first_fault { IfErr result (IsFileFault limits file.entry.now) }
+    ensures means_nothing { OnErr result (MeansNothing limits file.entry.now) }
 {
     if file.len() > limits.file() as usize {
         return Err(Fault {

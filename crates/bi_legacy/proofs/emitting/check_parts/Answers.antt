@@ -13,7 +13,7 @@ returns-then-is_empty-clause-fault c =
     let index = c.loop-index.index in
     let nothing : Bor (List ℕ) = record { ref_ptr = (0, 0); now = [] } in
     let e = drop-bytes_of parts index nothing (omega arith) in
-    rw (c.refuse.ensures, c.size_place.ensures) (λ image limits.
+    rw (c.refuse.ensures, c.table_offset.ensures) (λ image limits.
     c.loop-index.invariant.fault image limits _ (empty_here image limits index _ _ _ e (eqb-true _ 0 (sym c.is_empty.ensures ∙ c.if-is_empty.true))))
 
 pub loop-index-preserved : goal.loop-index-preserved
@@ -36,4 +36,4 @@ returns-clause-ok c image limits =
     let index = c.loop-index.index in
     let none : drop index parts ≡ [] = drop_all index parts (omega (arith, length-map c.args.parts.now (λ (part : Bor (List ℕ)). part.now))) in
     c.loop-index.invariant.ok image limits
-    (subst (λ (left : List (List ℕ)). HasNoFault (Passes image limits) (part_checks index left)) (sym none) tt)
+    (subst (λ (left : List (List ℕ)). HasNoFault (Passes limits image) (part_checks index left)) (sym none) tt)

@@ -11,7 +11,7 @@ abbrev pub invariant-loop-index : goal.invariant-loop-index
 invariant-loop-index l =
     let parts = bytes_of l.parts in
     record {
-      ok : (image : LegacyImage) (limits : Bounds) → HasNoFault (Passes image limits) (part_checks l.index (drop l.index parts)) → HasNoFault (Passes image limits) (part_checks 0 parts);
-      fault : (image : LegacyImage) (limits : Bounds) (fault : Fault) → IsFirstFault (Passes image limits) (fault_of limits) (part_checks l.index (drop l.index parts)) fault
-          → IsFirstFault (Passes image limits) (fault_of limits) (part_checks 0 parts) fault;
+      ok : (image : LegacyImage) (limits : Bounds) → HasNoFault (Passes limits image) (part_checks l.index (drop l.index parts)) → HasNoFault (Passes limits image) (part_checks 0 parts);
+      fault : (image : LegacyImage) (limits : Bounds) (fault : Fault) → IsFirstFault (Passes limits image) (fault_of limits) (part_checks l.index (drop l.index parts)) fault
+          → IsFirstFault (Passes limits image) (fault_of limits) (part_checks 0 parts) fault;
     }

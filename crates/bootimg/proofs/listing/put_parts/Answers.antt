@@ -1,6 +1,6 @@
 use Rattle.std.proofs.Common.{◌≡◌, ◌<◌, ◌^◌, ◌++◌, length, string_bytes, refl, ap, ◌∙◌, inl, arith}
 use Rattle.std.specs.Iterator.Adapters.{enumerate_source, enumerate_count}
-use Rattle.bi_legacy.specs.Pieces.{placed_parts}
+use Rattle.bi_legacy.specs.PlacedParts.{placed_parts}
 use Rattle.bootimg.specs.Listing.{part_lines}
 use Rattle.bootimg.proofs.PartLines.{length-placed_parts}
 use Rattle.bootimg.proofs.listing.put_parts.Goals as goal

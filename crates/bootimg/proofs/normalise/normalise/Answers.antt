@@ -4,7 +4,7 @@ use Rattle.bootimg.proofs.normalise.normalise.Goals as goal
 
 pub returns-clause-stands_for_the_file : goal.returns-clause-stands_for_the_file
 returns-clause-stands_for_the_file c =
-    text-stands c.args.file.now c.args.limits c.in_ok-image.image c.normal_text.result c.in_ok-image.ensures.told
+    text-stands c.args.file.now c.args.limits c.in_ok-image.image c.normal_text.result c.in_ok-image.ensures.parsed
     (search (rules, c.normal_text.ensures.text, c.in_ok-image.ensures.normal_form))
 
 pub returns-clause-tells_meanings_apart : goal.returns-clause-tells_meanings_apart
@@ -19,5 +19,5 @@ returns-clause-is_its_own_normal_form c =
 
 pub returns-clause-refused_with_the_first_fault : goal.returns-clause-refused_with_the_first_fault
 returns-clause-refused_with_the_first_fault c =
-    memory-refusal c.args.file.now c.args.limits c.in_ok-image.image c.normal_text.result c.in_ok-image.ensures.told
+    memory-refusal c.args.file.now c.args.limits c.in_ok-image.image c.normal_text.result c.in_ok-image.ensures.parsed
     (search (rules, c.normal_text.ensures.error, c.in_ok-image.ensures.normal_form))

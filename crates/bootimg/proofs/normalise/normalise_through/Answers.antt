@@ -9,4 +9,4 @@ pub returns-in_err-text-clause-refused_with_the_first_fault :
 returns-in_err-text-clause-refused_with_the_first_fault g c =
     let p = err_from_is_err_and c.from_residual-in_err-text.result c.from_residual-in_err-text.ensures.1 in
     rw (p.1, p.2) (of_known c.args.limits c.in_err-text.field-0.0 _ (g.S.Source.left c.args.source.now) (c.in_ok-file.ensures.whole)
-    (subst (λ (file : List ℕ). IsRefusalOf file c.args.limits c.in_err-text.field-0.0) c.deref.ensures.value c.in_err-text.ensures.refused_with_the_first_fault))
+    (subst (λ (file : List ℕ). IsRefusalOf c.args.limits file c.in_err-text.field-0.0) c.deref.ensures.value c.in_err-text.ensures.refused_with_the_first_fault))

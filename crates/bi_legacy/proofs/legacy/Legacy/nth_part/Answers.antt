@@ -1,6 +1,6 @@
 use Rattle.std.proofs.Common.{ap, sym, ◌∙◌, drop, arith}
-use Rattle.bi_legacy.specs.Pieces.{placed_parts}
-use Rattle.bi_legacy.proofs.NthPart.{drop-one_more, slice_get-none_left, GivesPart-nth}
+use Rattle.bi_legacy.specs.PlacedParts.{placed_parts}
+use Rattle.bi_legacy.proofs.NthPart.{drop-one_more, slice_get-none_left, TakesFirstPart-nth}
 use Rattle.bi_legacy.proofs.legacy.Legacy.nth_part.Goals as goal
 
 pub returns-in_err-next : goal.returns-in_err-next
@@ -14,5 +14,5 @@ loop-preserved c =
 
 pub returns : goal.returns
 returns c =
-    GivesPart-nth (placed_parts c.args.self.now.image) _ _ c.args.index c.next-2.result
+    TakesFirstPart-nth (placed_parts c.args.self.now.image) _ _ c.args.index c.next-2.result
     (c.loop.invariant ∙ ap (λ n. drop n (placed_parts c.args.self.now.image)) (omega arith)) c.next-2.ensures.steps

@@ -1,5 +1,5 @@
 use Rattle.std.proofs.Common.{◌≡◌, drop}
-use Rattle.bi_legacy.specs.Pieces.{placed_parts}
+use Rattle.bi_legacy.specs.PlacedParts.{placed_parts}
 use Rattle.bi_legacy.proofs.legacy.Legacy.nth_part.Given as goal
 
 abbrev pub invariant-loop : goal.invariant-loop

@@ -1,25 +1,24 @@
 use Rattle.std.proofs.Common.{subst}
-use Rattle.bi_base.specs.Sinks.{AppendsPrefix}
-use Rattle.bi_base.proofs.SinkLaws.{prefix_more, passed_on, wrote_after}
+use Rattle.bi_base.proofs.SinkLaws.{passed_on, wrote_after}
 use Rattle.bi_legacy.specs.Emitting.{bytes_of, image_of_parts}
 use Rattle.bi_legacy.specs.File.{header}
 use Rattle.bi_legacy.specs.Text.{normal_body, name_field, legacy_text}
 use Rattle.bi_legacy.proofs.TextPuts.{header_made}
-use Rattle.bi_legacy.proofs.text.put_text.Goals as goal
+use Rattle.bi_legacy.proofs.text.put_image.Goals as goal
 
 pub returns-in_err-put_header : goal.returns-in_err-put_header
 unfolding legacy_text
 returns-in_err-put_header g c =
-    let appends = g.S.Sink.appends in
+    let fails = g.S.Sink.fails in
     let fields = c.args.fields in
     let image = image_of_parts fields c.args.parts.now in
     let field = name_field fields.name.now in
     let body = normal_body fields.image_type (bytes_of c.args.parts.now) in
+    let error = c.in_err-put_header.field-0.0 in
     let same = header_made image field body c.args.data_size c.data_checksum.result c.header_checksum.result c.requires.size c.data_checksum.ensures c.header_checksum.ensures in
-    let part = subst (λ l. AppendsPrefix appends c.args.sink.now l c.put_header.new.sink) same c.in_err-put_header.ensures.0 in
-    passed_on appends g.S.Sink.names c.args.sink.now _ _ c.from_residual.result c.put_header.new.sink c.from_residual.ensures.1
-    (prefix_more appends c.args.sink.now (header image field body) body c.put_header.new.sink part)
-    c.in_err-put_header.ensures.1
+    let failed = subst (λ l. fails c.args.sink.now l c.put_header.new.sink error) same c.in_err-put_header.ensures in
+    passed_on g.S.Sink.appends fails c.args.sink.now _ _ c.from_residual.result c.put_header.new.sink c.from_residual.ensures.1
+    (g.met.S.Sink.fails_before c.args.sink.now c.put_header.new.sink (header image field body) body error failed)
 
 pub returns : goal.returns
 unfolding legacy_text
@@ -31,4 +30,4 @@ returns g c =
     let body = normal_body fields.image_type (bytes_of c.args.parts.now) in
     let same = header_made image field body c.args.data_size c.data_checksum.result c.header_checksum.result c.requires.size c.data_checksum.ensures c.header_checksum.ensures in
     let first = subst (λ l. appends c.args.sink.now l c.put_header.new.sink) same c.in_ok-put_header.ensures in
-    wrote_after appends g.S.Sink.names g.met.S.Sink.in_turn c.args.sink.now c.put_header.new.sink c.put_data.new.sink (header image field body) body c.put_data.result first c.put_data.ensures
+    wrote_after appends g.S.Sink.fails g.met.S.Sink.appends_in_turn g.met.S.Sink.fails_after c.args.sink.now c.put_header.new.sink c.put_data.new.sink (header image field body) body c.put_data.result first c.put_data.ensures

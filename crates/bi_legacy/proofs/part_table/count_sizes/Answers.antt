@@ -2,7 +2,7 @@ use Rattle.std.proofs.Common.{◌≤◌, ◌+◌, ◌*◌, ◌∙◌, sym, refl,
 use Rattle.std.proofs.lemmas.Bool.{cases_lt}
 use borrow.Author.Count.{below_more}
 use Rattle.bi_legacy.proofs.Sizes.{length-cells, get_or-cells, listed-count}
-use Rattle.bi_legacy.proofs.size_list.count_sizes.Goals as goal
+use Rattle.bi_legacy.proofs.part_table.count_sizes.Goals as goal
 
 pub returns-then-size-eq0-clause-ends : goal.returns-then-size-eq0-clause-ends
 returns-then-size-eq0-clause-ends c =

@@ -1,10 +1,10 @@
 use Rattle.std.proofs.Common.{◌+◌, ◌*◌, length, List, ℕ, sym, subst, refl, inl, inr}
 use Rattle.std.proofs.lemmas.Result.{err_from_is_err_and}
 use Rattle.std.specs.List.{Contains}
-use Rattle.bi_legacy.specs.Faults.{cells_of, listed_sizes}
-use Rattle.bi_legacy.specs.Walk.{FitFrom}
+use Rattle.bi_legacy.specs.Faults.{cells_of, table_sizes}
+use Rattle.bi_legacy.specs.ReaderState.{FitWithin}
 use Rattle.bi_legacy.proofs.PartPieces.{ends_pass}
-use Rattle.bi_legacy.proofs.size_list.listed_extent.Goals as goal
+use Rattle.bi_legacy.proofs.part_table.read_part_table.Goals as goal
 
 pub returns-in_default-clause-fault : goal.returns-in_default-clause-fault
 returns-in_default-clause-fault c =
@@ -23,8 +23,8 @@ returns-in_err-end-clause-fault c =
 pub returns-clause-ok : goal.returns-clause-ok
 returns-clause-ok c file limits same =
     let P : List ℕ → Type 0 = λ body. Contains (cells_of body) 0 in
-    let Q : List ℕ → Type 0 = λ body. FitFrom (length body) (4 * (length (listed_sizes c.args.body.now) + 1)) (listed_sizes c.args.body.now) in
-    let R : ℕ → Type 0 = λ count. FitFrom (length c.args.body.now) (4 * (count + 1)) (listed_sizes c.args.body.now) in (
+    let Q : List ℕ → Type 0 = λ body. FitWithin (length body) (4 * (length (table_sizes c.args.body.now) + 1)) (table_sizes c.args.body.now) in
+    let R : ℕ → Type 0 = λ count. FitWithin (length c.args.body.now) (4 * (count + 1)) (table_sizes c.args.body.now) in (
       subst P (sym same) (c.in-Some.ensures.ends.0 refl),
-      ends_pass file limits 0 _ (listed_sizes c.args.body.now) (subst Q (sym same) (subst R c.in-Some.ensures.count c.in_ok-end.ensures.ok)),
+      ends_pass file limits 0 _ (table_sizes c.args.body.now) (subst Q (sym same) (subst R c.in-Some.ensures.count c.in_ok-end.ensures.ok)),
     )

@@ -1,6 +1,6 @@
 use Rattle.std.proofs.Common.{◌≢◌, ℕ, ◌*◌, ◌<◌, ◌≤◌, length, get_or, ◌-◌}
 use Rattle.bi_legacy.specs.Faults.{cells_of}
-use Rattle.bi_legacy.proofs.size_list.count_sizes.Given as goal
+use Rattle.bi_legacy.proofs.part_table.count_sizes.Given as goal
 
 abbrev pub invariant-loop-size : goal.invariant-loop-size
 invariant-loop-size l =
