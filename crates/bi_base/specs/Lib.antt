@@ -5,6 +5,7 @@ pub mod Limits
 pub mod Traces
 pub mod Reading
 pub mod Writing
+pub mod Transfers
 pub mod Sinks
 pub mod SinkLaws
 pub mod CrcSink

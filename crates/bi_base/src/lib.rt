@@ -22,7 +22,7 @@ pub use buffered_sink::BufferedSink;
 pub use cells::{be32_at, put_cell, put_cells};
 pub use checksum::crc32;
 pub use crc::Crc32;
-pub use fault::{Cause, Error, Fault};
+pub use fault::{Cause, Error, Fault, refuse};
 pub use limits::Limits;
 pub use reading::{read_all, read_all_traced};
 pub use sinks::Sink;
