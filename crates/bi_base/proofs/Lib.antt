@@ -5,3 +5,4 @@ pub mod FirstFault
 pub mod SinkLaws
 pub mod InputLaws
 pub mod BufferLaws
+pub mod NulLaws

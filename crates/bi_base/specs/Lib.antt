@@ -12,3 +12,4 @@ pub mod VecSinks
 pub mod WriteSinks
 pub mod BufferedSinks
 pub mod Crc
+pub mod Strings

@@ -12,7 +12,7 @@ use Rattle.bi_legacy.specs.File.{LegacyMeans}
 use Rattle.bi_legacy.specs.Meaning.{LegacyImage}
 use Rattle.bi_legacy.proofs.MeansNoFault.{means_no_fault}
 use Rattle.bi_legacy.proofs.SizeCells.{zero_within}
-use Rattle.bi_legacy.proofs.ZeroEnded.{zero_place}
+use Rattle.bi_base.proofs.NulLaws.{nul_index}
 
 -- A file has a meaning exactly where no check fails, and at most one fault.
 
@@ -25,8 +25,8 @@ bound_decided a b = elim (cases_lt b a) [
 
 -- Numbers contain a zero or not.
 zero_decided : (numbers : List ℕ) → Contains numbers 0 ⊎ (¬ (Contains numbers 0))
-zero_decided numbers = elim (cases_lt (zero_place numbers) (length numbers)) [
-  | inl within ↦ inl (subst (Contains numbers) (eqb-true _ _ (passes_at_first (λ number. number == 0) numbers 0 within)) (Contains-get_or numbers (zero_place numbers) 0 within))
+zero_decided numbers = elim (cases_lt (nul_index numbers) (length numbers)) [
+  | inl within ↦ inl (subst (Contains numbers) (eqb-true _ _ (passes_at_first (λ number. number == 0) numbers 0 within)) (Contains-get_or numbers (nul_index numbers) 0 within))
   | inr past ↦ inr (λ there. omega (arith, zero_within numbers there))
 ]
 

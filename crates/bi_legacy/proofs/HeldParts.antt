@@ -10,7 +10,7 @@ use Rattle.bi_legacy.specs.ReaderState.{part_slices, FitWithin}
 use Rattle.bi_legacy.proofs.PartPieces.{length_pieces, pieces_stand, pieces_listed, pieces_are, parts_end_within, sizes_of_parts}
 use Rattle.bi_legacy.proofs.SizeCells.{size_list_is, listed_sizes_are, size_list_ends, size_list_split}
 use Rattle.bi_legacy.proofs.Standing.{StandFrom, turn_stands, standing_turn, up4_of_four}
-use Rattle.bi_legacy.proofs.ZeroEnded.{before_zero_nonzero}
+use Rattle.bi_base.proofs.NulLaws.{before_nul-nonzero}
 
 -- Data that holds parts behind a list of sizes, and what the list tells of them.
 
@@ -63,7 +63,7 @@ sizes_held body bytes there ends =
     (size_list_split body bytes there
     ∙ ap (λ list. (flat_map cell list ++ cell 0) ++ drop (first_listed body) body) (sym sizes)
     ∙ ap (λ list. list ++ drop (first_listed body) body) (sym (size_list_is (listed_parts body))))
-    (pieces_listed body (first_listed body) (table_sizes body) ends (before_zero_nonzero (cells_of body)))
+    (pieces_listed body (first_listed body) (table_sizes body) ends (before_nul-nonzero (cells_of body)))
     (subst (λ at. StandFrom at (listed_parts body) body) first (pieces_stand body (first_listed body) (table_sizes body) ends))
 
 -- Data that holds these parts begins with the cells of their lengths and a cell of zero.

@@ -31,4 +31,3 @@ pub mod Standing
 pub mod TextMeans
 pub mod TextPuts
 pub mod VectorFacts
-pub mod ZeroEnded

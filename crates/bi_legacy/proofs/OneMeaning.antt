@@ -1,5 +1,5 @@
 use Rattle.std.proofs.Common.{◌≡◌, ◌==◌, ℕ, ◌<◌, ◌^◌, Bool, true, false, List, [], ◌∷◌, length, slice_index, sym, ap, ap₂, ◌∙◌, MatchBool, if◌then◌else◌}
-use Rattle.std.specs.List.{before_first}
+use Rattle.bi_base.specs.Strings.{before_nul}
 use Rattle.bi_base.specs.Cells.{slice}
 use Rattle.bi_legacy.specs.Faults.{body_of}
 use Rattle.bi_legacy.specs.File.{IsLegacyFile}
@@ -20,8 +20,8 @@ parts_read false parts body fits holds = sym holds
 -- A file that means an image reads as this image.
 pub image_read : (file : List ℕ) (image : LegacyImage) → IsLegacyFile file image → read_image file ≡ image
 image_read file image is =
-    let name : before_first (λ byte. byte == 0) (slice file 32 32) ≡ image.name =
-    ap (before_first (λ byte. byte == 0)) (field_read file image is) ∙ name_is is.field image.name is.name in
+    let name : before_nul (slice file 32 32) ≡ image.name =
+    ap before_nul (field_read file image is) ∙ name_is is.field image.name is.name in
     let parts : parts_of_body (slice_index file 30) (body_of file) ≡ image.parts =
     ap₂ parts_of_body (type_read file image is) (body_read file image is)
     ∙ parts_read (has_part_table image.image_type) image.parts is.body is.size is.parts in

@@ -11,7 +11,7 @@ use Rattle.bi_base.specs.Cells.{cell, AreBytes}
 use Rattle.bi_base.proofs.CellLaws.{AreBytes-slice}
 use Rattle.bi_legacy.specs.Faults.{cells_of, table_sizes}
 use Rattle.bi_legacy.specs.Parts.{part_table}
-use Rattle.bi_legacy.proofs.ZeroEnded.{zero_place, before_zero_is}
+use Rattle.bi_base.proofs.NulLaws.{nul_index, before_nul-append}
 
 -- Cells one behind another, and the numbers that they spell.
 
@@ -72,7 +72,7 @@ sizes_read sizes behind are =
 pub listed_sizes_are : (sizes behind : List ℕ) → AllByRecursion IsSize sizes → table_sizes ((flat_map cell sizes ++ cell 0) ++ behind) ≡ sizes
 listed_sizes_are sizes behind are =
     ap (before_first (λ number. number == 0)) (sizes_read sizes behind are)
-    ∙ before_zero_is sizes (0 ∷ cells_of behind) (nonzero sizes are) refl
+    ∙ before_nul-append sizes (0 ∷ cells_of behind) (nonzero sizes are) refl
   where
     nonzero : (sizes : List ℕ) → AllByRecursion IsSize sizes → AllByRecursion (λ number. number ≢ 0) sizes
     nonzero [] are = tt
@@ -84,8 +84,8 @@ size_list_ends sizes behind are =
     rw (sizes_read sizes behind are) (Contains-append_right sizes (0 ∷ cells_of behind) 0 (0, omega arith, refl))
 
 -- Numbers that contain a zero have a first one.
-pub zero_within : (numbers : List ℕ) → Contains numbers 0 → zero_place numbers < length numbers
-zero_within numbers there = elim (cases_lt (zero_place numbers) (length numbers)) [
+pub zero_within : (numbers : List ℕ) → Contains numbers 0 → nul_index numbers < length numbers
+zero_within numbers there = elim (cases_lt (nul_index numbers) (length numbers)) [
   | inl within ↦ within
   | inr past ↦ absurd (eqb-false (get_or numbers there.0 0) 0 (fails_before_first (λ number. number == 0) numbers there.0 0 (omega (arith, there.1))) there.2)
 ]
@@ -94,7 +94,7 @@ zero_within numbers there = elim (cases_lt (zero_place numbers) (length numbers)
 pub size_list_split : (body : List ℕ) → AreBytes body → Contains (cells_of body) 0 → body ≡ (flat_map cell (table_sizes body) ++ cell 0) ++ drop (4 * (length (table_sizes body) + 1)) body
 size_list_split body bytes there =
     let cells = cells_of body in
-    let place = zero_place cells in
+    let place = nul_index cells in
     let within : place < length cells = zero_within cells there in
     let long : place ≡ length (table_sizes body) = omega (arith, length-take place cells) in
     let first : take (place + 1) cells ≡ table_sizes body ++ 0 ∷ [] =

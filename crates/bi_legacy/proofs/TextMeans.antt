@@ -1,6 +1,7 @@
 use Rattle.std.proofs.Common.{◌≡◌, ◌-◌, ℕ, List, ◌++◌, [], length, replicate, refl, sym, ap, arith, zero, suc, append-nil}
 use Rattle.bi_base.specs.Limits.{Bounds}
-use Rattle.bi_legacy.specs.File.{header, IsEmptyOrBeginsWithNul, HoldsName, IsLegacyFile, LegacyMeans}
+use Rattle.bi_base.specs.Strings.{IsEmptyOrBeginsWithNul}
+use Rattle.bi_legacy.specs.File.{header, HoldsName, IsLegacyFile, LegacyMeans}
 use Rattle.bi_legacy.specs.Meaning.{LegacyImage, IsImageName}
 use Rattle.bi_legacy.specs.Text.{normal_body, name_field, legacy_text, IsLegacyImage}
 use Rattle.bi_legacy.proofs.ImageOfFile.{image_of_file, text_no_longer}

@@ -2,6 +2,7 @@ use Rattle.std.specs.Prelude.{ℕ, ◌^◌, ◌<◌, ◌≤◌, ◌≡◌, List,
 use Rattle.bi_base.specs.Cells.{cell, AreBytes}
 use Rattle.bi_base.specs.Crc.{crc32}
 use Rattle.bi_base.specs.Limits.{Bounds}
+use Rattle.bi_base.specs.Strings.{IsEmptyOrBeginsWithNul}
 use Rattle.bi_legacy.specs.Meaning.{LegacyImage, FitsFields, IsImageName}
 use Rattle.bi_legacy.specs.Parts.{HoldsParts}
 
@@ -23,11 +24,6 @@ header_with checksum image field body = header_cells checksum (length body) (crc
 -- The header: its checksum is that of the header itself with zeros in the checksum's place.
 unfoldable pub header : LegacyImage → List ℕ → List ℕ → List ℕ
 header image field body = header_with (crc32 (header_with 0 image field body)) image field body
-
--- Nothing, or a zero and then anything.
-abbrev pub IsEmptyOrBeginsWithNul : List ℕ → Type 0
-IsEmptyOrBeginsWithNul [] = Unit {0}
-IsEmptyOrBeginsWithNul (byte ∷ bytes) = byte ≡ 0
 
 -- The name's 32 bytes hold this name: the bytes before the first zero. That what follows that zero is free, and that a
 -- name may fill all 32 bytes, is profile of this project.

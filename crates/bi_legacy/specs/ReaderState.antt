@@ -1,6 +1,6 @@
 use Rattle.std.specs.Prelude.{ℕ, ◌+◌, ◌*◌, ◌^◌, ◌<◌, ◌≤◌, ◌≡◌, ◌==◌, Bool, List, [], ◌∷◌, length, drop, map, slice_index, if◌then◌else◌}
-use Rattle.std.specs.List.{before_first}
 use Rattle.bi_base.specs.Cells.{slice, u32_at, up4}
+use Rattle.bi_base.specs.Strings.{before_nul}
 use Rattle.bi_legacy.specs.Meaning.{LegacyImage, has_part_table}
 use Rattle.bi_legacy.specs.Parts.{parts_end_from}
 use Rattle.bi_legacy.specs.Faults.{table_sizes, body_of}
@@ -58,7 +58,7 @@ read_image file =
       arch = slice_index file 29;
       image_type = slice_index file 30;
       compression = slice_index file 31;
-      name = before_first (λ byte. byte == 0) (slice file 32 32);
+      name = before_nul (slice file 32 32);
       parts = parts_of_body (slice_index file 30) (body_of file);
     }
 

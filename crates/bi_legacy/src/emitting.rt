@@ -10,13 +10,11 @@ ghost use Rattle.bi_legacy.specs.Parts.{parts_end_from, first_part_place};
 ghost use Rattle.bi_legacy.specs.Text.{normal_body, legacy_text};
 ghost use Rattle.bi_legacy.specs.Emitting.{Passes, fault_of, part_checks, IsEmitFault, HasNoEmitFault, bytes_of, image_of_parts};
 
-use crate::cells::up4;
 use crate::fields::{Fields, has_part_table};
 use crate::header::{HEADER_SIZE, NAME_SIZE};
 use crate::part_table::table_offset;
-use crate::refusal::refuse;
 use crate::text::put_image;
-use bi_base::{Cause, Error, Fault, Limits, Sink};
+use bi_base::{Cause, Error, Fault, Limits, Sink, refuse, up4};
 
 /// Appends the normal form of a legacy image with these fields and parts (U-Boot, include/image.h): the header, its name
 /// filled with zeros; for multi and script images the sizes of the parts, a size of zero, and the parts, each but the

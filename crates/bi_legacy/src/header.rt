@@ -6,8 +6,7 @@ ghost use Rattle.bi_base.specs.Checks.{IsFirstFault, HasNoFault};
 ghost use Rattle.bi_legacy.specs.Faults.{Passes, fault_of, header_checks, header_without_checksum};
 
 use crate::cells::cell_at;
-use crate::refusal::refuse;
-use bi_base::{Cause, Crc32, Fault, Limits, be32_at, crc32};
+use bi_base::{Cause, Crc32, Fault, Limits, be32_at, crc32, refuse};
 
 /// The magic number of a legacy image (U-Boot, include/image.h: `IH_MAGIC`).
 pub const MAGIC: u32 = 0x2705_1956;

@@ -2,7 +2,6 @@
 
 ghost use Rattle.std.specs.Prelude.{◌≡◌, ◌==◌, ◌+◌, ◌-◌, ◌≤◌, ◌↔◌, length, map, slice_get, IsOk, OnOk, IfOk, IfErr};
 ghost use Rattle.std.specs.Option.{option_map};
-ghost use Rattle.std.specs.List.{before_first};
 ghost use Rattle.bi_base.specs.Cells.{u32_at};
 ghost use Rattle.bi_base.specs.declared.fault.Fault.{Fault};
 ghost use Rattle.bi_legacy.specs.Meaning.{LegacyImage, has_part_table};
@@ -18,7 +17,7 @@ use crate::fields::{Fields, has_part_table};
 use crate::header::{HEADER_SIZE, check_header};
 use crate::part_table::find_parts;
 use crate::parts::{Part, Parts};
-use bi_base::{Fault, Limits};
+use bi_base::{Fault, Limits, before_nul};
 use std::marker::Model;
 
 /// A legacy image that was read. It holds slices of its file, and makes no list of the parts.
@@ -161,18 +160,6 @@ fn fields_of<'a>(file: &'a [u8]) -> Fields<'a>
         arch: file[29],
         image_type: file[30],
         compression: file[31],
-        name: name_in(&file[32..HEADER_SIZE]),
+        name: before_nul(&file[32..HEADER_SIZE]),
     }
-}
-
-/// The name that a field holds: the bytes before its first zero.
-fn name_in<'a>(field: &'a [u8]) -> &'a [u8]
-    ensures { result.now ≡ before_first (λ byte. byte == 0) field.entry.now }
-{
-    for (index, byte) in field.iter().enumerate() {
-        if *byte == 0 {
-            return &field[..index];
-        }
-    }
-    field
 }

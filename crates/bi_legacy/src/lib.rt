@@ -10,7 +10,6 @@ pub mod laws;
 mod legacy;
 mod part_table;
 mod parts;
-mod refusal;
 mod text;
 
 pub use emitting::emit;

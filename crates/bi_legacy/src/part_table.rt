@@ -9,11 +9,10 @@ ghost use Rattle.bi_legacy.specs.Parts.{parts_end_from};
 ghost use Rattle.bi_legacy.specs.Meaning.{has_part_table};
 ghost use Rattle.bi_legacy.specs.ReaderState.{FitWithin, IsPartTable, first_part_offset, part_sizes};
 
-use crate::cells::{cell_at, up4};
+use crate::cells::cell_at;
 use crate::fields::has_part_table;
 use crate::header::HEADER_SIZE;
-use crate::refusal::refuse;
-use bi_base::{Cause, Fault, be32_at};
+use bi_base::{Cause, Fault, be32_at, refuse, up4};
 
 /// How many parts some data holds, and where the last one ends in it, or the list of sizes where there are none.
 #[derive(Drop)]

@@ -5,8 +5,9 @@ ghost use Rattle.std.specs.Iterator.{at_most};
 ghost use Rattle.bi_legacy.specs.PlacedParts.{PlacedPart, TakesFirstPart};
 ghost use Rattle.bi_legacy.specs.ReaderState.{IsPartsState, placed_slices, part_sizes, first_part_offset, FitWithin};
 
-use crate::cells::{cell_at, up4};
+use crate::cells::cell_at;
 use crate::header::HEADER_SIZE;
+use bi_base::up4;
 use std::marker::Model;
 
 /// A part of a legacy image.
