@@ -3,10 +3,10 @@ use Rattle.std.proofs.lemmas.List.{length-append, length-map}
 use Rattle.std.specs.List.{AllByRecursion}
 use Rattle.bi_base.specs.Cells.{cell, up4, AreBytes}
 use Rattle.bi_base.proofs.CellLaws.{length-cell}
-use Rattle.bi_legacy.specs.Faults.{cells_of, table_sizes}
+use Rattle.bi_legacy.specs.PartTables.{cells_of, table_sizes}
 use Rattle.bi_legacy.specs.Meaning.{IsTablePart}
 use Rattle.bi_legacy.specs.Parts.{part_table, HasPartTable}
-use Rattle.bi_legacy.specs.ReaderState.{part_slices, FitWithin}
+use Rattle.bi_legacy.specs.PartRanges.{part_slices, FitWithin}
 use Rattle.bi_legacy.proofs.PartPieces.{length_pieces, pieces_stand, pieces_listed, pieces_are, parts_end_within, sizes_of_parts}
 use Rattle.bi_legacy.proofs.SizeCells.{size_list_is, listed_sizes_are, size_list_ends, size_list_split}
 use Rattle.bi_legacy.proofs.Standing.{StandFrom, turn_stands, standing_turn, up4_of_four}

@@ -3,11 +3,13 @@ use Rattle.bi_base.specs.Cells.{slice, u32_at, AreBytes}
 use Rattle.bi_base.specs.Checks.{HasNoFault}
 use Rattle.bi_base.specs.Limits.{Bounds}
 use Rattle.bi_base.proofs.CellLaws.{AreBytes-slice, length-slice, u32_at-fits}
-use Rattle.bi_legacy.specs.Faults.{Passes, HasNoLegacyFault, body_of, part_table_checks}
+use Rattle.bi_legacy.specs.Faults.{Passes, InPartTable, HasNoLegacyFault, body_of}
+use Rattle.bi_legacy.specs.PartTables.{TablePasses, table_checks}
 use Rattle.bi_legacy.specs.File.{header, LegacyMeans}
 use Rattle.bi_legacy.specs.Meaning.{FitsFields, has_part_table}
 use Rattle.bi_legacy.specs.Parts.{HasPartTable}
 use Rattle.bi_legacy.specs.ReaderState.{read_image}
+use Rattle.bi_legacy.proofs.CheckLists.{HasNoFault-unmap}
 use Rattle.bi_legacy.proofs.FileCuts.{drop_slice}
 use Rattle.bi_legacy.proofs.HeaderSplit.{header_split}
 use Rattle.bi_legacy.proofs.HeldParts.{listed_parts, sizes_held}
@@ -29,10 +31,9 @@ ranges_read file bytes = record {
 }
 
 -- Where the checks of the parts pass, the data holds the parts that it tells.
-parts_held : (is_listed : Bool) (file : List ℕ) (limits : Bounds) → AreBytes file → HasNoFault (Passes limits file) (if is_listed then part_table_checks (body_of file) else []) → MatchBool is_listed (HasPartTable (if is_listed then listed_parts (body_of file) else body_of file ∷ []) (body_of file)) ((if is_listed then listed_parts (body_of file) else body_of file ∷ []) ≡ body_of file ∷ [])
-parts_held true file limits bytes none =
-    sizes_held (body_of file) (AreBytes-slice file 64 (u32_at file 12) bytes) none.0 (ends_checked file limits 0 _ _ none.1)
-parts_held false file limits bytes none = refl
+parts_held : (has_table : Bool) (body : List ℕ) → AreBytes body → HasNoFault (TablePasses body) (if has_table then table_checks body else []) → MatchBool has_table (HasPartTable (if has_table then listed_parts body else body ∷ []) body) ((if has_table then listed_parts body else body ∷ []) ≡ body ∷ [])
+parts_held true body bytes none = sizes_held body bytes none.0 (ends_checked body 0 _ _ none.1)
+parts_held false body bytes none = refl
 
 -- A file of bytes that fails no check means what its bytes say at the fields' places.
 pub no_fault_means : (file : List ℕ) (limits : Bounds) → AreBytes file → HasNoLegacyFault limits file → LegacyMeans limits file (read_image file)
@@ -48,7 +49,7 @@ no_fault_means file limits bytes (short, (cell, (magic, (whole, (header_sum, (wh
         ranges = ranges_read file bytes;
         name = name_held (slice file 32 32) (length-slice file 32 32 whole);
         size = rw size (u32_at-fits file 12 bytes);
-        parts = parts_held (has_part_table (slice_index file 30)) file limits bytes parts;
+        parts = parts_held (has_part_table (slice_index file 30)) (body_of file) (AreBytes-slice file 64 (u32_at file 12) bytes) (HasNoFault-unmap (Passes limits file) InPartTable _ parts);
         bytes = bytes;
       };
       short = short;

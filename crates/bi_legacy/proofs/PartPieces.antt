@@ -2,11 +2,10 @@ use Rattle.std.proofs.Common.{◌≡◌, ◌≢◌, ℕ, ◌+◌, ◌<◌, ◌^�
 use Rattle.std.specs.List.{AllByRecursion}
 use Rattle.bi_base.specs.Cells.{up4}
 use Rattle.bi_base.specs.Checks.{HasNoFault}
-use Rattle.bi_base.specs.Limits.{Bounds}
 use Rattle.bi_base.proofs.CellLaws.{length-slice}
-use Rattle.bi_legacy.specs.Faults.{Passes, part_checks, body_of}
+use Rattle.bi_legacy.specs.PartTables.{TablePasses, part_checks}
 use Rattle.bi_legacy.specs.Meaning.{IsTablePart}
-use Rattle.bi_legacy.specs.ReaderState.{FitWithin, part_slices}
+use Rattle.bi_legacy.specs.PartRanges.{FitWithin, part_slices}
 use Rattle.bi_legacy.proofs.SizeCells.{IsSize}
 use Rattle.bi_legacy.proofs.Standing.{StandFrom}
 
@@ -47,14 +46,14 @@ sizes_of_parts body at [] fits at_offsets listed = tt
 sizes_of_parts body at (part ∷ parts) fits at_offsets listed =
     ((listed.0, omega (arith, at_offsets.0)), sizes_of_parts body (up4 (at + length part)) parts fits at_offsets.2 listed.1)
 
--- Where the part checks of a file pass, the pieces of the sizes end within its data.
-pub ends_checked : (file : List ℕ) (limits : Bounds) (index at : ℕ) (sizes : List ℕ) → HasNoFault (Passes limits file) (part_checks index at sizes) → FitWithin (length (body_of file)) at sizes
-ends_checked file limits index at [] none = tt
-ends_checked file limits index at (size ∷ sizes) none =
-    (none.0, ends_checked file limits (index + 1) (up4 (at + size)) sizes none.1)
+-- Where the checks of the parts pass, the pieces of the sizes end within the data.
+pub ends_checked : (body : List ℕ) (index at : ℕ) (sizes : List ℕ) → HasNoFault (TablePasses body) (part_checks index at sizes) → FitWithin (length body) at sizes
+ends_checked body index at [] none = tt
+ends_checked body index at (size ∷ sizes) none =
+    (none.0, ends_checked body (index + 1) (up4 (at + size)) sizes none.1)
 
--- Where the pieces of the sizes end within the data of a file, its part checks pass.
-pub ends_pass : (file : List ℕ) (limits : Bounds) (index at : ℕ) (sizes : List ℕ) → FitWithin (length (body_of file)) at sizes → HasNoFault (Passes limits file) (part_checks index at sizes)
-ends_pass file limits index at [] ends = tt
-ends_pass file limits index at (size ∷ sizes) ends =
-    (ends.0, ends_pass file limits (index + 1) (up4 (at + size)) sizes ends.1)
+-- Where the pieces of the sizes end within the data, the checks of the parts pass.
+pub ends_pass : (body : List ℕ) (index at : ℕ) (sizes : List ℕ) → FitWithin (length body) at sizes → HasNoFault (TablePasses body) (part_checks index at sizes)
+ends_pass body index at [] ends = tt
+ends_pass body index at (size ∷ sizes) ends =
+    (ends.0, ends_pass body (index + 1) (up4 (at + size)) sizes ends.1)

@@ -5,7 +5,8 @@ use Rattle.bi_base.proofs.CellLaws.{length-slice}
 use Rattle.bi_legacy.specs.Meaning.{has_part_table}
 use Rattle.bi_legacy.specs.Parts.{part_table, first_part_place}
 use Rattle.bi_legacy.specs.PlacedParts.{PlacedPart, parts_placed_from}
-use Rattle.bi_legacy.specs.ReaderState.{FitWithin, placed_slices, first_part_offset, part_sizes, part_slices, parts_of_body}
+use Rattle.bi_legacy.specs.PartRanges.{FitWithin, placed_slices, first_part_offset, part_sizes, part_slices}
+use Rattle.bi_legacy.specs.ReaderState.{parts_of_body}
 use Rattle.bi_legacy.proofs.HeldParts.{first_listed, listed_parts}
 use Rattle.bi_legacy.proofs.PartEnds.{length-part_slices, listed_first}
 

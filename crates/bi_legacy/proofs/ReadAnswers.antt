@@ -5,9 +5,10 @@ use Rattle.bi_base.specs.declared.fault.Fault.{Fault}
 use Rattle.bi_base.proofs.FirstFault.{one_fault, not_both}
 use Rattle.bi_legacy.specs.Meaning.{LegacyImage}
 use Rattle.bi_legacy.specs.File.{LegacyMeans}
-use Rattle.bi_legacy.specs.Faults.{IsLegacyFault, HasNoLegacyFault, Passes, fault_of, checks}
+use Rattle.bi_legacy.specs.Faults.{IsLegacyFault, IsOnlyLegacyFault, HasNoLegacyFault, Passes, fault_of, checks}
 use Rattle.bi_legacy.specs.Reading.{ParsedImage, IsParsedImage}
 use Rattle.bi_legacy.proofs.MeansNoFault.{means_no_fault}
+use Rattle.bi_legacy.proofs.NormalForms.{has_normal_form}
 use Rattle.bi_legacy.proofs.NoFaultMeans.{no_fault_means}
 use Rattle.bi_legacy.specs.Parts.{parts_end}
 use Rattle.bi_legacy.specs.ReaderState.{read_image, read_end}
@@ -25,28 +26,28 @@ accepts_of file limits (Err fault) bytes none first = (
   λ meant. absurd (not_both (Passes limits file) (fault_of limits) (checks file) fault (means_no_fault file meant.0 limits meant.1) first),
 )
 
--- It tells what the file means.
-pub told_of : (file : List ℕ) (limits : Bounds) (r : Result ParsedImage Fault) → AreBytes file → OnOk r (HasNoLegacyFault limits file) → IfOk r (λ parsed. parsed.image ≡ read_image file) → IfOk r (λ parsed. parsed.unused ≡ length file - (64 + read_end file)) → IfOk r (IsParsedImage limits file)
-told_of file limits (Ok parsed) bytes none image unused =
-    let means : LegacyMeans limits file parsed.image =
-    subst (λ (image : LegacyImage). LegacyMeans limits file image) (sym image) (no_fault_means file limits bytes none) in
-    let ends : read_end file ≡ parts_end parsed.image.image_type parsed.image.parts =
+-- A value is that of the file.
+pub parsed_of : (file : List ℕ) (limits : Bounds) (r : Result ParsedImage Fault) → AreBytes file → OnOk r (HasNoLegacyFault limits file) → IfOk r (λ value. value.image ≡ read_image file) → IfOk r (λ value. value.unused ≡ length file - (64 + read_end file)) → IfOk r (IsParsedImage limits file)
+parsed_of file limits (Ok value) bytes none image unused =
+    let read = no_fault_means file limits bytes none in
+    let means : LegacyMeans limits file value.image =
+    subst (λ (image : LegacyImage). LegacyMeans limits file image) (sym image) read in
+    let ends : read_end file ≡ parts_end value.image.image_type value.image.parts =
     sym (told_end file limits none) ∙ ap (λ (i : LegacyImage). parts_end i.image_type i.parts) (sym image) in
     record {
       means = means;
-      at_offsets = parts_stand file parsed.image means.is_file;
-      unused = omega (arith, unused, ends, parts_end_in_file file parsed.image means.is_file);
+      only_meaning = λ other other_means. one_meaning file other (read_image file) other_means.is_file read.is_file ∙ sym image;
+      at_offsets = parts_stand file value.image means.is_file;
+      unused = omega (arith, unused, ends, parts_end_in_file file value.image means.is_file);
+      no_fault = none;
+      normal_form = has_normal_form file value.image limits means;
     }
-told_of file limits (Err fault) bytes none image unused = tt
+parsed_of file limits (Err fault) bytes none image unused = tt
 
--- And the file means nothing else.
-pub one_meaning_of : (file : List ℕ) (limits : Bounds) (r : Result ParsedImage Fault) → AreBytes file → OnOk r (HasNoLegacyFault limits file) → IfOk r (λ parsed. parsed.image ≡ read_image file) → IfOk r (λ parsed. (image : LegacyImage) → LegacyMeans limits file image → image ≡ parsed.image)
-one_meaning_of file limits (Ok parsed) bytes none image = λ other means.
-    one_meaning file other (read_image file) means.is_file (no_fault_means file limits bytes none).is_file ∙ sym image
-one_meaning_of file limits (Err fault) bytes none image = tt
-
--- The fault is the only one.
-pub one_fault_of : (file : List ℕ) (limits : Bounds) (r : Result ParsedImage Fault) → IfErr r (IsLegacyFault limits file) → IfErr r (λ fault. (other : Fault) → IsLegacyFault limits file other → other ≡ fault)
-one_fault_of file limits (Ok parsed) first = tt
-one_fault_of file limits (Err fault) first = λ other another.
-    one_fault (Passes limits file) (fault_of limits) (checks file) other fault another first
+-- A fault is the only one.
+pub only_fault_of : (file : List ℕ) (limits : Bounds) (r : Result ParsedImage Fault) → IfErr r (IsLegacyFault limits file) → IfErr r (IsOnlyLegacyFault limits file)
+only_fault_of file limits (Ok value) first = tt
+only_fault_of file limits (Err fault) first = record {
+  is_fault = first;
+  only = λ other another. one_fault (Passes limits file) (fault_of limits) (checks file) other fault another first;
+}

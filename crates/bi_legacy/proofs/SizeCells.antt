@@ -9,7 +9,7 @@ use Rattle.std.proofs.lemmas.List.Sums.{passes_at_first, fails_before_first}
 use Rattle.std.proofs.lemmas.Nat.{be_bytes_4, from_be_bytes-to_be_bytes_4}
 use Rattle.bi_base.specs.Cells.{cell, AreBytes}
 use Rattle.bi_base.proofs.CellLaws.{AreBytes-slice}
-use Rattle.bi_legacy.specs.Faults.{cells_of, table_sizes}
+use Rattle.bi_legacy.specs.PartTables.{cells_of, table_sizes}
 use Rattle.bi_legacy.specs.Parts.{part_table}
 use Rattle.bi_base.proofs.NulLaws.{nul_index, before_nul-append}
 

@@ -4,8 +4,8 @@ use Rattle.std.proofs.lemmas.List.Sums.{position_or_len_is}
 use Rattle.std.proofs.lemmas.List.{length-take, length-take-le, get_or-take, drop_more}
 use Rattle.std.proofs.lemmas.Bool.{ne_eqb, eq-eqb}
 use Rattle.bi_base.specs.Cells.{u32_at}
-use Rattle.bi_legacy.specs.Faults.{cells_of, table_sizes}
-use Rattle.bi_legacy.specs.ReaderState.{part_sizes, first_part_offset}
+use Rattle.bi_legacy.specs.PartTables.{cells_of, table_sizes}
+use Rattle.bi_legacy.specs.PartRanges.{part_sizes, first_part_offset}
 
 -- The whole cells of some bytes are a quarter as many.
 pub length-cells : (bytes : List ℕ) → length (cells_of bytes) ≡ length bytes / 4

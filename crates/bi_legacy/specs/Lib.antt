@@ -5,6 +5,8 @@ pub mod PlacedParts
 pub mod File
 pub mod Text
 pub mod Vectors
+pub mod PartTables
+pub mod PartRanges
 pub mod Faults
 pub mod Reading
 pub mod Emitting

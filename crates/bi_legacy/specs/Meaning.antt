@@ -1,5 +1,6 @@
 use Rattle.std.specs.Prelude.{ℕ, ◌^◌, ◌<◌, ◌≤◌, ◌≢◌, ◌≡◌, ◌==◌, ◌||◌, Bool, List, length, MatchBool}
 use Rattle.std.specs.List.{AllByRecursion}
+use Rattle.bi_legacy.specs.declared.fields.Fields.{Fields}
 
 -- What a legacy image says (U-Boot, include/image.h: struct legacy_img_hdr, and the list of sizes of a multi-file
 -- image). Checksums and the data size are told by the rest, and are no part of it.
@@ -13,6 +14,21 @@ pub record LegacyImage : Type 0 where
   pub compression : ℕ
   pub name : List ℕ
   pub parts : List (List ℕ)
+
+-- What an image of these header fields and these parts says.
+abbrev pub image_of : Fields → List (List ℕ) → LegacyImage
+image_of fields parts =
+    record {
+      time = fields.time;
+      load = fields.load;
+      entry = fields.entry;
+      os = fields.os;
+      arch = fields.arch;
+      image_type = fields.image_type;
+      compression = fields.compression;
+      name = fields.name.now;
+      parts = parts;
+    }
 
 -- Whether the data of this type is a list of sizes and then the parts: 4 is multi, 6 is script (U-Boot,
 -- include/image.h: IH_TYPE_MULTI, IH_TYPE_SCRIPT).

@@ -29,7 +29,3 @@ AreAtOffsets file part_slices = AllByRecursion (λ (placed : PlacedPart). slice 
 -- A part that was handed out, as contracts see it.
 abbrev pub placed_part_of : Part → PlacedPart
 placed_part_of part = record { place = part.place; bytes = part.bytes.now }
-
--- A call that hands out the first of the parts that are left, and leaves the others; None where none are left.
-abbrev pub TakesFirstPart : List PlacedPart → Option Part → List PlacedPart → Type 0
-TakesFirstPart old result new = MatchOption result ((old ≡ []) × (new ≡ [])) (λ part. old ≡ placed_part_of part ∷ new)

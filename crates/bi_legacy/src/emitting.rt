@@ -2,13 +2,12 @@
 
 ghost use Rattle.std.specs.Prelude.{◌≡◌, ◌⊎◌, ◌↔◌, ◌+◌, ◌*◌, ◌^◌, ◌<◌, ◌≤◌, length, map, IsTrue, OnOk, IfOk, IfErr, MatchOption, MatchBool, ⊤};
 ghost use Rattle.bi_base.specs.Checks.{IsFirstFault, HasNoFault};
-ghost use Rattle.bi_base.specs.Limits.{Bounds};
 ghost use Rattle.bi_base.specs.Sinks.{Wrote};
 ghost use Rattle.bi_base.specs.declared.fault.Fault.{Fault};
-ghost use Rattle.bi_legacy.specs.Meaning.{LegacyImage, IsImageName, has_part_table};
+ghost use Rattle.bi_legacy.specs.Meaning.{IsImageName, has_part_table};
 ghost use Rattle.bi_legacy.specs.Parts.{parts_end_from, first_part_place};
 ghost use Rattle.bi_legacy.specs.Text.{normal_body, legacy_text};
-ghost use Rattle.bi_legacy.specs.Emitting.{Passes, fault_of, part_checks, IsEmitFault, HasNoEmitFault, bytes_of, image_of_parts};
+ghost use Rattle.bi_legacy.specs.Emitting.{PartPasses, part_fault, part_checks, IsEmitFault, HasNoEmitFault, bytes_of, image_of_parts};
 
 use crate::fields::{Fields, has_part_table};
 use crate::header::{HEADER_SIZE, NAME_SIZE};
@@ -122,10 +121,8 @@ fn end_within(start: usize, parts: &[&[u8]], most: usize) -> Option<usize>
 /// EmptyPart at `64 + 4 * index` for the first part that is empty.
 fn check_parts(parts: &[&[u8]]) -> Result<(), Fault>
     requires { 64 + 4 * length parts.now < 2 ^ 32 }
-    ensures ok { OnOk result ((image : LegacyImage) (limits : Bounds) →
-        HasNoFault (Passes limits image) (part_checks 0 (bytes_of parts.now))) }
-    ensures fault { IfErr result (λ fault. (image : LegacyImage) (limits : Bounds) →
-        IsFirstFault (Passes limits image) (fault_of limits) (part_checks 0 (bytes_of parts.now)) fault) }
+    ensures ok { OnOk result (HasNoFault PartPasses (part_checks 0 (bytes_of parts.now))) }
+    ensures fault { IfErr result (IsFirstFault PartPasses part_fault (part_checks 0 (bytes_of parts.now))) }
 {
     for (index, part) in parts.iter().enumerate() {
         if part.is_empty() {

@@ -1,22 +1,21 @@
 //! Reading a legacy image.
 
-ghost use Rattle.std.specs.Prelude.{◌≡◌, ◌==◌, ◌+◌, ◌-◌, ◌≤◌, ◌↔◌, length, map, slice_get, IsOk, OnOk, IfOk, IfErr};
+ghost use Rattle.std.specs.Prelude.{◌≡◌, ◌+◌, ◌-◌, ◌≤◌, ◌↔◌, length, map, slice_get, IsOk, OnOk, IfOk, IfErr};
 ghost use Rattle.std.specs.Option.{option_map};
 ghost use Rattle.bi_base.specs.Cells.{u32_at};
-ghost use Rattle.bi_base.specs.declared.fault.Fault.{Fault};
-ghost use Rattle.bi_legacy.specs.Meaning.{LegacyImage, has_part_table};
+ghost use Rattle.bi_legacy.specs.Meaning.{LegacyImage, image_of, has_part_table};
 ghost use Rattle.bi_legacy.specs.File.{LegacyMeans};
-ghost use Rattle.bi_legacy.specs.Faults.{IsLegacyFault, HasNoLegacyFault, body_of};
-ghost use Rattle.bi_legacy.specs.NormalForm.{HasNormalForm};
-ghost use Rattle.bi_legacy.specs.PlacedParts.{placed_part_of, placed_parts};
-ghost use Rattle.bi_legacy.specs.Reading.{ParsedImage, IsParsedImage, image_of, part_places};
-ghost use Rattle.bi_legacy.specs.ReaderState.{IsPartTable, parts_of_body, read_image, read_end};
+ghost use Rattle.bi_legacy.specs.Faults.{IsLegacyFault, IsOnlyLegacyFault, HasNoLegacyFault, body_of};
+ghost use Rattle.bi_legacy.specs.PlacedParts.{placed_parts};
+ghost use Rattle.bi_legacy.specs.Reading.{ParsedImage, IsParsedImage, part_places};
+ghost use Rattle.bi_legacy.specs.PartRanges.{IsPartTable};
+ghost use Rattle.bi_legacy.specs.ReaderState.{parts_of_body, read_image, read_end};
 
 use crate::cells::cell_at;
 use crate::fields::{Fields, has_part_table};
 use crate::header::{HEADER_SIZE, check_header};
-use crate::part_table::find_parts;
-use crate::parts::{Part, Parts};
+use crate::part_table::{PartTable, find_parts};
+use crate::parts::Parts;
 use bi_base::{Fault, Limits, before_nul};
 use std::marker::Model;
 
@@ -25,7 +24,7 @@ use std::marker::Model;
 pub struct Legacy<'a> {
     fields: Fields<'a>,
     body: &'a [u8],
-    part_count: usize,
+    table: PartTable,
     unused: u32,
 }
 
@@ -37,7 +36,8 @@ impl<'a> Model for Legacy<'a> {
       unused = legacy.unused;
     } };
 
-    ghost invariant = { λ legacy. IsPartTable (has_part_table legacy.fields.image_type) legacy.body.now legacy.part_count };
+    ghost invariant = { λ legacy.
+        IsPartTable (has_part_table legacy.fields.image_type) legacy.body.now legacy.table };
 }
 
 impl<'a> Legacy<'a> {
@@ -48,13 +48,10 @@ impl<'a> Legacy<'a> {
     /// BadHeaderCrc at 4; Truncated at 12 where the data ends after the file; BadDataCrc at 24; for multi and script
     /// images BadPartTable at 64, and BadPart at `64 + 4 * k` for the first part k that ends after the data.
     pub fn read(file: &'a [u8], limits: Limits) -> Result<Legacy<'a>, Fault>
-        ensures accepts { IsOk result ↔ ((image : LegacyImage) × LegacyMeans limits file.entry.now image) }
+        ensures accepts { let file = file.entry.now in
+            IsOk result ↔ ((image : LegacyImage) × LegacyMeans limits file image) }
         ensures parsed { IfOk result (IsParsedImage limits file.entry.now) }
-        ensures one_meaning { IfOk result (λ parsed. (image : LegacyImage) → LegacyMeans limits file.entry.now image → image ≡ parsed.image) }
-        ensures normal_form { IfOk result (λ parsed. HasNormalForm limits parsed.image) }
-        ensures no_fault { OnOk result (HasNoLegacyFault limits file.entry.now) }
-        ensures fault { IfErr result (IsLegacyFault limits file.entry.now) }
-        ensures one_fault { IfErr result (λ fault. (other : Fault) → IsLegacyFault limits file.entry.now other → other ≡ fault) }
+        ensures fault { IfErr result (IsOnlyLegacyFault limits file.entry.now) }
     {
         parse(file, limits)
     }
@@ -70,7 +67,7 @@ impl<'a> Legacy<'a> {
     pub fn part_count(&self) -> usize
         ensures { result ≡ length self.now.image.parts }
     {
-        self.part_count
+        self.table.part_count
     }
 
     /// The parts in their order, each with its place. Going over all of them takes time linear in their number.
@@ -81,7 +78,7 @@ impl<'a> Legacy<'a> {
         Parts::new(
             self.body,
             has_part_table(self.fields.image_type),
-            self.part_count,
+            self.table,
         )
     }
 
@@ -89,14 +86,14 @@ impl<'a> Legacy<'a> {
     pub fn part(&self, index: usize) -> Option<&'a [u8]>
         ensures { option_map (λ part. part.now) result ≡ slice_get self.now.image.parts index }
     {
-        Some(self.nth_part(index)?.bytes)
+        Some(self.parts().nth(index)?.bytes)
     }
 
     /// The offset in the file of the first byte of part `index`, from 0. None exactly where there is no such part.
     pub fn part_place(&self, index: usize) -> Option<u32>
         ensures { result ≡ slice_get (part_places self.now.image) index }
     {
-        Some(self.nth_part(index)?.place)
+        Some(self.parts().nth(index)?.place)
     }
 
     /// The number of bytes of the file after the end of the last part, or of the list of sizes where there are no parts.
@@ -104,16 +101,6 @@ impl<'a> Legacy<'a> {
         ensures { result ≡ self.now.unused }
     {
         self.unused
-    }
-
-    fn nth_part(&self, index: usize) -> Option<Part<'a>>
-        ensures { option_map placed_part_of result ≡ slice_get (placed_parts self.now.image) index }
-    {
-        let mut parts = self.parts();
-        for _ in 0..index {
-            parts.next()?;
-        }
-        parts.next()
     }
 }
 
@@ -132,7 +119,7 @@ fn parse<'a>(file: &'a [u8], limits: Limits) -> Result<Legacy<'a>, Fault>
     Ok(Legacy {
         fields,
         body,
-        part_count: table.part_count,
+        table,
         unused,
     })
 }

@@ -8,6 +8,7 @@ mod fields;
 mod header;
 pub mod laws;
 mod legacy;
+mod part_ranges;
 mod part_table;
 mod parts;
 mod text;

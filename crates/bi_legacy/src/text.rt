@@ -5,7 +5,7 @@ ghost use Rattle.bi_base.specs.Crc.{crc32};
 ghost use Rattle.bi_base.specs.Sinks.{Wrote};
 ghost use Rattle.bi_legacy.specs.File.{header_cells};
 ghost use Rattle.bi_legacy.specs.Parts.{part_table};
-ghost use Rattle.bi_legacy.specs.Reading.{image_of};
+ghost use Rattle.bi_legacy.specs.Meaning.{image_of};
 ghost use Rattle.bi_legacy.specs.Text.{padded, joined_parts, normal_body, name_field, legacy_text};
 ghost use Rattle.bi_legacy.specs.Emitting.{bytes_of, image_of_parts};
 

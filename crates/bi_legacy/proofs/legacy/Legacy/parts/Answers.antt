@@ -2,7 +2,7 @@ use Rattle.std.proofs.Common.{◌∙◌, ap, map}
 use Rattle.bi_legacy.specs.Parts.{first_part_place}
 use Rattle.bi_legacy.specs.PlacedParts.{PlacedPart, placed_parts}
 use Rattle.bi_legacy.specs.Reading.{ParsedImage}
-use Rattle.bi_legacy.specs.ReaderState.{placed_slices, first_part_offset, part_sizes}
+use Rattle.bi_legacy.specs.PartRanges.{placed_slices, first_part_offset, part_sizes}
 use Rattle.bi_legacy.proofs.NthPart.{map-bytes}
 use Rattle.bi_legacy.proofs.PartPlaces.{placed_is}
 use Rattle.bi_legacy.proofs.legacy.Legacy.parts.Goals as goal
