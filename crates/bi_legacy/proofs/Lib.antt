@@ -8,6 +8,7 @@ pub mod HeaderSplit
 pub mod HeaderSum
 pub mod HeldParts
 pub mod ImageOfFile
+pub mod Magic
 pub mod MeansNoFault
 pub mod NameField
 pub mod NoEmitFault

@@ -1,5 +1,5 @@
 use Rattle.std.specs.Prelude.{ℕ, ◌^◌, ◌<◌, ◌≤◌, ◌≡◌, List, [], ◌∷◌, ◌++◌, length}
-use Rattle.bi_base.specs.Cells.{cell, AreBytes}
+use Rattle.bi_base.specs.Cells.{cell, u32_at, AreBytes}
 use Rattle.bi_base.specs.Crc.{crc32}
 use Rattle.bi_base.specs.Limits.{Bounds}
 use Rattle.bi_base.specs.Strings.{IsEmptyOrBeginsWithNul}
@@ -9,6 +9,11 @@ use Rattle.bi_legacy.specs.Parts.{HoldsParts}
 -- The magic number of a legacy image (U-Boot, include/image.h: IH_MAGIC).
 abbrev pub legacy_magic : ℕ
 legacy_magic = 0x27051956
+
+-- The file has four bytes, and these are the magic number.
+pub record BeginsWithMagic (file : List ℕ) : Type 0 where
+  pub whole : 4 ≤ length file
+  pub magic : u32_at file 0 ≡ legacy_magic
 
 -- The 64 bytes of a header with these numbers as its header checksum, its data size and its data checksum (U-Boot,
 -- include/image.h: struct legacy_img_hdr). `field` is the name's 32 bytes.

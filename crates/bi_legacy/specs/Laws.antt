@@ -4,7 +4,7 @@ use Rattle.bi_base.specs.declared.fault.Fault.{Fault}
 use Rattle.bi_base.specs.Cells.{AreBytes}
 use Rattle.bi_base.specs.Limits.{Bounds}
 use Rattle.bi_legacy.specs.Meaning.{LegacyImage, FitsFields}
-use Rattle.bi_legacy.specs.File.{IsLegacyFile, LegacyMeans}
+use Rattle.bi_legacy.specs.File.{BeginsWithMagic, IsLegacyFile, LegacyMeans}
 use Rattle.bi_legacy.specs.Text.{legacy_text, IsLegacyImage}
 use Rattle.bi_legacy.specs.Faults.{IsLegacyFault, HasNoLegacyFault}
 use Rattle.bi_legacy.specs.Emitting.{HasNoEmitFault}
@@ -14,6 +14,15 @@ use Rattle.bi_legacy.specs.Emitting.{HasNoEmitFault}
 -- A file means at most one image.
 abbrev pub OneMeaning : Type 0
 OneMeaning = (file : List ℕ) (a b : LegacyImage) → IsLegacyFile file a → IsLegacyFile file b → a ≡ b
+
+-- A file that is shorter than four bytes, or does not begin with the magic number, means no image within any limits.
+abbrev pub NoMeaningWithoutMagic : Type 0
+NoMeaningWithoutMagic =
+    (file : List ℕ) (limits : Bounds) → ¬ (BeginsWithMagic file) → (image : LegacyImage) → ¬ (LegacyMeans limits file image)
+
+-- A normal text begins with the magic number.
+abbrev pub TextBeginsWithMagic : Type 0
+TextBeginsWithMagic = (image : LegacyImage) → BeginsWithMagic (legacy_text image)
 
 -- Bytes mean an image within the limits exactly where no check fails.
 abbrev pub MeaningWithoutFault : Type 0

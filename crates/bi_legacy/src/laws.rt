@@ -1,11 +1,21 @@
 //! The laws of legacy images. Each function does nothing, and what it ensures is a law.
 
-ghost use Rattle.bi_legacy.specs.Laws.{OneMeaning, MeaningWithoutFault, MeaningOrFault, NoMeaningWithFault, OneFault, ImagesOfFiles, TextMeansImage, TextNoLonger, TextOfText, TextsDiffer, MeantCanBeWritten, WrittenMeansImage};
+ghost use Rattle.bi_legacy.specs.Laws.{OneMeaning, NoMeaningWithoutMagic, TextBeginsWithMagic, MeaningWithoutFault, MeaningOrFault, NoMeaningWithFault, OneFault, ImagesOfFiles, TextMeansImage, TextNoLonger, TextOfText, TextsDiffer, MeantCanBeWritten, WrittenMeansImage};
 ghost use Rattle.bi_legacy.specs.Vectors.{KernelText, MultiText};
 
 /// A file means at most one image.
 pub fn one_meaning()
     ensures { OneMeaning }
+{}
+
+/// A file that is shorter than four bytes, or does not begin with the magic number, means no image within any limits.
+pub fn no_meaning_without_magic()
+    ensures { NoMeaningWithoutMagic }
+{}
+
+/// A normal text begins with the magic number.
+pub fn text_begins_with_magic()
+    ensures { TextBeginsWithMagic }
 {}
 
 /// A file means an image within the limits exactly where no check fails.
