@@ -8,20 +8,20 @@ use Rattle.bi_legacy.specs.PartTables.{TablePasses, table_fault, body_checks}
 -- Checks that come in two lists.
 
 -- Both lists pass.
-pub HasNoFault-append : {C : Type 0} (P : C → Type 0) (front behind : List C) → HasNoFault P front → HasNoFault P behind → HasNoFault P (front ++ behind)
-HasNoFault-append P [] behind none rest = rest
-HasNoFault-append P (check ∷ front) behind none rest = (none.0, HasNoFault-append P front behind none.1 rest)
+pub HasNoFault-append : {C : Type 0} (P : C → Type 0) (front after : List C) → HasNoFault P front → HasNoFault P after → HasNoFault P (front ++ after)
+HasNoFault-append P [] after none rest = rest
+HasNoFault-append P (check ∷ front) after none rest = (none.0, HasNoFault-append P front after none.1 rest)
 
 -- The first fault stands in the front.
-pub IsFirstFault-front : {C : Type 0} (P : C → Type 0) (f : C → Fault) (front behind : List C) (fault : Fault) → IsFirstFault P f front fault → IsFirstFault P f (front ++ behind) fault
-IsFirstFault-front P f [] behind fault first = absurd first
-IsFirstFault-front P f (check ∷ front) behind fault (inl here) = inl here
-IsFirstFault-front P f (check ∷ front) behind fault (inr later) = inr (later.0, IsFirstFault-front P f front behind fault later.1)
+pub IsFirstFault-front : {C : Type 0} (P : C → Type 0) (f : C → Fault) (front after : List C) (fault : Fault) → IsFirstFault P f front fault → IsFirstFault P f (front ++ after) fault
+IsFirstFault-front P f [] after fault first = absurd first
+IsFirstFault-front P f (check ∷ front) after fault (inl here) = inl here
+IsFirstFault-front P f (check ∷ front) after fault (inr later) = inr (later.0, IsFirstFault-front P f front after fault later.1)
 
--- The front passes, and the first fault stands behind it.
-pub IsFirstFault-behind : {C : Type 0} (P : C → Type 0) (f : C → Fault) (front behind : List C) (fault : Fault) → HasNoFault P front → IsFirstFault P f behind fault → IsFirstFault P f (front ++ behind) fault
-IsFirstFault-behind P f [] behind fault none first = first
-IsFirstFault-behind P f (check ∷ front) behind fault none first = inr (none.0, IsFirstFault-behind P f front behind fault none.1 first)
+-- The front passes, and the first fault stands after it.
+pub IsFirstFault-after : {C : Type 0} (P : C → Type 0) (f : C → Fault) (front after : List C) (fault : Fault) → HasNoFault P front → IsFirstFault P f after fault → IsFirstFault P f (front ++ after) fault
+IsFirstFault-after P f [] after fault none first = first
+IsFirstFault-after P f (check ∷ front) after fault none first = inr (none.0, IsFirstFault-after P f front after fault none.1 first)
 
 -- Checks of one kind that are checks of another kind: all pass in both.
 pub HasNoFault-map : {C D : Type 0} (P : D → Type 0) (g : C → D) (checks : List C) → HasNoFault (λ check. P (g check)) checks → HasNoFault P (map g checks)
@@ -51,5 +51,5 @@ pub fault_in_body : (file : List ℕ) (limits : Bounds) (image_type : ℕ) (body
 fault_in_body file limits image_type body fault type_is body_is none first =
     let P : ℕ → Type 0 = λ n. IsFirstFault (TablePasses body) table_fault (body_checks n body) fault in
     let Q : List ℕ → Type 0 = λ b. IsFirstFault (TablePasses b) table_fault (body_checks (slice_index file 30) b) fault in
-    IsFirstFault-behind (Passes limits file) (fault_of limits) header_checks _ fault none
+    IsFirstFault-after (Passes limits file) (fault_of limits) header_checks _ fault none
     (IsFirstFault-map (Passes limits file) (fault_of limits) InPartTable _ fault (subst Q body_is (subst P type_is first)))

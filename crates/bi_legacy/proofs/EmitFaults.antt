@@ -11,7 +11,7 @@ use Rattle.bi_legacy.specs.Meaning.{LegacyImage, IsImageName, has_part_table}
 use Rattle.bi_legacy.specs.Parts.{part_table}
 use Rattle.bi_legacy.specs.Text.{joined_parts, normal_body, legacy_text}
 use Rattle.bi_legacy.proofs.CheckLists.{HasNoFault-map, IsFirstFault-map}
-use Rattle.bi_legacy.proofs.HeldParts.{length-part_table}
+use Rattle.bi_legacy.proofs.TableParts.{length-part_table}
 use Rattle.bi_legacy.proofs.NormalLength.{length-legacy_text, length-normal_body}
 
 -- What decides whether an image can be written.
@@ -22,16 +22,16 @@ length-text image name =
     length-legacy_text image name ∙ ap (λ n. 64 + n) (sym (length-normal_body image.image_type image.parts))
 
 -- Parts that are lent are as many as their bytes.
-pub count-bytes_of : (is_listed : Bool) (slices : List (Bor (List ℕ))) → MatchBool is_listed ⊤ (length slices ≡ 1) → MatchBool is_listed ⊤ (length (bytes_of slices) ≡ 1)
-count-bytes_of is_listed slices count =
-    subst (λ (n : ℕ). MatchBool is_listed ⊤ (n ≡ 1)) (sym (length-map slices (λ slice. slice.now))) count
+pub count-bytes_of : (has_table : Bool) (slices : List (Bor (List ℕ))) → MatchBool has_table ⊤ (length slices ≡ 1) → MatchBool has_table ⊤ (length (bytes_of slices) ≡ 1)
+count-bytes_of has_table slices count =
+    subst (λ (n : ℕ). MatchBool has_table ⊤ (n ≡ 1)) (sym (length-map slices (λ slice. slice.now))) count
 
 -- The list of sizes is within the normal data.
-pub list_within : (image_type : ℕ) (slices : List (Bor (List ℕ))) → has_part_table image_type ≡ true → 4 * (length slices + 1) ≤ length (normal_body image_type (bytes_of slices))
-list_within image_type slices listed =
+pub part_table-within : (image_type : ℕ) (slices : List (Bor (List ℕ))) → has_part_table image_type ≡ true → 4 * (length slices + 1) ≤ length (normal_body image_type (bytes_of slices))
+part_table-within image_type slices is_table =
     let parts = bytes_of slices in
-    let P : Bool → Type 0 = λ is_listed. 4 * (length slices + 1) ≤ length (if is_listed then part_table parts ++ joined_parts parts else joined_parts parts) in
-    subst P (sym listed)
+    let P : Bool → Type 0 = λ has_table. 4 * (length slices + 1) ≤ length (if has_table then part_table parts ++ joined_parts parts else joined_parts parts) in
+    subst P (sym is_table)
     (omega (arith, length-append (part_table parts) (joined_parts parts), length-part_table parts, length-map slices (λ slice. slice.now)))
 
 -- The checks of the parts that an image of this type has.

@@ -12,7 +12,7 @@ use Rattle.bi_legacy.specs.PartTables.{TableCheck, HasTableEnd, HasPart, TablePa
 use Rattle.bi_legacy.specs.File.{LegacyMeans}
 use Rattle.bi_legacy.specs.Meaning.{LegacyImage}
 use Rattle.bi_legacy.proofs.MeansNoFault.{means_no_fault}
-use Rattle.bi_legacy.proofs.SizeCells.{zero_within}
+use Rattle.bi_legacy.proofs.TableCells.{zero_within}
 use Rattle.bi_base.proofs.NulLaws.{nul_index}
 
 -- A file has a meaning exactly where no check fails, and at most one fault.
@@ -60,6 +60,6 @@ pub no_fault_no_fault : (file : List ℕ) (limits : Bounds) (fault : Fault) → 
 no_fault_no_fault file limits fault none is = not_both (Passes limits file) (fault_of limits) (checks file) fault none is
 
 -- A file with a fault means nothing within the limits.
-pub fault_no_meaning : (file : List ℕ) (image : LegacyImage) (limits : Bounds) (fault : Fault) → IsLegacyFault limits file fault → LegacyMeans limits file image → ⊥
-fault_no_meaning file image limits fault is means =
+pub no_meaning_with_fault : (file : List ℕ) (image : LegacyImage) (limits : Bounds) (fault : Fault) → IsLegacyFault limits file fault → LegacyMeans limits file image → ⊥
+no_meaning_with_fault file image limits fault is means =
     no_fault_no_fault file limits fault (means_no_fault file image limits means) is

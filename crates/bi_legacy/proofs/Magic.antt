@@ -14,7 +14,7 @@ bytes_begin bytes = record { whole = omega arith; magic = refl }
 -- A legacy image begins with the magic number.
 pub file_begins : (file : List ℕ) (image : LegacyImage) → IsLegacyFile file image → BeginsWithMagic file
 unfolding header cell
-file_begins file image is = subst BeginsWithMagic (sym is.spelled) (bytes_begin _)
+file_begins file image is = subst BeginsWithMagic (sym is.file_is) (bytes_begin _)
 
 -- A normal text begins with the magic number.
 pub text_begins : (image : LegacyImage) → BeginsWithMagic (legacy_text image)

@@ -6,11 +6,11 @@ use Rattle.bi_base.proofs.NulLaws.{nul_index, before_nul-append, before_nul-nonz
 -- The name that a header's 32 bytes hold.
 
 -- Any 32 bytes hold the bytes before their first zero as a name.
-pub name_held : (field : List ℕ) → length field ≡ 32 → HoldsName field (before_nul field)
-name_held field whole = record {
+pub field_holds_name : (field : List ℕ) → length field ≡ 32 → HoldsName field (before_nul field)
+field_holds_name field whole = record {
   padding = drop (nul_index field) field;
-  spelled = sym (take-append-drop (nul_index field) field);
-  unused = drop-nul_index field;
+  field_is = sym (take-append-drop (nul_index field) field);
+  padding_is = drop-nul_index field;
   whole = whole;
   is_name = record {
     short = omega (arith, length-take (nul_index field) field);
@@ -19,6 +19,6 @@ name_held field whole = record {
 }
 
 -- The name that 32 bytes hold is the bytes before their first zero.
-pub name_is : (field name : List ℕ) → HoldsName field name → before_nul field ≡ name
-name_is field name holds =
-    ap before_nul holds.spelled ∙ before_nul-append name holds.padding holds.is_name.no_zero holds.unused
+pub name_in_field : (field name : List ℕ) → HoldsName field name → before_nul field ≡ name
+name_in_field field name holds =
+    ap before_nul holds.field_is ∙ before_nul-append name holds.padding holds.is_name.no_zero holds.padding_is

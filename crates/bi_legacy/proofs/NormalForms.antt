@@ -11,7 +11,7 @@ use Rattle.bi_legacy.proofs.TextMeans.{text_means_same, texts_differ}
 pub has_normal_form : (file : List ℕ) (image : LegacyImage) (limits : Bounds) → LegacyMeans limits file image → HasNormalForm limits image
 has_normal_form file image limits means = record {
   can_be_written = no_emit_fault file image limits means.is_file means.short;
-  accepted = text_means_same file image limits means;
-  told_apart = λ other_file other is_other same.
+  text_means_image = text_means_same file image limits means;
+  only_image = λ other_file other is_other same.
       texts_differ other image (image_of_file other_file other is_other) (image_of_file file image means.is_file) same;
 }

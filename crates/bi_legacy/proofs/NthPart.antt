@@ -4,14 +4,14 @@ use Rattle.std.proofs.lemmas.Option.{slice_get-map}
 use Rattle.bi_base.specs.Cells.{up4}
 use Rattle.bi_legacy.specs.declared.parts.Part.{Part}
 use Rattle.bi_legacy.specs.Meaning.{LegacyImage}
-use Rattle.bi_legacy.specs.Parts.{first_part_place}
-use Rattle.bi_legacy.specs.PlacedParts.{PlacedPart, placed_part_of, parts_placed_from, placed_parts}
+use Rattle.bi_legacy.specs.Parts.{parts_start}
+use Rattle.bi_legacy.specs.PlacedParts.{PlacedPart, placed_part_of, placed_parts_from, placed_parts}
 use Rattle.bi_legacy.specs.Reading.{part_places}
 
 -- The part of an index, found by handing out those before it.
 
 -- The parts with their places are the parts.
-pub map-bytes : (at : ℕ) (parts : List (List ℕ)) → map (λ (placed : PlacedPart). placed.bytes) (parts_placed_from at parts) ≡ parts
+pub map-bytes : (at : ℕ) (parts : List (List ℕ)) → map (λ (placed : PlacedPart). placed.bytes) (placed_parts_from at parts) ≡ parts
 map-bytes at [] = refl
 map-bytes at (part ∷ parts) = ap (λ later. part ∷ later) (map-bytes (up4 (at + length part)) parts)
 
@@ -30,7 +30,7 @@ pub nth_bytes : (image : LegacyImage) (index : ℕ) (result : Option Part) → o
 nth_bytes image index result e =
     sym (found-bytes result) ∙ ap (option_map (λ (placed : PlacedPart). placed.bytes)) e
     ∙ sym (slice_get-map (λ (placed : PlacedPart). placed.bytes) (placed_parts image) index)
-    ∙ ap (λ (parts : List (List ℕ)). slice_get parts index) (map-bytes (first_part_place image.image_type image.parts) image.parts)
+    ∙ ap (λ (parts : List (List ℕ)). slice_get parts index) (map-bytes (parts_start image.image_type image.parts) image.parts)
 
 -- .. and its place is that of the index.
 pub nth_place : (image : LegacyImage) (index : ℕ) (result : Option Part) → option_map placed_part_of result ≡ slice_get (placed_parts image) index → option_map (λ (part : Part). part.place) result ≡ slice_get (part_places image) index

@@ -13,16 +13,16 @@ use Rattle.bi_legacy.proofs.OneMeaning.{one_meaning}
 -- The normal text is a legacy image that means what it was made of.
 
 -- Zeros are nothing, or a zero and then anything.
-zeros_zero_led : (n : ℕ) → IsEmptyOrBeginsWithNul (replicate n 0)
-zeros_zero_led zero = tt
-zeros_zero_led (suc n) = refl
+zeros_begin_with_nul : (n : ℕ) → IsEmptyOrBeginsWithNul (replicate n 0)
+zeros_begin_with_nul zero = tt
+zeros_begin_with_nul (suc n) = refl
 
 -- The name's normal field holds the name.
 name_field_holds : (name : List ℕ) → IsImageName name → HoldsName (name_field name) name
 name_field_holds name is = record {
   padding = replicate (32 - length name) 0;
-  spelled = refl;
-  unused = zeros_zero_led (32 - length name);
+  field_is = refl;
+  padding_is = zeros_begin_with_nul (32 - length name);
   whole = length-name_field name is.short;
   is_name = is;
 }
@@ -36,7 +36,7 @@ text_means image is =
       field = name_field image.name;
       body = body;
       rest = [];
-      spelled = ap (λ list. header image (name_field image.name) body ++ list) (sym (append-nil body));
+      file_is = ap (λ list. header image (name_field image.name) body ++ list) (sym (append-nil body));
       ranges = is.ranges;
       name = name_field_holds image.name is.name;
       size = is.size;

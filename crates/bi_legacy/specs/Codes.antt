@@ -37,6 +37,6 @@ compression_names =
     ∷ record { code = 6; name = codes "zstd" } ∷ []
 
 -- The name of a code, where it has one.
-abbrev pub name_in : List CodeName → ℕ → Option (List ℕ)
-name_in [] code = None
-name_in (entry ∷ later) code = if entry.code == code then Some entry.name else name_in later code
+abbrev pub name_of_code : List CodeName → ℕ → Option (List ℕ)
+name_of_code [] code = None
+name_of_code (entry ∷ later) code = if entry.code == code then Some entry.name else name_of_code later code

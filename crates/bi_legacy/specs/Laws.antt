@@ -58,13 +58,13 @@ TextMeansImage =
     LegacyMeans limits (legacy_text image) image
 
 -- The normal text of what a file means is no longer than the file.
-abbrev pub TextNoLonger : Type 0
-TextNoLonger =
+abbrev pub TextIsNoLonger : Type 0
+TextIsNoLonger =
     (file : List ℕ) (image : LegacyImage) → IsLegacyFile file image → length (legacy_text image) ≤ length file
 
 -- The normal text is its own normal text: what it means has no other.
-abbrev pub TextOfText : Type 0
-TextOfText =
+abbrev pub TextIsItsOwnNormalForm : Type 0
+TextIsItsOwnNormalForm =
     (image other : LegacyImage) → IsLegacyImage image → IsLegacyFile (legacy_text image) other →
     legacy_text other ≡ legacy_text image
 
@@ -75,13 +75,13 @@ TextsDiffer =
     (legacy_text a ≡ legacy_text b) ↔ (a ≡ b)
 
 -- What a file within the limit means can be written under the limit.
-abbrev pub MeantCanBeWritten : Type 0
-MeantCanBeWritten =
+abbrev pub MeaningCanBeWritten : Type 0
+MeaningCanBeWritten =
     (file : List ℕ) (image : LegacyImage) (limits : Bounds) → LegacyMeans limits file image → HasNoEmitFault limits image
 
 -- What can be written under the limits means, once it is written, what was to be written.
-abbrev pub WrittenMeansImage : Type 0
-WrittenMeansImage =
+abbrev pub WrittenTextMeansImage : Type 0
+WrittenTextMeansImage =
     (image : LegacyImage) (limits : Bounds) → FitsFields image → AreBytes image.name →
     AllByRecursion AreBytes image.parts → limits.file < 2 ^ 32 → HasNoEmitFault limits image →
     LegacyMeans limits (legacy_text image) image

@@ -4,7 +4,7 @@ pub mod Parts
 pub mod PlacedParts
 pub mod File
 pub mod Text
-pub mod Vectors
+pub mod KnownImages
 pub mod PartTables
 pub mod PartRanges
 pub mod Faults
@@ -12,4 +12,4 @@ pub mod Reading
 pub mod Emitting
 pub mod NormalForm
 pub mod Laws
-pub mod ReaderState
+pub mod ReadImage

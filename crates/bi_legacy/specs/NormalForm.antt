@@ -9,6 +9,6 @@ use Rattle.bi_legacy.specs.Emitting.{HasNoEmitFault}
 -- of all images that files mean no other is written so.
 pub record HasNormalForm (limits : Bounds) (image : LegacyImage) : Type 0 where
   pub can_be_written : HasNoEmitFault limits image
-  pub accepted : LegacyMeans limits (legacy_text image) image
-  pub told_apart : (file : List ℕ) (other : LegacyImage) → IsLegacyFile file other →
+  pub text_means_image : LegacyMeans limits (legacy_text image) image
+  pub only_image : (file : List ℕ) (other : LegacyImage) → IsLegacyFile file other →
       legacy_text other ≡ legacy_text image → other ≡ image

@@ -7,17 +7,17 @@ use Rattle.bi_legacy.specs.Faults.{HasNoLegacyFault}
 use Rattle.bi_legacy.specs.NormalForm.{HasNormalForm}
 use Rattle.bi_legacy.specs.PlacedParts.{PlacedPart, placed_parts, AreAtOffsets}
 
--- What reading a legacy image gives (profile of this project).
+-- The result of reading a legacy image (profile of this project).
 
--- What a reader of a legacy image tells: what the image says, and how many bytes of the file follow the last part, or the
--- list of sizes where there are no parts.
+-- What reading returns: the image, and how many bytes of the file follow the last part, or the part table where there are no
+-- parts.
 pub record ParsedImage : Type 0 where
   pub image : LegacyImage
   pub unused : ℕ
 
--- Where the parts of an image begin in its file.
+-- The offsets of the parts of an image in its file.
 abbrev pub part_places : LegacyImage → List ℕ
-part_places image = map (λ (placed : PlacedPart). placed.place) (placed_parts image)
+part_places image = map (λ (part : PlacedPart). part.place) (placed_parts image)
 
 -- The file means this image and no other, each part is in it at its offset, and so many of its bytes follow the last part,
 -- or the part table where there are no parts. No check of the file fails, and the image has a normal form.

@@ -11,7 +11,7 @@ use Rattle.bi_legacy.specs.File.{header}
 abbrev pub padded : List ℕ → List ℕ
 padded bytes = bytes ++ replicate (up4 (length bytes) - length bytes) 0
 
--- The parts one behind another, each but the last filled.
+-- The parts one after another, each but the last filled.
 abbrev pub joined_parts : List (List ℕ) → List ℕ
 joined_parts [] = []
 joined_parts (part ∷ []) = part
@@ -25,7 +25,7 @@ normal_body image_type parts = if has_part_table image_type then part_table part
 abbrev pub name_field : List ℕ → List ℕ
 name_field name = name ++ replicate (32 - length name) 0
 
--- The normal text: header and normal data, and nothing behind them.
+-- The normal text: header and normal data, and nothing after them.
 unfoldable pub legacy_text : LegacyImage → List ℕ
 legacy_text image =
     let body = normal_body image.image_type image.parts in header image (name_field image.name) body ++ body

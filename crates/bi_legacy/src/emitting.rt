@@ -5,7 +5,7 @@ ghost use Rattle.bi_base.specs.Checks.{IsFirstFault, HasNoFault};
 ghost use Rattle.bi_base.specs.Sinks.{Wrote};
 ghost use Rattle.bi_base.specs.declared.fault.Fault.{Fault};
 ghost use Rattle.bi_legacy.specs.Meaning.{IsImageName, has_part_table};
-ghost use Rattle.bi_legacy.specs.Parts.{parts_end_from, first_part_place};
+ghost use Rattle.bi_legacy.specs.Parts.{parts_end_from, parts_start};
 ghost use Rattle.bi_legacy.specs.Text.{normal_body, legacy_text};
 ghost use Rattle.bi_legacy.specs.Emitting.{PartPasses, part_fault, part_checks, IsEmitFault, HasNoEmitFault, bytes_of, image_of_parts};
 
@@ -92,7 +92,7 @@ fn data_size(image_type: u8, parts: &[&[u8]], most: u32) -> Option<u32>
 
 /// Where the first of these parts begins in the normal data.
 fn start_of_parts(image_type: u8, parts: &[&[u8]]) -> usize
-    ensures { result ≡ first_part_place image_type (bytes_of parts.now) }
+    ensures { result ≡ parts_start image_type (bytes_of parts.now) }
 {
     if has_part_table(image_type) {
         4 * (parts.len() + 1)

@@ -1,7 +1,7 @@
 //! The laws of legacy images. Each function does nothing, and what it ensures is a law.
 
-ghost use Rattle.bi_legacy.specs.Laws.{OneMeaning, NoMeaningWithoutMagic, TextBeginsWithMagic, MeaningWithoutFault, MeaningOrFault, NoMeaningWithFault, OneFault, ImagesOfFiles, TextMeansImage, TextNoLonger, TextOfText, TextsDiffer, MeantCanBeWritten, WrittenMeansImage};
-ghost use Rattle.bi_legacy.specs.Vectors.{KernelText, MultiText};
+ghost use Rattle.bi_legacy.specs.Laws.{OneMeaning, NoMeaningWithoutMagic, TextBeginsWithMagic, MeaningWithoutFault, MeaningOrFault, NoMeaningWithFault, OneFault, ImagesOfFiles, TextMeansImage, TextIsNoLonger, TextIsItsOwnNormalForm, TextsDiffer, MeaningCanBeWritten, WrittenTextMeansImage};
+ghost use Rattle.bi_legacy.specs.KnownImages.{HasKernelText, HasMultiText};
 
 /// A file means at most one image.
 pub fn one_meaning()
@@ -50,12 +50,12 @@ pub fn text_means_image()
 
 /// The normal text of what a file means is no longer than the file.
 pub fn text_no_longer()
-    ensures { TextNoLonger }
+    ensures { TextIsNoLonger }
 {}
 
 /// The normal text is its own normal text.
 pub fn text_is_its_own_normal_form()
-    ensures { TextOfText }
+    ensures { TextIsItsOwnNormalForm }
 {}
 
 /// Two files have one normal text exactly where they mean one image.
@@ -64,21 +64,21 @@ pub fn texts_differ()
 {}
 
 /// What a file within the limit means can be written under the limit.
-pub fn meant_can_be_written()
-    ensures { MeantCanBeWritten }
+pub fn meaning_can_be_written()
+    ensures { MeaningCanBeWritten }
 {}
 
 /// What can be written under the limits means, once it is written, what was to be written.
-pub fn written_means_image()
-    ensures { WrittenMeansImage }
+pub fn written_text_means_image()
+    ensures { WrittenTextMeansImage }
 {}
 
 /// The normal text of a kernel image is what `mkimage` writes for it.
 pub fn kernel_text()
-    ensures { KernelText }
+    ensures { HasKernelText }
 {}
 
 /// The normal text of a multi-file image is what `mkimage` writes for it.
 pub fn multi_text()
-    ensures { MultiText }
+    ensures { HasMultiText }
 {}

@@ -9,7 +9,7 @@ ghost use Rattle.bi_legacy.specs.Faults.{IsLegacyFault, IsOnlyLegacyFault, HasNo
 ghost use Rattle.bi_legacy.specs.PlacedParts.{placed_parts};
 ghost use Rattle.bi_legacy.specs.Reading.{ParsedImage, IsParsedImage, part_places};
 ghost use Rattle.bi_legacy.specs.PartRanges.{IsPartTable};
-ghost use Rattle.bi_legacy.specs.ReaderState.{parts_of_body, read_image, read_end};
+ghost use Rattle.bi_legacy.specs.ReadImage.{parts_of_body, read_image, read_end};
 
 use crate::cells::cell_at;
 use crate::fields::{Fields, has_part_table};

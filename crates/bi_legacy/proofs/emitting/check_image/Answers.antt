@@ -3,7 +3,7 @@ use Rattle.std.proofs.lemmas.Result.{err_from_is_err_and}
 use Rattle.bi_legacy.specs.Emitting.{image_of_parts}
 use Rattle.bi_legacy.specs.Meaning.{has_part_table}
 use Rattle.bi_legacy.specs.Text.{legacy_text}
-use Rattle.bi_legacy.proofs.EmitFaults.{length-text, count-bytes_of, list_within, can_be_written, fault_in_parts, text_too_long}
+use Rattle.bi_legacy.proofs.EmitFaults.{length-text, count-bytes_of, part_table-within, can_be_written, fault_in_parts, text_too_long}
 use Rattle.bi_legacy.proofs.emitting.check_image.Goals as goal
 
 pub returns-in_default-clause-fault : goal.returns-in_default-clause-fault
@@ -16,8 +16,8 @@ returns-in_default-clause-fault c =
 
 pub check_parts-requires : goal.check_parts-requires
 check_parts-requires c =
-    let listed : has_part_table c.args.fields.image_type ≡ true = sym c.if-has_part_table.ensures in
-    omega (arith, list_within c.args.fields.image_type c.args.parts.now listed, c.in-Some.ensures)
+    let is_table : has_part_table c.args.fields.image_type ≡ true = sym c.if-has_part_table.ensures in
+    omega (arith, part_table-within c.args.fields.image_type c.args.parts.now is_table, c.in-Some.ensures)
 
 pub returns-in_err-check_parts-clause-fault : goal.returns-in_err-check_parts-clause-fault
 returns-in_err-check_parts-clause-fault c =

@@ -4,7 +4,7 @@ use Rattle.bi_base.specs.Checks.{HasNoFault}
 use Rattle.std.specs.Borrow.{Bor}
 use Rattle.std.proofs.lemmas.Bool.{eqb-true, eqb-false}
 use Rattle.bi_legacy.specs.Emitting.{PartPasses, part_checks, bytes_of}
-use Rattle.bi_legacy.proofs.EmitWalk.{drop-bytes_of, empty_here, empty_later, none_empty}
+use Rattle.bi_legacy.proofs.EmitParts.{drop-bytes_of, empty_here, empty_later, none_empty}
 use Rattle.bi_legacy.proofs.emitting.check_parts.Goals as goal
 
 pub returns-then-is_empty-clause-fault : goal.returns-then-is_empty-clause-fault

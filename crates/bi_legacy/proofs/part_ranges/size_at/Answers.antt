@@ -1,6 +1,6 @@
 use Rattle.std.proofs.Common.{◌∷◌, ◌+◌, ◌∙◌, ap, sym, drop}
 use Rattle.bi_legacy.specs.PartRanges.{part_sizes}
-use Rattle.bi_legacy.proofs.Sizes.{drop-part_sizes}
+use Rattle.bi_legacy.proofs.TableSizes.{drop-part_sizes}
 use Rattle.bi_legacy.proofs.part_ranges.size_at.Goals as goal
 
 pub returns-then-has_table-clause-size : goal.returns-then-has_table-clause-size

@@ -3,8 +3,8 @@ use Rattle.bi_base.specs.Cells.{u32_at, up4}
 use Rattle.bi_base.proofs.CellLaws.{u32_at-fits}
 use Rattle.bi_legacy.specs.Parts.{parts_end_from}
 use Rattle.bi_legacy.specs.PartTables.{table_sizes}
-use Rattle.bi_legacy.proofs.Sizes.{drop-listed}
-use Rattle.bi_legacy.proofs.SizeWalk.{FitWithin-one, parts_end_from-one, first-here, first-later, next_range, no_range}
+use Rattle.bi_legacy.proofs.TableSizes.{drop-table_sizes}
+use Rattle.bi_legacy.proofs.PartWalk.{FitWithin-one, parts_end_from-one, first-here, first-later, next_range, no_range}
 use Rattle.bi_legacy.proofs.part_table.end_of_parts.Goals as goal
 
 pub overflow_add-end-in-loop-range : goal.overflow_add-end-in-loop-range
@@ -12,7 +12,7 @@ overflow_add-end-in-loop-range c =
     let body = c.args.body.now in
     let index = c.loop-range.index in
     let next = next_range (table_sizes body) index _ _ _ c.in-Some.range c.loop-range.invariant.left c.in-Some.ensures.steps in
-    let e = drop-listed body index (omega (arith, next.0)) next.0 in
+    let e = drop-table_sizes body index (omega (arith, next.0)) next.0 in
     let read : c.in-Some.range.size ≡ u32_at body (4 * index) = cc in
     let fits = u32_at-fits body (4 * index) (record { each = λ i. omega (arith, c.type_inv.body i) }) in
     omega (arith, next.2, read, fits)

@@ -2,7 +2,7 @@ use Rattle.std.proofs.Common.{◌+◌, ◌*◌, ℕ, length, subst, refl, inl, i
 use Rattle.std.proofs.lemmas.Result.{err_from_is_err_and}
 use Rattle.bi_legacy.specs.PartTables.{table_sizes}
 use Rattle.bi_legacy.specs.PartRanges.{FitWithin}
-use Rattle.bi_legacy.proofs.PartPieces.{ends_pass}
+use Rattle.bi_legacy.proofs.PartSlices.{ends_pass}
 use Rattle.bi_legacy.proofs.part_table.read_part_table.Goals as goal
 
 pub returns-in_default-clause-fault : goal.returns-in_default-clause-fault

@@ -1,4 +1,4 @@
-use Rattle.bi_legacy.proofs.PutSums.{sum_of_put, put_succeeds}
+use Rattle.bi_legacy.proofs.SinkChecksums.{sum_of_put, put_succeeds}
 use Rattle.bi_legacy.proofs.text.header_checksum.Goals as goal
 
 pub unwrap-requires : goal.unwrap-requires

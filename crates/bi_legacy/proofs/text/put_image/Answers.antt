@@ -3,7 +3,7 @@ use Rattle.bi_base.proofs.SinkLaws.{passed_on, wrote_after}
 use Rattle.bi_legacy.specs.Emitting.{bytes_of, image_of_parts}
 use Rattle.bi_legacy.specs.File.{header}
 use Rattle.bi_legacy.specs.Text.{normal_body, name_field, legacy_text}
-use Rattle.bi_legacy.proofs.TextPuts.{header_made}
+use Rattle.bi_legacy.proofs.TextPieces.{header_made}
 use Rattle.bi_legacy.proofs.text.put_image.Goals as goal
 
 pub returns-in_err-put_header : goal.returns-in_err-put_header

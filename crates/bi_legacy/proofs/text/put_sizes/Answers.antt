@@ -3,7 +3,7 @@ use Rattle.std.specs.Borrow.{Bor}
 use Rattle.bi_base.specs.Cells.{cell}
 use Rattle.bi_base.specs.Sinks.{Wrote}
 use Rattle.bi_base.proofs.SinkLaws.{failed_within, passed_on, wrote_after}
-use Rattle.bi_legacy.proofs.TextPuts.{part_table-bytes_of, slice_within}
+use Rattle.bi_legacy.proofs.TextPieces.{part_table-bytes_of, slice_within}
 use Rattle.bi_legacy.proofs.text.put_sizes.Goals as goal
 
 pub overflow_cast-part : goal.overflow_cast-part

@@ -1,6 +1,6 @@
 use Rattle.std.proofs.Common.{◌∙◌, ap, sym, length}
 use Rattle.bi_legacy.specs.Reading.{ParsedImage}
-use Rattle.bi_legacy.proofs.PartPlaces.{length-parts_of_body}
+use Rattle.bi_legacy.proofs.PlacedPartLists.{length-parts_of_body}
 use Rattle.bi_legacy.proofs.legacy.Legacy.part_count.Goals as goal
 
 pub returns : goal.returns

@@ -1,5 +1,5 @@
 use Rattle.std.proofs.Common.{arith}
-use Rattle.bi_legacy.proofs.ReadAnswers.{accepts_of, parsed_of, only_fault_of}
+use Rattle.bi_legacy.proofs.ReadResults.{accepts_of, parsed_of, only_fault_of}
 use Rattle.bi_legacy.proofs.legacy.Legacy.read.Goals as goal
 
 pub returns-clause-accepts : goal.returns-clause-accepts

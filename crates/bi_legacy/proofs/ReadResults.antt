@@ -11,10 +11,10 @@ use Rattle.bi_legacy.proofs.MeansNoFault.{means_no_fault}
 use Rattle.bi_legacy.proofs.NormalForms.{has_normal_form}
 use Rattle.bi_legacy.proofs.NoFaultMeans.{no_fault_means}
 use Rattle.bi_legacy.specs.Parts.{parts_end}
-use Rattle.bi_legacy.specs.ReaderState.{read_image, read_end}
+use Rattle.bi_legacy.specs.ReadImage.{read_image, read_end}
 use Rattle.bi_legacy.proofs.OneMeaning.{one_meaning}
-use Rattle.bi_legacy.proofs.PartEnds.{told_end}
-use Rattle.bi_legacy.proofs.PartsStand.{parts_stand, parts_end_in_file}
+use Rattle.bi_legacy.proofs.PartEnds.{read_end_is}
+use Rattle.bi_legacy.proofs.PartsInFile.{parts_at_offsets, parts_end_in_file}
 
 -- What an answer says of a file that is right by the checks: told where none fails, else the first fault.
 
@@ -33,11 +33,11 @@ parsed_of file limits (Ok value) bytes none image unused =
     let means : LegacyMeans limits file value.image =
     subst (λ (image : LegacyImage). LegacyMeans limits file image) (sym image) read in
     let ends : read_end file ≡ parts_end value.image.image_type value.image.parts =
-    sym (told_end file limits none) ∙ ap (λ (i : LegacyImage). parts_end i.image_type i.parts) (sym image) in
+    sym (read_end_is file limits none) ∙ ap (λ (i : LegacyImage). parts_end i.image_type i.parts) (sym image) in
     record {
       means = means;
       only_meaning = λ other other_means. one_meaning file other (read_image file) other_means.is_file read.is_file ∙ sym image;
-      at_offsets = parts_stand file value.image means.is_file;
+      at_offsets = parts_at_offsets file value.image means.is_file;
       unused = omega (arith, unused, ends, parts_end_in_file file value.image means.is_file);
       no_fault = none;
       normal_form = has_normal_form file value.image limits means;

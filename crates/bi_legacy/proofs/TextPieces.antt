@@ -12,7 +12,7 @@ use Rattle.bi_legacy.specs.Text.{padded, joined_parts}
 
 -- The normal text, as it is put piece by piece.
 
--- The parts one behind another are those before the last one, each filled, and then the last one.
+-- The parts one after another are those before the last one, each filled, and then the last one.
 joined_parts-last : (before : List (List ℕ)) (last : List ℕ) → joined_parts (before ++ (last ∷ [])) ≡ flat_map padded before ++ last
 joined_parts-last [] last = refl
 joined_parts-last (part ∷ []) last = ap (λ l. l ++ last) (sym (append-nil (padded part)))
@@ -33,7 +33,7 @@ pub part_table-bytes_of : (slices : List (Bor (List ℕ))) → part_table (bytes
 part_table-bytes_of slices =
     ap (λ l. l ++ cell 0) (flat_map-map (λ part. cell (length part)) (λ slice. slice.now) slices)
 
--- A part is no longer than the parts one behind another.
+-- A part is no longer than the parts one after another.
 part_within : (parts : List (List ℕ)) (i : ℕ) (d : List ℕ) → i < length parts → length (get_or parts i d) ≤ length (joined_parts parts)
 part_within [] i d within = absurd (omega arith)
 part_within (part ∷ []) zero d within = omega arith
@@ -58,16 +58,16 @@ slice_within slices i d within =
     )
 
 -- The zeros that fill bytes up to a multiple of four.
-pub filling : (n : ℕ) → take {A = ℕ} ((4 - n % 4) % 4) (0 ∷ 0 ∷ 0 ∷ []) ≡ replicate (up4 n - n) 0
-filling n =
+pub padding_zeros : (n : ℕ) → take {A = ℕ} ((4 - n % 4) % 4) (0 ∷ 0 ∷ 0 ∷ []) ≡ replicate (up4 n - n) 0
+padding_zeros n =
     let count = (4 - n % 4) % 4 in
     let same : count ≡ up4 n - n = omega arith in
     let zeros : take {A = ℕ} count (0 ∷ 0 ∷ 0 ∷ []) ≡ replicate count 0 = take-replicate count 3 0 (omega arith) in
     subst (λ (k : ℕ). take {A = ℕ} count (0 ∷ 0 ∷ 0 ∷ []) ≡ replicate k 0) same zeros
 
 -- The zeros that fill a name's field, out of as many as the field has bytes.
-pub name_filling : (n : ℕ) → n ≤ 32 → take {A = ℕ} (32 - n) (drop n (replicate 32 0)) ≡ replicate (32 - n) 0
-name_filling n short =
+pub name_zeros : (n : ℕ) → n ≤ 32 → take {A = ℕ} (32 - n) (drop n (replicate 32 0)) ≡ replicate (32 - n) 0
+name_zeros n short =
     ap (take (32 - n)) (drop-replicate n 32 0) ∙ take-replicate (32 - n) (32 - n) 0 (omega arith)
 
 -- A header is its seven cells, its four codes and the name's field.

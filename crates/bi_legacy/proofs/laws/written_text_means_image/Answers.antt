@@ -1,6 +1,6 @@
 use Rattle.bi_legacy.proofs.NoEmitFault.{no_emit_fault_image}
 use Rattle.bi_legacy.proofs.TextMeans.{text_means}
-use Rattle.bi_legacy.proofs.laws.written_means_image.Goals as goal
+use Rattle.bi_legacy.proofs.laws.written_text_means_image.Goals as goal
 
 pub returns : goal.returns
 returns c = λ image limits ranges name_bytes parts_bytes fits none. record {

@@ -29,8 +29,8 @@ kernel_file =
     ∷ 0x31 ∷ 0x32 ∷ 0x33 ∷ 0x34 ∷ 0x35 ∷ 0x36 ∷ 0x37 ∷ 0x38 ∷ 0x39 ∷ []
 
 -- The normal text of the kernel image is what `mkimage` writes.
-abbrev pub KernelText : Type 0
-KernelText = legacy_text kernel_image ≡ kernel_file
+abbrev pub HasKernelText : Type 0
+HasKernelText = legacy_text kernel_image ≡ kernel_file
 
 -- A multi-file image of two parts, else as the kernel image.
 abbrev pub multi_image : LegacyImage
@@ -47,5 +47,5 @@ multi_file =
     ∷ 0x6f ∷ 0x00 ∷ 0x00 ∷ 0x00 ∷ 0x61 ∷ 0x62 ∷ 0x63 ∷ []
 
 -- The normal text of the multi-file image is what `mkimage` writes.
-abbrev pub MultiText : Type 0
-MultiText = legacy_text multi_image ≡ multi_file
+abbrev pub HasMultiText : Type 0
+HasMultiText = legacy_text multi_image ≡ multi_file

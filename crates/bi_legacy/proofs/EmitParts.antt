@@ -9,19 +9,19 @@ use Rattle.bi_legacy.specs.Parts.{parts_end_from}
 
 -- A walk over the parts of an image to be written: what the next part does, and what the others do.
 
--- An end is not after the end of the pieces behind it.
+-- An end is not after the end of the pieces after it.
 pub parts_end_from-grows : (end : ℕ) (sizes : List ℕ) → end ≤ parts_end_from end sizes
 parts_end_from-grows end [] = omega arith
 parts_end_from-grows end (size ∷ sizes) = omega (arith, parts_end_from-grows (up4 end + size) sizes)
 
--- The parts that are left are the next one and those behind it.
+-- The parts that are left are the next one and those after it.
 pub drop-bytes_of : (slices : List (Bor (List ℕ))) (i : ℕ) (d : Bor (List ℕ)) → i < length slices → drop i (bytes_of slices) ≡ (get_or slices i d).now ∷ drop (i + 1) (bytes_of slices)
 drop-bytes_of slices i d within =
     let now = λ (slice : Bor (List ℕ)). slice.now in
     drop_more (bytes_of slices) i d.now (omega (arith, length-map slices now))
     ∙ ap (λ part. part ∷ drop (i + 1) (bytes_of slices)) (get_or-map now slices i d d.now within)
 
--- The sizes that are left are that of the next part and those behind it.
+-- The sizes that are left are that of the next part and those after it.
 pub drop-sizes_of : (slices : List (Bor (List ℕ))) (i : ℕ) (d : Bor (List ℕ)) → i < length slices → drop i (map length (bytes_of slices)) ≡ length (get_or slices i d).now ∷ drop (i + 1) (map length (bytes_of slices))
 drop-sizes_of slices i d within =
     drop-map length i (bytes_of slices)

@@ -5,11 +5,11 @@ use Rattle.bi_base.proofs.CellLaws.{slice-first, slice-rest}
 use Rattle.bi_legacy.specs.File.{IsLegacyFile}
 use Rattle.bi_legacy.specs.Meaning.{LegacyImage, has_part_table}
 use Rattle.bi_legacy.specs.Parts.{part_table, HasPartTable, parts_end}
-use Rattle.bi_legacy.specs.PlacedParts.{parts_placed_from, placed_parts, AreAtOffsets}
+use Rattle.bi_legacy.specs.PlacedParts.{placed_parts_from, placed_parts, AreAtOffsets}
 use Rattle.bi_legacy.proofs.HeaderReads.{size_read, body_read, length-file}
-use Rattle.bi_legacy.proofs.HeldParts.{held_stands}
+use Rattle.bi_legacy.proofs.TableParts.{table_parts_at}
 use Rattle.bi_legacy.proofs.NormalLength.{parts_end_in}
-use Rattle.bi_legacy.proofs.Standing.{StandFrom}
+use Rattle.bi_legacy.proofs.PartOffsets.{ArePartsAt}
 
 -- The parts of an image stand in its file at their places, and end in it.
 
@@ -22,24 +22,24 @@ data_slice file size at n within =
     ap (take n) (slice-rest file 64 at size left sum) ∙ slice-first file (64 + at) n left room
 
 -- Parts that stand in the there stand in the file.
-stand_from : (file body : List ℕ) (at : ℕ) (parts : List (List ℕ)) → slice file 64 (length body) ≡ body → StandFrom at parts body → AreAtOffsets file (parts_placed_from at parts)
-stand_from file body at [] there at_offsets = tt
-stand_from file body at (part ∷ parts) there at_offsets = (
+parts_at-in_file : (file body : List ℕ) (at : ℕ) (parts : List (List ℕ)) → slice file 64 (length body) ≡ body → ArePartsAt at parts body → AreAtOffsets file (placed_parts_from at parts)
+parts_at-in_file file body at [] there at_offsets = tt
+parts_at-in_file file body at (part ∷ parts) there at_offsets = (
   sym (data_slice file (length body) at (length part) at_offsets.0) ∙ ap (λ bytes. slice bytes at (length part)) there ∙ at_offsets.1,
-  stand_from file body (up4 (at + length part)) parts there at_offsets.2,
+  parts_at-in_file file body (up4 (at + length part)) parts there at_offsets.2,
 )
 
 -- The same of data with or without a list of sizes.
-stand_with : (is_listed : Bool) (file body : List ℕ) (parts : List (List ℕ)) → slice file 64 (length body) ≡ body → MatchBool is_listed (HasPartTable parts body) (parts ≡ body ∷ []) → AreAtOffsets file (parts_placed_from (if is_listed then length (part_table parts) else 0) parts)
-stand_with true file body parts there held = stand_from file body (length (part_table parts)) parts there (held_stands parts body held)
-stand_with false file body parts there alone =
-    subst (λ (them : List (List ℕ)). AreAtOffsets file (parts_placed_from 0 them)) (sym alone)
-    (stand_from file body 0 (body ∷ []) there (omega arith, take-length body, tt))
+body_parts-in_file : (has_table : Bool) (file body : List ℕ) (parts : List (List ℕ)) → slice file 64 (length body) ≡ body → MatchBool has_table (HasPartTable parts body) (parts ≡ body ∷ []) → AreAtOffsets file (placed_parts_from (if has_table then length (part_table parts) else 0) parts)
+body_parts-in_file true file body parts there held = parts_at-in_file file body (length (part_table parts)) parts there (table_parts_at parts body held)
+body_parts-in_file false file body parts there alone =
+    subst (λ (them : List (List ℕ)). AreAtOffsets file (placed_parts_from 0 them)) (sym alone)
+    (parts_at-in_file file body 0 (body ∷ []) there (omega arith, take-length body, tt))
 
 -- The parts of an image stand in its file.
-pub parts_stand : (file : List ℕ) (image : LegacyImage) → IsLegacyFile file image → AreAtOffsets file (placed_parts image)
-parts_stand file image is =
-    stand_with (has_part_table image.image_type) file is.body image.parts
+pub parts_at_offsets : (file : List ℕ) (image : LegacyImage) → IsLegacyFile file image → AreAtOffsets file (placed_parts image)
+parts_at_offsets file image is =
+    body_parts-in_file (has_part_table image.image_type) file is.body image.parts
     (ap (slice file 64) (sym (size_read file image is)) ∙ body_read file image is) is.parts
 
 -- They end in the file.

@@ -8,11 +8,11 @@ use Rattle.bi_base.proofs.CellLaws.{cell-u32_at}
 
 -- Laws of cutting a file, which know nothing of a format.
 
--- The bytes from an offset on are a slice there and the bytes behind the slice.
+-- The bytes from an offset on are a slice there and the bytes after the slice.
 pub drop_slice : (file : List ℕ) (at n : ℕ) → drop at file ≡ slice file at n ++ drop (at + n) file
 drop_slice file at n = sym (take-append-drop n (drop at file)) ∙ ap (λ rest. slice file at n ++ rest) (drop-drop n at file)
 
--- The bytes from an offset on are the cell there and the bytes behind it.
+-- The bytes from an offset on are the cell there and the bytes after it.
 pub drop_cell : (file : List ℕ) (at : ℕ) → AreBytes file → at + 4 ≤ length file → drop at file ≡ cell (u32_at file at) ++ drop (at + 4) file
 drop_cell file at bytes within =
     drop_slice file at 4 ∙ ap (λ first. first ++ drop (at + 4) file) (sym (cell-u32_at file at bytes within))

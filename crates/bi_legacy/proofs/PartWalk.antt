@@ -10,7 +10,7 @@ use Rattle.bi_legacy.specs.declared.part_ranges.PartRange.{PartRange}
 
 -- One step of a walk over sizes: what the first of those that are left does, and what the others do.
 
--- Sizes of which the first fits and the others fit behind it.
+-- Sizes of which the first fits and the others fit after it.
 pub FitWithin-one : (most at size : ℕ) (sizes later : List ℕ) → sizes ≡ size ∷ later → at + size ≤ most → FitWithin most (up4 (at + size)) later → FitWithin most at sizes
 FitWithin-one most at size sizes later e fits rest = subst (FitWithin most at) (sym e) (fits, rest)
 

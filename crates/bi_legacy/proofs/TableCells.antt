@@ -13,17 +13,17 @@ use Rattle.bi_legacy.specs.PartTables.{cells_of, table_sizes}
 use Rattle.bi_legacy.specs.Parts.{part_table}
 use Rattle.bi_base.proofs.NulLaws.{nul_index, before_nul-append}
 
--- Cells one behind another, and the numbers that they spell.
+-- Cells one after another, and the numbers that they spell.
 
 -- Four bytes are the cell of the number that they spell.
-cell_spelled : (a b c d : ℕ) (later : List ℕ) → AreBytes (a ∷ b ∷ c ∷ d ∷ later) → cell (from_be_bytes w32 (a ∷ b ∷ c ∷ d ∷ [])) ≡ a ∷ b ∷ c ∷ d ∷ []
+cell_of_bytes : (a b c d : ℕ) (later : List ℕ) → AreBytes (a ∷ b ∷ c ∷ d ∷ later) → cell (from_be_bytes w32 (a ∷ b ∷ c ∷ d ∷ [])) ≡ a ∷ b ∷ c ∷ d ∷ []
 unfolding cell
-cell_spelled a b c d later bytes =
+cell_of_bytes a b c d later bytes =
     be_bytes_4 (a ∷ b ∷ c ∷ d ∷ []) _ refl (AreBytes-slice (a ∷ b ∷ c ∷ d ∷ later) 0 4 bytes).each refl
 
--- Bytes behind four bytes are bytes.
-bytes_behind : (a b c d : ℕ) (later : List ℕ) → AreBytes (a ∷ b ∷ c ∷ d ∷ later) → AreBytes later
-bytes_behind a b c d later bytes = record { each = λ i. bytes.each (suc (suc (suc (suc i)))) }
+-- Bytes after four bytes are bytes.
+bytes_after_cell : (a b c d : ℕ) (later : List ℕ) → AreBytes (a ∷ b ∷ c ∷ d ∷ later) → AreBytes later
+bytes_after_cell a b c d later bytes = record { each = λ i. bytes.each (suc (suc (suc (suc i)))) }
 
 -- The first numbers of bytes that hold as many whole cells, as cells, are the first of the bytes.
 pub cells_split : (body : List ℕ) (n : ℕ) → AreBytes body → n ≤ length (cells_of body) → body ≡ flat_map cell (take n (cells_of body)) ++ drop (4 * n) body
@@ -34,7 +34,7 @@ cells_split (a ∷ b ∷ []) (suc n) bytes within = absurd (omega arith)
 cells_split (a ∷ b ∷ c ∷ []) (suc n) bytes within = absurd (omega arith)
 cells_split (a ∷ b ∷ c ∷ d ∷ later) (suc n) bytes within =
     let four : 4 * suc n ≡ suc (suc (suc (suc (4 * n)))) = omega arith in
-    rw (four, cell_spelled a b c d later bytes) (ap (λ list. a ∷ b ∷ c ∷ d ∷ list) (cells_split later n (bytes_behind a b c d later bytes) (omega arith)))
+    rw (four, cell_of_bytes a b c d later bytes) (ap (λ list. a ∷ b ∷ c ∷ d ∷ list) (cells_split later n (bytes_after_cell a b c d later bytes) (omega arith)))
 
 -- A cell before bytes is read as its number.
 cells_of-cell : (n : ℕ) (later : List ℕ) → n < 2 ^ 32 → cells_of (cell n ++ later) ≡ n ∷ cells_of later
@@ -54,34 +54,34 @@ cells_of-flat_map (size ∷ sizes) later are =
     ∙ ap (λ list. size ∷ list) (cells_of-flat_map sizes later are.1)
 
 -- A list of sizes is the cells of the sizes and a cell of zero.
-pub size_list_is : (parts : List (List ℕ)) → part_table parts ≡ flat_map cell (map length parts) ++ cell 0
-size_list_is parts = ap (λ list. list ++ cell 0) (of_lengths parts)
+pub part_table-cells : (parts : List (List ℕ)) → part_table parts ≡ flat_map cell (map length parts) ++ cell 0
+part_table-cells parts = ap (λ list. list ++ cell 0) (of_lengths parts)
   where
     of_lengths : (parts : List (List ℕ)) → flat_map (λ part. cell (length part)) parts ≡ flat_map cell (map length parts)
     of_lengths [] = refl
     of_lengths (part ∷ parts) = ap (λ list. cell (length part) ++ list) (of_lengths parts)
 
 -- What a list of sizes before bytes is read as: the sizes, and a zero.
-sizes_read : (sizes behind : List ℕ) → AllByRecursion IsSize sizes → cells_of ((flat_map cell sizes ++ cell 0) ++ behind) ≡ sizes ++ 0 ∷ cells_of behind
-sizes_read sizes behind are =
-    ap cells_of (append_assoc (flat_map cell sizes) (cell 0) behind)
-    ∙ cells_of-flat_map sizes (cell 0 ++ behind) are
-    ∙ ap (λ list. sizes ++ list) (cells_of-cell 0 behind (omega arith))
+sizes_read : (sizes after : List ℕ) → AllByRecursion IsSize sizes → cells_of ((flat_map cell sizes ++ cell 0) ++ after) ≡ sizes ++ 0 ∷ cells_of after
+sizes_read sizes after are =
+    ap cells_of (append_assoc (flat_map cell sizes) (cell 0) after)
+    ∙ cells_of-flat_map sizes (cell 0 ++ after) are
+    ∙ ap (λ list. sizes ++ list) (cells_of-cell 0 after (omega arith))
 
 -- The sizes that a list of sizes before bytes tells are its sizes.
-pub listed_sizes_are : (sizes behind : List ℕ) → AllByRecursion IsSize sizes → table_sizes ((flat_map cell sizes ++ cell 0) ++ behind) ≡ sizes
-listed_sizes_are sizes behind are =
-    ap (before_first (λ number. number == 0)) (sizes_read sizes behind are)
-    ∙ before_nul-append sizes (0 ∷ cells_of behind) (nonzero sizes are) refl
+pub table_sizes-cells : (sizes after : List ℕ) → AllByRecursion IsSize sizes → table_sizes ((flat_map cell sizes ++ cell 0) ++ after) ≡ sizes
+table_sizes-cells sizes after are =
+    ap (before_first (λ number. number == 0)) (sizes_read sizes after are)
+    ∙ before_nul-append sizes (0 ∷ cells_of after) (nonzero sizes are) refl
   where
     nonzero : (sizes : List ℕ) → AllByRecursion IsSize sizes → AllByRecursion (λ number. number ≢ 0) sizes
     nonzero [] are = tt
     nonzero (size ∷ sizes) are = ((λ zero. omega (arith, are.0.0)), nonzero sizes are.1)
 
 -- A list of sizes before bytes has an end.
-pub size_list_ends : (sizes behind : List ℕ) → AllByRecursion IsSize sizes → Contains (cells_of ((flat_map cell sizes ++ cell 0) ++ behind)) 0
-size_list_ends sizes behind are =
-    rw (sizes_read sizes behind are) (Contains-append_right sizes (0 ∷ cells_of behind) 0 (0, omega arith, refl))
+pub part_table-ends : (sizes after : List ℕ) → AllByRecursion IsSize sizes → Contains (cells_of ((flat_map cell sizes ++ cell 0) ++ after)) 0
+part_table-ends sizes after are =
+    rw (sizes_read sizes after are) (Contains-append_right sizes (0 ∷ cells_of after) 0 (0, omega arith, refl))
 
 -- Numbers that contain a zero have a first one.
 pub zero_within : (numbers : List ℕ) → Contains numbers 0 → nul_index numbers < length numbers
@@ -90,9 +90,9 @@ zero_within numbers there = elim (cases_lt (nul_index numbers) (length numbers))
   | inr past ↦ absurd (eqb-false (get_or numbers there.0 0) 0 (fails_before_first (λ number. number == 0) numbers there.0 0 (omega (arith, there.1))) there.2)
 ]
 
--- Data whose cells contain a zero is the list of sizes that it tells, and the bytes behind the list.
-pub size_list_split : (body : List ℕ) → AreBytes body → Contains (cells_of body) 0 → body ≡ (flat_map cell (table_sizes body) ++ cell 0) ++ drop (4 * (length (table_sizes body) + 1)) body
-size_list_split body bytes there =
+-- Data whose cells contain a zero is the list of sizes that it tells, and the bytes after the list.
+pub part_table-split : (body : List ℕ) → AreBytes body → Contains (cells_of body) 0 → body ≡ (flat_map cell (table_sizes body) ++ cell 0) ++ drop (4 * (length (table_sizes body) + 1)) body
+part_table-split body bytes there =
     let cells = cells_of body in
     let place = nul_index cells in
     let within : place < length cells = zero_within cells there in
