@@ -1,7 +1,7 @@
 use Rattle.std.specs.Prelude.{ℕ, ◌==◌, List, [], ◌∷◌, Option, None, Some, codes, if◌then◌else◌}
 
--- The codes of a legacy header that have names (U-Boot, include/image.h: IH_OS_*, IH_ARCH_*, IH_TYPE_*, IH_COMP_*; which of
--- them have one here is profile of this project).
+-- The names of codes in a legacy header (U-Boot, include/image.h: IH_OS_*, IH_ARCH_*, IH_TYPE_*,
+-- IH_COMP_*). Which codes have a name here is profile of this project.
 
 -- A code and its name.
 pub record CodeName : Type 0 where
@@ -36,7 +36,7 @@ compression_names =
     ∷ record { code = 3; name = codes "lzma" } ∷ record { code = 4; name = codes "lzo" } ∷ record { code = 5; name = codes "lz4" }
     ∷ record { code = 6; name = codes "zstd" } ∷ []
 
--- The name of a code, where it has one.
+-- The name of a code in such a list, or None where it has none.
 abbrev pub name_of_code : List CodeName → ℕ → Option (List ℕ)
 name_of_code [] code = None
 name_of_code (entry ∷ later) code = if entry.code == code then Some entry.name else name_of_code later code

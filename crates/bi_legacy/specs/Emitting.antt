@@ -1,4 +1,5 @@
-use Rattle.std.specs.Prelude.{ℕ, ◌+◌, ◌*◌, ◌≤◌, ◌≡◌, ⊤, List, [], ◌∷◌, length, map, MatchBool, if◌then◌else◌}
+use Rattle.std.specs.Prelude.{ℕ, ◌+◌, ◌*◌, ◌≤◌, ◌≡◌, ⊤, List, [], ◌∷◌, length, map, MatchBool}
+use Rattle.std.specs.Prelude.{if◌then◌else◌}
 use Rattle.std.specs.Borrow.{Bor}
 use Rattle.bi_base.specs.declared.fault.Fault.{Fault}
 use Rattle.bi_base.specs.declared.fault.Cause.TheVariants.{TooLarge, EmptyPart, BadField}
@@ -8,13 +9,13 @@ use Rattle.bi_legacy.specs.declared.fields.Fields.{Fields}
 use Rattle.bi_legacy.specs.Meaning.{LegacyImage, image_of, IsImageName, IsTablePart, has_part_table}
 use Rattle.bi_legacy.specs.Text.{legacy_text}
 
--- What an image has to be so that it can be written (profile of this project).
+-- The checks of an image that is to be written (profile of this project).
 
 -- The bytes of each of these slices.
 abbrev pub bytes_of : List (Bor (List ℕ)) → List (List ℕ)
 bytes_of slices = map (λ slice. slice.now) slices
 
--- What an image of these header fields and these parts says.
+-- The image of these header fields and these parts.
 abbrev pub image_of_parts : Fields → List (Bor (List ℕ)) → LegacyImage
 image_of_parts fields parts = image_of fields (bytes_of parts)
 
@@ -23,11 +24,11 @@ pub record PartCheck : Type 0 where
   pub index : ℕ
   pub part : List ℕ
 
--- What the check of a part asks.
+-- When the check of a part passes.
 abbrev pub PartPasses : PartCheck → Type 0
 PartPasses check = IsTablePart check.part
 
--- The fault where the check of a part fails: the offset of its size in the image to be written.
+-- The fault where the check of a part fails, at the offset of the size of the part.
 abbrev pub part_fault : PartCheck → Fault
 part_fault check = record { cause = EmptyPart; offset = 64 + 4 * check.index }
 
@@ -38,14 +39,15 @@ pub data Check : Type 0 where
   FitsLimit : Check
   IsNotEmpty : PartCheck → Check
 
--- What each check asks.
+-- When each check passes.
 abbrev pub Passes : Bounds → LegacyImage → Check → Type 0
 Passes limits image HasImageName = IsImageName image.name
 Passes limits image HasPartCount = MatchBool (has_part_table image.image_type) ⊤ (length image.parts ≡ 1)
 Passes limits image FitsLimit = length (legacy_text image) ≤ limits.file
 Passes limits image (IsNotEmpty check) = PartPasses check
 
--- What the image is refused with where a check fails: the place of the field in the image to be written, or the limit.
+-- The fault of an image where a check fails, at the offset of the field in the image to be written,
+-- or at the limit.
 abbrev pub fault_of : Bounds → Check → Fault
 fault_of limits HasImageName = record { cause = BadField; offset = 32 }
 fault_of limits HasPartCount = record { cause = BadField; offset = 30 }
@@ -63,7 +65,7 @@ checks image =
     HasImageName ∷ HasPartCount ∷ FitsLimit
     ∷ map IsNotEmpty (if has_part_table image.image_type then part_checks 0 image.parts else [])
 
--- What an image is refused with: the fault of its first failing check.
+-- The fault of an image: that of its first failing check.
 abbrev pub IsEmitFault : Bounds → LegacyImage → Fault → Type 0
 IsEmitFault limits image fault = IsFirstFault (Passes limits image) (fault_of limits) (checks image) fault
 

@@ -1,6 +1,7 @@
 use Rattle.std.specs.Prelude.{ℕ, ◌+◌, ◌≤◌, ◌≡◌, List, [], ◌∷◌, ◌++◌, length, map, slice_index}
 use Rattle.bi_base.specs.declared.fault.Fault.{Fault}
-use Rattle.bi_base.specs.declared.fault.Cause.TheVariants.{Truncated, BadMagic, BadHeaderCrc, BadDataCrc, TooLarge}
+use Rattle.bi_base.specs.declared.fault.Cause.TheVariants.{Truncated, BadMagic, BadHeaderCrc}
+use Rattle.bi_base.specs.declared.fault.Cause.TheVariants.{BadDataCrc, TooLarge}
 use Rattle.bi_base.specs.Cells.{cell, slice, u32_at}
 use Rattle.bi_base.specs.Crc.{crc32}
 use Rattle.bi_base.specs.Limits.{Bounds}
@@ -8,13 +9,13 @@ use Rattle.bi_base.specs.Checks.{IsFirstFault, HasNoFault}
 use Rattle.bi_legacy.specs.File.{legacy_magic}
 use Rattle.bi_legacy.specs.PartTables.{TableCheck, TablePasses, table_fault, body_checks}
 
--- The checks of a legacy image, and what a file is refused with (profile of this project).
+-- The checks of a legacy image, and the fault of a file that is none (profile of this project).
 
--- The data that the header tells, or what the file has of it.
+-- The data, of the size in the header, or as much of it as the file has.
 abbrev pub body_of : List ℕ → List ℕ
 body_of file = slice file 64 (u32_at file 12)
 
--- The header with zeros in the place of its checksum.
+-- The header with zeros in place of its checksum.
 abbrev pub header_without_checksum : List ℕ → List ℕ
 header_without_checksum file = slice file 0 4 ++ (cell 0 ++ slice file 8 56)
 
@@ -29,7 +30,7 @@ pub data Check : Type 0 where
   HasDataChecksum : Check
   InPartTable : TableCheck → Check
 
--- What each check asks.
+-- When each check passes.
 abbrev pub Passes : Bounds → List ℕ → Check → Type 0
 Passes limits file IsWithinLimit = length file ≤ limits.file
 Passes limits file HasMagicCell = 4 ≤ length file
@@ -40,7 +41,7 @@ Passes limits file HasData = 64 + u32_at file 12 ≤ length file
 Passes limits file HasDataChecksum = u32_at file 24 ≡ crc32 (body_of file)
 Passes limits file (InPartTable check) = TablePasses (body_of file) check
 
--- What a file is refused with where a check fails.
+-- The fault of a file where a check fails.
 abbrev pub fault_of : Bounds → Check → Fault
 fault_of limits IsWithinLimit = record { cause = TooLarge; offset = limits.file }
 fault_of limits HasMagicCell = record { cause = Truncated; offset = 0 }

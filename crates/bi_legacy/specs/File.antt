@@ -15,8 +15,8 @@ pub record BeginsWithMagic (file : List ℕ) : Type 0 where
   pub whole : 4 ≤ length file
   pub magic : u32_at file 0 ≡ legacy_magic
 
--- The 64 bytes of a header with this header checksum, data size and data checksum (U-Boot, include/image.h: struct
--- legacy_img_hdr). `field` is the 32 bytes of the name.
+-- The 64 bytes of a header with this header checksum, data size and data checksum (U-Boot,
+-- include/image.h: struct legacy_img_hdr). `field` is the 32 bytes of the name.
 abbrev pub header_cells : ℕ → ℕ → ℕ → LegacyImage → List ℕ → List ℕ
 header_cells checksum size sum image field =
     cell legacy_magic ++ (cell checksum ++ (cell image.time ++ (cell size ++ (cell image.load ++ (cell image.entry
@@ -30,8 +30,8 @@ header_with checksum image field body = header_cells checksum (length body) (crc
 unfoldable pub header : LegacyImage → List ℕ → List ℕ → List ℕ
 header image field body = header_with (crc32 (header_with 0 image field body)) image field body
 
--- The name in the 32 bytes of its field: the bytes before the first zero. That any bytes may follow that zero, and that a
--- name may have all 32 bytes, is profile of this project.
+-- The name in the 32 bytes of its field: the bytes before the first zero. That any bytes may follow
+-- that zero, and that a name may have all 32 bytes, is profile of this project.
 pub record HoldsName (field name : List ℕ) : Type 0 where
   pub padding : List ℕ
   pub field_is : field ≡ name ++ padding
@@ -39,7 +39,8 @@ pub record HoldsName (field name : List ℕ) : Type 0 where
   pub whole : length field ≡ 32
   pub is_name : IsImageName name
 
--- The file is a legacy image with this meaning: header, data, and then any bytes (profile of this project).
+-- The file is a legacy image with this meaning: header, data, and then any bytes (profile of this
+-- project).
 pub record IsLegacyFile (file : List ℕ) (image : LegacyImage) : Type 0 where
   pub field : List ℕ
   pub body : List ℕ

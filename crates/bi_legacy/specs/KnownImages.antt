@@ -2,9 +2,9 @@ use Rattle.std.specs.Prelude.{ℕ, ◌≡◌, List, [], ◌∷◌, codes}
 use Rattle.bi_legacy.specs.Meaning.{LegacyImage}
 use Rattle.bi_legacy.specs.Text.{legacy_text}
 
--- Images as U-Boot's `mkimage` writes them, by which a reader can judge the definitions.
+-- Two images, and the files that U-Boot's `mkimage` writes for them.
 
--- A Linux kernel for ARM, made at time 0, whose data is the text 123456789 and whose name is k.
+-- A Linux kernel for ARM with time 0, the name "k" and the data "123456789".
 abbrev pub kernel_image : LegacyImage
 kernel_image =
     record {
@@ -19,7 +19,7 @@ kernel_image =
       parts = codes "123456789" ∷ [];
     }
 
--- What `mkimage` writes for it.
+-- The file that `mkimage` writes for it.
 abbrev pub kernel_file : List ℕ
 kernel_file =
     0x27 ∷ 0x05 ∷ 0x19 ∷ 0x56 ∷ 0x9d ∷ 0xf3 ∷ 0xaf ∷ 0xdb ∷ 0x00 ∷ 0x00 ∷ 0x00 ∷ 0x00 ∷ 0x00 ∷ 0x00 ∷ 0x00 ∷ 0x09
@@ -28,15 +28,15 @@ kernel_file =
     ∷ 0x00 ∷ 0x00 ∷ 0x00 ∷ 0x00 ∷ 0x00 ∷ 0x00 ∷ 0x00 ∷ 0x00 ∷ 0x00 ∷ 0x00 ∷ 0x00 ∷ 0x00 ∷ 0x00 ∷ 0x00 ∷ 0x00 ∷ 0x00
     ∷ 0x31 ∷ 0x32 ∷ 0x33 ∷ 0x34 ∷ 0x35 ∷ 0x36 ∷ 0x37 ∷ 0x38 ∷ 0x39 ∷ []
 
--- The normal text of the kernel image is what `mkimage` writes.
+-- The normal text of the kernel image is the file that `mkimage` writes.
 abbrev pub HasKernelText : Type 0
 HasKernelText = legacy_text kernel_image ≡ kernel_file
 
--- A multi-file image of two parts, else as the kernel image.
+-- A multi-file image of two parts, otherwise like the kernel image.
 abbrev pub multi_image : LegacyImage
 multi_image = record kernel_image { image_type = 4; parts = codes "hello" ∷ codes "abc" ∷ [] }
 
--- What `mkimage` writes for it.
+-- The file that `mkimage` writes for it.
 abbrev pub multi_file : List ℕ
 multi_file =
     0x27 ∷ 0x05 ∷ 0x19 ∷ 0x56 ∷ 0xa5 ∷ 0x23 ∷ 0x36 ∷ 0xb6 ∷ 0x00 ∷ 0x00 ∷ 0x00 ∷ 0x00 ∷ 0x00 ∷ 0x00 ∷ 0x00 ∷ 0x17
@@ -46,6 +46,6 @@ multi_file =
     ∷ 0x00 ∷ 0x00 ∷ 0x00 ∷ 0x05 ∷ 0x00 ∷ 0x00 ∷ 0x00 ∷ 0x03 ∷ 0x00 ∷ 0x00 ∷ 0x00 ∷ 0x00 ∷ 0x68 ∷ 0x65 ∷ 0x6c ∷ 0x6c
     ∷ 0x6f ∷ 0x00 ∷ 0x00 ∷ 0x00 ∷ 0x61 ∷ 0x62 ∷ 0x63 ∷ []
 
--- The normal text of the multi-file image is what `mkimage` writes.
+-- The normal text of the multi-file image is the file that `mkimage` writes.
 abbrev pub HasMultiText : Type 0
 HasMultiText = legacy_text multi_image ≡ multi_file

@@ -2,8 +2,8 @@ use Rattle.std.specs.Prelude.{ℕ, ◌^◌, ◌<◌, ◌≤◌, ◌≢◌, ◌�
 use Rattle.std.specs.List.{AllByRecursion}
 use Rattle.bi_legacy.specs.declared.fields.Fields.{Fields}
 
--- The meaning of a legacy image (U-Boot, include/image.h: struct legacy_img_hdr, and the part table of a multi-file image).
--- The checksums and the data size follow from these fields.
+-- The meaning of a legacy image (U-Boot, include/image.h: struct legacy_img_hdr, and the part table
+-- of a multi-file image). The checksums and the data size follow from these fields.
 pub record LegacyImage : Type 0 where
   pub time : ℕ
   pub load : ℕ
@@ -30,12 +30,13 @@ image_of fields parts =
       parts = parts;
     }
 
--- Whether the data of this type begins with a part table, the list of the part sizes: 4 is multi, 6 is script (U-Boot,
--- include/image.h: IH_TYPE_MULTI, IH_TYPE_SCRIPT).
+-- Whether the data of this type begins with a part table, the list of the part sizes: 4 is multi, 6
+-- is script (U-Boot, include/image.h: IH_TYPE_MULTI, IH_TYPE_SCRIPT).
 abbrev pub has_part_table : ℕ → Bool
 has_part_table image_type = (image_type == 4) || (image_type == 6)
 
--- A name that the header can hold: at most 32 bytes, none of them zero (U-Boot, include/image.h: IH_NMLEN).
+-- A name that the header can hold: at most 32 bytes, none of them zero (U-Boot, include/image.h:
+-- IH_NMLEN).
 pub record IsImageName (name : List ℕ) : Type 0 where
   pub short : length name ≤ 32
   pub no_zero : AllByRecursion (λ byte. byte ≢ 0) name
@@ -44,8 +45,9 @@ pub record IsImageName (name : List ℕ) : Type 0 where
 abbrev pub IsTablePart : List ℕ → Type 0
 IsTablePart part = 0 < length part
 
--- The parts that an image of this type can have: any number of parts in a part table, or else exactly one part. That a part
--- table may have no parts, and that the one part may be empty, is profile of this project.
+-- The parts that an image of this type can have: any number of parts in a part table, or else
+-- exactly one part. That a part table may have no parts, and that the one part may be empty, is
+-- profile of this project.
 abbrev pub AreParts : ℕ → List (List ℕ) → Type 0
 AreParts image_type parts = MatchBool (has_part_table image_type) (AllByRecursion IsTablePart parts) (length parts ≡ 1)
 

@@ -1,4 +1,5 @@
-use Rattle.std.specs.Prelude.{ℕ, ◌+◌, ◌-◌, ◌*◌, ◌^◌, ◌<◌, ◌≤◌, ◌≡◌, Bool, List, [], ◌∷◌, length, map, if◌then◌else◌}
+use Rattle.std.specs.Prelude.{ℕ, ◌+◌, ◌-◌, ◌*◌, ◌^◌, ◌<◌, ◌≤◌, ◌≡◌, Bool, List, [], ◌∷◌, length}
+use Rattle.std.specs.Prelude.{map, if◌then◌else◌}
 use Rattle.std.specs.List.{AllByRecursion}
 use Rattle.bi_base.specs.Cells.{slice, up4}
 use Rattle.bi_legacy.specs.declared.part_table.PartTable.{PartTable}
@@ -7,8 +8,8 @@ use Rattle.bi_legacy.specs.Parts.{parts_end_from}
 use Rattle.bi_legacy.specs.PartTables.{table_sizes}
 use Rattle.bi_legacy.specs.PlacedParts.{PlacedPart}
 
--- Where the reader finds the parts in the data of an image. It finds them by the sizes alone: no promise about the format is
--- stated in these words.
+-- Where the reader finds the parts in the data of an image. It finds them by the sizes alone: no
+-- promise about the format is stated in these words.
 
 -- The sizes of the parts: those in the part table, or the size of the data, which is the one part.
 abbrev pub part_sizes : Bool → List ℕ → List ℕ
@@ -18,7 +19,8 @@ part_sizes has_table body = if has_table then table_sizes body else length body 
 abbrev pub first_part_offset : Bool → List ℕ → ℕ
 first_part_offset has_table body = if has_table then 4 * (length (table_sizes body) + 1) else 0
 
--- The ranges of parts of these sizes, the first at `at` and each later one at the next multiple of four.
+-- The ranges of parts of these sizes, the first at `at` and each later one at the next multiple of
+-- four.
 abbrev pub part_ranges : ℕ → List ℕ → List PartRange
 part_ranges at [] = []
 part_ranges at (size ∷ sizes) = record { start = at; size = size } ∷ part_ranges (up4 (at + size)) sizes
@@ -43,7 +45,8 @@ EndsWithin most range = range.start + range.size ≤ most
 abbrev pub FitWithin : ℕ → ℕ → List ℕ → Type 0
 FitWithin most at sizes = AllByRecursion (EndsWithin most) (part_ranges at sizes)
 
--- A part table that was read: the number of parts of some data and where the last one ends. All parts end within the data.
+-- A part table that was read: the number of parts of some data and where the last one ends. All
+-- parts end within the data.
 pub record IsPartTable (has_table : Bool) (body : List ℕ) (table : PartTable) : Type 0 where
   pub count : table.part_count ≡ length (part_sizes has_table body)
   pub room : first_part_offset has_table body ≤ length body
@@ -52,7 +55,8 @@ pub record IsPartTable (has_table : Bool) (body : List ℕ) (table : PartTable) 
   pub within : table.end ≤ length body
   pub small : length body < 2 ^ 31
 
--- The invariant of an iterator over ranges: part `index` starts at `start`. No later start can overflow.
+-- The invariant of an iterator over ranges: part `index` starts at `start`. No later start can
+-- overflow.
 pub record IsRangesState (has_table : Bool) (body : List ℕ) (part_count index start : ℕ) : Type 0 where
   pub count : part_count ≡ length (part_sizes has_table body)
   pub begun : index ≤ part_count

@@ -22,7 +22,7 @@ pub data TableCheck : Type 0 where
   HasTableEnd : TableCheck
   HasPart : (index : ℕ) → (end : ℕ) → TableCheck
 
--- What each check asks of the data.
+-- When each check of the data passes.
 abbrev pub TablePasses : List ℕ → TableCheck → Type 0
 TablePasses body HasTableEnd = Contains (cells_of body) 0
 TablePasses body (HasPart index end) = end ≤ length body

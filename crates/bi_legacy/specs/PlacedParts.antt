@@ -5,14 +5,16 @@ use Rattle.bi_legacy.specs.declared.parts.Part.{Part}
 use Rattle.bi_legacy.specs.Meaning.{LegacyImage}
 use Rattle.bi_legacy.specs.Parts.{parts_start}
 
--- The parts of an image with their offsets in its file (U-Boot, include/image.h and boot/image.c: multi-file images).
+-- The parts of an image with their offsets in its file (U-Boot, include/image.h and boot/image.c:
+-- multi-file images).
 
 -- A part, and the offset of its first byte in the file.
 pub record PlacedPart : Type 0 where
   pub place : ℕ
   pub bytes : List ℕ
 
--- These parts with their offsets in the file. The first is at `at` in the data, which follows the header of 64 bytes.
+-- These parts with their offsets in the file. The first is at `at` in the data, which follows the
+-- header of 64 bytes.
 abbrev pub placed_parts_from : ℕ → List (List ℕ) → List PlacedPart
 placed_parts_from at [] = []
 placed_parts_from at (part ∷ parts) =

@@ -7,14 +7,15 @@ use Rattle.bi_legacy.specs.Faults.{body_of}
 use Rattle.bi_legacy.specs.PartTables.{table_sizes}
 use Rattle.bi_legacy.specs.PartRanges.{part_sizes, first_part_offset, part_slices}
 
--- What the reader reads from a file whose checks pass. No promise about the format is stated in these words.
+-- What the reader reads from the bytes of a file. No promise about the format is stated in these
+-- words.
 
--- The parts of the data of an image of this type: as its list of sizes tells, or the whole.
+-- The parts of the data of an image of this type: those in the part table, or the whole data.
 abbrev pub parts_of_body : ℕ → List ℕ → List (List ℕ)
 parts_of_body image_type body =
     if has_part_table image_type then part_slices body (4 * (length (table_sizes body) + 1)) (table_sizes body) else body ∷ []
 
--- What the bytes of a file say at the places of a legacy image's fields, whether or not it is one.
+-- The image that is read at the offsets of the fields, whether or not the file is a legacy image.
 abbrev pub read_image : List ℕ → LegacyImage
 read_image file =
     record {

@@ -1,4 +1,5 @@
-//! Legacy images of U-Boot, the format of `mkimage` without a tree: reading them, and writing their normal form.
+//! Legacy images of U-Boot, the format of `mkimage` without a tree: reading them, and writing their
+//! normal form.
 #![tactic(auto)]
 
 mod cells;

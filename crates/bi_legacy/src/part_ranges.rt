@@ -1,8 +1,10 @@
 //! Where the parts of an image are in its data, as their sizes give it.
 
-ghost use Rattle.std.specs.Prelude.{◌≡◌, ◌+◌, ◌*◌, ◌^◌, ◌<◌, ◌≤◌, List, ◌∷◌, length, drop, if◌then◌else◌};
+ghost use Rattle.std.specs.Prelude.{◌≡◌, ◌+◌, ◌*◌, ◌^◌, ◌<◌, ◌≤◌, List, ◌∷◌, length, drop};
+ghost use Rattle.std.specs.Prelude.{if◌then◌else◌};
 ghost use Rattle.std.specs.Iterator.{YieldsFirst, at_most};
-ghost use Rattle.bi_legacy.specs.PartRanges.{IsRangesState, part_sizes, first_part_offset, part_ranges};
+ghost use Rattle.bi_legacy.specs.PartRanges.{IsRangesState, part_sizes, first_part_offset};
+ghost use Rattle.bi_legacy.specs.PartRanges.{part_ranges};
 ghost use Rattle.bi_legacy.specs.declared.part_ranges.PartRange.{PartRange};
 
 use crate::cells::cell_at;

@@ -1,11 +1,14 @@
-//! The part table of multi and script images: how many parts there are, and where the last one ends.
+//! The part table of multi and script images: how many parts there are, and where the last one
+//! ends.
 
-ghost use Rattle.std.specs.Prelude.{◌≡◌, true, ◌+◌, ◌*◌, ◌^◌, ◌<◌, ◌≤◌, ◌↔◌, length, IsSome, IfSome, IfOk, OnOk, IfErr};
+ghost use Rattle.std.specs.Prelude.{◌≡◌, true, ◌+◌, ◌*◌, ◌^◌, ◌<◌, ◌≤◌, ◌↔◌, length, IsSome};
+ghost use Rattle.std.specs.Prelude.{IfSome, IfOk, OnOk, IfErr};
 ghost use Rattle.std.specs.List.{Contains};
 ghost use Rattle.bi_base.specs.Checks.{IsFirstFault, HasNoFault};
 ghost use Rattle.bi_legacy.specs.Meaning.{has_part_table};
 ghost use Rattle.bi_legacy.specs.Parts.{parts_end_from};
-ghost use Rattle.bi_legacy.specs.PartTables.{TablePasses, table_fault, table_checks, body_checks, part_checks, cells_of, table_sizes};
+ghost use Rattle.bi_legacy.specs.PartTables.{TablePasses, table_fault, table_checks, body_checks};
+ghost use Rattle.bi_legacy.specs.PartTables.{part_checks, cells_of, table_sizes};
 ghost use Rattle.bi_legacy.specs.PartRanges.{FitWithin, IsPartTable};
 
 use crate::fields::has_part_table;
@@ -13,15 +16,16 @@ use crate::header::HEADER_SIZE;
 use crate::part_ranges::PartRanges;
 use bi_base::{Cause, Fault, be32_at, refuse};
 
-/// The number of parts of some data, and where the last one ends in it, or the part table where there are no parts.
+/// The number of parts of some data, and the end of the last one in it, or of the part table where
+/// there are no parts.
 #[derive(Clone, Copy)]
 pub(crate) struct PartTable {
     pub(crate) part_count: usize,
     pub(crate) end: usize,
 }
 
-/// Finds the parts in the data of an image of this type. BadPartTable at 64 where a part table has no end; BadPart at
-/// `64 + 4 * k` for the first part k of a table that ends after the data.
+/// Finds the parts in the data of an image of this type. BadPartTable at 64 where a part table has
+/// no end; BadPart at `64 + 4 * k` for the first part k of a table that ends after the data.
 pub(crate) fn find_parts(image_type: u8, body: &[u8]) -> Result<PartTable, Fault>
     requires { length body.now < 2 ^ 31 }
     ensures ok { OnOk result (HasNoFault (TablePasses body.now) (body_checks image_type body.now)) }
@@ -53,7 +57,8 @@ fn read_part_table(body: &[u8]) -> Result<PartTable, Fault>
     Ok(PartTable { part_count, end })
 }
 
-/// The number of sizes in the part table, which ends at the first zero. None exactly where no whole cell of the data is zero.
+/// The number of sizes in the part table, which ends at the first zero. None exactly where no whole
+/// cell of the data is zero.
 fn count_sizes(body: &[u8]) -> Option<usize>
     ensures ends { IsSome result ↔ Contains (cells_of body.now) 0 }
     ensures count { IfSome result (λ count. count ≡ length (table_sizes body.now)) }
@@ -69,7 +74,7 @@ fn count_sizes(body: &[u8]) -> Option<usize>
     None
 }
 
-/// Where the last part in the part table ends, or the table itself where there are no parts.
+/// The end of the last part in the part table, or of the table itself where there are no parts.
 fn end_of_parts(body: &[u8], part_count: usize) -> Result<usize, Fault>
     requires count { part_count ≡ length (table_sizes body.now) }
     requires room { 4 * (part_count + 1) ≤ length body.now }

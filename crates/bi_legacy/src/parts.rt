@@ -3,7 +3,8 @@
 ghost use Rattle.std.specs.Prelude.{◌≡◌, ◌^◌, ◌<◌, List, length, map};
 ghost use Rattle.std.specs.Iterator.{YieldsFirstBy, at_most};
 ghost use Rattle.std.specs.List.{AllByRecursion};
-ghost use Rattle.bi_legacy.specs.PartRanges.{IsPartTable, EndsWithin, placed_slice, placed_slices, part_sizes, first_part_offset};
+ghost use Rattle.bi_legacy.specs.PartRanges.{IsPartTable, EndsWithin, placed_slice, placed_slices};
+ghost use Rattle.bi_legacy.specs.PartRanges.{part_sizes, first_part_offset};
 ghost use Rattle.bi_legacy.specs.PlacedParts.{PlacedPart, placed_part_of};
 
 use crate::header::HEADER_SIZE;

@@ -5,7 +5,7 @@ use Rattle.bi_legacy.specs.Emitting.{bytes_of}
 use Rattle.bi_legacy.specs.Meaning.{has_part_table}
 use Rattle.bi_legacy.specs.Parts.{part_table}
 use Rattle.bi_legacy.specs.Text.{joined_parts}
-use Rattle.bi_legacy.proofs.text.put_data.Goals.{then-has_part_table+in_ok-put_sizes, else-has_part_table}
+use Rattle.bi_legacy.proofs.text.put_data.Goals.{then-has_part_table+in_ok-put_part_table, else-has_part_table}
 use Rattle.bi_legacy.proofs.text.put_data.Goals as goal
 
 pub returns : goal.returns
@@ -18,9 +18,9 @@ returns g c =
     let parts = bytes_of c.args.parts.now in
     let P : Bool → Type 0 = λ has_table. Wrote appends fails old (if has_table then part_table parts ++ joined_parts parts else joined_parts parts) result new in
     elim c.if-has_part_table.branch [
-      | then-has_part_table+in_ok-put_sizes w ↦
+      | then-has_part_table+in_ok-put_part_table w ↦
           let is_table : has_part_table c.args.image_type ≡ true = cc in
-          let first = subst (λ mid. appends old (part_table parts) mid) (sym w.sink-is) w.in_ok-put_sizes.ensures in
+          let first = subst (λ mid. appends old (part_table parts) mid) (sym w.sink-is) w.in_ok-put_part_table.ensures in
           subst P (sym is_table) (wrote_after appends fails g.met.S.Sink.appends_in_turn g.met.S.Sink.fails_after old c.if-has_part_table.sink new (part_table parts) (joined_parts parts) result first c.put_joined_parts.ensures)
       | else-has_part_table w ↦
           let is_table : has_part_table c.args.image_type ≡ false = cc in

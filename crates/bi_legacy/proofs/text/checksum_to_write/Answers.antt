@@ -1,5 +1,5 @@
 use Rattle.bi_legacy.proofs.SinkChecksums.{sum_of_put, put_succeeds}
-use Rattle.bi_legacy.proofs.text.header_checksum.Goals as goal
+use Rattle.bi_legacy.proofs.text.checksum_to_write.Goals as goal
 
 pub unwrap-requires : goal.unwrap-requires
 unwrap-requires c = put_succeeds _ _ _ _ c.put_header.ensures

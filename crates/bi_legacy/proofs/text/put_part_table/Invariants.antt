@@ -1,6 +1,6 @@
 use Rattle.std.proofs.Common.{take, flat_map, length}
 use Rattle.bi_base.specs.Cells.{cell}
-use Rattle.bi_legacy.proofs.text.put_sizes.Given as goal
+use Rattle.bi_legacy.proofs.text.put_part_table.Given as goal
 
 -- The cells of the sizes before this one were appended.
 abbrev pub invariant-loop-part : goal.invariant-loop-part

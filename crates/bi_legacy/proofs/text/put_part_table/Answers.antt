@@ -4,7 +4,7 @@ use Rattle.bi_base.specs.Cells.{cell}
 use Rattle.bi_base.specs.Sinks.{Wrote}
 use Rattle.bi_base.proofs.SinkLaws.{failed_within, passed_on, wrote_after}
 use Rattle.bi_legacy.proofs.TextPieces.{part_table-bytes_of, slice_within}
-use Rattle.bi_legacy.proofs.text.put_sizes.Goals as goal
+use Rattle.bi_legacy.proofs.text.put_part_table.Goals as goal
 
 pub overflow_cast-part : goal.overflow_cast-part
 overflow_cast-part g c =
