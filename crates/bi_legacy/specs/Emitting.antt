@@ -42,7 +42,8 @@ pub data Check : Type 0 where
 -- When each check passes.
 abbrev pub Passes : Bounds → LegacyImage → Check → Type 0
 Passes limits image HasImageName = IsImageName image.name
-Passes limits image HasPartCount = MatchBool (has_part_table image.image_type) ⊤ (length image.parts ≡ 1)
+Passes limits image HasPartCount =
+    MatchBool (has_part_table image.image_type) ⊤ (length image.parts ≡ 1)
 Passes limits image FitsLimit = length (legacy_text image) ≤ limits.file
 Passes limits image (IsNotEmpty check) = PartPasses check
 
@@ -57,7 +58,8 @@ fault_of limits (IsNotEmpty check) = part_fault check
 -- A check of each of these parts, the first of which is part `index`.
 abbrev pub part_checks : ℕ → List (List ℕ) → List PartCheck
 part_checks index [] = []
-part_checks index (part ∷ parts) = record { index = index; part = part } ∷ part_checks (index + 1) parts
+part_checks index (part ∷ parts) =
+    record { index = index; part = part } ∷ part_checks (index + 1) parts
 
 -- All checks of an image to be written, in their order.
 abbrev pub checks : LegacyImage → List Check
@@ -67,7 +69,8 @@ checks image =
 
 -- The fault of an image: that of its first failing check.
 abbrev pub IsEmitFault : Bounds → LegacyImage → Fault → Type 0
-IsEmitFault limits image fault = IsFirstFault (Passes limits image) (fault_of limits) (checks image) fault
+IsEmitFault limits image fault =
+    IsFirstFault (Passes limits image) (fault_of limits) (checks image) fault
 
 -- The image fails no check.
 abbrev pub HasNoEmitFault : Bounds → LegacyImage → Type 0

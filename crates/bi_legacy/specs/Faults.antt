@@ -54,7 +54,9 @@ fault_of limits (InPartTable check) = table_fault check
 
 -- The checks of header and data, in their order.
 abbrev pub header_checks : List Check
-header_checks = IsWithinLimit ∷ HasMagicCell ∷ HasMagic ∷ HasHeader ∷ HasHeaderChecksum ∷ HasData ∷ HasDataChecksum ∷ []
+header_checks =
+    IsWithinLimit ∷ HasMagicCell ∷ HasMagic ∷ HasHeader ∷ HasHeaderChecksum ∷ HasData
+    ∷ HasDataChecksum ∷ []
 
 -- All checks of a legacy image, in their order. Byte 30 of the header is the type.
 abbrev pub checks : List ℕ → List Check
@@ -62,7 +64,8 @@ checks file = header_checks ++ map InPartTable (body_checks (slice_index file 30
 
 -- The fault of a file: that of its first failing check.
 abbrev pub IsLegacyFault : Bounds → List ℕ → Fault → Type 0
-IsLegacyFault limits file fault = IsFirstFault (Passes limits file) (fault_of limits) (checks file) fault
+IsLegacyFault limits file fault =
+    IsFirstFault (Passes limits file) (fault_of limits) (checks file) fault
 
 -- The file has this fault and no other.
 pub record IsOnlyLegacyFault (limits : Bounds) (file : List ℕ) (fault : Fault) : Type 0 where

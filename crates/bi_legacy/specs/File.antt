@@ -19,8 +19,9 @@ pub record BeginsWithMagic (file : List ℕ) : Type 0 where
 -- include/image.h: struct legacy_img_hdr). `field` is the 32 bytes of the name.
 abbrev pub header_cells : ℕ → ℕ → ℕ → LegacyImage → List ℕ → List ℕ
 header_cells checksum size sum image field =
-    cell legacy_magic ++ (cell checksum ++ (cell image.time ++ (cell size ++ (cell image.load ++ (cell image.entry
-    ++ (cell sum ++ ((image.os ∷ image.arch ∷ image.image_type ∷ image.compression ∷ []) ++ field)))))))
+    cell legacy_magic ++ (cell checksum ++ (cell image.time ++ (cell size ++ (cell image.load
+    ++ (cell image.entry ++ (cell sum
+    ++ ((image.os ∷ image.arch ∷ image.image_type ∷ image.compression ∷ []) ++ field)))))))
 
 -- The header of this data with this number as its header checksum.
 abbrev pub header_with : ℕ → LegacyImage → List ℕ → List ℕ → List ℕ

@@ -20,7 +20,8 @@ OneMeaning = (file : List ℕ) (a b : LegacyImage) → IsLegacyFile file a → I
 -- within any limits.
 abbrev pub NoMeaningWithoutMagic : Type 0
 NoMeaningWithoutMagic =
-    (file : List ℕ) (limits : Bounds) → ¬ (BeginsWithMagic file) → (image : LegacyImage) → ¬ (LegacyMeans limits file image)
+    (file : List ℕ) (limits : Bounds) → ¬ (BeginsWithMagic file) →
+    (image : LegacyImage) → ¬ (LegacyMeans limits file image)
 
 -- A normal text begins with the magic number.
 abbrev pub TextBeginsWithMagic : Type 0
@@ -36,7 +37,8 @@ MeaningWithoutFault =
 abbrev pub MeaningOrFault : Type 0
 MeaningOrFault =
     (file : List ℕ) (limits : Bounds) → AreBytes file →
-    ((image : LegacyImage) × LegacyMeans limits file image) ⊎ ((fault : Fault) × IsLegacyFault limits file fault)
+    ((image : LegacyImage) × LegacyMeans limits file image)
+    ⊎ ((fault : Fault) × IsLegacyFault limits file fault)
 
 -- A file with a fault means no image within the limits.
 abbrev pub NoMeaningWithFault : Type 0
@@ -47,11 +49,13 @@ NoMeaningWithFault =
 -- A file has at most one fault.
 abbrev pub OneFault : Type 0
 OneFault =
-    (file : List ℕ) (limits : Bounds) (a b : Fault) → IsLegacyFault limits file a → IsLegacyFault limits file b → a ≡ b
+    (file : List ℕ) (limits : Bounds) (a b : Fault) →
+    IsLegacyFault limits file a → IsLegacyFault limits file b → a ≡ b
 
 -- An image fits the format exactly where some file means it.
 abbrev pub ImagesOfFiles : Type 0
-ImagesOfFiles = (image : LegacyImage) → IsLegacyImage image ↔ ((file : List ℕ) × IsLegacyFile file image)
+ImagesOfFiles =
+    (image : LegacyImage) → IsLegacyImage image ↔ ((file : List ℕ) × IsLegacyFile file image)
 
 -- The normal text of an image that a file means within the limits means it within the same limits.
 abbrev pub TextMeansImage : Type 0
@@ -62,7 +66,8 @@ TextMeansImage =
 -- The normal text of the image that a file means is no longer than the file.
 abbrev pub TextIsNoLonger : Type 0
 TextIsNoLonger =
-    (file : List ℕ) (image : LegacyImage) → IsLegacyFile file image → length (legacy_text image) ≤ length file
+    (file : List ℕ) (image : LegacyImage) → IsLegacyFile file image →
+    length (legacy_text image) ≤ length file
 
 -- A normal text is its own normal text.
 abbrev pub TextIsItsOwnNormalForm : Type 0
@@ -79,7 +84,8 @@ TextsDiffer =
 -- An image that a file means within the limits can be written within them.
 abbrev pub MeaningCanBeWritten : Type 0
 MeaningCanBeWritten =
-    (file : List ℕ) (image : LegacyImage) (limits : Bounds) → LegacyMeans limits file image → HasNoEmitFault limits image
+    (file : List ℕ) (image : LegacyImage) (limits : Bounds) →
+    LegacyMeans limits file image → HasNoEmitFault limits image
 
 -- The normal text of an image that can be written within the limits means this image within them.
 abbrev pub WrittenTextMeansImage : Type 0

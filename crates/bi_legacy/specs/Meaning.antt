@@ -49,7 +49,8 @@ IsTablePart part = 0 < length part
 -- exactly one part. That a part table may have no parts, and that the one part may be empty, is
 -- profile of this project.
 abbrev pub AreParts : ℕ → List (List ℕ) → Type 0
-AreParts image_type parts = MatchBool (has_part_table image_type) (AllByRecursion IsTablePart parts) (length parts ≡ 1)
+AreParts image_type parts =
+    MatchBool (has_part_table image_type) (AllByRecursion IsTablePart parts) (length parts ≡ 1)
 
 -- Each number fits its field of the header. Any code is allowed (profile of this project).
 pub record FitsFields (image : LegacyImage) : Type 0 where

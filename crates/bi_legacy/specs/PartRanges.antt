@@ -23,11 +23,13 @@ first_part_offset has_table body = if has_table then 4 * (length (table_sizes bo
 -- four.
 abbrev pub part_ranges : ℕ → List ℕ → List PartRange
 part_ranges at [] = []
-part_ranges at (size ∷ sizes) = record { start = at; size = size } ∷ part_ranges (up4 (at + size)) sizes
+part_ranges at (size ∷ sizes) =
+    record { start = at; size = size } ∷ part_ranges (up4 (at + size)) sizes
 
 -- The bytes of the data in a range, with their offset in the file.
 abbrev pub placed_slice : List ℕ → PartRange → PlacedPart
-placed_slice body range = record { place = 64 + range.start; bytes = slice body range.start range.size }
+placed_slice body range =
+    record { place = 64 + range.start; bytes = slice body range.start range.size }
 
 -- The bytes of the data in the ranges of parts of these sizes, with their offsets in the file.
 abbrev pub placed_slices : List ℕ → ℕ → List ℕ → List PlacedPart
@@ -51,13 +53,15 @@ pub record IsPartTable (has_table : Bool) (body : List ℕ) (table : PartTable) 
   pub count : table.part_count ≡ length (part_sizes has_table body)
   pub room : first_part_offset has_table body ≤ length body
   pub fit : FitWithin (length body) (first_part_offset has_table body) (part_sizes has_table body)
-  pub end : table.end ≡ parts_end_from (first_part_offset has_table body) (part_sizes has_table body)
+  pub end : table.end
+      ≡ parts_end_from (first_part_offset has_table body) (part_sizes has_table body)
   pub within : table.end ≤ length body
   pub small : length body < 2 ^ 31
 
 -- The invariant of an iterator over ranges: part `index` starts at `start`. No later start can
 -- overflow.
-pub record IsRangesState (has_table : Bool) (body : List ℕ) (part_count index start : ℕ) : Type 0 where
+pub record IsRangesState (has_table : Bool) (body : List ℕ) (part_count index start : ℕ)
+    : Type 0 where
   pub count : part_count ≡ length (part_sizes has_table body)
   pub begun : index ≤ part_count
   pub room : first_part_offset has_table body ≤ length body

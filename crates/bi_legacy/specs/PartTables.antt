@@ -35,7 +35,8 @@ table_fault (HasPart index end) = record { cause = BadPart; offset = 64 + 4 * in
 -- A check of the end of each part, from part `index` on, whose first byte is at `at` in the data.
 abbrev pub part_checks : ℕ → ℕ → List ℕ → List TableCheck
 part_checks index at [] = []
-part_checks index at (size ∷ sizes) = HasPart index (at + size) ∷ part_checks (index + 1) (up4 (at + size)) sizes
+part_checks index at (size ∷ sizes) =
+    HasPart index (at + size) ∷ part_checks (index + 1) (up4 (at + size)) sizes
 
 -- The checks of the data of multi and script images.
 abbrev pub table_checks : List ℕ → List TableCheck

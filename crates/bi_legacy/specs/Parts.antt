@@ -20,7 +20,8 @@ abbrev pub ArePaddedParts : List (List ℕ) → List ℕ → Type 0
 ArePaddedParts [] bytes = Unit {0}
 ArePaddedParts (part ∷ []) bytes = (after : List ℕ) × (bytes ≡ part ++ after)
 ArePaddedParts (part ∷ next ∷ later) bytes =
-    (padding after : List ℕ) × (bytes ≡ part ++ (padding ++ after)) × (length part + length padding ≡ up4 (length part))
+    (padding after : List ℕ) × (bytes ≡ part ++ (padding ++ after))
+    × (length part + length padding ≡ up4 (length part))
     × ArePaddedParts (next ∷ later) after
 
 -- The data is the part table of these parts, then the parts with their padding, and then any bytes.
@@ -34,7 +35,8 @@ pub record HasPartTable (parts : List (List ℕ)) (body : List ℕ) : Type 0 whe
 -- The data of an image of this type holds these parts: it has their part table, for multi and
 -- script images, or else it is itself the one part.
 abbrev pub HoldsParts : ℕ → List ℕ → List (List ℕ) → Type 0
-HoldsParts image_type body parts = MatchBool (has_part_table image_type) (HasPartTable parts body) (parts ≡ body ∷ [])
+HoldsParts image_type body parts =
+    MatchBool (has_part_table image_type) (HasPartTable parts body) (parts ≡ body ∷ [])
 
 -- The offset in the data of the first part.
 abbrev pub parts_start : ℕ → List (List ℕ) → ℕ

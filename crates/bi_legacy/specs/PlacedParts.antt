@@ -24,10 +24,13 @@ placed_parts_from at (part ∷ parts) =
 abbrev pub placed_parts : LegacyImage → List PlacedPart
 placed_parts image = placed_parts_from (parts_start image.image_type image.parts) image.parts
 
+-- The part is in the file at its offset.
+abbrev pub IsAtOffset : List ℕ → PlacedPart → Type 0
+IsAtOffset file part = slice file part.place (length part.bytes) ≡ part.bytes
+
 -- Each of these parts is in the file at its offset.
 abbrev pub AreAtOffsets : List ℕ → List PlacedPart → Type 0
-AreAtOffsets file parts =
-    AllByRecursion (λ (part : PlacedPart). slice file part.place (length part.bytes) ≡ part.bytes) parts
+AreAtOffsets file parts = AllByRecursion (IsAtOffset file) parts
 
 -- A part that the iterator returned, with its offset.
 abbrev pub placed_part_of : Part → PlacedPart

@@ -13,7 +13,9 @@ use Rattle.bi_legacy.specs.PartRanges.{part_sizes, first_part_offset, part_slice
 -- The parts of the data of an image of this type: those in the part table, or the whole data.
 abbrev pub parts_of_body : ℕ → List ℕ → List (List ℕ)
 parts_of_body image_type body =
-    if has_part_table image_type then part_slices body (4 * (length (table_sizes body) + 1)) (table_sizes body) else body ∷ []
+    if has_part_table image_type
+    then part_slices body (4 * (length (table_sizes body) + 1)) (table_sizes body)
+    else body ∷ []
 
 -- The image that is read at the offsets of the fields, whether or not the file is a legacy image.
 abbrev pub read_image : List ℕ → LegacyImage
@@ -34,4 +36,5 @@ read_image file =
 abbrev pub read_end : List ℕ → ℕ
 read_end file =
     let has_table = has_part_table (slice_index file 30) in
-    parts_end_from (first_part_offset has_table (body_of file)) (part_sizes has_table (body_of file))
+    let body = body_of file in
+    parts_end_from (first_part_offset has_table body) (part_sizes has_table body)

@@ -21,7 +21,8 @@ joined_parts (part ∷ next ∷ later) = padded part ++ joined_parts (next ∷ l
 -- The normal data: for multi and script images the part table and the padded parts, else the one
 -- part.
 abbrev pub normal_body : ℕ → List (List ℕ) → List ℕ
-normal_body image_type parts = if has_part_table image_type then part_table parts ++ joined_parts parts else joined_parts parts
+normal_body image_type parts =
+    if has_part_table image_type then part_table parts ++ joined_parts parts else joined_parts parts
 
 -- The 32 bytes of the name: the name, and then zeros.
 abbrev pub name_field : List ℕ → List ℕ
@@ -30,7 +31,8 @@ name_field name = name ++ replicate (32 - length name) 0
 -- The normal text: the header and the normal data, and nothing after them.
 unfoldable pub legacy_text : LegacyImage → List ℕ
 legacy_text image =
-    let body = normal_body image.image_type image.parts in header image (name_field image.name) body ++ body
+    let body = normal_body image.image_type image.parts in
+    header image (name_field image.name) body ++ body
 
 -- The image is one that some legacy image means: its numbers, its name and its parts fit the
 -- format.

@@ -132,7 +132,8 @@ fn end_within(start: usize, parts: &[&[u8]], most: usize) -> Option<usize>
 fn check_parts(parts: &[&[u8]]) -> Result<(), Fault>
     requires { 64 + 4 * length parts.now < 2 ^ 32 }
     ensures ok { OnOk result (HasNoFault PartPasses (part_checks 0 (bytes_of parts.now))) }
-    ensures fault { IfErr result (IsFirstFault PartPasses part_fault (part_checks 0 (bytes_of parts.now))) }
+    ensures fault { let checks = part_checks 0 (bytes_of parts.now) in
+        IfErr result (IsFirstFault PartPasses part_fault checks) }
 {
     for (index, part) in parts.iter().enumerate() {
         if part.is_empty() {

@@ -20,7 +20,8 @@ pub(crate) const NAME_SIZE: usize = 32;
 /// Checks the header and the data checksum of a file.
 pub(crate) fn check_header(file: &[u8], limits: Limits) -> Result<(), Fault>
     ensures ok { OnOk result (HasNoFault (Passes limits file.now) header_checks) }
-    ensures fault { IfErr result (IsFirstFault (Passes limits file.now) (fault_of limits) header_checks) }
+    ensures fault { IfErr result
+        (IsFirstFault (Passes limits file.now) (fault_of limits) header_checks) }
 {
     if file.len() > limits.file() as usize {
         return refuse(Cause::TooLarge, limits.file());

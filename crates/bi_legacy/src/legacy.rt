@@ -122,7 +122,8 @@ impl<'a> Legacy<'a> {
 fn parse<'a>(file: &'a [u8], limits: Limits) -> Result<Legacy<'a>, Fault>
     ensures no_fault { OnOk result (HasNoLegacyFault limits file.entry.now) }
     ensures image { IfOk result (λ value. value.image ≡ read_image file.entry.now) }
-    ensures unused { IfOk result (λ value. value.unused ≡ length file.entry.now - (64 + read_end file.entry.now)) }
+    ensures unused { let file = file.entry.now in
+        IfOk result (λ value. value.unused ≡ length file - (64 + read_end file)) }
     ensures fault { IfErr result (IsLegacyFault limits file.entry.now) }
 {
     check_header(file, limits)?;

@@ -34,8 +34,8 @@ impl<'a> Model for PartRanges<'a> {
     ghost view = { λ ranges. part_ranges ranges.start
         (drop ranges.index (part_sizes ranges.has_table ranges.body.now)) };
 
-    ghost invariant = { λ ranges.
-        IsRangesState ranges.has_table ranges.body.now ranges.part_count ranges.index ranges.start };
+    ghost invariant = { λ ranges. IsRangesState
+        ranges.has_table ranges.body.now ranges.part_count ranges.index ranges.start };
 }
 
 impl<'a> PartRanges<'a> {

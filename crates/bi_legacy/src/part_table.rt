@@ -48,7 +48,8 @@ fn read_part_table(body: &[u8]) -> Result<PartTable, Fault>
     requires { length body.now < 2 ^ 31 }
     ensures ok { OnOk result (HasNoFault (TablePasses body.now) (table_checks body.now)) }
     ensures table { IfOk result (IsPartTable true body.now) }
-    ensures fault { IfErr result (IsFirstFault (TablePasses body.now) table_fault (table_checks body.now)) }
+    ensures fault { IfErr result
+        (IsFirstFault (TablePasses body.now) table_fault (table_checks body.now)) }
 {
     let Some(part_count) = count_sizes(body) else {
         return refuse(Cause::BadPartTable, HEADER_SIZE as u32);
@@ -79,11 +80,13 @@ fn end_of_parts(body: &[u8], part_count: usize) -> Result<usize, Fault>
     requires count { part_count ≡ length (table_sizes body.now) }
     requires room { 4 * (part_count + 1) ≤ length body.now }
     requires small { length body.now < 2 ^ 31 }
-    ensures fit { OnOk result (FitWithin (length body.now) (4 * (part_count + 1)) (table_sizes body.now)) }
-    ensures end { IfOk result (λ end.
-        (end ≡ parts_end_from (4 * (part_count + 1)) (table_sizes body.now)) × (end ≤ length body.now)) }
-    ensures fault { IfErr result (IsFirstFault (TablePasses body.now) table_fault
-        (part_checks 0 (4 * (part_count + 1)) (table_sizes body.now))) }
+    ensures fit { let sizes = table_sizes body.now in
+        OnOk result (FitWithin (length body.now) (4 * (part_count + 1)) sizes) }
+    ensures end { let sizes = table_sizes body.now in
+        IfOk result (λ end.
+        (end ≡ parts_end_from (4 * (part_count + 1)) sizes) × (end ≤ length body.now)) }
+    ensures fault { let checks = part_checks 0 (4 * (part_count + 1)) (table_sizes body.now) in
+        IfErr result (IsFirstFault (TablePasses body.now) table_fault checks) }
 {
     let mut end = 4 * (part_count + 1);
     let mut index = 0;

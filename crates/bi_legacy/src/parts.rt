@@ -33,8 +33,8 @@ impl<'a> Model for Parts<'a> {
 
     ghost view = { λ parts. map (placed_slice parts.body.now) parts.ranges };
 
-    ghost invariant = { λ parts.
-        AllByRecursion (EndsWithin (length parts.body.now)) parts.ranges × length parts.body.now < 2 ^ 31 };
+    ghost invariant = { λ parts. let size = length parts.body.now in
+        AllByRecursion (EndsWithin size) parts.ranges × size < 2 ^ 31 };
 }
 
 impl<'a> Parts<'a> {
@@ -42,7 +42,8 @@ impl<'a> Parts<'a> {
     pub(crate) fn new(body: &'a [u8], has_table: bool, table: PartTable) -> Parts<'a>
         requires { IsPartTable has_table body.now table }
         ensures { let body = body.entry.now in
-            result ≡ placed_slices body (first_part_offset has_table body) (part_sizes has_table body) }
+            let first = first_part_offset has_table body in
+            result ≡ placed_slices body first (part_sizes has_table body) }
     {
         Parts {
             body,

@@ -55,7 +55,8 @@ fn data_checksum(image_type: u8, parts: &[&[u8]]) -> u32
 fn checksum_to_write(fields: Fields<'_>, summary: DataSummary) -> u32
     requires { length fields.name.now ≤ 32 }
     ensures { let field = name_field fields.entry.name.now in
-        result ≡ crc32 (header_cells 0 summary.size summary.checksum (image_of fields.entry []) field) }
+        let image = image_of fields.entry [] in
+        result ≡ crc32 (header_cells 0 summary.size summary.checksum image field) }
 {
     let mut sum = Crc32::new();
     put_header(fields, 0, summary, &mut sum).unwrap();
