@@ -6,3 +6,4 @@ pub mod SinkLaws
 pub mod InputLaws
 pub mod BufferLaws
 pub mod TransferLaws
+pub mod NulLaws

@@ -13,3 +13,4 @@ pub mod VecSinks
 pub mod WriteSinks
 pub mod BufferedSinks
 pub mod Crc
+pub mod Strings

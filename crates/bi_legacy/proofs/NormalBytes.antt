@@ -6,7 +6,7 @@ use Rattle.bi_legacy.specs.Meaning.{LegacyImage, FitsFields, has_part_table}
 use Rattle.bi_legacy.specs.Parts.{part_table}
 use Rattle.bi_legacy.specs.Text.{padded, joined_parts, name_field, legacy_text, IsLegacyImage}
 use Rattle.bi_base.proofs.ByteLists.{AreBytes-none, AreBytes-cons, AreBytes-append, AreBytes-zeros, AreBytes-cell}
-use Rattle.bi_legacy.proofs.SizeCells.{size_list_is}
+use Rattle.bi_legacy.proofs.TableCells.{part_table-cells}
 
 -- The normal text is bytes.
 
@@ -17,11 +17,11 @@ cells_bytes (number ∷ numbers) =
     AreBytes-append (cell number) (flat_map cell numbers) (AreBytes-cell number) (cells_bytes numbers)
 
 -- A list of sizes is bytes.
-size_list_bytes : (parts : List (List ℕ)) → AreBytes (part_table parts)
-size_list_bytes parts =
-    rw (size_list_is parts) (AreBytes-append (flat_map cell (map length parts)) (cell 0) (cells_bytes (map length parts)) (AreBytes-cell 0))
+part_table-bytes : (parts : List (List ℕ)) → AreBytes (part_table parts)
+part_table-bytes parts =
+    rw (part_table-cells parts) (AreBytes-append (flat_map cell (map length parts)) (cell 0) (cells_bytes (map length parts)) (AreBytes-cell 0))
 
--- Parts of bytes, one behind another, are bytes.
+-- Parts of bytes, one after another, are bytes.
 joined_bytes : (parts : List (List ℕ)) → AllByRecursion AreBytes parts → AreBytes (joined_parts parts)
 joined_bytes [] are = AreBytes-none
 joined_bytes (part ∷ []) are = are.0
@@ -29,8 +29,8 @@ joined_bytes (part ∷ next ∷ later) are =
     AreBytes-append (padded part) (joined_parts (next ∷ later)) (AreBytes-append part _ are.0 (AreBytes-zeros _)) (joined_bytes (next ∷ later) are.1)
 
 -- The normal data of parts of bytes, with or without a list of sizes, is bytes.
-kind_bytes : (is_listed : Bool) (parts : List (List ℕ)) → AllByRecursion AreBytes parts → AreBytes (if is_listed then part_table parts ++ joined_parts parts else joined_parts parts)
-kind_bytes true parts are = AreBytes-append (part_table parts) (joined_parts parts) (size_list_bytes parts) (joined_bytes parts are)
+kind_bytes : (has_table : Bool) (parts : List (List ℕ)) → AllByRecursion AreBytes parts → AreBytes (if has_table then part_table parts ++ joined_parts parts else joined_parts parts)
+kind_bytes true parts are = AreBytes-append (part_table parts) (joined_parts parts) (part_table-bytes parts) (joined_bytes parts are)
 kind_bytes false parts are = joined_bytes parts are
 
 -- The codes of an image and its name's field are bytes.

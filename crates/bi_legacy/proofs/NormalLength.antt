@@ -6,8 +6,8 @@ use Rattle.bi_legacy.specs.Parts.{part_table, HasPartTable, HoldsParts, parts_en
 use Rattle.bi_legacy.specs.Text.{padded, joined_parts, normal_body, name_field, legacy_text}
 use Rattle.bi_legacy.specs.File.{header}
 use Rattle.bi_legacy.proofs.HeaderReads.{length-header}
-use Rattle.bi_legacy.proofs.HeldParts.{size_list_aligned, held_stands}
-use Rattle.bi_legacy.proofs.Standing.{StandFrom, up4-up4}
+use Rattle.bi_legacy.proofs.TableParts.{part_table-aligned, table_parts_at}
+use Rattle.bi_legacy.proofs.PartOffsets.{ArePartsAt, up4-up4}
 
 -- How long the normal data and the normal text are.
 
@@ -21,7 +21,7 @@ length-padded part =
 parts_end_from-up4 : (end size : ℕ) (sizes : List ℕ) → parts_end_from (up4 end) (size ∷ sizes) ≡ parts_end_from end (size ∷ sizes)
 parts_end_from-up4 end size sizes = ap (λ at. parts_end_from (at + size) sizes) (up4-up4 end)
 
--- The parts one behind another end where the last of them ends.
+-- The parts one after another end where the last of them ends.
 pub length-joined_parts : (at : ℕ) (parts : List (List ℕ)) → up4 at ≡ at → at + length (joined_parts parts) ≡ parts_end_from at (map length parts)
 length-joined_parts at [] aligned = omega arith
 length-joined_parts at (part ∷ []) aligned = omega (arith, aligned)
@@ -34,9 +34,9 @@ length-joined_parts at (part ∷ next ∷ later) aligned =
     ∙ ap (λ n. parts_end_from (n + length part) (map length (next ∷ later))) (sym aligned)
 
 -- The normal data of some parts, with or without a list of sizes, ends where the last part ends.
-normal_end : (is_listed : Bool) (parts : List (List ℕ)) → length (if is_listed then part_table parts ++ joined_parts parts else joined_parts parts) ≡ parts_end_from (if is_listed then length (part_table parts) else 0) (map length parts)
+normal_end : (has_table : Bool) (parts : List (List ℕ)) → length (if has_table then part_table parts ++ joined_parts parts else joined_parts parts) ≡ parts_end_from (if has_table then length (part_table parts) else 0) (map length parts)
 normal_end true parts =
-    length-append (part_table parts) (joined_parts parts) ∙ length-joined_parts (length (part_table parts)) parts (size_list_aligned parts)
+    length-append (part_table parts) (joined_parts parts) ∙ length-joined_parts (length (part_table parts)) parts (part_table-aligned parts)
 normal_end false parts = omega (arith, length-joined_parts 0 parts (omega arith))
 
 -- The normal data ends where the last part ends, also where an image cannot have such parts.
@@ -44,20 +44,20 @@ pub length-normal_body : (image_type : ℕ) (parts : List (List ℕ)) → length
 length-normal_body image_type parts = normal_end (has_part_table image_type) parts
 
 -- Parts that stand in data, the first at the next multiple of four from an end within it, end within it.
-end_within : (end : ℕ) (parts : List (List ℕ)) (body : List ℕ) → end ≤ length body → StandFrom (up4 end) parts body → parts_end_from end (map length parts) ≤ length body
+end_within : (end : ℕ) (parts : List (List ℕ)) (body : List ℕ) → end ≤ length body → ArePartsAt (up4 end) parts body → parts_end_from end (map length parts) ≤ length body
 end_within end [] body starts at_offsets = starts
 end_within end (part ∷ later) body starts at_offsets = end_within (up4 end + length part) later body at_offsets.0 at_offsets.2
 
 -- The last part ends within data of a kind with or without a list that holds the parts.
-held_end : (is_listed : Bool) (parts : List (List ℕ)) (body : List ℕ) → MatchBool is_listed (HasPartTable parts body) (parts ≡ body ∷ []) → parts_end_from (if is_listed then length (part_table parts) else 0) (map length parts) ≤ length body
-held_end true parts body holds =
-    end_within (length (part_table parts)) parts body (omega (arith, ap length holds.list, length-append (part_table parts) holds.behind))
-    (subst (λ (at : ℕ). StandFrom at parts body) (sym (size_list_aligned parts)) (held_stands parts body holds))
-held_end false parts body holds = rw holds (omega arith)
+body_parts_end : (has_table : Bool) (parts : List (List ℕ)) (body : List ℕ) → MatchBool has_table (HasPartTable parts body) (parts ≡ body ∷ []) → parts_end_from (if has_table then length (part_table parts) else 0) (map length parts) ≤ length body
+body_parts_end true parts body holds =
+    end_within (length (part_table parts)) parts body (omega (arith, ap length holds.body_is, length-append (part_table parts) holds.rest))
+    (subst (λ (at : ℕ). ArePartsAt at parts body) (sym (part_table-aligned parts)) (table_parts_at parts body holds))
+body_parts_end false parts body holds = rw holds (omega arith)
 
 -- The last part ends within the data that holds the parts.
 pub parts_end_in : (image_type : ℕ) (parts : List (List ℕ)) (body : List ℕ) → HoldsParts image_type body parts → parts_end image_type parts ≤ length body
-parts_end_in image_type parts body holds = held_end (has_part_table image_type) parts body holds
+parts_end_in image_type parts body holds = body_parts_end (has_part_table image_type) parts body holds
 
 -- The name's field has 32 bytes.
 pub length-name_field : (name : List ℕ) → length name ≤ 32 → length (name_field name) ≡ 32

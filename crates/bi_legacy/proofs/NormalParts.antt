@@ -10,25 +10,25 @@ use Rattle.bi_legacy.proofs.NormalLength.{length-padded}
 -- The normal data holds the parts that it is made of.
 
 -- Joined parts hold the parts in turn.
-joined_turn : (parts : List (List ℕ)) → ArePaddedParts parts (joined_parts parts)
-joined_turn [] = tt
-joined_turn (part ∷ []) = ([], sym (append-nil part))
-joined_turn (part ∷ next ∷ later) =
+joined_parts-padded : (parts : List (List ℕ)) → ArePaddedParts parts (joined_parts parts)
+joined_parts-padded [] = tt
+joined_parts-padded (part ∷ []) = ([], sym (append-nil part))
+joined_parts-padded (part ∷ next ∷ later) =
     let zeros : List ℕ = replicate (up4 (length part) - length part) 0 in (
       zeros,
       joined_parts (next ∷ later),
       append_assoc part zeros (joined_parts (next ∷ later)),
       sym (length-append part zeros) ∙ length-padded part,
-      joined_turn (next ∷ later),
+      joined_parts-padded (next ∷ later),
     )
 
 -- The normal data of some parts, with or without a list of sizes, holds them.
-normal_holds : (is_listed : Bool) (parts : List (List ℕ)) → MatchBool is_listed (AllByRecursion IsTablePart parts) (length parts ≡ 1) → let body = if is_listed then part_table parts ++ joined_parts parts else joined_parts parts in MatchBool is_listed (HasPartTable parts body) (parts ≡ body ∷ [])
+normal_holds : (has_table : Bool) (parts : List (List ℕ)) → MatchBool has_table (AllByRecursion IsTablePart parts) (length parts ≡ 1) → let body = if has_table then part_table parts ++ joined_parts parts else joined_parts parts in MatchBool has_table (HasPartTable parts body) (parts ≡ body ∷ [])
 normal_holds true parts are = record {
-  behind = joined_parts parts;
-  list = refl;
-  listed = are;
-  padded_parts = joined_turn parts;
+  rest = joined_parts parts;
+  body_is = refl;
+  are_table_parts = are;
+  padded_parts = joined_parts-padded parts;
 }
 normal_holds false [] are = absurd (omega arith)
 normal_holds false (part ∷ []) are = refl

@@ -1,6 +1,7 @@
 use Rattle.std.proofs.Common.{◌≡◌, ◌-◌, ℕ, List, ◌++◌, [], length, replicate, refl, sym, ap, arith, zero, suc, append-nil}
 use Rattle.bi_base.specs.Limits.{Bounds}
-use Rattle.bi_legacy.specs.File.{header, IsEmptyOrBeginsWithNul, HoldsName, IsLegacyFile, LegacyMeans}
+use Rattle.bi_base.specs.Strings.{IsEmptyOrBeginsWithNul}
+use Rattle.bi_legacy.specs.File.{header, HoldsName, IsLegacyFile, LegacyMeans}
 use Rattle.bi_legacy.specs.Meaning.{LegacyImage, IsImageName}
 use Rattle.bi_legacy.specs.Text.{normal_body, name_field, legacy_text, IsLegacyImage}
 use Rattle.bi_legacy.proofs.ImageOfFile.{image_of_file, text_no_longer}
@@ -12,16 +13,16 @@ use Rattle.bi_legacy.proofs.OneMeaning.{one_meaning}
 -- The normal text is a legacy image that means what it was made of.
 
 -- Zeros are nothing, or a zero and then anything.
-zeros_zero_led : (n : ℕ) → IsEmptyOrBeginsWithNul (replicate n 0)
-zeros_zero_led zero = tt
-zeros_zero_led (suc n) = refl
+zeros_begin_with_nul : (n : ℕ) → IsEmptyOrBeginsWithNul (replicate n 0)
+zeros_begin_with_nul zero = tt
+zeros_begin_with_nul (suc n) = refl
 
 -- The name's normal field holds the name.
 name_field_holds : (name : List ℕ) → IsImageName name → HoldsName (name_field name) name
 name_field_holds name is = record {
   padding = replicate (32 - length name) 0;
-  spelled = refl;
-  unused = zeros_zero_led (32 - length name);
+  field_is = refl;
+  padding_is = zeros_begin_with_nul (32 - length name);
   whole = length-name_field name is.short;
   is_name = is;
 }
@@ -35,7 +36,7 @@ text_means image is =
       field = name_field image.name;
       body = body;
       rest = [];
-      spelled = ap (λ list. header image (name_field image.name) body ++ list) (sym (append-nil body));
+      file_is = ap (λ list. header image (name_field image.name) body ++ list) (sym (append-nil body));
       ranges = is.ranges;
       name = name_field_holds image.name is.name;
       size = is.size;

@@ -4,10 +4,12 @@ pub mod Parts
 pub mod PlacedParts
 pub mod File
 pub mod Text
-pub mod Vectors
+pub mod KnownImages
+pub mod PartTables
+pub mod PartRanges
 pub mod Faults
 pub mod Reading
 pub mod Emitting
 pub mod NormalForm
 pub mod Laws
-pub mod ReaderState
+pub mod ReadImage

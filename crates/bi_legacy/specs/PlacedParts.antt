@@ -1,35 +1,37 @@
-use Rattle.std.specs.Prelude.{ℕ, ◌+◌, ◌≡◌, List, [], ◌∷◌, length, Option, MatchOption}
+use Rattle.std.specs.Prelude.{ℕ, ◌+◌, ◌≡◌, List, [], ◌∷◌, length}
 use Rattle.std.specs.List.{AllByRecursion}
 use Rattle.bi_base.specs.Cells.{up4, slice}
 use Rattle.bi_legacy.specs.declared.parts.Part.{Part}
 use Rattle.bi_legacy.specs.Meaning.{LegacyImage}
-use Rattle.bi_legacy.specs.Parts.{first_part_place}
+use Rattle.bi_legacy.specs.Parts.{parts_start}
 
--- Where the parts of an image stand in its file (U-Boot, include/image.h and boot/image.c: multi-file images).
+-- The parts of an image with their offsets in its file (U-Boot, include/image.h and boot/image.c:
+-- multi-file images).
 
 -- A part, and the offset of its first byte in the file.
 pub record PlacedPart : Type 0 where
   pub place : ℕ
   pub bytes : List ℕ
 
--- These parts with their places, the first at `at` in the data, which stands behind the header of 64 bytes.
-abbrev pub parts_placed_from : ℕ → List (List ℕ) → List PlacedPart
-parts_placed_from at [] = []
-parts_placed_from at (part ∷ parts) =
-    record { place = 64 + at; bytes = part } ∷ parts_placed_from (up4 (at + length part)) parts
+-- These parts with their offsets in the file. The first is at `at` in the data, which follows the
+-- header of 64 bytes.
+abbrev pub placed_parts_from : ℕ → List (List ℕ) → List PlacedPart
+placed_parts_from at [] = []
+placed_parts_from at (part ∷ parts) =
+    record { place = 64 + at; bytes = part } ∷ placed_parts_from (up4 (at + length part)) parts
 
--- The parts of an image with their places.
+-- The parts of an image with their offsets.
 abbrev pub placed_parts : LegacyImage → List PlacedPart
-placed_parts image = parts_placed_from (first_part_place image.image_type image.parts) image.parts
+placed_parts image = placed_parts_from (parts_start image.image_type image.parts) image.parts
 
--- Each of these pieces stands in the file at its place.
+-- The part is in the file at its offset.
+abbrev pub IsAtOffset : List ℕ → PlacedPart → Type 0
+IsAtOffset file part = slice file part.place (length part.bytes) ≡ part.bytes
+
+-- Each of these parts is in the file at its offset.
 abbrev pub AreAtOffsets : List ℕ → List PlacedPart → Type 0
-AreAtOffsets file part_slices = AllByRecursion (λ (placed : PlacedPart). slice file placed.place (length placed.bytes) ≡ placed.bytes) part_slices
+AreAtOffsets file parts = AllByRecursion (IsAtOffset file) parts
 
--- A part that was handed out, as contracts see it.
+-- A part that the iterator returned, with its offset.
 abbrev pub placed_part_of : Part → PlacedPart
 placed_part_of part = record { place = part.place; bytes = part.bytes.now }
-
--- A call that hands out the first of the parts that are left, and leaves the others; None where none are left.
-abbrev pub TakesFirstPart : List PlacedPart → Option Part → List PlacedPart → Type 0
-TakesFirstPart old result new = MatchOption result ((old ≡ []) × (new ≡ [])) (λ part. old ≡ placed_part_of part ∷ new)

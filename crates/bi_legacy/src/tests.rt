@@ -152,7 +152,7 @@ fn bytes_without_meaning_are_not_kept(rt: HostRuntime) -> Result<(), Fail> {
         &name,
         b"123456789",
     )?;
-    file.extend_from_slice(b"behind!")?;
+    file.extend_from_slice(b"after!")?;
     let image = Legacy::read(&file, ample())?;
     assert_eq!(rt; image.fields(), fields(2, b"k"));
     assert_eq!(rt; image.unused(), 7);

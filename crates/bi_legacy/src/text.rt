@@ -1,11 +1,11 @@
-//! The normal text of an image, header and data, put to a sink.
+//! Writing the normal text of an image, header and data, to a sink.
 
 ghost use Rattle.std.specs.Prelude.{◌≡◌, ◌^◌, ◌<◌, ◌≤◌, [], length};
 ghost use Rattle.bi_base.specs.Crc.{crc32};
 ghost use Rattle.bi_base.specs.Sinks.{Wrote};
 ghost use Rattle.bi_legacy.specs.File.{header_cells};
 ghost use Rattle.bi_legacy.specs.Parts.{part_table};
-ghost use Rattle.bi_legacy.specs.Reading.{image_of};
+ghost use Rattle.bi_legacy.specs.Meaning.{image_of};
 ghost use Rattle.bi_legacy.specs.Text.{padded, joined_parts, normal_body, name_field, legacy_text};
 ghost use Rattle.bi_legacy.specs.Emitting.{bytes_of, image_of_parts};
 
@@ -13,14 +13,15 @@ use crate::fields::{Fields, has_part_table};
 use crate::header::{MAGIC, NAME_SIZE};
 use bi_base::{Crc32, Error, Sink, put_cell, put_cells};
 
-/// What a header tells of the data: its length in bytes, and its CRC-32.
+/// The size of the data in bytes, and its CRC-32.
 #[derive(Clone, Copy)]
 struct DataSummary {
     size: u32,
     checksum: u32,
 }
 
-/// Appends the normal text of an image with these fields and parts, whose data has this size.
+/// Appends the normal text of an image with these fields and parts, whose normal data has this
+/// size.
 pub(crate) fn put_image<S: Sink>(
     fields: Fields<'_>,
     parts: &[&[u8]],
@@ -36,7 +37,7 @@ pub(crate) fn put_image<S: Sink>(
         size: data_size,
         checksum: data_checksum(fields.image_type, parts),
     };
-    put_header(fields, header_checksum(fields, summary), summary, sink)?;
+    put_header(fields, checksum_to_write(fields, summary), summary, sink)?;
     put_data(fields.image_type, parts, sink)
 }
 
@@ -50,18 +51,19 @@ fn data_checksum(image_type: u8, parts: &[&[u8]]) -> u32
     sum.finish()
 }
 
-/// The CRC-32 of the header with zeros in the place of its checksum.
-fn header_checksum(fields: Fields<'_>, summary: DataSummary) -> u32
+/// The header checksum to be written: the CRC-32 of the header with zeros in place of its checksum.
+fn checksum_to_write(fields: Fields<'_>, summary: DataSummary) -> u32
     requires { length fields.name.now ≤ 32 }
     ensures { let field = name_field fields.entry.name.now in
-        result ≡ crc32 (header_cells 0 summary.size summary.checksum (image_of fields.entry []) field) }
+        let image = image_of fields.entry [] in
+        result ≡ crc32 (header_cells 0 summary.size summary.checksum image field) }
 {
     let mut sum = Crc32::new();
     put_header(fields, 0, summary, &mut sum).unwrap();
     sum.finish()
 }
 
-/// Appends a header with these fields, and with this number as its checksum.
+/// Appends a header with these fields and this header checksum.
 fn put_header<S: Sink>(
     fields: Fields<'_>,
     checksum: u32,
@@ -109,13 +111,13 @@ fn put_data<S: Sink>(image_type: u8, parts: &[&[u8]], sink: &mut S) -> Result<()
         Wrote S.appends S.fails sink.old body result sink.new }
 {
     if has_part_table(image_type) {
-        put_sizes(parts, sink)?;
+        put_part_table(parts, sink)?;
     }
     put_joined_parts(parts, sink)
 }
 
-/// Appends the list of the parts' sizes.
-fn put_sizes<S: Sink>(parts: &[&[u8]], sink: &mut S) -> Result<(), Error>
+/// Appends the part table.
+fn put_part_table<S: Sink>(parts: &[&[u8]], sink: &mut S) -> Result<(), Error>
     requires { length (joined_parts (bytes_of parts.now)) < 2 ^ 32 }
     ensures { Wrote S.appends S.fails sink.old (part_table (bytes_of parts.now)) result sink.new }
 {
@@ -125,7 +127,7 @@ fn put_sizes<S: Sink>(parts: &[&[u8]], sink: &mut S) -> Result<(), Error>
     put_cell(sink, 0)
 }
 
-/// Appends the parts, each but the last filled up to a multiple of four bytes.
+/// Appends the parts, each but the last padded with zeros to a multiple of four bytes.
 fn put_joined_parts<S: Sink>(parts: &[&[u8]], sink: &mut S) -> Result<(), Error>
     ensures { Wrote S.appends S.fails sink.old (joined_parts (bytes_of parts.now)) result sink.new }
 {

@@ -3,8 +3,8 @@ use Rattle.std.specs.Borrow.{Bor}
 use Rattle.bi_base.specs.Cells.{up4}
 use Rattle.bi_legacy.specs.Emitting.{bytes_of}
 use Rattle.bi_legacy.specs.Parts.{parts_end_from}
-use Rattle.bi_legacy.proofs.EmitWalk.{parts_end_from-grows, drop-sizes_of}
-use Rattle.bi_legacy.proofs.SizeWalk.{parts_end_from-one}
+use Rattle.bi_legacy.proofs.EmitParts.{parts_end_from-grows, drop-sizes_of}
+use Rattle.bi_legacy.proofs.PartWalk.{parts_end_from-one}
 use Rattle.bi_legacy.proofs.emitting.end_within.Goals as goal
 
 pub returns-then-end-most : goal.returns-then-end-most

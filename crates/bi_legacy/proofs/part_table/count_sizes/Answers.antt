@@ -1,7 +1,7 @@
 use Rattle.std.proofs.Common.{◌≤◌, ◌+◌, ◌*◌, ◌∙◌, sym, refl, length, arith, inl, inr}
 use Rattle.std.proofs.lemmas.Bool.{cases_lt}
 use borrow.Author.Count.{below_more}
-use Rattle.bi_legacy.proofs.Sizes.{length-cells, get_or-cells, listed-count}
+use Rattle.bi_legacy.proofs.TableSizes.{length-cells, get_or-cells, length-table_sizes}
 use Rattle.bi_legacy.proofs.part_table.count_sizes.Goals as goal
 
 pub returns-then-size-eq0-clause-ends : goal.returns-then-size-eq0-clause-ends
@@ -14,7 +14,7 @@ returns-then-size-eq0-clause-ends c =
 
 pub returns-then-size-eq0-clause-count : goal.returns-then-size-eq0-clause-count
 returns-then-size-eq0-clause-count c =
-    listed-count c.args.body.now c.loop-size.count c.loop-size.invariant.1 (omega (arith, c.in-Some.ensures.within.0 refl))
+    length-table_sizes c.args.body.now c.loop-size.count c.loop-size.invariant.1 (omega (arith, c.in-Some.ensures.within.0 refl))
     (sym c.in-Some.ensures.value ∙ c.if-size-eq0.true)
 
 pub loop-size-preserved : goal.loop-size-preserved

@@ -1,5 +1,5 @@
 use Rattle.std.proofs.Common.{◌≢◌, ℕ, ◌*◌, ◌<◌, ◌≤◌, length, get_or, ◌-◌}
-use Rattle.bi_legacy.specs.Faults.{cells_of}
+use Rattle.bi_legacy.specs.PartTables.{cells_of}
 use Rattle.bi_legacy.proofs.part_table.count_sizes.Given as goal
 
 abbrev pub invariant-loop-size : goal.invariant-loop-size

@@ -1,9 +1,9 @@
 use Rattle.std.proofs.Common.{[], ◌∷◌, subst}
 use Rattle.bi_base.specs.Sinks.{Wrote}
 use Rattle.bi_base.proofs.SinkLaws.{passed_on, wrote_after}
-use Rattle.bi_legacy.specs.Reading.{image_of}
+use Rattle.bi_legacy.specs.Meaning.{image_of}
 use Rattle.bi_legacy.specs.Text.{name_field}
-use Rattle.bi_legacy.proofs.TextPuts.{header_pieces}
+use Rattle.bi_legacy.proofs.TextPieces.{header_pieces}
 use Rattle.bi_legacy.proofs.text.put_header.Goals as goal
 
 pub returns-in_err-put_cells : goal.returns-in_err-put_cells

@@ -3,7 +3,7 @@ use Rattle.std.specs.Borrow.{Bor}
 use Rattle.bi_base.specs.Sinks.{Wrote}
 use Rattle.bi_base.proofs.SinkLaws.{failed_within, passed_on, wrote_after}
 use Rattle.bi_legacy.specs.Text.{padded}
-use Rattle.bi_legacy.proofs.TextPuts.{joined_parts-bytes_of}
+use Rattle.bi_legacy.proofs.TextPieces.{joined_parts-bytes_of}
 use Rattle.bi_legacy.proofs.text.put_joined_parts.Goals as goal
 
 pub returns-in_err-put_padded : goal.returns-in_err-put_padded

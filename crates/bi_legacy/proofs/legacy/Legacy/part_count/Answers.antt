@@ -1,9 +1,9 @@
 use Rattle.std.proofs.Common.{◌∙◌, ap, sym, length}
 use Rattle.bi_legacy.specs.Reading.{ParsedImage}
-use Rattle.bi_legacy.proofs.PartPlaces.{length-parts_of_body}
+use Rattle.bi_legacy.proofs.PlacedPartLists.{length-parts_of_body}
 use Rattle.bi_legacy.proofs.legacy.Legacy.part_count.Goals as goal
 
 pub returns : goal.returns
 returns c =
-    c.self.invariant.counted ∙ sym (length-parts_of_body c.self.inside.fields.image_type c.self.inside.body.now)
+    c.self.invariant.count ∙ sym (length-parts_of_body c.self.inside.fields.image_type c.self.inside.body.now)
     ∙ ap (λ (parsed : ParsedImage). length parsed.image.parts) c.self.view_is

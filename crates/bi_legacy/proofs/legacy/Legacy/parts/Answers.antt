@@ -1,17 +1,17 @@
 use Rattle.std.proofs.Common.{◌∙◌, ap, map}
-use Rattle.bi_legacy.specs.Parts.{first_part_place}
+use Rattle.bi_legacy.specs.Parts.{parts_start}
 use Rattle.bi_legacy.specs.PlacedParts.{PlacedPart, placed_parts}
 use Rattle.bi_legacy.specs.Reading.{ParsedImage}
-use Rattle.bi_legacy.specs.ReaderState.{placed_slices, first_part_offset, part_sizes}
+use Rattle.bi_legacy.specs.PartRanges.{placed_slices, first_part_offset, part_sizes}
 use Rattle.bi_legacy.proofs.NthPart.{map-bytes}
-use Rattle.bi_legacy.proofs.PartPlaces.{placed_is}
+use Rattle.bi_legacy.proofs.PlacedPartLists.{placed_is}
 use Rattle.bi_legacy.proofs.legacy.Legacy.parts.Goals as goal
 
 pub returns-clause-placed : goal.returns-clause-placed
 returns-clause-placed c =
     let body = c.self.inside.body.now in
     c.new.ensures
-    ∙ ap (λ listed. placed_slices body (first_part_offset listed body) (part_sizes listed body)) c.has_part_table.ensures
+    ∙ ap (λ has_table. placed_slices body (first_part_offset has_table body) (part_sizes has_table body)) c.has_part_table.ensures
     ∙ placed_is c.self.inside.fields.image_type body c.self.invariant.fit
     ∙ ap (λ (parsed : ParsedImage). placed_parts parsed.image) c.self.view_is
 
@@ -19,4 +19,4 @@ pub returns-clause-bytes : goal.returns-clause-bytes
 returns-clause-bytes c =
     let image = c.args.self.now.image in
     ap (map (λ (placed : PlacedPart). placed.bytes)) (returns-clause-placed c)
-    ∙ map-bytes (first_part_place image.image_type image.parts) image.parts
+    ∙ map-bytes (parts_start image.image_type image.parts) image.parts
