@@ -9,3 +9,4 @@ pub mod CrcSink
 pub mod WriteSink
 pub mod Writing
 pub mod Crc
+pub mod CrcTables
