@@ -1,10 +1,10 @@
 //! The verdict on a hash node.
-#![tactic(auto, unfolding(crate::specs::Verdicts::text_of, crate::specs::Verdicts::verdict_of))]
+#![tactic(auto, unfolding(crate::specs::Verdicts::text_before_nul, crate::specs::Verdicts::verdict_of))]
 
 ghost use Rattle.std.specs.Prelude.{◌≡◌, ◌==◌, ◌↔◌, IsTrue, position};
 ghost use Rattle.std.specs.Option.{option_copied};
 ghost use Rattle.bi_hash.specs.Digests.{digest_of};
-ghost use Rattle.bi_hash.specs.Verdicts.{text_of, verdict_of};
+ghost use Rattle.bi_hash.specs.Verdicts.{text_before_nul, verdict_of};
 
 use crate::algo::Algo;
 use crate::verdicts::Verdict;
@@ -41,7 +41,7 @@ pub fn verdict(algo: Option<&[u8]>, value: Option<&[u8]>, payload: Option<&[u8]>
 
 /// The text of a property: the bytes before its first zero. None exactly where it has no zero.
 fn text(property: &[u8]) -> Option<&[u8]>
-    ensures { option_copied result ≡ text_of property.now }
+    ensures { option_copied result ≡ text_before_nul property.now }
 {
     let end = first_zero(property)?;
     Some(&property[..end])
