@@ -1,10 +1,10 @@
 //! The algorithms of hash nodes.
-#![tactic(auto, unfolding(crate::specs::Algos::algo_named, crate::specs::Digests::digest_of, bi_base::specs::Cells::cell))]
+#![tactic(auto, unfolding(crate::specs::Algos::find_algorithm, crate::specs::Digests::digest_of))]
 
 ghost use Rattle.std.specs.Prelude.{◌≡◌, ◌↔◌, ◌-◌, ◌≤◌, ◌++◌, length, replicate};
 ghost use Rattle.std.specs.List.{find};
 ghost use Rattle.std.specs.Str.{bytes_eq};
-ghost use Rattle.bi_hash.specs.Algos.{algorithm_name, algo_named};
+ghost use Rattle.bi_hash.specs.Algos.{algorithm_name, find_algorithm};
 ghost use Rattle.bi_hash.specs.Digests.{digest_of, digest_size};
 
 use crate::pieces::digest_in_pieces;
@@ -44,18 +44,18 @@ impl Algo {
         Algo::Sha512,
     ];
 
-    /// The algorithm of this name. None exactly where no algorithm has it.
+    /// Finds the algorithm with exactly this name. None where no algorithm has it.
     pub fn from_name(name: &[u8]) -> Option<Algo>
         ensures named { (algo : Algo) → (result ≡ Some algo) ↔ (name.now ≡ algorithm_name algo) }
-        ensures value { result ≡ algo_named name.now }
+        ensures value { result ≡ find_algorithm name.now }
     {
         find_by_name(&Algo::ALL, name)
     }
 
-    /// The name of the algorithm, as the property `algo` of a hash node has it.
+    /// The name of the algorithm in the property `algo` of a hash node.
     pub fn name(self) -> &'static str
         ensures name { result.now ≡ algorithm_name self }
-        ensures inverse { algo_named result.now ≡ Some self }
+        ensures inverse { find_algorithm result.now ≡ Some self }
     {
         match self {
             Algo::Crc32 => "crc32",
@@ -67,8 +67,8 @@ impl Algo {
         }
     }
 
-    /// Writes the digest of a payload to the first bytes of `out`, and zeros after it. Returns the digest's length in
-    /// bytes: 4, 16, 20, 32, 48 or 64. The payload may be of any length.
+    /// Writes the digest of a payload to the first bytes of `out`, and zeros after it. Returns the
+    /// length of the digest in bytes: 4, 16, 20, 32, 48 or 64.
     pub fn digest(self, payload: &[u8], out: &mut [u8; 64]) -> usize
         ensures length { result ≡ length (digest_of self payload.now) }
         ensures size { result ≡ digest_size self }
@@ -85,7 +85,7 @@ impl Algo {
     }
 }
 
-/// The first of these algorithms that has this name.
+/// Finds the first of these algorithms that has this name.
 fn find_by_name(algos: &[Algo], name: &[u8]) -> Option<Algo>
     ensures { result ≡ find (λ algo. bytes_eq (algorithm_name algo) name.now) algos.now }
 {

@@ -1,4 +1,4 @@
-//! Digests of payloads that are taken in pieces.
+//! Digests that are computed piece by piece.
 
 ghost use Rattle.std.specs.Prelude.{◌≡◌, ◌-◌, ◌≤◌, ◌++◌, ℕ, List, [], length, replicate};
 ghost use Rattle.bi_base.specs.Cells.{cell};
@@ -14,10 +14,10 @@ use md5::{Digest as _, Md5};
 use sha1::Sha1;
 use sha2::{Digest as _, Sha256, Sha384, Sha512};
 
-/// The most bytes that an algorithm is given at once.
+/// The size of a piece in bytes. The last piece may be shorter.
 const PIECE: usize = 4096;
 
-/// A running digest, for a message that comes in pieces.
+/// An algorithm in the middle of a message, which comes in pieces.
 pub(crate) trait Hasher {
     // The message so far.
     ghost holds: { Self → List ℕ → Type 0 };
@@ -25,23 +25,26 @@ pub(crate) trait Hasher {
     // The digest of a message.
     ghost digest_of: { List ℕ → List ℕ };
 
-    /// The hasher of the empty message.
+    /// Begins with the empty message.
     fn start() -> Self
         ensures { holds result [] };
 
     /// Adds a piece to the message.
     fn add(&mut self, piece: &[u8])
-        ensures { (message : List ℕ) → holds self.old message → holds self.new (message ++ piece.now) };
+        ensures { (message : List ℕ) → holds self.old message →
+            holds self.new (message ++ piece.now) };
 
-    /// Writes the digest of the message to the first bytes of `out`, and zeros after it. Returns the digest's length.
+    /// Writes the digest of the message to the first bytes of `out`, and zeros after it. Returns
+    /// the length of the digest in bytes.
     fn finish(self, out: &mut [u8; 64]) -> usize
-        ensures length { (message : List ℕ) → holds self message → result ≡ length (digest_of message) }
+        ensures length { (message : List ℕ) → holds self message →
+            result ≡ length (digest_of message) }
         ensures digest { (message : List ℕ) → holds self message →
             out.new ≡ digest_of message ++ replicate (64 - result) 0 };
 }
 
-/// Writes the digest of a payload to the first bytes of `out`, and zeros after it. Returns the digest's length. The
-/// algorithm is given the payload in pieces of 4,096 bytes.
+/// Writes the digest of a payload to the first bytes of `out`, and zeros after it. Returns the
+/// length of the digest in bytes. The algorithm takes the payload in pieces of at most 4,096 bytes.
 pub(crate) fn digest_in_pieces<H: Hasher>(payload: &[u8], out: &mut [u8; 64]) -> usize
     ensures length { result ≡ length (H.digest_of payload.now) }
     ensures digest { out.new ≡ H.digest_of payload.now ++ replicate (64 - result) 0 }
@@ -164,7 +167,7 @@ impl Hasher for Sha512 {
     }
 }
 
-/// Writes a digest to the first bytes of `out`, and zeros after it. Returns the digest's length.
+/// Writes a digest to the first bytes of `out`, and zeros after it. Returns its length in bytes.
 fn write_digest(digest: &[u8], out: &mut [u8; 64]) -> usize
     requires { length digest.now ≤ 64 }
     ensures length { result ≡ length digest.now }

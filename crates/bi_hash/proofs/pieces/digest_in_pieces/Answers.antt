@@ -37,11 +37,11 @@ returns-clause-length g c =
     let (message, held, parts) = c.loop-piece.invariant.held in
     let payload = c.args.payload.now in
     c.finish.ensures.length payload
-      (subst (λ (m : List ℕ). g.H.Hasher.holds c.loop-piece.hasher m) (whole message _ payload parts c.in-None.ensures.steps.1.0) held)
+    (subst (λ (m : List ℕ). g.H.Hasher.holds c.loop-piece.hasher m) (whole message _ payload parts c.in-None.ensures.steps.1.0) held)
 
 pub returns-clause-digest : goal.returns-clause-digest
 returns-clause-digest g c =
     let (message, held, parts) = c.loop-piece.invariant.held in
     let payload = c.args.payload.now in
     c.finish.ensures.digest payload
-      (subst (λ (m : List ℕ). g.H.Hasher.holds c.loop-piece.hasher m) (whole message _ payload parts c.in-None.ensures.steps.1.0) held)
+    (subst (λ (m : List ℕ). g.H.Hasher.holds c.loop-piece.hasher m) (whole message _ payload parts c.in-None.ensures.steps.1.0) held)

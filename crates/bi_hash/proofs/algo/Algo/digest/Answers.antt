@@ -1,8 +1,13 @@
 use Rattle.std.proofs.Common.{sym, ap, ◌∙◌}
 use Rattle.bi_hash.specs.Digests.{digest_of, digest_size}
-use Rattle.bi_hash.specs.declared.algo.Algo.TheVariants.{Md5, Sha1, Sha256, Sha384, Sha512}
+use Rattle.bi_hash.specs.declared.algo.Algo.TheVariants.{Crc32, Md5, Sha1, Sha256, Sha384, Sha512}
 use Rattle.bi_hash.proofs.DigestBytes.{length-digest_of}
 use Rattle.bi_hash.proofs.algo.Algo.digest.Goals as goal
+
+pub returns-in-Crc32-clause-size : goal.returns-in-Crc32-clause-size
+unfolding digest_of
+returns-in-Crc32-clause-size c =
+    c.digest_in_pieces.ensures.length ∙ length-digest_of Crc32 c.args.payload.now ∙ ap digest_size (sym c.in-Crc32.is)
 
 pub returns-in-Md5-clause-size : goal.returns-in-Md5-clause-size
 unfolding digest_of
