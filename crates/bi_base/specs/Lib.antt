@@ -14,3 +14,4 @@ pub mod WriteSinks
 pub mod BufferedSinks
 pub mod Crc
 pub mod Strings
+pub mod CrcTables

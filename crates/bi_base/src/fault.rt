@@ -140,13 +140,6 @@ pub enum Error {
     WriteFailed,
 }
 
-/// Returns the refusal with this cause at this offset.
-pub fn refuse<T>(cause: Cause, offset: u32) -> Result<T, Fault>
-    ensures { result ≡ Err (record { cause = cause; offset = offset }) }
-{
-    Err(Fault { cause, offset })
-}
-
 impl From<Fault> for Error {
     ghost from_gives = { λ fault error. error ≡ Refused fault };
 

@@ -7,6 +7,7 @@ mod cells;
 mod checksum;
 mod crc;
 pub mod crc_laws;
+mod crc_tables;
 mod fault;
 mod limits;
 mod outcomes;
