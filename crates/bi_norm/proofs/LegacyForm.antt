@@ -1,9 +1,9 @@
 use Rattle.std.proofs.Common.{◌≡◌, List, ℕ, map, Bor, ap, sym, ◌∙◌, subst}
 use Rattle.bi_base.specs.Limits.{Bounds}
 use Rattle.bi_legacy.specs.declared.fields.Fields.{Fields}
-use Rattle.bi_legacy.specs.Meaning.{LegacyImage}
+use Rattle.bi_legacy.specs.Meaning.{LegacyImage, image_of}
 use Rattle.bi_legacy.specs.NormalForm.{HasNormalForm}
-use Rattle.bi_legacy.specs.Reading.{ParsedImage, image_of}
+use Rattle.bi_legacy.specs.Reading.{ParsedImage}
 use Rattle.bi_legacy.specs.Emitting.{HasNoEmitFault, image_of_parts}
 
 -- What a reader told of a legacy image is what is written again.

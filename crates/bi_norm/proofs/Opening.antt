@@ -7,25 +7,38 @@ use Rattle.bi_legacy.specs.File.{legacy_magic}
 use Rattle.bi_norm.specs.Faults.{IsFileFault, OfLegacyImage, OfTree}
 use Rattle.bi_base.specs.declared.fault.Fault.{Fault}
 use Rattle.bi_base.specs.Limits.{Bounds}
-use Rattle.bi_base.specs.Cells.{cell, u32_at}
+use Rattle.bi_base.specs.Cells.{u32_at}
 use Rattle.bi_legacy.specs.Meaning.{LegacyImage}
-use Rattle.bi_legacy.specs.File.{LegacyMeans, header}
+use Rattle.bi_legacy.specs.File.{LegacyMeans}
+use Rattle.bi_legacy.proofs.Magic.{file_begins}
 use Rattle.bi_norm.specs.declared.kind.Kind.TheVariants.{Legacy, Fit}
 use Rattle.bi_norm.specs.Kinds.{BeginsAs, IsKindFault, TooShort, OfNoKind}
 use Rattle.bi_norm.specs.Meaning.{OfLegacy, MeansNothing}
 
 -- Files that mean nothing, by how they begin.
 
--- These four bytes are the magic number of a legacy image.
-begins_legacy : (bytes : List ℕ) → BeginsAs (0x27 ∷ 0x05 ∷ 0x19 ∷ 0x56 ∷ bytes) Legacy
-unfolding u32_at
-begins_legacy bytes = record { whole = omega arith; magic = refl }
+-- A number is at most another or not.
+nat_le_decided : (a b : ℕ) → (a ≤ b) ⊎ ¬ (a ≤ b)
+nat_le_decided a b = by (cases_lt b a) where
+  by : (b < a) ⊎ (a ≤ b) → (a ≤ b) ⊎ ¬ (a ≤ b)
+  by (inl less) = inr (λ most. omega (arith, less, most))
+  by (inr most) = inl most
+
+-- A file begins as a legacy image or not.
+legacy_or_not : (file : List ℕ) → BeginsAs file Legacy ⊎ ¬ (BeginsAs file Legacy)
+legacy_or_not file = by (nat_le_decided 4 (length file)) (eqb_tells (u32_at file 0) legacy_magic) where
+  by : (4 ≤ length file) ⊎ ¬ (4 ≤ length file)
+      → ((eqb (u32_at file 0) legacy_magic ≡ true) × (u32_at file 0 ≡ legacy_magic))
+      ⊎ ((eqb (u32_at file 0) legacy_magic ≡ false) × (u32_at file 0 ≢ legacy_magic))
+      → BeginsAs file Legacy ⊎ ¬ (BeginsAs file Legacy)
+  by (inr short) magic = inr (λ begins. short begins.whole)
+  by (inl whole) (inl magic) = inl (record { whole = whole; magic = magic.1 })
+  by (inl whole) (inr other) = inr (λ begins. other.1 begins.magic)
 
 -- A file that means a legacy image begins with its magic number.
 means_legacy : (limits : Bounds) (file : List ℕ) (image : LegacyImage) → LegacyMeans limits file image → BeginsAs file Legacy
-unfolding header cell
 means_legacy limits file image means =
-    subst (λ (bytes : List ℕ). BeginsAs bytes Legacy) (sym means.is_file.spelled) (begins_legacy _)
+    let begins = file_begins file image means.is_file in record { whole = begins.whole; magic = begins.magic }
 
 -- A file of no kind means nothing.
 pub kind_fault_means_nothing : (limits : Bounds) (file : List ℕ) (fault : Fault) → IsKindFault file fault → MeansNothing limits file
@@ -52,24 +65,6 @@ pub tree_is_unsupported : (limits : Bounds) (file : List ℕ) → length file �
 tree_is_unsupported limits file short begins =
     OfTree (λ legacy. omega (arith, begins.magic, legacy.magic))
     (inr (short, inr (begins.whole, inr (begins.magic, inl (λ supported. supported, refl)))))
-
--- A number is at most another or not.
-nat_le_decided : (a b : ℕ) → (a ≤ b) ⊎ ¬ (a ≤ b)
-nat_le_decided a b = by (cases_lt b a) where
-  by : (b < a) ⊎ (a ≤ b) → (a ≤ b) ⊎ ¬ (a ≤ b)
-  by (inl less) = inr (λ most. omega (arith, less, most))
-  by (inr most) = inl most
-
--- A file begins as a legacy image or not.
-legacy_or_not : (file : List ℕ) → BeginsAs file Legacy ⊎ ¬ (BeginsAs file Legacy)
-legacy_or_not file = by (nat_le_decided 4 (length file)) (eqb_tells (u32_at file 0) legacy_magic) where
-  by : (4 ≤ length file) ⊎ ¬ (4 ≤ length file)
-      → ((eqb (u32_at file 0) legacy_magic ≡ true) × (u32_at file 0 ≡ legacy_magic))
-      ⊎ ((eqb (u32_at file 0) legacy_magic ≡ false) × (u32_at file 0 ≢ legacy_magic))
-      → BeginsAs file Legacy ⊎ ¬ (BeginsAs file Legacy)
-  by (inr short) magic = inr (λ begins. short begins.whole)
-  by (inl whole) (inl magic) = inl (record { whole = whole; magic = magic.1 })
-  by (inl whole) (inr other) = inr (λ begins. other.1 begins.magic)
 
 -- The fault of a file that is too long.
 pub too_long_is_file_fault : (limits : Bounds) (file : List ℕ) → limits.file < length file → IsFileFault limits file (too_large limits.file)

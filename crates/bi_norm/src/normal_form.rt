@@ -7,7 +7,7 @@ ghost use Rattle.bi_base.specs.Traces.{ReadsWell, WritesWell};
 ghost use Rattle.bi_base.specs.Writing.{WroteAndFlushed, WriteOrFlushStopped};
 ghost use Rattle.bi_base.specs.Transfers.{Moved, MoveFailed, Transferred, TransferFailed, SameStreams};
 ghost use Rattle.bi_norm.specs.declared.form.Form.{Form};
-ghost use Rattle.bi_norm.specs.Opening.{IsOpenedLegacy};
+ghost use Rattle.bi_legacy.specs.Reading.{IsParsedImage};
 ghost use Rattle.bi_norm.specs.NormalForm.{Appended, FailedInto, IsNormalForm, IsNormaliseError, IsStreamError, Normalised};
 
 use crate::form::Form;
@@ -63,9 +63,9 @@ fn emit_legacy<S: Sink>(
     limits: Limits,
     sink: &mut S,
 ) -> Result<usize, Error>
-    ensures appended { (form : Form) (file : List ℕ) → IsOpenedLegacy limits file image.now →
+    ensures appended { (form : Form) (file : List ℕ) → IsParsedImage limits file image.now →
         IfOk result (λ count. Appended S.appends limits form count file sink.old sink.new) }
-    ensures failed { (form : Form) (file : List ℕ) → IsOpenedLegacy limits file image.now →
+    ensures failed { (form : Form) (file : List ℕ) → IsParsedImage limits file image.now →
         IfErr result (FailedInto S.fails limits form file sink.old sink.new) }
 {
     let parts = parts_of(alloc, image)?;

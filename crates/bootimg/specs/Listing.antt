@@ -1,7 +1,7 @@
 use Rattle.std.specs.Prelude.{ℕ, ◌+◌, ◌≡◌, List, [], ◌∷◌, ◌++◌, length, codes, unwrap_or}
 use Rattle.std.specs.Fmt.{decimal}
 use Rattle.bi_base.specs.Limits.{Bounds}
-use Rattle.bi_legacy.specs.Codes.{CodeName, os_names, arch_names, type_names, compression_names, name_in}
+use Rattle.bi_legacy.specs.Codes.{CodeName, os_names, arch_names, type_names, compression_names, name_of_code}
 use Rattle.bi_legacy.specs.Meaning.{LegacyImage}
 use Rattle.bi_legacy.specs.PlacedParts.{PlacedPart, placed_parts}
 use Rattle.bi_legacy.specs.Reading.{ParsedImage, IsParsedImage}
@@ -11,7 +11,7 @@ use Rattle.bootimg.specs.Shown.{line, hexadecimal, shown}
 
 -- The word for a code: its name, or its number where it has none.
 abbrev pub code_word : List CodeName → ℕ → List ℕ
-code_word names code = unwrap_or (name_in names code) (decimal code)
+code_word names code = unwrap_or (name_of_code names code) (decimal code)
 
 -- The lines of the name and the numbers of a header.
 abbrev pub field_lines : LegacyImage → List ℕ

@@ -6,7 +6,7 @@ ghost use Rattle.bi_base.specs.Limits.{Bounds};
 ghost use Rattle.bi_base.specs.Reading.{TakesAtMost};
 ghost use Rattle.bi_base.specs.Traces.{ReadsWell, WritesWell};
 ghost use Rattle.bi_base.specs.Transfers.{Moved, MoveFailed, Transferred, TransferFailed, SameStreams};
-ghost use Rattle.bi_norm.specs.Opening.{IsOpenedLegacy};
+ghost use Rattle.bi_legacy.specs.Reading.{IsParsedImage};
 ghost use Rattle.bootimg.specs.declared.extract.ExtractError.TheVariants.{Failed};
 ghost use Rattle.bootimg.specs.Extracting.{IsChosen, IsExtractError, IsStreamExtractError};
 
@@ -69,9 +69,9 @@ pub fn extract<'a>(
 
 /// Returns the part of a legacy image that is selected.
 fn extract_part<'a>(image: &Legacy<'a>, select: Select) -> Result<&'a [u8], ExtractError>
-    ensures chosen { (limits : Bounds) (file : List ℕ) → IsOpenedLegacy limits file image.now →
+    ensures chosen { (limits : Bounds) (file : List ℕ) → IsParsedImage limits file image.now →
         IfOk result (λ bytes. IsChosen select.entry limits file bytes.now) }
-    ensures failed { (limits : Bounds) (file : List ℕ) → IsOpenedLegacy limits file image.now →
+    ensures failed { (limits : Bounds) (file : List ℕ) → IsParsedImage limits file image.now →
         IfErr result (IsExtractError select.entry limits file) }
 {
     match select {

@@ -8,7 +8,7 @@ ghost use Rattle.bi_base.specs.Traces.{ReadsWell, WritesWell};
 ghost use Rattle.bi_base.specs.Transfers.{Moved, MoveFailed, Transferred, TransferFailed, SameStreams};
 ghost use Rattle.bi_legacy.specs.PlacedParts.{placed_part_of};
 ghost use Rattle.bi_norm.specs.NormalForm.{IsOpenError, IsStreamError};
-ghost use Rattle.bi_norm.specs.Opening.{IsOpenedLegacy};
+ghost use Rattle.bi_legacy.specs.Reading.{IsParsedImage};
 ghost use Rattle.bootimg.specs.Listing.{IsListing, legacy_listing as listing_of, field_lines, code_lines, parts_lines, part_line};
 ghost use Rattle.bootimg.specs.Shown.{line, hexadecimal};
 
@@ -40,9 +40,9 @@ pub fn listing(alloc: Global, file: &[u8], limits: Limits) -> Result<String, Err
 
 /// Returns the listing of a legacy image that was read.
 fn list_legacy(alloc: Global, image: &Legacy) -> Result<String, Error>
-    ensures lists { (limits : Bounds) (file : List ℕ) → IsOpenedLegacy limits file image.now →
+    ensures lists { (limits : Bounds) (file : List ℕ) → IsParsedImage limits file image.now →
         IfOk result (λ text. IsListing limits file (string_bytes text)) }
-    ensures failed { (limits : Bounds) (file : List ℕ) → IsOpenedLegacy limits file image.now →
+    ensures failed { (limits : Bounds) (file : List ℕ) → IsParsedImage limits file image.now →
         IfErr result (IsOpenError limits file) }
 {
     let text = legacy_listing(alloc, image)?;

@@ -11,7 +11,7 @@ use Rattle.bi_norm.proofs.normal_form.emit_legacy.Goals as goal
 pub returns-in_err-parts-clause-failed : goal.returns-in_err-parts-clause-failed
 returns-in_err-parts-clause-failed g c form file opened =
     let p = err_from_is_err_and c.from_residual.result c.from_residual.ensures.1 in
-    rw (p.1, p.2) (WasRefused (subst (IsNormaliseError c.args.limits form file) (sym c.in_err-parts.ensures.error) (OfLegacy c.args.image.now.image, opened.is_parsed.means)) refl)
+    rw (p.1, p.2) (WasRefused (subst (IsNormaliseError c.args.limits form file) (sym c.in_err-parts.ensures.error) (OfLegacy c.args.image.now.image, opened.means)) refl)
 
 pub returns-in_err-emit-clause-failed : goal.returns-in_err-emit-clause-failed
 returns-in_err-emit-clause-failed g c form file opened =

@@ -14,4 +14,4 @@ returns-in-Part-clause-failed c limits file opened =
 
 pub returns-in-Image-clause-failed : goal.returns-in-Image-clause-failed
 returns-in-Image-clause-failed c limits file opened =
-    rw (c.in-Image.is) (record { meaning = OfLegacy c.args.image.now.image; means = opened.is_parsed.means; holds = tt })
+    rw (c.in-Image.is) (record { meaning = OfLegacy c.args.image.now.image; means = opened.means; holds = tt })
