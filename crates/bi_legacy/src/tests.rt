@@ -150,7 +150,7 @@ fn bytes_without_meaning_are_dropped(rt: HostRuntime) -> Result<(), Fail> {
         &name,
         b"123456789",
     )?;
-    file.extend_from_slice(b"after!")?;
+    file.extend_from_slice(b"trailer")?;
     let image = Legacy::read(&file, limits(AMPLE)?)?;
     assert_eq!(rt; image.fields(), fields(2, b"k"));
     assert_eq!(rt; image.unused(), 7);
