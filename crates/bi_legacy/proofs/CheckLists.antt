@@ -5,25 +5,25 @@ use Rattle.bi_base.specs.declared.fault.Fault.{Fault}
 use Rattle.bi_legacy.specs.Faults.{Passes, InPartTable, fault_of, header_checks, body_of, IsLegacyFault, HasNoLegacyFault}
 use Rattle.bi_legacy.specs.PartTables.{TablePasses, table_fault, body_checks}
 
--- Checks that come in two lists.
+-- Lists of checks.
 
--- Both lists pass.
+-- Two lists pass where each passes.
 pub HasNoFault-append : {C : Type 0} (P : C → Type 0) (front after : List C) → HasNoFault P front → HasNoFault P after → HasNoFault P (front ++ after)
 HasNoFault-append P [] after none rest = rest
 HasNoFault-append P (check ∷ front) after none rest = (none.0, HasNoFault-append P front after none.1 rest)
 
--- The first fault stands in the front.
+-- The first fault of two lists where it is in the first list.
 pub IsFirstFault-front : {C : Type 0} (P : C → Type 0) (f : C → Fault) (front after : List C) (fault : Fault) → IsFirstFault P f front fault → IsFirstFault P f (front ++ after) fault
 IsFirstFault-front P f [] after fault first = absurd first
 IsFirstFault-front P f (check ∷ front) after fault (inl here) = inl here
 IsFirstFault-front P f (check ∷ front) after fault (inr later) = inr (later.0, IsFirstFault-front P f front after fault later.1)
 
--- The front passes, and the first fault stands after it.
+-- The first fault of two lists where the first list passes.
 pub IsFirstFault-after : {C : Type 0} (P : C → Type 0) (f : C → Fault) (front after : List C) (fault : Fault) → HasNoFault P front → IsFirstFault P f after fault → IsFirstFault P f (front ++ after) fault
 IsFirstFault-after P f [] after fault none first = first
 IsFirstFault-after P f (check ∷ front) after fault none first = inr (none.0, IsFirstFault-after P f front after fault none.1 first)
 
--- Checks of one kind that are checks of another kind: all pass in both.
+-- Checks that are embedded in checks of another type: all pass in both.
 pub HasNoFault-map : {C D : Type 0} (P : D → Type 0) (g : C → D) (checks : List C) → HasNoFault (λ check. P (g check)) checks → HasNoFault P (map g checks)
 HasNoFault-map P g [] none = tt
 HasNoFault-map P g (check ∷ checks) none = (none.0, HasNoFault-map P g checks none.1)

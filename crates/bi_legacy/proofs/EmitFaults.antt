@@ -14,19 +14,19 @@ use Rattle.bi_legacy.proofs.CheckLists.{HasNoFault-map, IsFirstFault-map}
 use Rattle.bi_legacy.proofs.TableParts.{length-part_table}
 use Rattle.bi_legacy.proofs.NormalLength.{length-legacy_text, length-normal_body}
 
--- What decides whether an image can be written.
+-- The fault of an image to be written.
 
 -- The normal text is as long as the header and the normal data.
 pub length-text : (image : LegacyImage) → IsImageName image.name → length (legacy_text image) ≡ 64 + length (normal_body image.image_type image.parts)
 length-text image name =
     length-legacy_text image name ∙ ap (λ n. 64 + n) (sym (length-normal_body image.image_type image.parts))
 
--- Parts that are lent are as many as their bytes.
+-- There are as many slices as parts.
 pub count-bytes_of : (has_table : Bool) (slices : List (Bor (List ℕ))) → MatchBool has_table ⊤ (length slices ≡ 1) → MatchBool has_table ⊤ (length (bytes_of slices) ≡ 1)
 count-bytes_of has_table slices count =
     subst (λ (n : ℕ). MatchBool has_table ⊤ (n ≡ 1)) (sym (length-map slices (λ slice. slice.now))) count
 
--- The list of sizes is within the normal data.
+-- The part table is within the normal data.
 pub part_table-within : (image_type : ℕ) (slices : List (Bor (List ℕ))) → has_part_table image_type ≡ true → 4 * (length slices + 1) ≤ length (normal_body image_type (bytes_of slices))
 part_table-within image_type slices is_table =
     let parts = bytes_of slices in

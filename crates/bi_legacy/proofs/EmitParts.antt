@@ -7,9 +7,9 @@ use Rattle.bi_base.specs.declared.fault.Fault.{Fault}
 use Rattle.bi_legacy.specs.Emitting.{PartPasses, part_fault, part_checks, bytes_of}
 use Rattle.bi_legacy.specs.Parts.{parts_end_from}
 
--- A walk over the parts of an image to be written: what the next part does, and what the others do.
+-- One step of a loop over the parts of an image to be written.
 
--- An end is not after the end of the pieces after it.
+-- An end is at most the end of the parts after it.
 pub parts_end_from-grows : (end : ℕ) (sizes : List ℕ) → end ≤ parts_end_from end sizes
 parts_end_from-grows end [] = omega arith
 parts_end_from-grows end (size ∷ sizes) = omega (arith, parts_end_from-grows (up4 end + size) sizes)

@@ -17,7 +17,7 @@ use Rattle.bi_base.proofs.NulLaws.{nul_index}
 
 -- A file has a meaning exactly where no check fails, and at most one fault.
 
--- A bound is kept or not.
+-- A number is at most another or not.
 bound_decided : (a b : ℕ) → (a ≤ b) ⊎ (¬ (a ≤ b))
 bound_decided a b = elim (cases_lt b a) [
   | inl above ↦ inr (λ within. omega arith)
@@ -59,7 +59,7 @@ one_legacy_fault file limits a b is_a is_b = one_fault (Passes limits file) (fau
 pub no_fault_no_fault : (file : List ℕ) (limits : Bounds) (fault : Fault) → HasNoLegacyFault limits file → IsLegacyFault limits file fault → ⊥
 no_fault_no_fault file limits fault none is = not_both (Passes limits file) (fault_of limits) (checks file) fault none is
 
--- A file with a fault means nothing within the limits.
+-- A file with a fault means no image within the limits.
 pub no_meaning_with_fault : (file : List ℕ) (image : LegacyImage) (limits : Bounds) (fault : Fault) → IsLegacyFault limits file fault → LegacyMeans limits file image → ⊥
 no_meaning_with_fault file image limits fault is means =
     no_fault_no_fault file limits fault (means_no_fault file image limits means) is

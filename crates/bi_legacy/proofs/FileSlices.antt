@@ -6,7 +6,7 @@ use Rattle.bi_base.specs.Cells.{cell, u32_at, slice, AreBytes}
 use Rattle.bi_base.specs.Crc.{crc32}
 use Rattle.bi_base.proofs.CellLaws.{cell-u32_at}
 
--- Laws of cutting a file, which know nothing of a format.
+-- Laws of slices of a file, for any format.
 
 -- The bytes from an offset on are a slice there and the bytes after the slice.
 pub drop_slice : (file : List ℕ) (at n : ℕ) → drop at file ≡ slice file at n ++ drop (at + n) file
@@ -17,7 +17,7 @@ pub drop_cell : (file : List ℕ) (at : ℕ) → AreBytes file → at + 4 ≤ le
 drop_cell file at bytes within =
     drop_slice file at 4 ∙ ap (λ first. first ++ drop (at + 4) file) (sym (cell-u32_at file at bytes within))
 
--- Where a cell stands, its number is read.
+-- The number at the offset of a cell is that of the cell.
 pub cell_read : (file : List ℕ) (at n : ℕ) → n < 2 ^ 32 → slice file at 4 ≡ cell n → u32_at file at ≡ n
 unfolding cell u32_at
 cell_read file at n fits there = ap (from_be_bytes w32) there ∙ from_be_bytes-to_be_bytes_4 n fits

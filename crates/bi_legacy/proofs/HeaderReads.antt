@@ -7,7 +7,7 @@ use Rattle.bi_legacy.specs.File.{header_with, header, IsLegacyFile}
 use Rattle.bi_legacy.specs.Meaning.{LegacyImage}
 use Rattle.bi_legacy.proofs.FileSlices.{cell_read, crc32_fits}
 
--- What is read at the fields' places of a legacy image.
+-- What is read at the offsets of the fields of a legacy image.
 
 -- The magic of a legacy image.
 pub magic_read : (file : List ℕ) (image : LegacyImage) (is : IsLegacyFile file image) → u32_at file 0 ≡ 0x27051956
@@ -79,7 +79,7 @@ body_read file image is =
     ∙ ap (take (length is.body)) (drop_at is.field (is.body ++ is.rest) 32 is.name.whole)
     ∙ take_at is.body is.rest (length is.body) refl
 
--- The header with zeros in the place of its checksum.
+-- The header with zeros in place of its checksum.
 pub header_without_checksum_read : (file : List ℕ) (image : LegacyImage) (is : IsLegacyFile file image) → header_without_checksum file ≡ header_with 0 image is.field is.body
 unfolding header cell
 header_without_checksum_read file image is =
@@ -91,7 +91,7 @@ pub length-header : (image : LegacyImage) (field body : List ℕ) → length fie
 unfolding header cell
 length-header image field body whole = omega (arith, whole)
 
--- The file has its header, its data and what follows them.
+-- The file is as long as its header, its data and the rest.
 pub length-file : (file : List ℕ) (image : LegacyImage) (is : IsLegacyFile file image) → length file ≡ 64 + length is.body + length is.rest
 length-file file image is =
     ap length is.file_is

@@ -8,7 +8,7 @@ use Rattle.bi_legacy.specs.File.{header_with, header}
 use Rattle.bi_legacy.specs.Faults.{body_of, header_without_checksum}
 use Rattle.bi_legacy.specs.ReadImage.{read_image}
 
--- A file of at least a header is the header that its fields spell, and the bytes after it.
+-- A file of at least a header is the header with its fields, and the bytes after it.
 
 -- The four codes of a file, the name's bytes and what follows them.
 codes_and_name : List ℕ → List ℕ
@@ -30,7 +30,7 @@ after_checksum file =
     cell (u32_at file 8) ++ (cell (u32_at file 12) ++ (cell (u32_at file 16) ++ (cell (u32_at file 20)
     ++ (cell (u32_at file 24) ++ codes_and_name file))))
 
--- Two lists before a rest are one list before it.
+-- Two lists and a rest are one list and the rest.
 onto : (first second rest whole : List ℕ) → whole ≡ second ++ rest → first ++ whole ≡ (first ++ second) ++ rest
 onto first second rest whole e = ap (λ list. first ++ list) e ∙ sym (append_assoc first second rest)
 
@@ -48,25 +48,25 @@ unfolding after_checksum codes_and_name
 length-after_checksum file whole =
     simp (length-append, length-cell) (omega (arith, length-slice file 32 32 whole))
 
--- The slice after the checksum spells its fields.
+-- The slice after the checksum is the cells, codes and name of its fields.
 slice_after_checksum : (file : List ℕ) → AreBytes file → 64 ≤ length file → slice file 8 56 ≡ after_checksum file
 slice_after_checksum file bytes whole =
     ap (take 56) (drop_after_checksum file bytes whole)
     ∙ take_at (after_checksum file) (drop 64 file) 56 (length-after_checksum file whole)
 
--- What a header of these fields spells after its checksum, where the file tells the data's size and checksum.
+-- A header with the fields of a file, by the bytes after its checksum, where the size and the checksum of the data are right.
 header_after_checksum : (file : List ℕ) (checksum : ℕ) → length (body_of file) ≡ u32_at file 12 → crc32 (body_of file) ≡ u32_at file 24 → header_with checksum (read_image file) (slice file 32 32) (body_of file) ≡ cell 0x27051956 ++ (cell checksum ++ after_checksum file)
 unfolding after_checksum codes_and_name
 header_after_checksum file checksum size sum = rw (size, sum)
 
--- The header with zeros in the place of its checksum, as the file has it.
+-- The header with zeros in place of its checksum, by the bytes of the file.
 header_without_checksum_is : (file : List ℕ) → AreBytes file → 64 ≤ length file → u32_at file 0 ≡ 0x27051956 → length (body_of file) ≡ u32_at file 12 → crc32 (body_of file) ≡ u32_at file 24 → header_with 0 (read_image file) (slice file 32 32) (body_of file) ≡ header_without_checksum file
 header_without_checksum_is file bytes whole magic size sum =
     header_after_checksum file 0 size sum
     ∙ ap (λ first. first ++ (cell 0 ++ after_checksum file)) (ap cell (sym magic) ∙ cell-u32_at file 0 bytes (omega arith))
     ∙ ap (λ last. slice file 0 4 ++ (cell 0 ++ last)) (sym (slice_after_checksum file bytes whole))
 
--- A file that passes the checks of its header begins with the header of what it reads as.
+-- A file that passes the checks of its header begins with the header of the image that is read from it.
 pub header_split : (file : List ℕ) → AreBytes file → 64 ≤ length file → u32_at file 0 ≡ 0x27051956 → u32_at file 4 ≡ crc32 (header_without_checksum file) → length (body_of file) ≡ u32_at file 12 → u32_at file 24 ≡ crc32 (body_of file) → file ≡ header (read_image file) (slice file 32 32) (body_of file) ++ drop 64 file
 unfolding header
 header_split file bytes whole magic header_sum size data_sum =

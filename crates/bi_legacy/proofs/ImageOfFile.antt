@@ -12,25 +12,25 @@ use Rattle.bi_legacy.proofs.TableParts.{table_parts_at}
 use Rattle.bi_legacy.proofs.NormalLength.{length-normal_body, length-legacy_text, parts_end_in}
 use Rattle.bi_legacy.proofs.PartOffsets.{ArePartsAt}
 
--- What a file means is a meaning that a legacy image can have, and its normal text is no longer than the file.
+-- The image that a file means fits the format, and its normal text is no longer than the file.
 
--- Parts that stand in bytes are bytes.
+-- Parts that are slices of bytes are bytes.
 parts_at-bytes : (at : ℕ) (parts : List (List ℕ)) (body : List ℕ) → AreBytes body → ArePartsAt at parts body → AllByRecursion AreBytes parts
 parts_at-bytes at [] body bytes at_offsets = tt
 parts_at-bytes at (part ∷ parts) body bytes at_offsets =
     (subst AreBytes at_offsets.1 (AreBytes-slice body at (length part) bytes), parts_at-bytes (up4 (at + length part)) parts body bytes at_offsets.2)
 
--- The parts that data of bytes holds, with or without a list of sizes, are bytes.
+-- The parts of data of bytes, with or without a part table, are bytes.
 body_parts_bytes : (has_table : Bool) (parts : List (List ℕ)) (body : List ℕ) → AreBytes body → MatchBool has_table (HasPartTable parts body) (parts ≡ body ∷ []) → AllByRecursion AreBytes parts
 body_parts_bytes true parts body bytes holds = parts_at-bytes _ parts body bytes (table_parts_at parts body holds)
 body_parts_bytes false parts body bytes holds = rw holds (bytes, tt)
 
--- The parts that data holds, with or without a list of sizes, are parts that such an image can have.
+-- The parts of data, with or without a part table, are parts that such an image can have.
 body_parts : (has_table : Bool) (parts : List (List ℕ)) (body : List ℕ) → MatchBool has_table (HasPartTable parts body) (parts ≡ body ∷ []) → MatchBool has_table (AllByRecursion IsTablePart parts) (length parts ≡ 1)
 body_parts true parts body holds = holds.are_table_parts
 body_parts false parts body holds = ap length holds
 
--- The parts that a file means are parts that its type can have.
+-- The parts of the image of a file are parts that its type can have.
 parts_of_file : (file : List ℕ) (image : LegacyImage) (is : IsLegacyFile file image) → AreParts image.image_type image.parts
 parts_of_file file image is = body_parts (has_part_table image.image_type) image.parts is.body is.parts
 
@@ -38,12 +38,12 @@ parts_of_file file image is = body_parts (has_part_table image.image_type) image
 body_bytes : (file : List ℕ) (image : LegacyImage) (is : IsLegacyFile file image) → AreBytes is.body
 body_bytes file image is = subst AreBytes (body_read file image is) (AreBytes-slice file 64 _ is.bytes)
 
--- The name that a file means is bytes.
+-- The name of the image of a file is bytes.
 name_bytes : (file : List ℕ) (image : LegacyImage) (is : IsLegacyFile file image) → AreBytes image.name
 name_bytes file image is =
     AreBytes-left image.name is.name.padding (subst AreBytes (field_read file image is ∙ is.name.field_is) (AreBytes-slice file 32 32 is.bytes))
 
--- What a file means is a meaning that a legacy image can have.
+-- The image that a file means fits the format.
 pub image_of_file : (file : List ℕ) (image : LegacyImage) → IsLegacyFile file image → IsLegacyImage image
 image_of_file file image is =
     let parts = parts_of_file file image is in
@@ -56,7 +56,7 @@ image_of_file file image is =
       size = omega (arith, length-normal_body image.image_type image.parts, parts_end_in image.image_type image.parts is.body is.parts, is.size);
     }
 
--- The normal text of what a file means is no longer than the file.
+-- The normal text of the image that a file means is no longer than the file.
 pub text_no_longer : (file : List ℕ) (image : LegacyImage) → IsLegacyFile file image → length (legacy_text image) ≤ length file
 text_no_longer file image is =
     omega (

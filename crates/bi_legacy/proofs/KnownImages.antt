@@ -5,7 +5,7 @@ use Rattle.bi_legacy.specs.File.{header}
 use Rattle.bi_legacy.specs.Text.{legacy_text}
 use Rattle.bi_legacy.specs.KnownImages.{HasKernelText, HasMultiText}
 
--- What the definitions compute for real images.
+-- The normal texts of known images.
 
 -- The normal text of a kernel image.
 pub kernel_text : HasKernelText

@@ -20,7 +20,7 @@ parts_pass true body parts fits holds =
     (table_has_end parts body fits holds, ends_pass body 0 _ _ (table_parts_fit parts body fits holds))
 parts_pass false body parts fits holds = tt
 
--- A file that means something within the limits fails no check.
+-- A file that means an image within the limits fails no check.
 pub means_no_fault : (file : List ℕ) (image : LegacyImage) (limits : Bounds) → LegacyMeans limits file image → HasNoLegacyFault limits file
 means_no_fault file image limits means =
     let is = means.is_file in

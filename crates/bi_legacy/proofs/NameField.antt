@@ -1,11 +1,11 @@
-use Rattle.std.proofs.Common.{◌≡◌, ◌==◌, ℕ, List, length, drop, arith, sym, ◌∙◌, ap, take-append-drop, length-take}
+use Rattle.std.proofs.Common.{◌≡◌, ℕ, List, length, drop, arith, sym, ◌∙◌, ap, take-append-drop, length-take}
 use Rattle.bi_base.specs.Strings.{before_nul}
 use Rattle.bi_legacy.specs.File.{HoldsName}
 use Rattle.bi_base.proofs.NulLaws.{nul_index, before_nul-append, before_nul-nonzero, drop-nul_index}
 
--- The name that a header's 32 bytes hold.
+-- The name in the 32 bytes of its field.
 
--- Any 32 bytes hold the bytes before their first zero as a name.
+-- The bytes before the first zero are the name in 32 bytes.
 pub field_holds_name : (field : List ℕ) → length field ≡ 32 → HoldsName field (before_nul field)
 field_holds_name field whole = record {
   padding = drop (nul_index field) field;
@@ -18,7 +18,7 @@ field_holds_name field whole = record {
   };
 }
 
--- The name that 32 bytes hold is the bytes before their first zero.
+-- The name in 32 bytes is the bytes before the first zero.
 pub name_in_field : (field name : List ℕ) → HoldsName field name → before_nul field ≡ name
 name_in_field field name holds =
     ap before_nul holds.field_is ∙ before_nul-append name holds.padding holds.is_name.no_zero holds.padding_is

@@ -12,7 +12,7 @@ use Rattle.bi_legacy.proofs.CheckLists.{HasNoFault-map, HasNoFault-unmap}
 use Rattle.bi_legacy.proofs.ImageOfFile.{image_of_file, text_no_longer}
 use Rattle.bi_legacy.proofs.NormalLength.{length-legacy_text, length-normal_body}
 
--- An image can be written where it is one that the format can hold and its text is within the limit.
+-- An image can be written where it fits the format and its text is within the limit.
 
 -- The check of each part passes where each is one that a part table can have.
 parts_pass : (index : ℕ) (parts : List (List ℕ)) → AllByRecursion IsTablePart parts → HasNoFault PartPasses (part_checks index parts)
@@ -34,18 +34,18 @@ kind_passed : (has_table : Bool) (parts : List (List ℕ)) → MatchBool has_tab
 kind_passed true parts count pass = parts_passed 0 parts pass
 kind_passed false parts count pass = count
 
--- An image that the format can hold, whose text is within the limit, has no fault.
+-- An image that fits the format, with a text within the limit, has no fault.
 pub image_no_emit_fault : (image : LegacyImage) (limits : Bounds) → IsLegacyImage image → length (legacy_text image) ≤ limits.file → HasNoEmitFault limits image
 image_no_emit_fault image limits is short =
     let kind = kind_passes (has_part_table image.image_type) image.parts is.parts in
     (is.name, (kind.0, (short, HasNoFault-map (Passes limits image) IsNotEmpty _ kind.1)))
 
--- What a file within the limit means has no fault.
+-- An image that a file within the limit means has no fault.
 pub no_emit_fault : (file : List ℕ) (image : LegacyImage) (limits : Bounds) → IsLegacyFile file image → length file ≤ limits.file → HasNoEmitFault limits image
 no_emit_fault file image limits is short =
     image_no_emit_fault image limits (image_of_file file image is) (omega (arith, text_no_longer file image is))
 
--- An image without a fault, whose numbers are in their ranges and whose bytes are bytes, is one that the format can hold.
+-- An image without a fault, whose numbers fit their fields and whose bytes are bytes, fits the format.
 pub no_emit_fault_image : (image : LegacyImage) (limits : Bounds) → FitsFields image → AreBytes image.name → AllByRecursion AreBytes image.parts → limits.file < 2 ^ 32 → HasNoEmitFault limits image → IsLegacyImage image
 no_emit_fault_image image limits ranges name_bytes parts_bytes fits (name, (count, (short, parts))) =
     let are : AreParts image.image_type image.parts = kind_passed (has_part_table image.image_type) image.parts count (HasNoFault-unmap (Passes limits image) IsNotEmpty _ parts) in

@@ -16,9 +16,9 @@ use Rattle.bi_legacy.proofs.TableParts.{parts_in_table, table_of_sizes}
 use Rattle.bi_legacy.proofs.NameField.{field_holds_name}
 use Rattle.bi_legacy.proofs.PartSlices.{ends_checked}
 
--- A file that fails no check is a legacy image, which means what its bytes say at the fields' places.
+-- A file that fails no check means the image that is read at the offsets of the fields.
 
--- What is read from bytes is in the ranges of the fields.
+-- The numbers that are read from bytes fit their fields.
 ranges_read : (file : List ℕ) → AreBytes file → FitsFields (read_image file)
 ranges_read file bytes = record {
   time = u32_at-fits file 8 bytes;
@@ -30,12 +30,12 @@ ranges_read file bytes = record {
   compression = bytes.each 31;
 }
 
--- Where the checks of the parts pass, the data holds the parts that it tells.
+-- Where the checks of the parts pass, the data holds the parts that are read from it.
 parts_held : (has_table : Bool) (body : List ℕ) → AreBytes body → HasNoFault (TablePasses body) (if has_table then table_checks body else []) → MatchBool has_table (HasPartTable (if has_table then parts_in_table body else body ∷ []) body) ((if has_table then parts_in_table body else body ∷ []) ≡ body ∷ [])
 parts_held true body bytes none = table_of_sizes body bytes none.0 (ends_checked body 0 _ _ none.1)
 parts_held false body bytes none = refl
 
--- A file of bytes that fails no check means what its bytes say at the fields' places.
+-- A file of bytes that fails no check means the image that is read from it.
 pub no_fault_means : (file : List ℕ) (limits : Bounds) → AreBytes file → HasNoLegacyFault limits file → LegacyMeans limits file (read_image file)
 no_fault_means file limits bytes (short, (cell, (magic, (whole, (header_sum, (whole_data, (data_sum, parts))))))) =
     let size : length (body_of file) ≡ u32_at file 12 = length-slice file 64 (u32_at file 12) whole_data in

@@ -16,19 +16,19 @@ cells_bytes [] = AreBytes-none
 cells_bytes (number ∷ numbers) =
     AreBytes-append (cell number) (flat_map cell numbers) (AreBytes-cell number) (cells_bytes numbers)
 
--- A list of sizes is bytes.
+-- A part table is bytes.
 part_table-bytes : (parts : List (List ℕ)) → AreBytes (part_table parts)
 part_table-bytes parts =
     rw (part_table-cells parts) (AreBytes-append (flat_map cell (map length parts)) (cell 0) (cells_bytes (map length parts)) (AreBytes-cell 0))
 
--- Parts of bytes, one after another, are bytes.
+-- Joined parts of bytes are bytes.
 joined_bytes : (parts : List (List ℕ)) → AllByRecursion AreBytes parts → AreBytes (joined_parts parts)
 joined_bytes [] are = AreBytes-none
 joined_bytes (part ∷ []) are = are.0
 joined_bytes (part ∷ next ∷ later) are =
     AreBytes-append (padded part) (joined_parts (next ∷ later)) (AreBytes-append part _ are.0 (AreBytes-zeros _)) (joined_bytes (next ∷ later) are.1)
 
--- The normal data of parts of bytes, with or without a list of sizes, is bytes.
+-- The normal data of parts of bytes, with or without a part table, is bytes.
 kind_bytes : (has_table : Bool) (parts : List (List ℕ)) → AllByRecursion AreBytes parts → AreBytes (if has_table then part_table parts ++ joined_parts parts else joined_parts parts)
 kind_bytes true parts are = AreBytes-append (part_table parts) (joined_parts parts) (part_table-bytes parts) (joined_bytes parts are)
 kind_bytes false parts are = joined_bytes parts are
@@ -50,7 +50,7 @@ header_bytes image field body ranges are =
     cell_first _ _ (cell_first _ _ (cell_first _ _ (cell_first _ _ (cell_first _ _ (cell_first _ _ (cell_first _ _
     (codes_bytes image field ranges are)))))))
 
--- The normal text of a meaning that a legacy image can have is bytes.
+-- The normal text of an image that fits the format is bytes.
 pub legacy_text_bytes : (image : LegacyImage) → IsLegacyImage image → AreBytes (legacy_text image)
 unfolding legacy_text
 legacy_text_bytes image is =

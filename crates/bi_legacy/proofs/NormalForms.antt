@@ -7,7 +7,7 @@ use Rattle.bi_legacy.proofs.ImageOfFile.{image_of_file}
 use Rattle.bi_legacy.proofs.NoEmitFault.{no_emit_fault}
 use Rattle.bi_legacy.proofs.TextMeans.{text_means_same, texts_differ}
 
--- What a file means has a normal form within the limits that the file is within.
+-- The image that a file means within the limits has a normal form within them.
 pub has_normal_form : (file : List ℕ) (image : LegacyImage) (limits : Bounds) → LegacyMeans limits file image → HasNormalForm limits image
 has_normal_form file image limits means = record {
   can_be_written = no_emit_fault file image limits means.is_file means.short;

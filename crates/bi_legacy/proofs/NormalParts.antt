@@ -7,9 +7,9 @@ use Rattle.bi_legacy.specs.Parts.{part_table, ArePaddedParts, HasPartTable, Hold
 use Rattle.bi_legacy.specs.Text.{joined_parts, normal_body}
 use Rattle.bi_legacy.proofs.NormalLength.{length-padded}
 
--- The normal data holds the parts that it is made of.
+-- The normal data of some parts holds them.
 
--- Joined parts hold the parts in turn.
+-- Joined parts are padded parts in order.
 joined_parts-padded : (parts : List (List ℕ)) → ArePaddedParts parts (joined_parts parts)
 joined_parts-padded [] = tt
 joined_parts-padded (part ∷ []) = ([], sym (append-nil part))
@@ -22,7 +22,7 @@ joined_parts-padded (part ∷ next ∷ later) =
       joined_parts-padded (next ∷ later),
     )
 
--- The normal data of some parts, with or without a list of sizes, holds them.
+-- The normal data, with or without a part table, holds the parts.
 normal_holds : (has_table : Bool) (parts : List (List ℕ)) → MatchBool has_table (AllByRecursion IsTablePart parts) (length parts ≡ 1) → let body = if has_table then part_table parts ++ joined_parts parts else joined_parts parts in MatchBool has_table (HasPartTable parts body) (parts ≡ body ∷ [])
 normal_holds true parts are = record {
   rest = joined_parts parts;

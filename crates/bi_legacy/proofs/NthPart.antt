@@ -8,32 +8,32 @@ use Rattle.bi_legacy.specs.Parts.{parts_start}
 use Rattle.bi_legacy.specs.PlacedParts.{PlacedPart, placed_part_of, placed_parts_from, placed_parts}
 use Rattle.bi_legacy.specs.Reading.{part_places}
 
--- The part of an index, found by handing out those before it.
+-- The bytes and the offset of the part with an index.
 
--- The parts with their places are the parts.
-pub map-bytes : (at : ℕ) (parts : List (List ℕ)) → map (λ (placed : PlacedPart). placed.bytes) (placed_parts_from at parts) ≡ parts
+-- The bytes of the parts with their offsets are the parts.
+pub map-bytes : (at : ℕ) (parts : List (List ℕ)) → map (λ (part : PlacedPart). part.bytes) (placed_parts_from at parts) ≡ parts
 map-bytes at [] = refl
 map-bytes at (part ∷ parts) = ap (λ later. part ∷ later) (map-bytes (up4 (at + length part)) parts)
 
--- The bytes of what was found.
-found-bytes : (result : Option Part) → option_map (λ (placed : PlacedPart). placed.bytes) (option_map placed_part_of result) ≡ option_map (λ (part : Part). part.bytes.now) result
+-- The bytes of a part that was found.
+found-bytes : (result : Option Part) → option_map (λ (part : PlacedPart). part.bytes) (option_map placed_part_of result) ≡ option_map (λ (part : Part). part.bytes.now) result
 found-bytes None = refl
 found-bytes (Some part) = refl
 
--- The place of what was found.
-found-place : (result : Option Part) → option_map (λ (placed : PlacedPart). placed.place) (option_map placed_part_of result) ≡ option_map (λ (part : Part). part.place) result
+-- The offset of a part that was found.
+found-place : (result : Option Part) → option_map (λ (part : PlacedPart). part.place) (option_map placed_part_of result) ≡ option_map (λ (part : Part). part.place) result
 found-place None = refl
 found-place (Some part) = refl
 
--- What was found is the part of the index ..
+-- The bytes of the part with an index are those of this part of the image.
 pub nth_bytes : (image : LegacyImage) (index : ℕ) (result : Option Part) → option_map placed_part_of result ≡ slice_get (placed_parts image) index → option_map (λ (part : Part). part.bytes.now) result ≡ slice_get image.parts index
 nth_bytes image index result e =
-    sym (found-bytes result) ∙ ap (option_map (λ (placed : PlacedPart). placed.bytes)) e
-    ∙ sym (slice_get-map (λ (placed : PlacedPart). placed.bytes) (placed_parts image) index)
+    sym (found-bytes result) ∙ ap (option_map (λ (part : PlacedPart). part.bytes)) e
+    ∙ sym (slice_get-map (λ (part : PlacedPart). part.bytes) (placed_parts image) index)
     ∙ ap (λ (parts : List (List ℕ)). slice_get parts index) (map-bytes (parts_start image.image_type image.parts) image.parts)
 
--- .. and its place is that of the index.
+-- The offset of the part with an index is that of this part of the image.
 pub nth_place : (image : LegacyImage) (index : ℕ) (result : Option Part) → option_map placed_part_of result ≡ slice_get (placed_parts image) index → option_map (λ (part : Part). part.place) result ≡ slice_get (part_places image) index
 nth_place image index result e =
-    sym (found-place result) ∙ ap (option_map (λ (placed : PlacedPart). placed.place)) e
-    ∙ sym (slice_get-map (λ (placed : PlacedPart). placed.place) (placed_parts image) index)
+    sym (found-place result) ∙ ap (option_map (λ (part : PlacedPart). part.place)) e
+    ∙ sym (slice_get-map (λ (part : PlacedPart). part.place) (placed_parts image) index)

@@ -1,4 +1,4 @@
-use Rattle.std.proofs.Common.{◌≡◌, ◌==◌, ℕ, ◌<◌, ◌^◌, Bool, true, false, List, [], ◌∷◌, length, slice_index, sym, ap, ap₂, ◌∙◌, MatchBool, if◌then◌else◌}
+use Rattle.std.proofs.Common.{◌≡◌, ℕ, ◌<◌, ◌^◌, Bool, true, false, List, [], ◌∷◌, length, slice_index, sym, ap, ap₂, ◌∙◌, MatchBool, if◌then◌else◌}
 use Rattle.bi_base.specs.Strings.{before_nul}
 use Rattle.bi_base.specs.Cells.{slice}
 use Rattle.bi_legacy.specs.Faults.{body_of}
@@ -10,9 +10,9 @@ use Rattle.bi_legacy.proofs.HeaderReads.{time_read, load_read, entry_read, os_re
 use Rattle.bi_legacy.proofs.TableParts.{parts_in_table, table_parts_are}
 use Rattle.bi_legacy.proofs.NameField.{name_in_field}
 
--- A file means at most one image: what is read at the fields' places.
+-- A file means at most one image: the one that is read at the offsets of the fields.
 
--- The parts that data tells which holds some parts are these.
+-- The parts that are read from data that holds some parts are these parts.
 parts_read : (has_table : Bool) (parts : List (List ℕ)) (body : List ℕ) → length body < 2 ^ 32 → MatchBool has_table (HasPartTable parts body) (parts ≡ body ∷ []) → (if has_table then parts_in_table body else body ∷ []) ≡ parts
 parts_read true parts body fits holds = table_parts_are parts body fits holds
 parts_read false parts body fits holds = sym holds

@@ -5,38 +5,38 @@ use Rattle.bi_base.specs.Cells.{slice, up4}
 use Rattle.bi_base.proofs.CellLaws.{slice-append, length-slice}
 use Rattle.bi_legacy.specs.Parts.{ArePaddedParts}
 
--- Parts as a reader finds them, at running offsets, and that these are the parts which stand one after another.
+-- Padded parts in order are the parts at increasing multiples of four.
 
 -- A multiple of four is its own next multiple of four.
 pub up4_of_four : (n : ℕ) → up4 (4 * n) ≡ 4 * n
 up4_of_four n = omega arith
 
--- The next multiple of four is one.
+-- The next multiple of four is a multiple of four.
 pub up4-up4 : (n : ℕ) → up4 (up4 n) ≡ up4 n
 up4-up4 n = omega arith
 
--- Each part stands in this data, the first at `at` and each later one at the next multiple of four.
+-- Each part is in this data, the first at `at` and each later one at the next multiple of four.
 abbrev pub ArePartsAt : ℕ → List (List ℕ) → List ℕ → Type 0
 ArePartsAt at [] body = Unit {0}
 ArePartsAt at (part ∷ parts) body =
     (at + length part ≤ length body) × (slice body at (length part) ≡ part) × ArePartsAt (up4 (at + length part)) parts body
 
--- A part with its padding ends, after an aligned front, at the next multiple of four.
+-- After an aligned front, a part with its padding ends at the next multiple of four.
 padded_end : (front part padding : List ℕ) → up4 (length front) ≡ length front → length part + length padding ≡ up4 (length part) → length (front ++ (part ++ padding)) ≡ up4 (length front + length part)
 padded_end front part padding aligned whole =
     length-append front (part ++ padding) ∙ omega (arith, length-append part padding, aligned, whole)
 
--- So what begins after it is aligned.
+-- What follows it is aligned.
 padded_aligned : (front part padding : List ℕ) → up4 (length front) ≡ length front → length part + length padding ≡ up4 (length part) → up4 (length (front ++ (part ++ padding))) ≡ length (front ++ (part ++ padding))
 padded_aligned front part padding aligned whole =
     let ends = padded_end front part padding aligned whole in ap up4 ends ∙ up4-up4 (length front + length part) ∙ sym ends
 
--- A part and its padding may be counted to the front.
+-- A part and its padding may be added to the front.
 padded_front : (front part padding after : List ℕ) → (front ++ (part ++ padding)) ++ after ≡ front ++ (part ++ (padding ++ after))
 padded_front front part padding after =
     append_assoc front (part ++ padding) after ∙ ap (λ list. front ++ list) (append_assoc part padding after)
 
--- Parts that bytes hold in turn stand after an aligned front.
+-- Padded parts after an aligned front are at these offsets.
 pub padded_parts-at : (front : List ℕ) (parts : List (List ℕ)) (bytes : List ℕ) → up4 (length front) ≡ length front → ArePaddedParts parts bytes → ArePartsAt (length front) parts (front ++ bytes)
 padded_parts-at front [] bytes aligned turn = tt
 padded_parts-at front (part ∷ []) bytes aligned turn =
@@ -55,13 +55,13 @@ padded_parts-at front (part ∷ next ∷ later) bytes aligned turn =
       rest,
     )
 
--- What stands right after a front are the first of the bytes there.
+-- The slice right after a front is the first of the bytes there.
 first_part-at : (front bytes part : List ℕ) → slice (front ++ bytes) (length front) (length part) ≡ part → bytes ≡ part ++ drop (length part) bytes
 first_part-at front bytes part at_offsets =
     sym (take-append-drop (length part) bytes)
     ∙ ap (λ first. first ++ drop (length part) bytes) (ap (take (length part)) (sym (drop-append_seam front bytes)) ∙ at_offsets)
 
--- Parts that stand after an aligned front are held in turn by the bytes there.
+-- Parts at these offsets after an aligned front are padded parts in order.
 pub padded_parts-from : (front : List ℕ) (parts : List (List ℕ)) (bytes : List ℕ) → up4 (length front) ≡ length front → ArePartsAt (length front) parts (front ++ bytes) → ArePaddedParts parts bytes
 padded_parts-from front [] bytes aligned at_offsets = tt
 padded_parts-from front (part ∷ []) bytes aligned at_offsets = (drop (length part) bytes, first_part-at front bytes part at_offsets.1)

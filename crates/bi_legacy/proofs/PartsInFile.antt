@@ -11,9 +11,9 @@ use Rattle.bi_legacy.proofs.TableParts.{table_parts_at}
 use Rattle.bi_legacy.proofs.NormalLength.{parts_end_in}
 use Rattle.bi_legacy.proofs.PartOffsets.{ArePartsAt}
 
--- The parts of an image stand in its file at their places, and end in it.
+-- The parts of an image are in its file at their offsets, and end in it.
 
--- A slice of the data is one of the file, 64 bytes on.
+-- A slice of the data is a slice of the file, 64 bytes later.
 data_slice : (file : List ℕ) (size at n : ℕ) → at + n ≤ size → slice (slice file 64 size) at n ≡ slice file (64 + at) n
 data_slice file size at n within =
     let left : ℕ = size - at in
@@ -21,7 +21,7 @@ data_slice file size at n within =
     let room : n ≤ left = omega arith in
     ap (take n) (slice-rest file 64 at size left sum) ∙ slice-first file (64 + at) n left room
 
--- Parts that stand in the there stand in the file.
+-- Parts in the data are in the file, 64 bytes later.
 parts_at-in_file : (file body : List ℕ) (at : ℕ) (parts : List (List ℕ)) → slice file 64 (length body) ≡ body → ArePartsAt at parts body → AreAtOffsets file (placed_parts_from at parts)
 parts_at-in_file file body at [] there at_offsets = tt
 parts_at-in_file file body at (part ∷ parts) there at_offsets = (
@@ -29,14 +29,14 @@ parts_at-in_file file body at (part ∷ parts) there at_offsets = (
   parts_at-in_file file body (up4 (at + length part)) parts there at_offsets.2,
 )
 
--- The same of data with or without a list of sizes.
+-- The same for data with or without a part table.
 body_parts-in_file : (has_table : Bool) (file body : List ℕ) (parts : List (List ℕ)) → slice file 64 (length body) ≡ body → MatchBool has_table (HasPartTable parts body) (parts ≡ body ∷ []) → AreAtOffsets file (placed_parts_from (if has_table then length (part_table parts) else 0) parts)
 body_parts-in_file true file body parts there held = parts_at-in_file file body (length (part_table parts)) parts there (table_parts_at parts body held)
 body_parts-in_file false file body parts there alone =
     subst (λ (them : List (List ℕ)). AreAtOffsets file (placed_parts_from 0 them)) (sym alone)
     (parts_at-in_file file body 0 (body ∷ []) there (omega arith, take-length body, tt))
 
--- The parts of an image stand in its file.
+-- The parts of an image are in its file at their offsets.
 pub parts_at_offsets : (file : List ℕ) (image : LegacyImage) → IsLegacyFile file image → AreAtOffsets file (placed_parts image)
 parts_at_offsets file image is =
     body_parts-in_file (has_part_table image.image_type) file is.body image.parts

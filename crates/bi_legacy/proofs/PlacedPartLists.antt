@@ -10,9 +10,9 @@ use Rattle.bi_legacy.specs.ReadImage.{parts_of_body}
 use Rattle.bi_legacy.proofs.TableParts.{first_offset, parts_in_table}
 use Rattle.bi_legacy.proofs.PartEnds.{length-part_slices, first_offset_is}
 
--- The parts that data tells, with their places.
+-- The parts that are read from data, with their offsets.
 
--- Pieces that are cut where they fit are the parts at their places.
+-- Slices of data that fit in it are the parts with their offsets.
 placed_slices-fit : (body : List ℕ) (at : ℕ) (sizes : List ℕ) → FitWithin (length body) at sizes → placed_slices body at sizes ≡ placed_parts_from at (part_slices body at sizes)
 placed_slices-fit body at [] fit = refl
 placed_slices-fit body at (size ∷ sizes) fit =
@@ -20,14 +20,14 @@ placed_slices-fit body at (size ∷ sizes) fit =
     (placed_slices-fit body (up4 (at + size)) sizes fit.1
     ∙ ap (λ n. placed_parts_from (up4 (at + n)) (part_slices body (up4 (at + size)) sizes)) (sym (length-slice body at size fit.0)))
 
--- The same for data of a kind with or without a list of sizes.
+-- The same for data with or without a part table.
 placed_with : (has_table : Bool) (body : List ℕ) → FitWithin (length body) (first_part_offset has_table body) (part_sizes has_table body) → let parts = if has_table then parts_in_table body else body ∷ [] in placed_slices body (first_part_offset has_table body) (part_sizes has_table body) ≡ placed_parts_from (if has_table then length (part_table parts) else 0) parts
 placed_with true body fit =
     placed_slices-fit body (first_offset body) _ fit ∙ ap (λ at. placed_parts_from at (parts_in_table body)) (sym (first_offset_is body fit))
 placed_with false body fit =
     ap (λ (bytes : List ℕ). record { place = 64; bytes = bytes } ∷ []) (take-length body)
 
--- The pieces of the data of an image of this type are its parts at their places.
+-- The slices of the data of an image of this type are its parts with their offsets.
 pub placed_is : (image_type : ℕ) (body : List ℕ) → FitWithin (length body) (first_part_offset (has_part_table image_type) body) (part_sizes (has_part_table image_type) body) → placed_slices body (first_part_offset (has_part_table image_type) body) (part_sizes (has_part_table image_type) body) ≡ placed_parts_from (parts_start image_type (parts_of_body image_type body)) (parts_of_body image_type body)
 placed_is image_type body fit = placed_with (has_part_table image_type) body fit
 

@@ -16,9 +16,9 @@ use Rattle.bi_legacy.proofs.OneMeaning.{one_meaning}
 use Rattle.bi_legacy.proofs.PartEnds.{read_end_is}
 use Rattle.bi_legacy.proofs.PartsInFile.{parts_at_offsets, parts_end_in_file}
 
--- What an answer says of a file that is right by the checks: told where none fails, else the first fault.
+-- The result of reading a file, where it is right by the checks.
 
--- It is Ok exactly where the file means something.
+-- It is Ok exactly where the file means an image.
 pub accepts_of : (file : List ℕ) (limits : Bounds) (r : Result ParsedImage Fault) → AreBytes file → OnOk r (HasNoLegacyFault limits file) → IfErr r (IsLegacyFault limits file) → IsOk r ↔ ((image : LegacyImage) × LegacyMeans limits file image)
 accepts_of file limits (Ok parsed) bytes none first = (λ _. (read_image file, no_fault_means file limits bytes none), λ _. refl)
 accepts_of file limits (Err fault) bytes none first = (
@@ -26,7 +26,7 @@ accepts_of file limits (Err fault) bytes none first = (
   λ meant. absurd (not_both (Passes limits file) (fault_of limits) (checks file) fault (means_no_fault file meant.0 limits meant.1) first),
 )
 
--- A value is that of the file.
+-- The value is that of the file.
 pub parsed_of : (file : List ℕ) (limits : Bounds) (r : Result ParsedImage Fault) → AreBytes file → OnOk r (HasNoLegacyFault limits file) → IfOk r (λ value. value.image ≡ read_image file) → IfOk r (λ value. value.unused ≡ length file - (64 + read_end file)) → IfOk r (IsParsedImage limits file)
 parsed_of file limits (Ok value) bytes none image unused =
     let read = no_fault_means file limits bytes none in
@@ -44,7 +44,7 @@ parsed_of file limits (Ok value) bytes none image unused =
     }
 parsed_of file limits (Err fault) bytes none image unused = tt
 
--- A fault is the only one.
+-- The fault is the only one.
 pub only_fault_of : (file : List ℕ) (limits : Bounds) (r : Result ParsedImage Fault) → IfErr r (IsLegacyFault limits file) → IfErr r (IsOnlyLegacyFault limits file)
 only_fault_of file limits (Ok value) first = tt
 only_fault_of file limits (Err fault) first = record {

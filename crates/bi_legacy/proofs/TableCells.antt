@@ -13,9 +13,9 @@ use Rattle.bi_legacy.specs.PartTables.{cells_of, table_sizes}
 use Rattle.bi_legacy.specs.Parts.{part_table}
 use Rattle.bi_base.proofs.NulLaws.{nul_index, before_nul-append}
 
--- Cells one after another, and the numbers that they spell.
+-- Lists of cells, and the numbers in them.
 
--- Four bytes are the cell of the number that they spell.
+-- Four bytes are the cell of their number.
 cell_of_bytes : (a b c d : ℕ) (later : List ℕ) → AreBytes (a ∷ b ∷ c ∷ d ∷ later) → cell (from_be_bytes w32 (a ∷ b ∷ c ∷ d ∷ [])) ≡ a ∷ b ∷ c ∷ d ∷ []
 unfolding cell
 cell_of_bytes a b c d later bytes =
@@ -25,7 +25,7 @@ cell_of_bytes a b c d later bytes =
 bytes_after_cell : (a b c d : ℕ) (later : List ℕ) → AreBytes (a ∷ b ∷ c ∷ d ∷ later) → AreBytes later
 bytes_after_cell a b c d later bytes = record { each = λ i. bytes.each (suc (suc (suc (suc i)))) }
 
--- The first numbers of bytes that hold as many whole cells, as cells, are the first of the bytes.
+-- The cells of the first numbers of some bytes are the first of the bytes.
 pub cells_split : (body : List ℕ) (n : ℕ) → AreBytes body → n ≤ length (cells_of body) → body ≡ flat_map cell (take n (cells_of body)) ++ drop (4 * n) body
 cells_split body zero bytes within = refl
 cells_split [] (suc n) bytes within = absurd (omega arith)
@@ -36,16 +36,16 @@ cells_split (a ∷ b ∷ c ∷ d ∷ later) (suc n) bytes within =
     let four : 4 * suc n ≡ suc (suc (suc (suc (4 * n)))) = omega arith in
     rw (four, cell_of_bytes a b c d later bytes) (ap (λ list. a ∷ b ∷ c ∷ d ∷ list) (cells_split later n (bytes_after_cell a b c d later bytes) (omega arith)))
 
--- A cell before bytes is read as its number.
+-- The first number of a cell and more bytes is that of the cell.
 cells_of-cell : (n : ℕ) (later : List ℕ) → n < 2 ^ 32 → cells_of (cell n ++ later) ≡ n ∷ cells_of later
 unfolding cell
 cells_of-cell n later fits = ap (λ first. first ∷ cells_of later) (from_be_bytes-to_be_bytes_4 n fits)
 
--- A number that a list of sizes can hold before its end.
+-- A size that a part table can have.
 abbrev pub IsSize : ℕ → Type 0
 IsSize size = (0 < size) × (size < 2 ^ 32)
 
--- Cells of numbers before bytes are read as these numbers.
+-- The first numbers of cells and more bytes are those of the cells.
 pub cells_of-flat_map : (sizes later : List ℕ) → AllByRecursion IsSize sizes → cells_of (flat_map cell sizes ++ later) ≡ sizes ++ cells_of later
 cells_of-flat_map [] later are = refl
 cells_of-flat_map (size ∷ sizes) later are =
@@ -53,7 +53,7 @@ cells_of-flat_map (size ∷ sizes) later are =
     ∙ cells_of-cell size (flat_map cell sizes ++ later) are.0.1
     ∙ ap (λ list. size ∷ list) (cells_of-flat_map sizes later are.1)
 
--- A list of sizes is the cells of the sizes and a cell of zero.
+-- A part table is the cells of the sizes and a cell of zero.
 pub part_table-cells : (parts : List (List ℕ)) → part_table parts ≡ flat_map cell (map length parts) ++ cell 0
 part_table-cells parts = ap (λ list. list ++ cell 0) (of_lengths parts)
   where
@@ -61,14 +61,14 @@ part_table-cells parts = ap (λ list. list ++ cell 0) (of_lengths parts)
     of_lengths [] = refl
     of_lengths (part ∷ parts) = ap (λ list. cell (length part) ++ list) (of_lengths parts)
 
--- What a list of sizes before bytes is read as: the sizes, and a zero.
+-- The first numbers of a part table and more bytes are the sizes and a zero.
 sizes_read : (sizes after : List ℕ) → AllByRecursion IsSize sizes → cells_of ((flat_map cell sizes ++ cell 0) ++ after) ≡ sizes ++ 0 ∷ cells_of after
 sizes_read sizes after are =
     ap cells_of (append_assoc (flat_map cell sizes) (cell 0) after)
     ∙ cells_of-flat_map sizes (cell 0 ++ after) are
     ∙ ap (λ list. sizes ++ list) (cells_of-cell 0 after (omega arith))
 
--- The sizes that a list of sizes before bytes tells are its sizes.
+-- The sizes that are read from a part table are its sizes.
 pub table_sizes-cells : (sizes after : List ℕ) → AllByRecursion IsSize sizes → table_sizes ((flat_map cell sizes ++ cell 0) ++ after) ≡ sizes
 table_sizes-cells sizes after are =
     ap (before_first (λ number. number == 0)) (sizes_read sizes after are)
@@ -78,7 +78,7 @@ table_sizes-cells sizes after are =
     nonzero [] are = tt
     nonzero (size ∷ sizes) are = ((λ zero. omega (arith, are.0.0)), nonzero sizes are.1)
 
--- A list of sizes before bytes has an end.
+-- A part table has an end.
 pub part_table-ends : (sizes after : List ℕ) → AllByRecursion IsSize sizes → Contains (cells_of ((flat_map cell sizes ++ cell 0) ++ after)) 0
 part_table-ends sizes after are =
     rw (sizes_read sizes after are) (Contains-append_right sizes (0 ∷ cells_of after) 0 (0, omega arith, refl))
@@ -90,7 +90,7 @@ zero_within numbers there = elim (cases_lt (nul_index numbers) (length numbers))
   | inr past ↦ absurd (eqb-false (get_or numbers there.0 0) 0 (fails_before_first (λ number. number == 0) numbers there.0 0 (omega (arith, there.1))) there.2)
 ]
 
--- Data whose cells contain a zero is the list of sizes that it tells, and the bytes after the list.
+-- Data with a zero among its cells is the part table that is read from it, and the bytes after the table.
 pub part_table-split : (body : List ℕ) → AreBytes body → Contains (cells_of body) 0 → body ≡ (flat_map cell (table_sizes body) ++ cell 0) ++ drop (4 * (length (table_sizes body) + 1)) body
 part_table-split body bytes there =
     let cells = cells_of body in

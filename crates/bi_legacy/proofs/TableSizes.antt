@@ -15,7 +15,7 @@ length-cells (a ∷ b ∷ []) = refl
 length-cells (a ∷ b ∷ c ∷ []) = refl
 length-cells (a ∷ b ∷ c ∷ d ∷ later) = omega (arith, length-cells later)
 
--- A whole cell is the number that stands at its offset.
+-- A whole cell is the number at its offset.
 pub get_or-cells : (bytes : List ℕ) (i : ℕ) → 4 * (i + 1) ≤ length bytes → get_or (cells_of bytes) i 0 ≡ u32_at bytes (4 * i)
 unfolding u32_at
 get_or-cells [] i within = absurd (omega arith)
@@ -34,20 +34,20 @@ first_zero_is body count before within ends =
     (λ k below. ne_eqb (get_or (cells_of body) k 0) 0 (before k below))
     (λ _. eq-eqb (get_or (cells_of body) count 0) 0 (get_or-cells body count within ∙ ends))
 
--- So there are as many sizes as cells before it.
+-- There are as many sizes as cells before it.
 pub length-table_sizes : (body : List ℕ) (count : ℕ) → ((k : ℕ) → k < count → get_or (cells_of body) k 0 ≢ 0) → 4 * (count + 1) ≤ length body → u32_at body (4 * count) ≡ 0 → count ≡ length (table_sizes body)
 length-table_sizes body count before within ends =
     sym (ap (λ n. length (take n (cells_of body))) (first_zero_is body count before within ends)
     ∙ length-take-le count (cells_of body) (omega (arith, length-cells body)))
 
--- A size is the number that stands at its offset in the list.
+-- A size is the number at its offset in the part table.
 pub drop-table_sizes : (body : List ℕ) (i : ℕ) → 4 * (i + 1) ≤ length body → i < length (table_sizes body) → drop i (table_sizes body) ≡ u32_at body (4 * i) ∷ drop (i + 1) (table_sizes body)
 drop-table_sizes body i within below =
     let place = position_or_len (λ number. number == 0) (cells_of body) in
     let read : get_or (table_sizes body) i 0 ≡ u32_at body (4 * i) = get_or-take place (cells_of body) i 0 (omega (arith, length-take place (cells_of body))) ∙ get_or-cells body i within in
     drop_more (table_sizes body) i 0 below ∙ ap (λ size. size ∷ drop (i + 1) (table_sizes body)) read
 
--- The same for data that is known to have a list of sizes.
+-- The same for data that is known to have a part table.
 pub drop-part_sizes : (has_table : Bool) (body : List ℕ) (i : ℕ) → has_table ≡ true → i < length (part_sizes has_table body) → first_part_offset has_table body ≤ length body → drop i (part_sizes has_table body) ≡ u32_at body (4 * i) ∷ drop (i + 1) (part_sizes has_table body)
 drop-part_sizes true body i e within room = drop-table_sizes body i (omega arith) within
 drop-part_sizes false body i e within room = absurd cc

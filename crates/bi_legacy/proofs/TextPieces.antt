@@ -10,9 +10,9 @@ use Rattle.bi_legacy.specs.Meaning.{LegacyImage}
 use Rattle.bi_legacy.specs.Parts.{part_table}
 use Rattle.bi_legacy.specs.Text.{padded, joined_parts}
 
--- The normal text, as it is put piece by piece.
+-- The normal text, as it is written piece by piece.
 
--- The parts one after another are those before the last one, each filled, and then the last one.
+-- Joined parts are those before the last one, each padded, and then the last one.
 joined_parts-last : (before : List (List ℕ)) (last : List ℕ) → joined_parts (before ++ (last ∷ [])) ≡ flat_map padded before ++ last
 joined_parts-last [] last = refl
 joined_parts-last (part ∷ []) last = ap (λ l. l ++ last) (sym (append-nil (padded part)))
@@ -20,7 +20,7 @@ joined_parts-last (part ∷ next ∷ later) last =
     ap (λ l. padded part ++ l) (joined_parts-last (next ∷ later) last)
     ∙ sym (append_assoc (padded part) (flat_map padded (next ∷ later)) last)
 
--- The same for parts that are lent.
+-- The same for slices.
 pub joined_parts-bytes_of : (slices before : List (Bor (List ℕ))) (last : Bor (List ℕ)) → slices ≡ before ++ (last ∷ []) → joined_parts (bytes_of slices) ≡ flat_map (λ slice. padded slice.now) before ++ last.now
 joined_parts-bytes_of slices before last e =
     ap (λ l. joined_parts (bytes_of l)) e
@@ -28,12 +28,12 @@ joined_parts-bytes_of slices before last e =
     ∙ joined_parts-last (bytes_of before) last.now
     ∙ ap (λ l. l ++ last.now) (flat_map-map padded (λ slice. slice.now) before)
 
--- The list of sizes of parts that are lent.
+-- The part table of slices.
 pub part_table-bytes_of : (slices : List (Bor (List ℕ))) → part_table (bytes_of slices) ≡ flat_map (λ slice. cell (length slice.now)) slices ++ cell 0
 part_table-bytes_of slices =
     ap (λ l. l ++ cell 0) (flat_map-map (λ part. cell (length part)) (λ slice. slice.now) slices)
 
--- A part is no longer than the parts one after another.
+-- A part is no longer than the joined parts.
 part_within : (parts : List (List ℕ)) (i : ℕ) (d : List ℕ) → i < length parts → length (get_or parts i d) ≤ length (joined_parts parts)
 part_within [] i d within = absurd (omega arith)
 part_within (part ∷ []) zero d within = omega arith
@@ -47,7 +47,7 @@ part_within (part ∷ next ∷ later) zero d within =
 part_within (part ∷ next ∷ later) (suc i) d within =
     omega (arith, length-append (padded part) (joined_parts (next ∷ later)), part_within (next ∷ later) i d (omega arith))
 
--- The same for parts that are lent.
+-- The same for slices.
 pub slice_within : (slices : List (Bor (List ℕ))) (i : ℕ) (d : Bor (List ℕ)) → i < length slices → length (get_or slices i d).now ≤ length (joined_parts (bytes_of slices))
 slice_within slices i d within =
     let now = λ (slice : Bor (List ℕ)). slice.now in
@@ -57,7 +57,7 @@ slice_within slices i d within =
       ap length (get_or-map now slices i d d.now within),
     )
 
--- The zeros that fill bytes up to a multiple of four.
+-- The zeros that pad bytes to a multiple of four.
 pub padding_zeros : (n : ℕ) → take {A = ℕ} ((4 - n % 4) % 4) (0 ∷ 0 ∷ 0 ∷ []) ≡ replicate (up4 n - n) 0
 padding_zeros n =
     let count = (4 - n % 4) % 4 in
@@ -65,7 +65,7 @@ padding_zeros n =
     let zeros : take {A = ℕ} count (0 ∷ 0 ∷ 0 ∷ []) ≡ replicate count 0 = take-replicate count 3 0 (omega arith) in
     subst (λ (k : ℕ). take {A = ℕ} count (0 ∷ 0 ∷ 0 ∷ []) ≡ replicate k 0) same zeros
 
--- The zeros that fill a name's field, out of as many as the field has bytes.
+-- The zeros that pad a name to the size of its field.
 pub name_zeros : (n : ℕ) → n ≤ 32 → take {A = ℕ} (32 - n) (drop n (replicate 32 0)) ≡ replicate (32 - n) 0
 name_zeros n short =
     ap (take (32 - n)) (drop-replicate n 32 0) ∙ take-replicate (32 - n) (32 - n) 0 (omega arith)
@@ -75,7 +75,7 @@ pub header_pieces : (checksum size sum : ℕ) (image : LegacyImage) (field : Lis
 unfolding cell
 header_pieces checksum size sum image field = refl
 
--- The header of an image, by what was computed of its data and then of the header itself.
+-- The header of an image, with the checksum of its data and then that of the header itself.
 pub header_made : (image : LegacyImage) (field body : List ℕ) (size sum checksum : ℕ) → size ≡ length body → sum ≡ crc32 body → checksum ≡ crc32 (header_cells 0 size sum image field) → header_cells checksum size sum image field ≡ header image field body
 unfolding header
 header_made image field body size sum checksum size_is sum_is checksum_is =

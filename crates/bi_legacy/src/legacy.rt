@@ -83,7 +83,7 @@ impl<'a> Legacy<'a> {
     /// The parts in their order, with their offsets. Iterating over all of them takes time linear
     /// in their number.
     pub fn parts(&self) -> Parts<'a>
-        ensures placed { result ≡ placed_parts self.now.image }
+        ensures parts { result ≡ placed_parts self.now.image }
         ensures bytes { map (λ part. part.bytes) result ≡ self.now.image.parts }
     {
         Parts::new(

@@ -89,13 +89,11 @@ fn end_of_parts(body: &[u8], part_count: usize) -> Result<usize, Fault>
         IfErr result (IsFirstFault (TablePasses body.now) table_fault checks) }
 {
     let mut end = 4 * (part_count + 1);
-    let mut index = 0;
-    for range in PartRanges::new(body, true, part_count) {
+    for (index, range) in PartRanges::new(body, true, part_count).enumerate() {
         end = range.start + range.size;
         if end > body.len() {
             return refuse(Cause::BadPart, table_offset(index));
         }
-        index += 1;
     }
     Ok(end)
 }

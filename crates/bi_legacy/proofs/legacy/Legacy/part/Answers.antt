@@ -8,10 +8,10 @@ pub returns-in_err-nth : goal.returns-in_err-nth
 returns-in_err-nth c =
     rw c.from_residual.ensures (nth_bytes c.args.self.now.image c.args.index None
     (nth_from_yields_List None c.nth.new.self c.args.index c.in_err-nth.ensures.ran
-    (YieldsList-from_first placed_part_of (λ parts. parts) _ c.parts.ensures.placed)))
+    (YieldsList-from_first placed_part_of (λ parts. parts) _ c.parts.ensures.parts)))
 
 pub returns : goal.returns
 returns c =
     nth_bytes c.args.self.now.image c.args.index (Some c.in_ok-nth.field-0)
     (nth_from_yields_List (Some c.in_ok-nth.field-0) c.nth.new.self c.args.index c.in_ok-nth.ensures.ran
-    (YieldsList-from_first placed_part_of (λ parts. parts) _ c.parts.ensures.placed))
+    (YieldsList-from_first placed_part_of (λ parts. parts) _ c.parts.ensures.parts))
