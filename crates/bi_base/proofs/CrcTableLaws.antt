@@ -1,11 +1,11 @@
-use Rattle.std.proofs.Common.{◌≡◌, ℕ, zero, suc, ◌+◌, ◌-◌, ◌*◌, ◌/◌, ◌%◌, ◌^◌, ◌<◌, ◌==◌, Bool, true, false, cond, if◌then◌else◌, List, [], ◌∷◌, ◌++◌, length, get_or, replicate, take, drop, take-add, fold, refl, sym, ap, subst, ◌∙◌, arith, append-nil, bit_xor, flat_map}
+use Rattle.std.proofs.Common.{◌≡◌, ℕ, zero, suc, ◌+◌, ◌*◌, ◌/◌, ◌%◌, ◌^◌, ◌<◌, ◌==◌, Bool, true, false, cond, if◌then◌else◌, List, [], ◌∷◌, length, get_or, replicate, take, drop, take-add, fold, refl, sym, ap, subst, ◌∙◌, arith, append-nil, bit_xor}
 use native.Mathlib.Nat.{pow-suc}
-use lib.Bits.{xor_assoc, xor_comm, xor_zero_r, xor_shr, xor_mod, xor_shifted, xor_step, shifted_half, shifted_even}
+use lib.Bits.{xor_assoc, xor_comm, xor_zero_r, xor_shr, xor_mod, xor_shifted, shifted_half, shifted_even}
 use Rattle.std.proofs.lemmas.Nat.{xor_of_32}
 use Rattle.std.proofs.lemmas.List.Sums.{fold-append}
 use Rattle.std.proofs.lemmas.List.{replicate-append-replicate, take-append-drop}
 use Rattle.std.specs.Simd.{first_chunks}
-use Rattle.bi_base.specs.Crc.{crc_bit, crc_after, low_bits, message_bits}
+use Rattle.bi_base.specs.Crc.{crc_bit, crc_after, low_bits}
 use Rattle.bi_base.specs.CrcTables.{after_zeros, table_entry}
 use Rattle.bi_base.proofs.CrcLaws.{crc_after-append}
 
@@ -63,11 +63,11 @@ crc_bit-added register bit small =
     let none : bit / 2 ≡ 0 = omega arith in
     let all : bit % 2 ≡ bit = omega arith in
     let high : bit_xor register bit / 2 ≡ register / 2 =
-        xor_shr register bit 1 ∙ ap (bit_xor (register / 2)) none ∙ xor_zero_r (register / 2) in
+    xor_shr register bit 1 ∙ ap (bit_xor (register / 2)) none ∙ xor_zero_r (register / 2) in
     let low : bit_xor register bit % 2 ≡ bit_xor (register % 2) bit =
-        xor_mod register bit 1 ∙ ap (bit_xor (register % 2)) all in
+    xor_mod register bit 1 ∙ ap (bit_xor (register % 2)) all in
     let test : (register % 2 == bit) ≡ (bit_xor register bit % 2 == 0) =
-        bit_matches (register % 2) bit (omega arith) small ∙ ap (λ (n : ℕ). n == 0) (sym low) in
+    bit_matches (register % 2) bit (omega arith) small ∙ ap (λ (n : ℕ). n == 0) (sym low) in
     λ i. cond (test i) (sym high i) (bit_xor (sym high i) 0xEDB88320)
 
 -- The register after no message bits, and after one more.
@@ -108,10 +108,10 @@ low_bits-added (suc n) register number small =
     let high = number / 2 in
     let lead : crc_bit (high * 2 ^ 1) 0 ≡ high = crc_bit-even high 0 ∙ omega arith in
     let parts : bit_xor (bit_xor register low) (high * 2 ^ 1) ≡ bit_xor register number =
-        xor_assoc register low (high * 2 ^ 1) ∙ ap (bit_xor register) (xor_comm low (high * 2 ^ 1) ∙ xor_shifted high 1 low (omega arith) ∙ omega arith) in
+    xor_assoc register low (high * 2 ^ 1) ∙ ap (bit_xor register) (xor_comm low (high * 2 ^ 1) ∙ xor_shifted high 1 low (omega arith) ∙ omega arith) in
     let first : bit_xor (crc_bit register low) high ≡ crc_bit (bit_xor register number) 0 =
-        (λ i. bit_xor (crc_bit-added register low (omega arith) i) (sym lead i))
-        ∙ sym (crc_bit-xor (bit_xor register low) (high * 2 ^ 1)) ∙ ap (λ (r : ℕ). crc_bit r 0) parts in
+    (λ i. bit_xor (crc_bit-added register low (omega arith) i) (sym lead i))
+    ∙ sym (crc_bit-xor (bit_xor register low) (high * 2 ^ 1)) ∙ ap (λ (r : ℕ). crc_bit r 0) parts in
     low_bits-added n (crc_bit register low) high (omega (arith, pow-suc 2 n)) ∙ ap (after_zeros n) first
 
 -- The register after a byte, and after a byte and others.
@@ -129,7 +129,7 @@ crc_after-cons register byte bytes small =
 zeros-byte : (register : ℕ) → after_zeros 8 register ≡ bit_xor (register / 256) (after_zeros 8 (register % 256))
 zeros-byte register =
     let parts : register ≡ bit_xor (register / 256 * 2 ^ 8) (register % 256) =
-        sym (xor_shifted (register / 256) 8 (register % 256) (omega arith) ∙ omega arith) in
+    sym (xor_shifted (register / 256) 8 (register % 256) (omega arith) ∙ omega arith) in
     ap (after_zeros 8) parts
     ∙ zeros-xor 8 (register / 256 * 2 ^ 8) (register % 256)
     ∙ ap (λ (n : ℕ). bit_xor n (after_zeros 8 (register % 256))) (zeros-shift (register / 256) 8)
@@ -179,13 +179,13 @@ crc_after-four register a b c d ga gb gc gd =
     let r2 = bit_xor r1 (b * 2 ^ 8) in
     let r3 = bit_xor r2 (c * 2 ^ 16) in
     let two : after_zeros 8 (bit_xor (after_zeros 8 r1) b) ≡ after_zeros 16 r2 =
-        ap (after_zeros 8) (zeros-added 8 r1 b) ∙ zeros-add 8 8 r2 in
+    ap (after_zeros 8) (zeros-added 8 r1 b) ∙ zeros-add 8 8 r2 in
     let three : after_zeros 8 (bit_xor (after_zeros 16 r2) c) ≡ after_zeros 24 r3 =
-        ap (after_zeros 8) (zeros-added 16 r2 c) ∙ zeros-add 16 8 r3 in
+    ap (after_zeros 8) (zeros-added 16 r2 c) ∙ zeros-add 16 8 r3 in
     let sum : bit_xor r3 (d * 2 ^ 24) ≡ bit_xor register (number_of a b c d) =
-        ap (λ (n : ℕ). bit_xor (bit_xor n (c * 2 ^ 16)) (d * 2 ^ 24)) (xor_last register a (b * 2 ^ 8))
-        ∙ ap (λ (n : ℕ). bit_xor n (d * 2 ^ 24)) (xor_last register (bit_xor (b * 2 ^ 8) a) (c * 2 ^ 16))
-        ∙ xor_last register (bit_xor (c * 2 ^ 16) (bit_xor (b * 2 ^ 8) a)) (d * 2 ^ 24) in
+    ap (λ (n : ℕ). bit_xor (bit_xor n (c * 2 ^ 16)) (d * 2 ^ 24)) (xor_last register a (b * 2 ^ 8))
+    ∙ ap (λ (n : ℕ). bit_xor n (d * 2 ^ 24)) (xor_last register (bit_xor (b * 2 ^ 8) a) (c * 2 ^ 16))
+    ∙ xor_last register (bit_xor (c * 2 ^ 16) (bit_xor (b * 2 ^ 8) a)) (d * 2 ^ 24) in
     crc_after-cons register a (b ∷ c ∷ d ∷ []) ga
     ∙ crc_after-cons (after_zeros 8 r1) b (c ∷ d ∷ []) gb
     ∙ ap (λ (r : ℕ). crc_after r (c ∷ d ∷ [])) two
@@ -201,17 +201,17 @@ after_zeros-tables : (a b c d : ℕ)
 after_zeros-tables a b c d =
     let first : after_zeros 32 a ≡ table_entry 3 a = sym (table_entry-fourth a) in
     let second : after_zeros 32 (b * 2 ^ 8) ≡ table_entry 2 b =
-        sym (zeros-add 8 24 (b * 2 ^ 8)) ∙ ap (after_zeros 24) (zeros-shift b 8) ∙ sym (table_entry-third b) in
+    sym (zeros-add 8 24 (b * 2 ^ 8)) ∙ ap (after_zeros 24) (zeros-shift b 8) ∙ sym (table_entry-third b) in
     let third : after_zeros 32 (c * 2 ^ 16) ≡ table_entry 1 c =
-        sym (zeros-add 16 16 (c * 2 ^ 16)) ∙ ap (after_zeros 16) (zeros-shift c 16) ∙ sym (table_entry-second c) in
+    sym (zeros-add 16 16 (c * 2 ^ 16)) ∙ ap (after_zeros 16) (zeros-shift c 16) ∙ sym (table_entry-second c) in
     let fourth : after_zeros 32 (d * 2 ^ 24) ≡ table_entry 0 d =
-        sym (zeros-add 24 8 (d * 2 ^ 24)) ∙ ap (after_zeros 8) (zeros-shift d 24) ∙ sym (table_entry-first d) in
+    sym (zeros-add 24 8 (d * 2 ^ 24)) ∙ ap (after_zeros 8) (zeros-shift d 24) ∙ sym (table_entry-first d) in
     let two : after_zeros 32 (bit_xor (b * 2 ^ 8) a) ≡ bit_xor (table_entry 3 a) (table_entry 2 b) =
-        zeros-xor 32 (b * 2 ^ 8) a ∙ (λ i. bit_xor (second i) (first i)) ∙ xor_comm (table_entry 2 b) (table_entry 3 a) in
+    zeros-xor 32 (b * 2 ^ 8) a ∙ (λ i. bit_xor (second i) (first i)) ∙ xor_comm (table_entry 2 b) (table_entry 3 a) in
     let three : after_zeros 32 (bit_xor (c * 2 ^ 16) (bit_xor (b * 2 ^ 8) a))
-        ≡ bit_xor (bit_xor (table_entry 3 a) (table_entry 2 b)) (table_entry 1 c) =
-        zeros-xor 32 (c * 2 ^ 16) (bit_xor (b * 2 ^ 8) a) ∙ (λ i. bit_xor (third i) (two i))
-        ∙ xor_comm (table_entry 1 c) (bit_xor (table_entry 3 a) (table_entry 2 b)) in
+    ≡ bit_xor (bit_xor (table_entry 3 a) (table_entry 2 b)) (table_entry 1 c) =
+    zeros-xor 32 (c * 2 ^ 16) (bit_xor (b * 2 ^ 8) a) ∙ (λ i. bit_xor (third i) (two i))
+    ∙ xor_comm (table_entry 1 c) (bit_xor (table_entry 3 a) (table_entry 2 b)) in
     zeros-xor 32 (d * 2 ^ 24) (bit_xor (c * 2 ^ 16) (bit_xor (b * 2 ^ 8) a)) ∙ (λ i. bit_xor (fourth i) (three i))
     ∙ xor_comm (table_entry 0 d) (bit_xor (bit_xor (table_entry 3 a) (table_entry 2 b)) (table_entry 1 c))
 
@@ -221,9 +221,9 @@ number_of-sum : (a b c d : ℕ) → a < 2 ^ 8 → b < 2 ^ 8 → c < 2 ^ 8
 number_of-sum a b c d ga gb gc =
     let two : bit_xor (b * 2 ^ 8) a ≡ b * 2 ^ 8 + a = xor_shifted b 8 a ga in
     let three : bit_xor (c * 2 ^ 16) (b * 2 ^ 8 + a) ≡ c * 2 ^ 16 + (b * 2 ^ 8 + a) =
-        xor_shifted c 16 (b * 2 ^ 8 + a) (omega arith) in
+    xor_shifted c 16 (b * 2 ^ 8 + a) (omega arith) in
     let four : bit_xor (d * 2 ^ 24) (c * 2 ^ 16 + (b * 2 ^ 8 + a)) ≡ d * 2 ^ 24 + (c * 2 ^ 16 + (b * 2 ^ 8 + a)) =
-        xor_shifted d 24 (c * 2 ^ 16 + (b * 2 ^ 8 + a)) (omega arith) in
+    xor_shifted d 24 (c * 2 ^ 16 + (b * 2 ^ 8 + a)) (omega arith) in
     ap (λ (n : ℕ). bit_xor (d * 2 ^ 24) (bit_xor (c * 2 ^ 16) n)) two ∙ ap (bit_xor (d * 2 ^ 24)) three ∙ four ∙ omega arith
 
 -- A number of 32 bits is that of its four bytes.
@@ -236,7 +236,7 @@ number_of-bytes x small =
 pub four_by_tables : (register a b c d x : ℕ) → register < 2 ^ 32 → a < 2 ^ 8 → b < 2 ^ 8 → c < 2 ^ 8 → d < 2 ^ 8
     → x ≡ bit_xor register (a + b * 256 + c * 65536 + d * 16777216)
     → bit_xor (bit_xor (bit_xor (table_entry 3 (x % 256)) (table_entry 2 (x / 256 % 256))) (table_entry 1 (x / 65536 % 256)))
-        (table_entry 0 (x / 16777216 % 256))
+    (table_entry 0 (x / 16777216 % 256))
     ≡ crc_after register (a ∷ b ∷ c ∷ d ∷ [])
 four_by_tables register a b c d x gr ga gb gc gd is =
     let n = a + b * 256 + c * 65536 + d * 16777216 in
@@ -262,9 +262,9 @@ byte_by_table register byte small =
     let none : byte / 256 ≡ 0 = omega arith in
     let all : byte % 256 ≡ byte = omega arith in
     let high : bit_xor register byte / 256 ≡ register / 256 =
-        xor_shr register byte 8 ∙ ap (bit_xor (register / 256)) none ∙ xor_zero_r (register / 256) in
+    xor_shr register byte 8 ∙ ap (bit_xor (register / 256)) none ∙ xor_zero_r (register / 256) in
     let low : bit_xor register byte % 256 ≡ bit_xor (register % 256) byte =
-        xor_mod register byte 8 ∙ ap (bit_xor (register % 256)) all in
+    xor_mod register byte 8 ∙ ap (bit_xor (register % 256)) all in
     ap (bit_xor (register / 256)) (table_entry-first (bit_xor (register % 256) byte))
     ∙ (λ i. bit_xor (sym high i) (after_zeros 8 (sym low i)))
     ∙ sym (crc_after-byte register byte small ∙ zeros-byte (bit_xor register byte))

@@ -1,8 +1,8 @@
 //! A running CRC-32.
 #![tactic(auto, unfolding(crate::specs::Crc::crc_after))]
 
-ghost use Rattle.std.specs.Prelude.{◌≡◌, ℕ, ◌-◌, ◌<◌, fold};
-ghost use Rattle.bi_base.specs.Crc.{crc_bit, crc_after, low_bits};
+ghost use Rattle.std.specs.Prelude.{◌≡◌, ℕ, ◌-◌};
+ghost use Rattle.bi_base.specs.Crc.{crc_after};
 ghost use Rattle.bi_base.specs.CrcSink.{GoesOn, goes_on_nothing, goes_on_in_turn};
 
 use crate::crc_tables::after_bytes;
@@ -10,8 +10,8 @@ use crate::fault::Error;
 use crate::sinks::Sink;
 use std::marker::Model;
 
-/// A running CRC-32, for bytes that come in pieces: the checksum does not depend on where they are cut (ISO/IEC 3309,
-/// RFC 1952, chapter 8).
+/// A running CRC-32, for bytes that come in pieces. The checksum does not depend on where they are
+/// cut (ISO/IEC 3309, RFC 1952, chapter 8).
 #[derive(Clone, Copy, Debug, PartialEq, Eq)]
 pub struct Crc32 {
     register: u32,
@@ -26,7 +26,8 @@ impl Model for Crc32 {
 }
 
 impl Crc32 {
-    /// The checksum before any byte. Contracts see a `Crc32` as its register, here with all bits set.
+    /// The checksum before any byte. Contracts see a `Crc32` as its register, which begins with all
+    /// bits set.
     pub fn new() -> Crc32
         ensures { result ≡ 0xFFFFFFFF }
     {
@@ -35,7 +36,7 @@ impl Crc32 {
         }
     }
 
-    /// Goes on over these bytes.
+    /// Adds these bytes, four at a time.
     pub fn update(&mut self, bytes: &[u8])
         ensures { self.new ≡ crc_after self.old bytes.now }
     {

@@ -1,4 +1,4 @@
-//! The register of a CRC-32 after bytes, four at a time, by tables.
+//! The steps of a CRC-32, four bytes at a time, by tables (slicing by four).
 #![tactic(auto, unfolding(crate::specs::Crc::crc_after))]
 
 ghost use Rattle.std.specs.Prelude.{◌≡◌, ◌<◌, [], ◌∷◌, fold};
@@ -13,7 +13,7 @@ pub(crate) fn after_bytes(register: u32, bytes: &[u8]) -> u32
     after_rest(after_fours(register, fours), rest)
 }
 
-/// The register after bytes in groups of four.
+/// The register after groups of four bytes.
 fn after_fours(register: u32, fours: &[[u8; 4]]) -> u32
     ensures { result ≡ fold crc_after register fours.now }
 {
@@ -51,7 +51,7 @@ fn after_byte(register: u32, byte: u8) -> u32
     (register >> 8) ^ entry(0, lowest ^ byte)
 }
 
-/// This entry of one of the tables.
+/// The entry of one of the four tables at this index.
 fn entry(table: usize, index: u8) -> u32
     requires { table < 4 }
     ensures { result ≡ table_entry table index }

@@ -1,7 +1,7 @@
 //! The algorithms of hash nodes.
 #![tactic(auto, unfolding(crate::specs::Algos::find_algorithm, crate::specs::Digests::digest_of))]
 
-ghost use Rattle.std.specs.Prelude.{◌≡◌, ◌↔◌, ◌-◌, ◌≤◌, ◌++◌, length, replicate};
+ghost use Rattle.std.specs.Prelude.{◌≡◌, ◌↔◌, ◌-◌, ◌++◌, length, replicate};
 ghost use Rattle.std.specs.List.{find};
 ghost use Rattle.std.specs.Str.{bytes_eq};
 ghost use Rattle.bi_hash.specs.Algos.{algorithm_name, find_algorithm};
