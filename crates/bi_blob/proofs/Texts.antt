@@ -9,6 +9,7 @@ pub mod Length
 pub mod Structure
 pub mod Header
 pub mod Blocks
+pub mod Lengths
 pub mod TextBytes
 pub mod TextBlob
 pub mod EncodedBytes

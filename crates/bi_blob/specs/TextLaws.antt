@@ -1,14 +1,14 @@
-use Rattle.std.specs.Prelude.{◌≡◌, ℕ, ◌%◌, ◌≤◌, List, [], ◌∷◌, ◌++◌, length, Contains, ◌↔◌}
+use Rattle.std.specs.Prelude.{◌≡◌, ℕ, ◌+◌, ◌*◌, ◌%◌, ◌≤◌, List, [], ◌∷◌, ◌++◌, length, sum_by, Contains, ◌↔◌}
 use Rattle.bi_base.specs.declared.fault.Fault.{Fault}
 use Rattle.bi_base.specs.Cells.{up4, AreBytes}
 use Rattle.bi_base.specs.Limits.{Bounds}
 use Rattle.bi_blob.specs.Tokens.{End, AreEncodings, IsNameAt}
 use Rattle.bi_blob.specs.Tree.{Root, Property, PropertyMap, FileNode, HasNoZero, AreDistinct, IsNormal, tree_without_places, tree_without_order, depth_of}
-use Rattle.bi_blob.specs.Events.{Event, NodeProperty, events_of, file_events_of, EncodeEvents}
+use Rattle.bi_blob.specs.Events.{Event, NodeStart, NodeProperty, NodeEnd, events_of, file_events_of, EncodeEvents}
 use Rattle.bi_blob.specs.Blob.{Reservation, reservation_block, IsBlob, IsWithin, totalsize}
 use Rattle.bi_blob.specs.BlobFaults.{IsBlobFault}
 use Rattle.bi_blob.specs.BlobLaws.{SameContent}
-use Rattle.bi_blob.specs.Layout.{event_names, used_names, distinct_names, offset_in, tokens_of, structure_block, strings_block, text_of_tree, length_before_padding, structure_place, tree_with_places, in_byte_order, IsContent, IsNormalText, longest_text}
+use Rattle.bi_blob.specs.Layout.{event_names, used_names, distinct_names, offset_in, tokens_of, structure_block, strings_block, text_of_events, text_of_tree, event_width, length_before_padding, structure_place, tree_with_places, in_byte_order, IsContent, IsNormalText, longest_text}
 
 -- Laws of the text that a blob is laid out as (profile of this project). Each is the contract of a function in `text_laws`.
 
@@ -102,6 +102,27 @@ pub record HasTextLength (cpu : ℕ) (reservations : List Reservation) (root : R
 -- Each text is as long as its header and its blocks, filled up to a multiple of four.
 abbrev pub EachTextHasItsLength : Type 0
 EachTextHasItsLength = (cpu : ℕ) (reservations : List Reservation) (root : Root (List Property)) → HasTextLength cpu reservations root
+
+-- How long a text of these events is, and each of its blocks: sixteen bytes for each reservation and for the end pair, the
+-- width of each event and four bytes for FDT_END, and each name once with a zero byte.
+pub record HasLengthOfEvents (cpu : ℕ) (reservations : List Reservation) (events : List Event) : Type 0 where
+  pub reserved : length (reservation_block reservations) ≡ 16 * length reservations + 16
+  pub structure : length (structure_block events) ≡ sum_by event_width events + 4
+  pub strings : length (strings_block events) ≡ sum_by (λ name. length name + 1) (distinct_names (used_names events))
+  pub is_length : length (text_of_events cpu reservations events)
+      ≡ up4 (length_before_padding (length (reservation_block reservations)) (length (structure_block events)) (length (strings_block events)))
+  pub is_whole : length (text_of_events cpu reservations events) % 4 ≡ 0
+
+-- Each text of events is as long as its header and its blocks, filled up to a multiple of four.
+abbrev pub TextOfEventsHasItsLength : Type 0
+TextOfEventsHasItsLength =
+    (cpu : ℕ) (reservations : List Reservation) (events : List Event) → HasLengthOfEvents cpu reservations events
+
+-- How many bytes the token of an event takes.
+pub record HasEventWidths : Type 0 where
+  pub node_start : (name : List ℕ) → event_width (NodeStart name) ≡ up4 (length name + 5)
+  pub property : (property : Property) → event_width (NodeProperty property) ≡ up4 (length property.1 + 12)
+  pub node_end : event_width NodeEnd ≡ 4
 
 -- What a file says as a blob is content: it can be written again.
 abbrev pub BlobHasContent : Type 0

@@ -1,7 +1,7 @@
 //! Laws of the text that a blob is laid out as, and of the normal text among these. Their functions do nothing: what each
 //! of them ensures is the law.
 
-ghost use Rattle.bi_blob.specs.TextLaws.{EachNameIsThereOnce, StringsGrowByUse, EachNameIsFound, TextEncodesItsTree, EachTextHasItsLength, TextIsBlob, TextIsAccepted, NormalTextIsAccepted, BlobHasContent, TextHasOneContent, EachTreeHasOneOrder, ContentMayBeOrdered, NormalTextTellsContent, TextWithRestHasOneContent, NormalTextWithRestTellsContent};
+ghost use Rattle.bi_blob.specs.TextLaws.{EachNameIsThereOnce, StringsGrowByUse, EachNameIsFound, TextEncodesItsTree, EachTextHasItsLength, TextOfEventsHasItsLength, HasEventWidths, TextIsBlob, TextIsAccepted, NormalTextIsAccepted, BlobHasContent, TextHasOneContent, EachTreeHasOneOrder, ContentMayBeOrdered, NormalTextTellsContent, TextWithRestHasOneContent, NormalTextWithRestTellsContent};
 ghost use Rattle.bi_blob.specs.KnownTexts.{HasSmallestText, IsLaidOut};
 
 /// The strings block of a text has each name that the marks use once, and no other name (profile of this project;
@@ -32,6 +32,15 @@ pub fn text_encodes_its_tree()
 /// of four (profile of this project).
 pub fn each_text_has_its_length()
     ensures { EachTextHasItsLength }
+{}
+
+/// A text of any events, whether or not they are those of a tree, is as long as its header and its three blocks together,
+/// padded to a multiple of four; and each block is as long as what it has. The token of a node's start takes five bytes and
+/// its name, that of a property twelve bytes and its value, each padded to a multiple of four, and that of a node's end
+/// four bytes (profile of this project; Devicetree Specification, 5.4.1).
+pub fn text_of_events_has_its_length()
+    ensures length { TextOfEventsHasItsLength }
+    ensures widths { HasEventWidths }
 {}
 
 /// The text of a boot processor, memory reservations and a tree, if it has at most 0x7fffffff bytes, and with any bytes
