@@ -20,3 +20,4 @@ pub mod Ordering
 pub mod Accepted
 pub mod Ordered
 pub mod FirstUse
+pub mod Offsets

@@ -40,6 +40,18 @@ EachNameIsFound =
     (events : List Event) (name : List ℕ) → Contains (used_names events) name → HasNoZero name
     → IsNameAt (strings_block events) (offset_in (distinct_names (used_names events)) name) name
 
+-- A name that events use has the same offset in their strings block after any further events.
+abbrev pub OffsetsStay : Type 0
+OffsetsStay =
+    (events later : List Event) (name : List ℕ) → Contains (used_names events) name
+    → offset_in (distinct_names (used_names (events ++ later))) name ≡ offset_in (distinct_names (used_names events)) name
+
+-- A name that is used for the first time has its offset at the end of the strings block of the events before.
+abbrev pub NewOffsetIsAtEnd : Type 0
+NewOffsetIsAtEnd =
+    (events : List Event) (property : Property) → ¬ (Contains (used_names events) property.0)
+    → offset_in (distinct_names (used_names (events ++ NodeProperty property ∷ []))) property.0 ≡ length (strings_block events)
+
 -- The structure block of a text spells tokens and FDT_END, and these say the tree over the strings block, at its places.
 pub record EncodesTree (reservations : List Reservation) (root : Root (List Property)) : Type 0 where
   pub is_encoded : AreEncodings (tokens_of (events_of root) ++ End ∷ []) (structure_block (events_of root))

@@ -1,7 +1,7 @@
 //! Laws of the text that a blob is laid out as, and of the normal text among these. Their functions do nothing: what each
 //! of them ensures is the law.
 
-ghost use Rattle.bi_blob.specs.TextLaws.{EachNameIsThereOnce, StringsGrowByUse, EachNameIsFound, TextEncodesItsTree, EachTextHasItsLength, TextOfEventsHasItsLength, HasEventWidths, TextIsBlob, TextIsAccepted, NormalTextIsAccepted, BlobHasContent, TextHasOneContent, EachTreeHasOneOrder, ContentMayBeOrdered, NormalTextTellsContent, TextWithRestHasOneContent, NormalTextWithRestTellsContent};
+ghost use Rattle.bi_blob.specs.TextLaws.{EachNameIsThereOnce, StringsGrowByUse, EachNameIsFound, OffsetsStay, NewOffsetIsAtEnd, TextEncodesItsTree, EachTextHasItsLength, TextOfEventsHasItsLength, HasEventWidths, TextIsBlob, TextIsAccepted, NormalTextIsAccepted, BlobHasContent, TextHasOneContent, EachTreeHasOneOrder, ContentMayBeOrdered, NormalTextTellsContent, TextWithRestHasOneContent, NormalTextWithRestTellsContent};
 ghost use Rattle.bi_blob.specs.KnownTexts.{HasSmallestText, IsLaidOut};
 
 /// The strings block of a text has each name that the marks use once, and no other name (profile of this project;
@@ -20,6 +20,13 @@ pub fn strings_grow_by_use()
 /// byte behind it (Devicetree Specification, 5.5).
 pub fn each_name_is_found()
     ensures { EachNameIsFound }
+{}
+
+/// The offset of a name in the strings block does not change by further events, once an event has used the name. A name that
+/// is used for the first time is after all names that were used before it (profile of this project).
+pub fn offsets_stay()
+    ensures used { OffsetsStay }
+    ensures new { NewOffsetIsAtEnd }
 {}
 
 /// The structure block of a text of at most 0x7fffffff bytes spells tokens with FDT_END behind them, and over its strings
