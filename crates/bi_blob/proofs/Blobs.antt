@@ -22,3 +22,4 @@ pub mod ReservationFaults
 pub mod Headers
 pub mod Faults
 pub mod Padding
+pub mod EventTrees

@@ -1,10 +1,12 @@
-use Rattle.std.specs.Prelude.{◌≡◌, ◌≢◌, ◌⊎◌, ◌↔◌, ℕ, ◌-◌, List, [], ◌∷◌, ◌++◌, length, reverse}
+use Rattle.std.specs.Prelude.{◌≡◌, ◌≢◌, ◌⊎◌, ◌↔◌, ℕ, ◌-◌, ◌≤◌, List, [], ◌∷◌, ◌++◌, length, reverse}
 use Rattle.bi_base.specs.declared.fault.Fault.{Fault}
 use Rattle.bi_base.specs.Cells.{AreBytes, slice, u32_at}
 use Rattle.bi_base.specs.Checks.{HasNoFault}
 use Rattle.bi_base.specs.Limits.{Bounds}
 use Rattle.bi_blob.specs.Tokens.{Token, End, AreEncodings}
-use Rattle.bi_blob.specs.Tree.{Root, FileNode}
+use Rattle.bi_blob.specs.Tree.{Root, Property, FileNode, IsTree, AreProperties, depth_of}
+use Rattle.bi_blob.specs.Events.{Event, events_of}
+use Rattle.bi_blob.specs.Following.{MayFollow, AreClosedEvents}
 use Rattle.bi_blob.specs.Blob.{Reservation, IsBlob, IsBlobWithin, TreeBlocks, IsReadable}
 use Rattle.bi_blob.specs.BlobFaults.{IsBlobFault, TokenPasses, token_checks, stage_after, place_after, ArePassed}
 
@@ -56,3 +58,17 @@ PassedWhereEncoded = (blocks : TreeBlocks) (depth_limit : ℕ) (tokens : List To
     → ArePassed blocks depth_limit tokens
     ↔ (AllTokensPass blocks depth_limit tokens
     × AreEncodings (reverse tokens) (slice (blocks.file ++ trailing) blocks.begin (place_after blocks tokens - blocks.begin)))
+
+-- These events are those of one tree, which a blob within the limit on depth can hold.
+pub record HasOneTree (depth_limit : ℕ) (events : List Event) : Type 0 where
+  pub root : Root (List Property)
+  pub same : events_of root ≡ events
+  pub only : (other : Root (List Property)) → events_of other ≡ events → other ≡ root
+  pub is_tree : IsTree AreProperties root
+  pub shallow : depth_of root ≤ depth_limit
+
+-- Events are those of one tree that a blob can hold exactly where each may follow those before it and the last ends the root.
+abbrev pub ClosedEventsHaveOneTree : Type 0
+ClosedEventsHaveOneTree =
+    (depth_limit : ℕ) (events : List Event)
+    → AreClosedEvents (MayFollow depth_limit) events ↔ HasOneTree depth_limit events

@@ -1,6 +1,6 @@
 //! Laws of what a devicetree blob is. Their functions do nothing: what each of them ensures is the law.
 
-ghost use Rattle.bi_blob.specs.BlobLaws.{OneBlob, BlobHasNoFault, OneFault, BlobOrFault, BlobWhereNoFault, PassedWhereEncoded};
+ghost use Rattle.bi_blob.specs.BlobLaws.{OneBlob, BlobHasNoFault, OneFault, BlobOrFault, BlobWhereNoFault, PassedWhereEncoded, ClosedEventsHaveOneTree};
 ghost use Rattle.bi_blob.specs.KnownFaults.{HeadersHaveFaults, ReservationsHaveFaults, TokensHaveFaults};
 
 /// A file is a blob of at most one boot processor, one list of memory reservations and one tree.
@@ -32,6 +32,12 @@ pub fn a_file_is_a_blob_where_it_has_no_fault()
 /// in any three bytes behind the file.
 pub fn passed_tokens_are_spelled()
     ensures { PassedWhereEncoded }
+{}
+
+/// Events are those of exactly one tree that a blob can hold, within a limit on depth, where each of them may follow those
+/// before it and the last ends the root; and the events of each such tree are so (Devicetree Specification, 5.4.2).
+pub fn closed_events_have_one_tree()
+    ensures { ClosedEventsHaveOneTree }
 {}
 
 /// Small files that are at fault in their headers have known faults: each check of a header is the first that fails in one.
