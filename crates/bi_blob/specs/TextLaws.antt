@@ -5,9 +5,10 @@ use Rattle.bi_base.specs.Limits.{Bounds}
 use Rattle.bi_blob.specs.Tokens.{End, AreEncodings, IsNameAt}
 use Rattle.bi_blob.specs.Tree.{Root, Property, PropertyMap, FileNode, HasNoZero, AreDistinct, IsNormal, tree_without_places, tree_without_order, depth_of}
 use Rattle.bi_blob.specs.Events.{Event, NodeStart, NodeProperty, NodeEnd, events_of, file_events_of, EncodeEvents}
+use Rattle.bi_blob.specs.Following.{most_open_nodes, MayFollowInText, AreClosedEvents}
 use Rattle.bi_blob.specs.Blob.{Reservation, reservation_block, IsBlob, IsWithin, totalsize}
 use Rattle.bi_blob.specs.BlobFaults.{IsBlobFault}
-use Rattle.bi_blob.specs.BlobLaws.{SameContent}
+use Rattle.bi_blob.specs.BlobLaws.{SameContent, HasOneTree}
 use Rattle.bi_blob.specs.Layout.{event_names, used_names, distinct_names, offset_in, tokens_of, structure_block, strings_block, text_of_events, text_of_tree, event_width, length_before_padding, structure_place, tree_with_places, in_byte_order, IsContent, IsNormalText, longest_text}
 
 -- Laws of the text that a blob is laid out as (profile of this project). Each is the contract of a function in `text_laws`.
@@ -206,3 +207,13 @@ NormalTextWithRestTellsContent =
     → (text ++ rest ≡ other_text ++ other_rest)
     ↔ (SameContent cpu other_cpu reservations other_reservations (tree_without_order root) (tree_without_order other_root)
     × (rest ≡ other_rest))
+
+-- These events are those of one tree, which a blob can hold, and which has the properties of each node in byte order.
+pub record HasOneNormalTree (events : List Event) : Type 0 where
+  pub tree : HasOneTree most_open_nodes events
+  pub is_normal : IsNormal tree.root
+
+-- Events are those of one normal tree that a blob can hold exactly where each may follow those before it in a normal text and
+-- the last ends the root.
+abbrev pub NormalEventsHaveOneTree : Type 0
+NormalEventsHaveOneTree = (events : List Event) → AreClosedEvents MayFollowInText events ↔ HasOneNormalTree events

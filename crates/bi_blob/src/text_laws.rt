@@ -1,7 +1,7 @@
 //! Laws of the text that a blob is laid out as, and of the normal text among these. Their functions do nothing: what each
 //! of them ensures is the law.
 
-ghost use Rattle.bi_blob.specs.TextLaws.{EachNameIsThereOnce, StringsGrowByUse, EachNameIsFound, OffsetsStay, NewOffsetIsAtEnd, TextEncodesItsTree, EachTextHasItsLength, TextOfEventsHasItsLength, HasEventWidths, TextIsBlob, TextIsAccepted, NormalTextIsAccepted, BlobHasContent, TextHasOneContent, EachTreeHasOneOrder, ContentMayBeOrdered, NormalTextTellsContent, TextWithRestHasOneContent, NormalTextWithRestTellsContent};
+ghost use Rattle.bi_blob.specs.TextLaws.{EachNameIsThereOnce, StringsGrowByUse, EachNameIsFound, OffsetsStay, NewOffsetIsAtEnd, TextEncodesItsTree, EachTextHasItsLength, TextOfEventsHasItsLength, HasEventWidths, TextIsBlob, TextIsAccepted, NormalTextIsAccepted, BlobHasContent, TextHasOneContent, EachTreeHasOneOrder, ContentMayBeOrdered, NormalTextTellsContent, TextWithRestHasOneContent, NormalTextWithRestTellsContent, NormalEventsHaveOneTree};
 ghost use Rattle.bi_blob.specs.KnownTexts.{HasSmallestText, IsLaidOut};
 
 /// The strings block of a text has each name that the marks use once, and no other name (profile of this project;
@@ -111,6 +111,13 @@ pub fn text_with_rest_has_one_content()
 /// the texts are equal.
 pub fn normal_text_with_rest_tells_content()
     ensures { NormalTextWithRestTellsContent }
+{}
+
+/// Events are those of exactly one tree that a blob can hold, of depth 64 at most and with the properties of each node in
+/// byte order of their names, where each of them may follow those before it in a normal text and the last ends the root;
+/// and the events of each such tree are so (profile of this project; Devicetree Specification, 5.4.2).
+pub fn normal_events_have_one_tree()
+    ensures { NormalEventsHaveOneTree }
 {}
 
 /// The normal text of the smallest tree, a root with one child `images`, is 88 known bytes.
