@@ -23,3 +23,5 @@ pub mod Headers
 pub mod Faults
 pub mod Padding
 pub mod EventTrees
+pub mod BeforeTree
+pub mod Lookups

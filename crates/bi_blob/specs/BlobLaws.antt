@@ -1,14 +1,16 @@
-use Rattle.std.specs.Prelude.{◌≡◌, ◌≢◌, ◌⊎◌, ◌↔◌, ℕ, ◌-◌, ◌≤◌, List, [], ◌∷◌, ◌++◌, length, reverse}
+use Rattle.std.specs.Prelude.{◌≡◌, ◌≢◌, ◌⊎◌, ◌↔◌, ℕ, ◌+◌, ◌-◌, ◌≤◌, Some, List, [], ◌∷◌, ◌++◌, length, map, reverse}
+use Rattle.std.specs.List.{slice_get}
 use Rattle.bi_base.specs.declared.fault.Fault.{Fault}
 use Rattle.bi_base.specs.Cells.{AreBytes, slice, u32_at}
 use Rattle.bi_base.specs.Checks.{HasNoFault}
 use Rattle.bi_base.specs.Limits.{Bounds}
 use Rattle.bi_blob.specs.Tokens.{Token, End, AreEncodings}
-use Rattle.bi_blob.specs.Tree.{Root, Property, FileNode, IsTree, AreProperties, depth_of}
+use Rattle.bi_blob.specs.Tree.{Nodes, Root, Property, FileProperty, FileNode, names, AreDistinct, IsTree, AreProperties, depth_of}
+use Rattle.bi_blob.specs.Lookups.{Sibling, node_at, node_named, property_named}
 use Rattle.bi_blob.specs.Events.{Event, events_of}
 use Rattle.bi_blob.specs.Following.{MayFollow, AreClosedEvents}
-use Rattle.bi_blob.specs.Blob.{Reservation, IsBlob, IsBlobWithin, TreeBlocks, IsReadable}
-use Rattle.bi_blob.specs.BlobFaults.{IsBlobFault, TokenPasses, token_checks, stage_after, place_after, ArePassed}
+use Rattle.bi_blob.specs.Blob.{Reservation, IsBlob, IsBlobWithin, TreeBlocks, tree_blocks, IsReadable}
+use Rattle.bi_blob.specs.BlobFaults.{HasNoFaultBeforeTree, IsFaultBeforeTree, IsStructureFault, IsBlobFault, TokenPasses, token_checks, stage_after, place_after, ArePassed}
 
 -- Laws of what a blob is (Devicetree Specification, chapter 5), and of its faults (profile of this project).
 
@@ -72,3 +74,41 @@ abbrev pub ClosedEventsHaveOneTree : Type 0
 ClosedEventsHaveOneTree =
     (depth_limit : ℕ) (events : List Event)
     → AreClosedEvents (MayFollow depth_limit) events ↔ HasOneTree depth_limit events
+
+-- A file has a fault before its structure block or none. Such a fault is the fault of the file; and where there is none, the
+-- fault of the file, if it has one, is in the structure block.
+pub record IsDecidedBeforeTree (bounds : Bounds) (file : List ℕ) : Type 0 where
+  pub decided : HasNoFaultBeforeTree bounds file ⊎ ((fault : Fault) × IsFaultBeforeTree bounds file fault)
+  pub apart : (fault : Fault) → HasNoFaultBeforeTree bounds file → ¬ (IsFaultBeforeTree bounds file fault)
+  pub first : (fault : Fault) → IsFaultBeforeTree bounds file fault → IsBlobFault bounds file fault
+  pub later : (fault : Fault) → HasNoFaultBeforeTree bounds file → IsBlobFault bounds file fault
+      → IsStructureFault (tree_blocks file) bounds.depth fault
+
+-- Faults of the header and of the reservations come before those of the structure block.
+abbrev pub FaultBeforeTreeComesFirst : Type 0
+FaultBeforeTreeComesFirst = (bounds : Bounds) (file : List ℕ) → IsDecidedBeforeTree bounds file
+
+-- Each of these nodes is found by its name, and only by its name; the node after it is the first of its later siblings.
+pub record FindsNodes (nodes : Nodes FileNode) : Type 0 where
+  pub at_index : (index : ℕ) (sibling : Sibling FileNode) → node_at nodes index ≡ Some sibling
+      → node_named nodes sibling.name ≡ Some sibling
+  pub by_name : (name : List ℕ) (sibling : Sibling FileNode) → node_named nodes name ≡ Some sibling
+      → (sibling.name ≡ name) × (index : ℕ) × (node_at nodes index ≡ Some sibling)
+  pub next : (index : ℕ) (sibling : Sibling FileNode) → node_at nodes index ≡ Some sibling
+      → node_at sibling.later 0 ≡ node_at nodes (index + 1)
+
+-- Nodes with distinct names are found.
+abbrev pub NodesAreFound : Type 0
+NodesAreFound = (nodes : Nodes FileNode) → AreDistinct (names nodes) → FindsNodes nodes
+
+-- Each of these properties is found by its name, and only by its name.
+pub record FindsProperties (properties : List FileProperty) : Type 0 where
+  pub at_index : (index : ℕ) (property : FileProperty) → slice_get properties index ≡ Some property
+      → property_named properties property.name ≡ Some property
+  pub by_name : (name : List ℕ) (property : FileProperty) → property_named properties name ≡ Some property
+      → (property.name ≡ name) × (index : ℕ) × (slice_get properties index ≡ Some property)
+
+-- Properties with distinct names are found.
+abbrev pub PropertiesAreFound : Type 0
+PropertiesAreFound =
+    (properties : List FileProperty) → AreDistinct (map (λ property. property.name) properties) → FindsProperties properties

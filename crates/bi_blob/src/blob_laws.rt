@@ -1,6 +1,6 @@
 //! Laws of what a devicetree blob is. Their functions do nothing: what each of them ensures is the law.
 
-ghost use Rattle.bi_blob.specs.BlobLaws.{OneBlob, BlobHasNoFault, OneFault, BlobOrFault, BlobWhereNoFault, PassedWhereEncoded, ClosedEventsHaveOneTree};
+ghost use Rattle.bi_blob.specs.BlobLaws.{OneBlob, BlobHasNoFault, OneFault, BlobOrFault, BlobWhereNoFault, PassedWhereEncoded, ClosedEventsHaveOneTree, FaultBeforeTreeComesFirst, NodesAreFound, PropertiesAreFound};
 ghost use Rattle.bi_blob.specs.KnownFaults.{HeadersHaveFaults, ReservationsHaveFaults, TokensHaveFaults};
 
 /// A file is a blob of at most one boot processor, one list of memory reservations and one tree.
@@ -38,6 +38,19 @@ pub fn passed_tokens_are_spelled()
 /// before it and the last ends the root; and the events of each such tree are so (Devicetree Specification, 5.4.2).
 pub fn closed_events_have_one_tree()
     ensures { ClosedEventsHaveOneTree }
+{}
+
+/// A file has a fault in its header or reservation block, which is then its fault; or it has none there, and its fault, if it
+/// has one, is in its structure block.
+pub fn fault_before_tree_comes_first()
+    ensures { FaultBeforeTreeComesFirst }
+{}
+
+/// A node at an index of a list of siblings is found by its name, and a property of a node likewise, where names are
+/// distinct; nothing else is found by a name. The node at the next index is the first of the later siblings.
+pub fn names_find_nodes_and_properties()
+    ensures nodes { NodesAreFound }
+    ensures properties { PropertiesAreFound }
 {}
 
 /// Small files that are at fault in their headers have known faults: each check of a header is the first that fails in one.
