@@ -1,5 +1,7 @@
 pub mod TextFacts
+pub mod CheckTests
 pub mod HeaderTests
+pub mod TokenTests
 pub mod HeaderFacts
 pub mod StructureFacts
 pub mod Blobs

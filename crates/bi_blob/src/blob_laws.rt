@@ -1,7 +1,7 @@
 //! Laws of what a devicetree blob is. Their functions do nothing: what each of them ensures is the law.
 
 ghost use Rattle.bi_blob.specs.BlobLaws.{OneBlob, BlobHasNoFault, OneFault, BlobOrFault, BlobWhereNoFault, PassedWhereEncoded, ClosedEventsHaveOneTree, FaultBeforeTreeComesFirst, NodesAreFound, PropertiesAreFound};
-ghost use Rattle.bi_blob.specs.KnownFaults.{HeadersHaveFaults, ReservationsHaveFaults, TokensHaveFaults};
+ghost use Rattle.bi_blob.specs.KnownFaults.{HeadersHaveFaults, HeaderChecksHaveOrder, Version16HasFaults, ReservationsHaveFaults, TokensHaveFaults, TokenChecksHaveOrder};
 
 /// A file is a blob of at most one boot processor, one list of memory reservations and one tree.
 pub fn a_file_is_one_blob()
@@ -54,8 +54,16 @@ pub fn names_find_nodes_and_properties()
 {}
 
 /// Small files that are at fault in their headers have known faults: each check of a header is the first that fails in one.
+/// Of two checks that fail, the first gives the fault.
 pub fn headers_have_these_faults()
     ensures headers { HeadersHaveFaults }
+    ensures order { HeaderChecksHaveOrder }
+{}
+
+/// Small files of version 16 that are at fault have known faults: the header has 36 bytes, and the structure block may extend
+/// to `totalsize`.
+pub fn version_16_has_these_faults()
+    ensures faults { Version16HasFaults }
 {}
 
 /// Small files that are at fault in their memory reservations have known faults.
@@ -63,7 +71,9 @@ pub fn reservations_have_these_faults()
     ensures reservations { ReservationsHaveFaults }
 {}
 
-/// Small files that are at fault in a token have known faults: each check of a token is the first that fails in one.
+/// Small files that are at fault in a token have known faults: each check of a token is the first that fails in one. Of two
+/// checks that fail, the first gives the fault.
 pub fn tokens_have_these_faults()
     ensures tokens { TokensHaveFaults }
+    ensures order { TokenChecksHaveOrder }
 {}
