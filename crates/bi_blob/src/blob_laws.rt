@@ -1,6 +1,7 @@
 //! Laws of what a devicetree blob is. Their functions do nothing: what each of them ensures is the law.
 
 ghost use Rattle.bi_blob.specs.BlobLaws.{OneBlob, BlobHasNoFault, OneFault, BlobOrFault, BlobWhereNoFault, PassedWhereEncoded, ClosedEventsHaveOneTree, FaultBeforeTreeComesFirst, NodesAreFound, PropertiesAreFound};
+ghost use Rattle.bi_blob.specs.KnownBlobs.{FilesAreBlobs};
 ghost use Rattle.bi_blob.specs.KnownFaults.{HeadersHaveFaults, HeaderChecksHaveOrder, Version16HasFaults, ReservationsHaveFaults, TokensHaveFaults, TokenChecksHaveOrder};
 
 /// A file is a blob of at most one boot processor, one list of memory reservations and one tree.
@@ -51,6 +52,13 @@ pub fn fault_before_tree_comes_first()
 pub fn names_find_nodes_and_properties()
     ensures nodes { NodesAreFound }
     ensures properties { PropertiesAreFound }
+{}
+
+/// Small files are blobs of known boot processors, memory reservations and trees: with FDT_NOP, names that share bytes,
+/// properties in any order, blocks in any order that overlap or have free bytes around them, bytes after the blob, and of
+/// versions 16 to 18.
+pub fn files_are_these_blobs()
+    ensures blobs { FilesAreBlobs }
 {}
 
 /// Small files that are at fault in their headers have known faults: each check of a header is the first that fails in one.
