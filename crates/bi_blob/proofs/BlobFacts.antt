@@ -2,10 +2,11 @@ use Rattle.std.proofs.Common.{List, [], ◌∷◌, refl}
 use Rattle.std.specs.Prelude.{codes}
 use Rattle.bi_base.specs.Cells.{cell, cell8, u32_at}
 use Rattle.bi_blob.specs.Tokens.{Token, BeginNode, EndNode, Prop, Nop}
-use Rattle.bi_blob.specs.KnownBlobs.{FilesAreBlobs}
+use Rattle.bi_blob.specs.Blob.{tree_blocks}
+use Rattle.bi_blob.specs.KnownBlobs.{file_with_nops, tokens_to_images, FilesAreBlobs, TokensAreNewestFirst}
 use Rattle.bi_blob.proofs.CheckTests.{lacks_byte, is_new, is_property_name, is_child_name}
 use Rattle.bi_blob.proofs.HeaderTests.{header_test}
-use Rattle.bi_blob.proofs.TokenTests.{is_token}
+use Rattle.bi_blob.proofs.TokenTests.{may_be_named, are_none, token_test, is_token, is_token_at, is_before_end, are_passed, are_passed_sound}
 use Rattle.bi_blob.proofs.BlobTests.{begins_with, is_encoding, are_encodings, is_name_at, encode_events, are_distinct, are_properties, are_nodes, are_reservations, has_header, has_tree, known_blob}
 
 -- Small files that are blobs.
@@ -31,4 +32,13 @@ files_are_blobs = record {
   version_16_padded = known_blob _ _ _ _ smallest_tokens 32 refl refl;
   same_tree = refl;
   same_tree_padded = refl;
+}
+
+-- The tokens at the beginning of a structure block, the newest first.
+pub tokens_are_newest_first : TokensAreNewestFirst
+unfolding u32_at cell lacks_byte is_new is_property_name is_child_name may_be_named are_none token_test is_token is_token_at is_before_end are_passed
+tokens_are_newest_first = record {
+  passed = are_passed_sound (tree_blocks file_with_nops) 64 tokens_to_images refl;
+  place = refl;
+  stage = refl;
 }

@@ -125,7 +125,7 @@ module _ (blocks : TreeBlocks) (depth_limit : ℕ) where
       && (list_all (token_test blocks depth_limit (place_after blocks before) (stage_after blocks.strings before)) (token_checks (u32_at blocks.file (place_after blocks before)))
       && are_passed before)
 
-  are_passed_sound : (tokens : List Token) → are_passed tokens ≡ true → ArePassed blocks depth_limit tokens
+  pub are_passed_sound : (tokens : List Token) → are_passed tokens ≡ true → ArePassed blocks depth_limit tokens
   unfolding are_passed
   are_passed_sound [] e = tt
   are_passed_sound (token ∷ before) e =

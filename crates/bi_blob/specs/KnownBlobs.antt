@@ -2,7 +2,10 @@ use Rattle.std.specs.Prelude.{◌≡◌, ℕ, ◌+◌, List, [], ◌∷◌, ◌+
 use Rattle.bi_base.specs.Cells.{cell}
 use Rattle.bi_base.specs.Limits.{Bounds}
 use Rattle.bi_blob.specs.Tree.{none, node, Root, FileNode, tree_without_places}
-use Rattle.bi_blob.specs.Blob.{Reservation, IsBlob, IsWithin}
+use Rattle.bi_blob.specs.Tokens.{Token, BeginNode, Prop, Nop}
+use Rattle.bi_blob.specs.Stages.{Inside}
+use Rattle.bi_blob.specs.Blob.{Reservation, tree_blocks, IsBlob, IsWithin}
+use Rattle.bi_blob.specs.BlobFaults.{ArePassed, place_after, stage_after}
 use Rattle.bi_blob.specs.KnownTexts.{smallest_tree, smallest_text}
 
 -- Small files that are accepted, each with what it has as a blob, by which a reader can judge the definitions (Devicetree
@@ -113,3 +116,18 @@ pub record FilesAreBlobs : Type 0 where
   pub version_16_padded : IsKnownBlob smallest_of_version_16 0 [] (smallest_tree_at 56 64)
   pub same_tree : tree_without_places (smallest_tree_at 36 44) ≡ smallest_tree
   pub same_tree_padded : tree_without_places (smallest_tree_at 56 64) ≡ smallest_tree
+
+-- The tokens of the file with FDT_NOP up to and with the start of `images`, the newest first.
+abbrev pub tokens_to_images : List Token
+tokens_to_images =
+    BeginNode (codes "images") ∷ Nop ∷ Prop 0 (1 ∷ []) ∷ Nop ∷ Prop 4 (2 ∷ []) ∷ Nop ∷ BeginNode [] ∷ Nop ∷ []
+
+-- How a structure block is read: these tokens pass their checks, the next one is at 136, and `images` is open inside the root.
+-- Tokens are listed with the newest first, and so are open nodes with the innermost first; names are listed in their order.
+pub record TokensAreNewestFirst : Type 0 where
+  pub passed : ArePassed (tree_blocks file_with_nops) 64 tokens_to_images
+  pub place : place_after (tree_blocks file_with_nops) tokens_to_images ≡ 136
+  pub stage : stage_after (tree_blocks file_with_nops).strings tokens_to_images
+      ≡ Inside
+      (record { properties = []; children = [] })
+      (record { properties = codes "name" ∷ codes "filename" ∷ []; children = codes "images" ∷ [] } ∷ [])

@@ -1,7 +1,7 @@
 //! Laws of what a devicetree blob is. Their functions do nothing: what each of them ensures is the law.
 
 ghost use Rattle.bi_blob.specs.BlobLaws.{OneBlob, BlobHasNoFault, OneFault, BlobOrFault, BlobWhereNoFault, PassedWhereEncoded, ClosedEventsHaveOneTree, FaultBeforeTreeComesFirst, NodesAreFound, PropertiesAreFound};
-ghost use Rattle.bi_blob.specs.KnownBlobs.{FilesAreBlobs};
+ghost use Rattle.bi_blob.specs.KnownBlobs.{FilesAreBlobs, TokensAreNewestFirst};
 ghost use Rattle.bi_blob.specs.KnownFaults.{HeadersHaveFaults, HeaderChecksHaveOrder, Version16HasFaults, ReservationsHaveFaults, TokensHaveFaults, TokenChecksHaveOrder};
 
 /// A file is a blob of at most one boot processor, one list of memory reservations and one tree.
@@ -59,6 +59,12 @@ pub fn names_find_nodes_and_properties()
 /// versions 16 to 18.
 pub fn files_are_these_blobs()
     ensures blobs { FilesAreBlobs }
+{}
+
+/// The tokens at the beginning of a small file's structure block pass their checks, and lead to a known offset and to known
+/// open nodes.
+pub fn tokens_are_newest_first()
+    ensures tokens { TokensAreNewestFirst }
 {}
 
 /// Small files that are at fault in their headers have known faults: each check of a header is the first that fails in one.
