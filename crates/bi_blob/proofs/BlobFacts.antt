@@ -5,7 +5,7 @@ use Rattle.bi_blob.specs.Tokens.{Token, BeginNode, EndNode, Prop, Nop}
 use Rattle.bi_blob.specs.Blob.{tree_blocks}
 use Rattle.bi_blob.specs.KnownBlobs.{file_with_nops, tokens_to_images, FilesAreBlobs, TokensAreNewestFirst}
 use Rattle.bi_blob.proofs.CheckTests.{lacks_byte, is_new, is_property_name, is_child_name}
-use Rattle.bi_blob.proofs.HeaderTests.{header_test}
+use Rattle.bi_blob.proofs.HeaderTests.{test}
 use Rattle.bi_blob.proofs.TokenTests.{may_be_named, are_none, token_test, is_token, is_token_at, is_before_end, are_passed, are_passed_sound}
 use Rattle.bi_blob.proofs.BlobTests.{begins_with, is_encoding, are_encodings, is_name_at, encode_events, are_distinct, are_properties, are_nodes, are_reservations, has_header, has_tree, known_blob}
 
@@ -17,7 +17,7 @@ smallest_tokens = BeginNode [] ∷ BeginNode (codes "images") ∷ EndNode ∷ En
 
 -- The tokens of each file, and how long they are with FDT_END.
 pub files_are_blobs : FilesAreBlobs
-unfolding u32_at cell cell8 lacks_byte is_new is_property_name is_child_name header_test is_token begins_with is_encoding are_encodings is_name_at encode_events are_distinct are_properties are_nodes are_reservations has_header has_tree
+unfolding u32_at cell cell8 lacks_byte is_new is_property_name is_child_name test is_token begins_with is_encoding are_encodings is_name_at encode_events are_distinct are_properties are_nodes are_reservations has_header has_tree
 files_are_blobs = record {
   smallest = known_blob _ _ _ _ smallest_tokens 32 refl refl;
   nops = known_blob _ _ _ _

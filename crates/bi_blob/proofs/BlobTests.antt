@@ -13,7 +13,7 @@ use Rattle.bi_blob.specs.Blob.{Reservation, IsReservation, reservation_block, Tr
 use Rattle.bi_blob.specs.BlobFaults.{header_checks}
 use Rattle.bi_blob.specs.KnownBlobs.{widest, IsKnownBlob}
 use Rattle.bi_blob.proofs.CheckTests.{all_decide, le_decides, lt_decides, eq_decides, lacks_byte, lacks_byte_decides, is_new, is_new_decides, is_property_name, is_property_name_decides, is_child_name, is_child_name_decides}
-use Rattle.bi_blob.proofs.HeaderTests.{header_test, no_header_fault}
+use Rattle.bi_blob.proofs.HeaderTests.{test, fine_by_test}
 use Rattle.bi_blob.proofs.TokenTests.{is_token, is_token_decides}
 use Rattle.bi_blob.proofs.Blobs.Headers.{HasNoHeaderFault-Header}
 
@@ -203,7 +203,7 @@ structure_of blocks = slice blocks.file blocks.begin (blocks.end - blocks.begin)
 -- Whether a file has a header, boot processor and memory reservations.
 unfoldable pub has_header : List ℕ → ℕ → List Reservation → Bool
 has_header file cpu reservations =
-    (list_all (λ b. nat_lt b 256) file && list_all (header_test widest file) header_checks)
+    (list_all (λ b. nat_lt b 256) file && list_all (test widest file) header_checks)
     && (boot_cpuid_phys file == cpu && (are_reservations reservations && begins_with (from_reservations file) (reservation_block reservations)))
 
 -- Whether a structure block has tokens of this length that encode a tree.
@@ -224,7 +224,7 @@ known_blob file cpu reservations root tokens size header tree =
     let block = and_parts _ _ both.0 in
     let content = and_parts _ _ both.1 in
     let own = and_parts _ _ content.0 in
-    let fine = no_header_fault widest file first.1 in
+    let fine = fine_by_test widest file first.1 in
     record {
       blob = record {
         bytes = are_bytes file first.0;

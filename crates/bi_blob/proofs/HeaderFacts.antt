@@ -5,13 +5,13 @@ use Rattle.bi_blob.specs.KnownTexts.{smallest_text}
 use Rattle.bi_blob.specs.KnownBlobs.{widest, with_cell}
 use Rattle.bi_blob.specs.KnownFaults.{longer_file, HeadersHaveFaults, HeaderChecksHaveOrder, ReservationsHaveFaults}
 use Rattle.bi_blob.proofs.CheckTests.{first_failing}
-use Rattle.bi_blob.proofs.HeaderTests.{header_test, no_header_fault, in_header}
+use Rattle.bi_blob.proofs.HeaderTests.{test, fine_by_test, in_header}
 
 -- The faults of small files before their structure blocks.
 
 -- In each header, the check that fails.
 pub headers_have_faults : HeadersHaveFaults
-unfolding u32_at cell header_test first_failing
+unfolding u32_at cell test first_failing
 headers_have_faults = record {
   past_limit = in_header _ _ IsWithinLimit refl;
   no_bytes = in_header _ _ HasMagicCell refl;
@@ -37,7 +37,7 @@ headers_have_faults = record {
 
 -- Of two checks that fail, the first.
 pub header_checks_have_order : HeaderChecksHaveOrder
-unfolding u32_at cell header_test first_failing
+unfolding u32_at cell test first_failing
 header_checks_have_order = record {
   limit_before_magic = in_header _ _ IsWithinLimit refl;
   length_before_version = in_header _ _ HasHeader refl;
@@ -50,30 +50,30 @@ header_checks_have_order = record {
 
 -- In each reservation block, the pairs up to the one that extends past its end.
 pub reservations_have_faults : ReservationsHaveFaults
-unfolding u32_at u64_at cell header_test
+unfolding u32_at u64_at cell test
 reservations_have_faults = record {
-  past_end = InReservations (no_header_fault widest (with_cell smallest_text 16 80) refl) (record {
+  past_end = InReservations (fine_by_test widest (with_cell smallest_text 16 80) refl) (record {
     index = 0;
     before = λ earlier below. omega arith;
     fits = lit≤ tt;
     past = lit< tt;
     is = refl;
   });
-  at_end = InReservations (no_header_fault widest (with_cell smallest_text 16 88) refl) (record {
+  at_end = InReservations (fine_by_test widest (with_cell smallest_text 16 88) refl) (record {
     index = 0;
     before = λ earlier below. omega arith;
     fits = lit≤ tt;
     past = lit< tt;
     is = refl;
   });
-  past_total = InReservations (no_header_fault widest (with_cell longer_file 16 80) refl) (record {
+  past_total = InReservations (fine_by_test widest (with_cell longer_file 16 80) refl) (record {
     index = 0;
     before = λ earlier below. omega arith;
     fits = lit≤ tt;
     past = lit< tt;
     is = refl;
   });
-  endless = InReservations (no_header_fault widest (with_cell smallest_text 44 1) refl) (record {
+  endless = InReservations (fine_by_test widest (with_cell smallest_text 44 1) refl) (record {
     index = 3;
     before = none;
     fits = lit≤ tt;

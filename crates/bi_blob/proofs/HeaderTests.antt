@@ -10,26 +10,26 @@ use Rattle.bi_blob.proofs.CheckTests.{le_decides, eq_decides, both_decide, first
 -- Tests of the checks of a header.
 
 -- Whether a check of a header passes.
-unfoldable pub header_test : Bounds → List ℕ → HeaderCheck → Bool
-header_test bounds file IsWithinLimit = nat_le (length file) bounds.file
-header_test bounds file HasMagicCell = nat_le 4 (length file)
-header_test bounds file HasMagic = magic file == blob_magic
-header_test bounds file HasHeader = nat_le (header_length file) (length file)
-header_test bounds file HasVersion = nat_le least_version (version file)
-header_test bounds file HasCompatibleVersion = nat_le (last_comp_version file) reader_version
-header_test bounds file TotalHoldsHeader = nat_le (header_length file) (totalsize file)
-header_test bounds file FileHoldsTotal = nat_le (totalsize file) (length file)
-header_test bounds file PlacesReservations =
+unfoldable pub test : Bounds → List ℕ → HeaderCheck → Bool
+test bounds file IsWithinLimit = nat_le (length file) bounds.file
+test bounds file HasMagicCell = nat_le 4 (length file)
+test bounds file HasMagic = magic file == blob_magic
+test bounds file HasHeader = nat_le (header_length file) (length file)
+test bounds file HasVersion = nat_le least_version (version file)
+test bounds file HasCompatibleVersion = nat_le (last_comp_version file) reader_version
+test bounds file TotalHoldsHeader = nat_le (header_length file) (totalsize file)
+test bounds file FileHoldsTotal = nat_le (totalsize file) (length file)
+test bounds file PlacesReservations =
     nat_le (header_length file) (off_mem_rsvmap file)
     && (off_mem_rsvmap file % 8 == 0 && nat_le (off_mem_rsvmap file) (totalsize file))
-header_test bounds file PlacesStructure =
+test bounds file PlacesStructure =
     (nat_le (header_length file) (off_dt_struct file) && off_dt_struct file % 4 == 0)
     && (nat_le (off_dt_struct file) (structure_end file) && nat_le (structure_end file) (totalsize file))
-header_test bounds file PlacesStrings =
+test bounds file PlacesStrings =
     nat_le (header_length file) (off_dt_strings file) && nat_le (strings_end file) (totalsize file)
 
-pub header_decides : (bounds : Bounds) (file : List ℕ) (check : HeaderCheck) → Decides (header_test bounds file check) (HeaderPasses bounds file check)
-unfolding header_test
+pub header_decides : (bounds : Bounds) (file : List ℕ) (check : HeaderCheck) → Decides (test bounds file check) (HeaderPasses bounds file check)
+unfolding test
 header_decides bounds file IsWithinLimit = le_decides (length file) bounds.file
 header_decides bounds file HasMagicCell = le_decides 4 (length file)
 header_decides bounds file HasMagic = eq_decides (magic file) blob_magic
@@ -51,11 +51,11 @@ header_decides bounds file PlacesStrings =
     both_decide _ _ (le_decides (header_length file) (off_dt_strings file)) (le_decides (strings_end file) (totalsize file))
 
 -- A header whose checks are tested to pass has no fault.
-pub no_header_fault : (bounds : Bounds) (file : List ℕ) → list_all (header_test bounds file) header_checks ≡ true → HasNoHeaderFault bounds file
-no_header_fault bounds file e =
-    pass_by_test (HeaderPasses bounds file) (header_fault bounds) (header_test bounds file) (header_decides bounds file) header_checks e
+pub fine_by_test : (bounds : Bounds) (file : List ℕ) → list_all (test bounds file) header_checks ≡ true → HasNoHeaderFault bounds file
+fine_by_test bounds file e =
+    pass_by_test (HeaderPasses bounds file) (header_fault bounds) (test bounds file) (header_decides bounds file) header_checks e
 
 -- The first check of a header that is tested to fail gives the fault of the file.
-pub in_header : (bounds : Bounds) (file : List ℕ) (check : HeaderCheck) → first_failing (header_test bounds file) header_checks ≡ Some check → IsBlobFault bounds file (header_fault bounds check)
+pub in_header : (bounds : Bounds) (file : List ℕ) (check : HeaderCheck) → first_failing (test bounds file) header_checks ≡ Some check → IsBlobFault bounds file (header_fault bounds check)
 in_header bounds file check failing =
-    InHeader (fault_by_test (HeaderPasses bounds file) (header_fault bounds) (header_test bounds file) (header_decides bounds file) header_checks check failing)
+    InHeader (fault_by_test (HeaderPasses bounds file) (header_fault bounds) (test bounds file) (header_decides bounds file) header_checks check failing)

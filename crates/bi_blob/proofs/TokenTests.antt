@@ -11,7 +11,7 @@ use Rattle.bi_blob.specs.Stages.{Stage, BeforeRoot, Inside, AfterRoot, open_node
 use Rattle.bi_blob.specs.Blob.{TreeBlocks, tree_blocks, off_mem_rsvmap, totalsize}
 use Rattle.bi_blob.specs.BlobFaults.{header_checks, TokenCheck, HasTokenNumber, IsExpected, IsWithinDepth, HasNodeName, MayNameNode, IsNewNode, IsBeforeChildren, HasValue, HasPropertyName, MayNameProperty, IsNewProperty, token_checks, token_fault, MayBeNamed, TokenPasses, ArePassed, place_after, stage_after, IsBlobFault, InStructure}
 use Rattle.bi_blob.proofs.CheckTests.{le_decides, lt_decides, eq_decides, both_decide, lacks_byte, lacks_byte_decides, is_new, is_new_decides, is_property_name, is_property_name_decides, is_child_name, is_child_name_decides, first_failing, pass_by_test, fault_by_test}
-use Rattle.bi_blob.proofs.HeaderTests.{header_test, no_header_fault}
+use Rattle.bi_blob.proofs.HeaderTests.{test, fine_by_test}
 
 -- Tests of the checks of a token.
 
@@ -145,7 +145,7 @@ module _ (blocks : TreeBlocks) (depth_limit : ℕ) where
 -- Whether a file has a good header and no memory reservations.
 unfoldable pub has_no_reservations : Bounds → List ℕ → Bool
 has_no_reservations bounds file =
-    list_all (header_test bounds file) header_checks
+    list_all (test bounds file) header_checks
     && ((u64_at file (off_mem_rsvmap file + 16 * 0) == 0 && u64_at file (off_mem_rsvmap file + 16 * 0 + 8) == 0)
     && nat_le (off_mem_rsvmap file + 16 * 0 + 16) (totalsize file))
 
@@ -160,7 +160,7 @@ in_structure bounds file before check fine passed failing =
     let all = and_parts _ _ fine in
     let block = and_parts _ _ all.1 in
     let pair = and_parts _ _ block.0 in
-    InStructure (no_header_fault bounds file all.0) 0
+    InStructure (fine_by_test bounds file all.0) 0
     (record {
       before = λ index below. absurd (omega arith);
       end = record { address = (eq_decides (u64_at file (off_mem_rsvmap file + 16 * 0)) 0).0 pair.0; size = (eq_decides (u64_at file (off_mem_rsvmap file + 16 * 0 + 8)) 0).0 pair.1 };

@@ -10,7 +10,7 @@ use Rattle.bi_blob.specs.Blob.{reservation_block}
 use Rattle.bi_blob.specs.Layout.{used_names, distinct_names, encoding, token_of, tokens_of, event_width, structure_block, strings_block, strings_of, text_of_events}
 use Rattle.bi_blob.specs.TextLaws.{TextOfEventsHasItsLength, HasEventWidths}
 use Rattle.bi_base.proofs.CellLaws.{length-cell}
-use Rattle.bi_blob.proofs.Blobs.ReservationFaults.{length-reservation_block}
+pub use Rattle.bi_blob.proofs.Blobs.ReservationFaults.{length-reservation_block}
 use Rattle.bi_blob.proofs.Texts.TokenEncoding.{length-encoding, width-token, length_unpadded-prop}
 use Rattle.bi_blob.proofs.Texts.Length.{length-text_of_blocks, up4-whole}
 
