@@ -40,11 +40,11 @@ HasNoZero-before_zero (byte ∷ rest) =
       by_test false e none = (eqb-false byte 0 e, none)
 
 -- Where it is not all, a zero byte stands behind it.
-pub zero_behind : (bytes : List ℕ) → length (before_zero bytes) < length bytes → bytes ≡ before_zero bytes ++ 0 ∷ drop (suc (length (before_zero bytes))) bytes
-zero_behind [] shorter = absurd (omega arith)
-zero_behind (byte ∷ rest) shorter =
+pub zero_after : (bytes : List ℕ) → length (before_zero bytes) < length bytes → bytes ≡ before_zero bytes ++ 0 ∷ drop (suc (length (before_zero bytes))) bytes
+zero_after [] shorter = absurd (omega arith)
+zero_after (byte ∷ rest) shorter =
     subst (λ front. length front < suc (length rest) → byte ∷ rest ≡ front ++ 0 ∷ drop (suc (length front)) (byte ∷ rest))
-    (sym (before_zero-cons byte rest)) (by_test (byte == 0) refl (zero_behind rest)) shorter where
+    (sym (before_zero-cons byte rest)) (by_test (byte == 0) refl (zero_after rest)) shorter where
       by_test : (zero : Bool) → (byte == 0) ≡ zero
           → (length (before_zero rest) < length rest → rest ≡ before_zero rest ++ 0 ∷ drop (suc (length (before_zero rest))) rest)
           → length (cond zero [] (byte ∷ before_zero rest)) < suc (length rest)
@@ -90,5 +90,5 @@ pub HasName-IsNameAt : (bytes : List ℕ) (offset end : ℕ) → end ≤ length 
 HasName-IsNameAt bytes offset end within has = record {
   no_zero = HasNoZero-before_zero (drop offset bytes);
   trailing = drop (suc (length (name_from bytes offset))) (drop offset bytes);
-  is_at = zero_behind (drop offset bytes) (rw (length-drop offset bytes) (omega arith));
+  is_at = zero_after (drop offset bytes) (rw (length-drop offset bytes) (omega arith));
 }

@@ -9,9 +9,9 @@ use Rattle.bi_blob.specs.BlobFaults.{TokenPasses, token_checks, stage_after, pla
 use Rattle.bi_blob.specs.BlobLaws.{AllTokensPass, PassedWhereEncoded}
 use Rattle.bi_blob.proofs.Blobs.Names.{one_name, HasName-IsNameAt}
 use Rattle.bi_blob.proofs.Blobs.Tokens.{number, length-token_bytes, IsTokenAt-number, IsTokenAt-within, BeginNode-name, Prop-parts}
-use Rattle.bi_blob.proofs.Blobs.TokenEncoding.{behind_all, AllStand, AreEncodings-stand}
+use Rattle.bi_blob.proofs.Blobs.TokenEncoding.{place_after_all, AllStand, AreEncodings-stand}
 use Rattle.bi_blob.proofs.Blobs.Passing.{length-Prop}
-use Rattle.bi_blob.proofs.Blobs.PassedTokens.{reverse-cons, behind_all-reverse, ArePassed-stand, stand_Spelled}
+use Rattle.bi_blob.proofs.Blobs.PassedTokens.{reverse-cons, place_after_all-reverse, ArePassed-stand, AllStand-encoded}
 
 -- Tokens that pass are spelled in the file with three bytes behind it, and the other way round.
 
@@ -94,10 +94,10 @@ module _ (blocks : TreeBlocks) (depth_limit place : ℕ) (stage : Stage) (traili
     by_token End is_at checks = let long : length (token_bytes End) ≡ 4 = length-token_bytes End in omega arith
 
 -- Of tokens and one behind them that stand together, the tokens stand and the one behind them stands there.
-AllStand-last : (file : List ℕ) (at : ℕ) (tokens : List Token) (t : Token) → AllStand file at (tokens ++ t ∷ []) → AllStand file at tokens × IsTokenAt file (behind_all at tokens) t
+AllStand-last : (file : List ℕ) (at : ℕ) (tokens : List Token) (t : Token) → AllStand file at (tokens ++ t ∷ []) → AllStand file at tokens × IsTokenAt file (place_after_all at tokens) t
 AllStand-last file at [] t stand = (tt, stand.0)
 AllStand-last file at (u ∷ tokens) t stand =
-    let rest : AllStand file (at + width u) tokens × IsTokenAt file (behind_all (at + width u) tokens) t = AllStand-last file (at + width u) tokens t stand.1 in
+    let rest : AllStand file (at + width u) tokens × IsTokenAt file (place_after_all (at + width u) tokens) t = AllStand-last file (at + width u) tokens t stand.1 in
     ((stand.0, rest.0), rest.1)
 
 -- Tokens that pass their checks and stand in the longer file are passed.
@@ -105,11 +105,11 @@ AllTokensPass-ArePassed : (blocks : TreeBlocks) (depth_limit : ℕ) (tokens : Li
 AllTokensPass-ArePassed blocks depth_limit [] trailing readable pass stand = tt
 AllTokensPass-ArePassed blocks depth_limit (token ∷ before) trailing readable pass stand =
     let place : ℕ = place_after blocks before in
-    let parts : AllStand (blocks.file ++ trailing) blocks.begin (reverse before) × IsTokenAt (blocks.file ++ trailing) (behind_all blocks.begin (reverse before)) token =
+    let parts : AllStand (blocks.file ++ trailing) blocks.begin (reverse before) × IsTokenAt (blocks.file ++ trailing) (place_after_all blocks.begin (reverse before)) token =
     AllStand-last (blocks.file ++ trailing) blocks.begin (reverse before) token
     (subst (AllStand (blocks.file ++ trailing) blocks.begin) (reverse-cons token before) stand) in
     let there : IsTokenAt (blocks.file ++ trailing) place token =
-    subst (λ p. IsTokenAt (blocks.file ++ trailing) p token) (behind_all-reverse blocks before) parts.1 in (
+    subst (λ p. IsTokenAt (blocks.file ++ trailing) p token) (place_after_all-reverse blocks before) parts.1 in (
       record {
         no_end = pass.0;
         is_at = IsTokenAt-shorter blocks.file trailing place token
@@ -129,15 +129,15 @@ ArePassed-is_encoded blocks depth_limit (token ∷ before) trailing three passed
     let long : length (blocks.file ++ trailing) ≡ length blocks.file + length trailing = length-append blocks.file trailing in
     let within : place_after blocks before + length (token_bytes token) ≤ length blocks.file =
     IsTokenAt-within blocks.file (place_after blocks before) token passed.0.is_at in
-    let place : behind_all blocks.begin (reverse (token ∷ before)) ≡ place_after blocks (token ∷ before) =
-    behind_all-reverse blocks (token ∷ before) in
+    let place : place_after_all blocks.begin (reverse (token ∷ before)) ≡ place_after blocks (token ∷ before) =
+    place_after_all-reverse blocks (token ∷ before) in
     subst (λ p. AreEncodings (reverse (token ∷ before)) (slice (blocks.file ++ trailing) blocks.begin (p - blocks.begin))) place
-    (stand_Spelled (blocks.file ++ trailing) blocks.begin (reverse (token ∷ before))
+    (AllStand-encoded (blocks.file ++ trailing) blocks.begin (reverse (token ∷ before))
     (AllStand-trailing blocks.file trailing blocks.begin (reverse (token ∷ before)) (ArePassed-stand blocks depth_limit (token ∷ before) passed))
     (omega arith))
 
-pub walked_where_spelled : PassedWhereEncoded
-walked_where_spelled blocks depth_limit tokens trailing readable three = (
+pub passed_where_encoded : PassedWhereEncoded
+passed_where_encoded blocks depth_limit tokens trailing readable three = (
   (λ passed. (ArePassed-AllTokensPass blocks depth_limit tokens passed, ArePassed-is_encoded blocks depth_limit tokens trailing three passed)),
   (λ both.
       let size : ℕ = place_after blocks tokens - blocks.begin in

@@ -35,8 +35,8 @@ abbrev pub pair_at : List ℕ → ℕ → Reservation
 pair_at file at = record { address = u64_at file at; size = u64_at file (at + 8) }
 
 -- It stands there.
-pair_stands : (file : List ℕ) (at : ℕ) → AreBytes file → at + 16 ≤ length file → BytesAt file at (pair_bytes (pair_at file at))
-pair_stands file at bytes within =
+pair_is_there : (file : List ℕ) (at : ℕ) → AreBytes file → at + 16 ≤ length file → BytesAt file at (pair_bytes (pair_at file at))
+pair_is_there file at bytes within =
     BytesAt-join file at (cell8 (u64_at file at)) (cell8 (u64_at file (at + 8)))
     (BytesAt-cell8 file at bytes (omega arith))
     (subst (λ n. BytesAt file (at + n) (cell8 (u64_at file (at + 8)))) (sym (length-cell8 (u64_at file at)))
@@ -142,9 +142,9 @@ abbrev pub Found : List ℕ → ℕ → ℕ → Type 0
 Found file at total = HasSome file at total ⊎ ((fault : Fault) × IsReservationsFault file at total fault)
 
 -- The same with a first pair that is no end pair.
-found_behind : (file : List ℕ) (at total : ℕ) → ¬ (IsEndPair file at) → Found file (at + 16) total → Found file at total
-found_behind file at total first (inl later) = inl (record { count = later.count + 1; has = HasReservations-cons file at total later.count first later.has })
-found_behind file at total first (inr later) = inr (later.0, IsReservationsFault-cons file at total later.0 first later.1)
+found_after : (file : List ℕ) (at total : ℕ) → ¬ (IsEndPair file at) → Found file (at + 16) total → Found file at total
+found_after file at total first (inl later) = inl (record { count = later.count + 1; has = HasReservations-cons file at total later.count first later.has })
+found_after file at total first (inr later) = inr (later.0, IsReservationsFault-cons file at total later.0 first later.1)
 
 found_from : (steps : ℕ) (file : List ℕ) (at total : ℕ) → at ≤ total → total ≤ at + steps → Found file at total
 found_from zero file at total fits left = inr (record { cause = Truncated; offset = at }, past_here file at total fits (omega arith))
@@ -152,7 +152,7 @@ found_from (suc steps) file at total fits left =
     by_room (cases_lt total (at + 16)) (λ room. found_from steps file (at + 16) total room (omega arith)) where
       by_pair : at + 16 ≤ total → IsEndPair file at ⊎ ¬ (IsEndPair file at) → (at + 16 ≤ total → Found file (at + 16) total) → Found file at total
       by_pair room (inl end) later = inl (record { count = 0; has = ends_here file at total room end })
-      by_pair room (inr other) later = found_behind file at total other (later room)
+      by_pair room (inr other) later = found_after file at total other (later room)
 
       by_room : (total < at + 16) ⊎ (at + 16 ≤ total) → (at + 16 ≤ total → Found file (at + 16) total) → Found file at total
       by_room (inl past) later = inr (record { cause = Truncated; offset = at }, past_here file at total fits past)
@@ -207,22 +207,22 @@ are_reservations_at file at total (suc count) bytes has =
     )
 
 -- The end pair stands where both of its numbers are zero.
-end_stands : (file : List ℕ) (at : ℕ) → AreBytes file → at + 16 ≤ length file → IsEndPair file at → BytesAt file at (pair_bytes end_pair)
-end_stands file at bytes within is =
-    subst (λ (pair : Reservation). BytesAt file at (pair_bytes pair)) (λ i. record { address = is.address i; size = is.size i }) (pair_stands file at bytes within)
+end_pair_is_there : (file : List ℕ) (at : ℕ) → AreBytes file → at + 16 ≤ length file → IsEndPair file at → BytesAt file at (pair_bytes end_pair)
+end_pair_is_there file at bytes within is =
+    subst (λ (pair : Reservation). BytesAt file at (pair_bytes pair)) (λ i. record { address = is.address i; size = is.size i }) (pair_is_there file at bytes within)
 
 -- Their block stands at the offset.
-reservations_stand : (file : List ℕ) (at total count : ℕ) → AreBytes file → total ≤ length file → HasReservations file at total count → BytesAt file at (reservation_block (reservations_at file at count))
-reservations_stand file at total zero bytes inside has =
+reservations_are_there : (file : List ℕ) (at total count : ℕ) → AreBytes file → total ≤ length file → HasReservations file at total count → BytesAt file at (reservation_block (reservations_at file at count))
+reservations_are_there file at total zero bytes inside has =
     let within : at + 16 * 0 + 16 ≤ total = has.within in
-    end_stands file at bytes (omega arith) (from_first (IsEndPair file) at has.end)
-reservations_stand file at total (suc count) bytes inside has =
+    end_pair_is_there file at bytes (omega arith) (from_first (IsEndPair file) at has.end)
+reservations_are_there file at total (suc count) bytes inside has =
     let within : at + 16 * suc count + 16 ≤ total = has.within in
     subst (BytesAt file at) (sym (reservation_block-first (pair_at file at) (reservations_at file (at + 16) count)))
     (BytesAt-join file at (pair_bytes (pair_at file at)) (reservation_block (reservations_at file (at + 16) count))
-    (pair_stands file at bytes (omega arith))
+    (pair_is_there file at bytes (omega arith))
     (subst (λ n. BytesAt file (at + n) (reservation_block (reservations_at file (at + 16) count))) (sym (length-pair_bytes (pair_at file at)))
-    (reservations_stand file (at + 16) total count bytes inside (HasReservations-later file at total count has))))
+    (reservations_are_there file (at + 16) total count bytes inside (HasReservations-later file at total count has))))
 
 length-reservations_at : (file : List ℕ) (at count : ℕ) → length (reservations_at file at count) ≡ count
 length-reservations_at file at zero = refl
@@ -247,7 +247,7 @@ HasReservations-BeginsWithReservations file at total count bytes inside has =
     record {
       are_reservations = are_reservations_at file at total count bytes has;
       trailing = take ((total - at) - length (reservation_block all)) (drop (length (reservation_block all)) (drop at file));
-      is_at = begins file at total (reservation_block all) (reservations_stand file at total count bytes inside has) (omega arith);
+      is_at = begins file at total (reservation_block all) (reservations_are_there file at total count bytes inside has) (omega arith);
     }
 
 -- A block that stands at an offset has as many reservations as it is made of.

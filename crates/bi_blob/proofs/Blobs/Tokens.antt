@@ -113,24 +113,24 @@ one_token file at t u one other =
     absurd (omega arith)
 
 -- A token without operands stands where its number is read.
-bare_stands : (file : List ℕ) (at n : ℕ) → AreBytes file → at + 4 ≤ length file → u32_at file at ≡ n → BytesAt file at (cell n)
-bare_stands file at n bytes within e = subst (λ m. BytesAt file at (cell m)) e (BytesAt-cell file at bytes within)
+token_is_there : (file : List ℕ) (at n : ℕ) → AreBytes file → at + 4 ≤ length file → u32_at file at ≡ n → BytesAt file at (cell n)
+token_is_there file at n bytes within e = subst (λ m. BytesAt file at (cell m)) e (BytesAt-cell file at bytes within)
 
 pub EndNode-is_at : (file : List ℕ) (at : ℕ) → AreBytes file → at + 4 ≤ length file → u32_at file at ≡ end_node_number → IsTokenAt file at EndNode
-EndNode-is_at file at bytes within e = record { is_token = tt; is_at = bare_stands file at end_node_number bytes within e }
+EndNode-is_at file at bytes within e = record { is_token = tt; is_at = token_is_there file at end_node_number bytes within e }
 
 pub Nop-is_at : (file : List ℕ) (at : ℕ) → AreBytes file → at + 4 ≤ length file → u32_at file at ≡ nop_number → IsTokenAt file at Nop
-Nop-is_at file at bytes within e = record { is_token = tt; is_at = bare_stands file at nop_number bytes within e }
+Nop-is_at file at bytes within e = record { is_token = tt; is_at = token_is_there file at nop_number bytes within e }
 
 pub End-is_at : (file : List ℕ) (at : ℕ) → AreBytes file → at + 4 ≤ length file → u32_at file at ≡ end_number → IsTokenAt file at End
-End-is_at file at bytes within e = record { is_token = tt; is_at = bare_stands file at end_number bytes within e }
+End-is_at file at bytes within e = record { is_token = tt; is_at = token_is_there file at end_number bytes within e }
 
 -- A node begins where its number is read and a name stands behind it.
 pub BeginNode-is_at : (file : List ℕ) (at : ℕ) (name : List ℕ) → AreBytes file → at + 4 ≤ length file → u32_at file at ≡ begin_node_number → IsNameAt file (at + 4) name → IsTokenAt file at (BeginNode name)
 BeginNode-is_at file at name bytes within e named = record {
   is_token = named.no_zero;
   is_at = BytesAt-join file at (cell begin_node_number) (name ++ 0 ∷ [])
-      (bare_stands file at begin_node_number bytes within e)
+      (token_is_there file at begin_node_number bytes within e)
       (subst (λ n. BytesAt file (at + n) (name ++ 0 ∷ [])) (sym (length-cell begin_node_number))
       (BytesAt-from file (at + 4) (name ++ 0 ∷ []) named.trailing (named.is_at ∙ sym (append_assoc name (0 ∷ []) named.trailing))));
 }
@@ -144,10 +144,10 @@ Prop-is_at file at bytes within e =
     record {
       is_token = (u32_at-fits file (at + 8) bytes, subst (λ m. m < 2 ^ 32) (sym long) (u32_at-fits file (at + 4) bytes));
       is_at = BytesAt-join file at (cell prop_number) (cell (length value) ++ (cell (u32_at file (at + 8)) ++ value))
-          (bare_stands file at prop_number bytes (omega arith) e)
+          (token_is_there file at prop_number bytes (omega arith) e)
           (subst (λ m. BytesAt file (at + m) (cell (length value) ++ (cell (u32_at file (at + 8)) ++ value))) (sym (length-cell prop_number))
           (BytesAt-join file (at + 4) (cell (length value)) (cell (u32_at file (at + 8)) ++ value)
-          (bare_stands file (at + 4) (length value) bytes (omega arith) (sym long))
+          (token_is_there file (at + 4) (length value) bytes (omega arith) (sym long))
           (subst (λ p. BytesAt file p (cell (u32_at file (at + 8)) ++ value)) (second_place (length value))
           (BytesAt-join file (at + 8) (cell (u32_at file (at + 8))) value
           (BytesAt-cell file (at + 8) bytes (omega arith))

@@ -34,14 +34,14 @@ slice_from_second a b c at n is_at within =
     ∙ take-append-add b c (n - length b)
 
 -- What stands behind five lists stands behind the last of them.
-pub behind_five : (a b c d e rest : List ℕ) → (a ++ (b ++ (c ++ (d ++ e)))) ++ rest ≡ a ++ (b ++ (c ++ (d ++ (e ++ rest))))
-behind_five a b c d e rest = simp append_assoc
+pub after_five : (a b c d e rest : List ℕ) → (a ++ (b ++ (c ++ (d ++ e)))) ++ rest ≡ a ++ (b ++ (c ++ (d ++ (e ++ rest))))
+after_five a b c d e rest = simp append_assoc
 
 -- A text with any bytes behind it: its header and its three blocks in turn.
 pub text_parts : (cpu : ℕ) (reserved structure strings rest : List ℕ) → text_of_blocks cpu reserved structure strings ++ rest ≡ blob_header cpu (length reserved) (length structure) (length strings) ++ (reserved ++ (structure ++ (strings ++ (padding_to_4 (length_before_padding (length reserved) (length structure) (length strings)) ++ rest))))
 unfolding text_of_blocks
 text_parts cpu reserved structure strings rest =
-    behind_five (blob_header cpu (length reserved) (length structure) (length strings)) reserved structure strings (padding_to_4 (length_before_padding (length reserved) (length structure) (length strings))) rest
+    after_five (blob_header cpu (length reserved) (length structure) (length strings)) reserved structure strings (padding_to_4 (length_before_padding (length reserved) (length structure) (length strings))) rest
 
 -- The reservation block is a whole number of pairs.
 pub length-reservations : (reservations : List Reservation) → length (flat_map pair_bytes reservations) ≡ 16 * length reservations

@@ -17,10 +17,10 @@ other_names : (name other : List ℕ) → bytes_eq name other ≡ false → name
 other_names name other is same = true≢false (sym ((bytes_eq-Decides name other).1 same) ∙ is)
 
 -- What stands at the offset of a name among names is the name, and a zero byte behind it.
-pub stands_among : (names : List (List ℕ)) (name : List ℕ) → Contains names name → (trailing : List ℕ) × (drop (offset_in names name) (strings_of names) ≡ name ++ 0 ∷ trailing)
-stands_among [] name has = absurd (Contains-none name has)
-stands_among (first ∷ others) name has =
-    where_first (bytes_eq first name) refl (Contains-cases first others name has) (λ has. stands_among others name has)
+pub found_at_offset : (names : List (List ℕ)) (name : List ℕ) → Contains names name → (trailing : List ℕ) × (drop (offset_in names name) (strings_of names) ≡ name ++ 0 ∷ trailing)
+found_at_offset [] name has = absurd (Contains-none name has)
+found_at_offset (first ∷ others) name has =
+    where_first (bytes_eq first name) refl (Contains-cases first others name has) (λ has. found_at_offset others name has)
   where
     where_first : (b : Bool) → bytes_eq first name ≡ b → (first ≡ name) ⊎ Contains others name → (Contains others name → (trailing : List ℕ) × (drop (offset_in others name) (strings_of others) ≡ name ++ 0 ∷ trailing)) → (trailing : List ℕ) × (drop (offset_in (first ∷ others) name) (strings_of (first ∷ others)) ≡ name ++ 0 ∷ trailing)
     where_first true is has is_at =
@@ -89,7 +89,7 @@ has_names_once events = record {
 }
 
 -- A name that marks use stands at its offset.
-pub name_stands : EachNameIsFound
-name_stands events name has no_zero =
-    let there = stands_among (distinct_names (used_names events)) name (distinct_names-all (used_names events) name has) in
+pub name_is_found : EachNameIsFound
+name_is_found events name has no_zero =
+    let there = found_at_offset (distinct_names (used_names events)) name (distinct_names-all (used_names events) name has) in
     record { no_zero = no_zero; trailing = there.0; is_at = there.1 }

@@ -18,8 +18,8 @@ pub length-encoding : (token : Token) → length (encoding token) ≡ width toke
 length-encoding token = length-append (token_bytes token) (padding_to_4 (length (token_bytes token))) ∙ length-padding_to_4 (length (token_bytes token))
 
 -- A token with zeros as its padding is spelled.
-pub spells : (token : Token) → IsToken token → IsEncoding token (encoding token)
-spells token is = record {
+pub is_padded_encoding : (token : Token) → IsToken token → IsEncoding token (encoding token)
+is_padded_encoding token is = record {
   is_token = is;
   padding = padding_to_4 (length (token_bytes token));
   is_encoded = refl;
@@ -30,7 +30,7 @@ spells token is = record {
 pub is_encoded : (tokens : List Token) → AllByRecursion IsToken tokens → AreEncodings tokens (flat_map encoding tokens)
 is_encoded [] each = refl
 is_encoded (token ∷ later) each = (
-  subst (IsEncoding token) (sym (take_at (encoding token) (flat_map encoding later) (width token) (length-encoding token))) (spells token each.0),
+  subst (IsEncoding token) (sym (take_at (encoding token) (flat_map encoding later) (width token) (length-encoding token))) (is_padded_encoding token each.0),
   subst (AreEncodings later) (sym (drop_at (encoding token) (flat_map encoding later) (width token) (length-encoding token))) (is_encoded later each.1),
 )
 
