@@ -18,7 +18,7 @@ use Rattle.bi_blob.proofs.Blobs.Passing.{event_without_place, nop_passes, begin_
 
 -- A block that holds a tree within the depth limit ends: its tokens pass up to FDT_END.
 
--- What nodes of a file say is what they say without their places.
+-- The events of nodes of a file, without places, are those of the nodes without places.
 pub events_without_places : (nodes : Nodes FileNode) → map event_without_place (file_events nodes) ≡ events (with_each properties_of nodes)
 events_without_places none = refl
 events_without_places (node name with_places children later) =
@@ -46,7 +46,7 @@ pub depth-properties_of : (root : Root FileNode) → depth_of root ≡ depth_of 
 depth-properties_of root = depth-with_each properties_of (node [] root.own root.children none)
 
 module _ (blocks : TreeBlocks) (depth_limit : ℕ) where
-  -- The block ends behind tokens that pass, where those that follow say what may stand.
+  -- The block ends after tokens that pass, where the tokens after them encode events that may follow.
   pub ends_from : (ts : List Token) (before : List Token) (token_events : List FileEvent) → ArePassed blocks depth_limit before → AllStand blocks.file (place_after blocks before) (ts ++ End ∷ []) → place_after_all (place_after blocks before) (ts ++ End ∷ []) ≤ blocks.end → EncodeEvents blocks.strings (place_after blocks before) ts token_events → FollowToEnd (MayFollow depth_limit) (stage_after blocks.strings before) (map event_without_place token_events) → (tokens : List Token) × IsEnded blocks depth_limit tokens
   ends_from [] before [] passed stand within encodes follow = (
     before,

@@ -114,7 +114,7 @@ header_decided bounds file PlacesReservations = flat_3 (le_decided _ _) (cases_e
 header_decided bounds file PlacesStructure = flat_4 (le_decided _ _) (cases_eq _ _) (le_decided _ _) (le_decided _ _)
 header_decided bounds file PlacesStrings = both_decided (le_decided _ _) (le_decided _ _)
 
--- An end pair stands at an offset, or none does.
+-- An end pair is at an offset, or not.
 pub IsEndPair_decided : (file : List ℕ) (at : ℕ) → Decided (IsEndPair file at)
 IsEndPair_decided file at = by_parts (both_decided (cases_eq (u64_at file at) 0) (cases_eq (u64_at file (at + 8)) 0)) where
   by_parts : Decided ((u64_at file at ≡ 0) × (u64_at file (at + 8) ≡ 0)) → Decided (IsEndPair file at)

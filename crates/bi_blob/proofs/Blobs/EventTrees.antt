@@ -170,7 +170,7 @@ module _ (depth_limit : ℕ) where
         shallow = subst (λ n. n ≤ depth_limit) (depth-properties_of done.0) done.2.shallow;
       }
 
-  -- The events of one tree are closed.
+  -- The events of one tree may follow one another, and end its root.
   tree_closes : (events : List Event) → HasOneTree depth_limit events → AreClosedEvents (MayFollow depth_limit) events
   tree_closes events tree =
       let follow : FollowToEnd (MayFollow depth_limit) BeforeRoot events =

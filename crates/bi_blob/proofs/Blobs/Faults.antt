@@ -48,7 +48,7 @@ one_blob_fault bounds file f g (InStructure fine count has one) (InReservations 
 one_blob_fault bounds file f g (InStructure fine count has one) (InStructure too other_count has_too other) =
     one_structure_fault (tree_blocks file) bounds.depth f g one other
 
--- A file with a good header, reservations and a tree is a blob within the limits.
+-- A file with a header without fault, reservations and a tree is a blob within the limits.
 pub blob_of_parts : (bounds : Bounds) (file : List ℕ) (count : ℕ) → AreBytes file → HasNoHeaderFault bounds file → HasReservations file (off_mem_rsvmap file) (totalsize file) count → HasTree (tree_blocks file) bounds.depth → IsBlobWithin bounds file
 blob_of_parts bounds file count bytes fine has tree =
     let header : Header file = HasNoHeaderFault-Header bounds file fine in

@@ -10,7 +10,7 @@ use Rattle.bi_blob.proofs.Blobs.EventEncoding.{one_event_list, EncodeEvents-no_e
 use Rattle.bi_blob.proofs.Blobs.Trees.{trees_agree}
 use Rattle.bi_blob.proofs.Blobs.Reservations.{reservations_agree}
 
--- The tokens of a block's tree stand from the block's beginning on.
+-- The tokens of a block's tree are at the block's beginning.
 pub HoldsTree-stand : (blocks : TreeBlocks) (root : Root FileNode) (holds : HoldsTree blocks root) → AllStand blocks.file blocks.begin (holds.tokens ++ End ∷ [])
 HoldsTree-stand blocks root holds =
     let size : ℕ = blocks.end - blocks.begin in

@@ -12,13 +12,13 @@ use Rattle.bi_blob.proofs.Blobs.Tokens.{one_token}
 -- Of two lists of tokens that a structure block begins with, one is a beginning of the other; so a block has one fault at most.
 
 module _ (blocks : TreeBlocks) (depth_limit : ℕ) where
-  -- The token behind these passes its checks.
+  -- The token after these passes its checks.
   abbrev pub TokenHasNoFault : List Token → Type 0
   TokenHasNoFault before =
       HasNoFault (TokenPasses blocks depth_limit (place_after blocks before) (stage_after blocks.strings before))
       (token_checks (u32_at blocks.file (place_after blocks before)))
 
-  -- The first check that fails of the token behind these gives this fault.
+  -- The first check that fails of the token after these gives this fault.
   abbrev pub TokenFault : List Token → Fault → Type 0
   TokenFault before fault =
       IsFirstFault (TokenPasses blocks depth_limit (place_after blocks before) (stage_after blocks.strings before))
@@ -37,7 +37,7 @@ module _ (blocks : TreeBlocks) (depth_limit : ℕ) where
       (subst (λ vs. IsTokenAt blocks.file (place_after blocks vs) t) before one.0.is_at) other.0.is_at in
       λ i. same i ∷ before i
 
-  -- A list of tokens that pass goes on with one that passes, where a longer list passes.
+  -- Where a longer list of tokens passes, the token after a shorter one passes.
   pub passed_after : (ts us : List Token) → ArePassed blocks depth_limit ts → ArePassed blocks depth_limit us → length ts < length us → (u : Token) × IsPassed blocks depth_limit ts u
   passed_after ts [] one other less = absurd (omega arith)
   passed_after ts (u ∷ us) one other less =
@@ -49,7 +49,7 @@ module _ (blocks : TreeBlocks) (depth_limit : ℕ) where
         ]
       ]
 
-  -- No fault stands before the end of tokens that pass.
+  -- There is no fault before the end of tokens that pass.
   pub no_fault_before : (ts us : List Token) (fault : Fault) → ArePassed blocks depth_limit ts → ArePassed blocks depth_limit us → length ts < length us → TokenFault ts fault → ⊥
   no_fault_before ts us fault one other less first =
       let next : (u : Token) × IsPassed blocks depth_limit ts u = passed_after ts us one other less in
@@ -69,7 +69,7 @@ module _ (blocks : TreeBlocks) (depth_limit : ℕ) where
         ]
       ]
 
-  -- The block ends with FDT_END behind these tokens: all pass, and so does it.
+  -- The block ends with FDT_END after these tokens: all pass, and so does it.
   pub record IsEnded (tokens : List Token) : Type 0 where
     pub passed : ArePassed blocks depth_limit tokens
     pub end : IsTokenAt blocks.file (place_after blocks tokens) End

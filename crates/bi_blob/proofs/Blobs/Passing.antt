@@ -18,7 +18,7 @@ use Rattle.bi_blob.proofs.Blobs.Following.{end_passes as end_node_expected}
 
 -- The tokens of a block that holds a tree within the depth limit pass their checks.
 
--- FDT_NOP may stand at each stage.
+-- FDT_NOP may come at each stage.
 nop_is_expected : (stage : Stage) → IsTrue (is_expected stage nop_number)
 nop_is_expected BeforeRoot = refl
 nop_is_expected (Inside innermost outer) = refl
@@ -29,7 +29,7 @@ pub length-Prop : (offset : ℕ) (value : List ℕ) → length (token_bytes (Pro
 length-Prop offset value = simp (length-append, length-cell) (omega arith)
 
 module _ (blocks : TreeBlocks) (depth_limit place : ℕ) (stage : Stage) where
-  -- The number of a token stands in the block, and may stand there.
+  -- The number of a token is in the block, and may come there.
   number_passes : (token : Token) → IsTokenAt blocks.file place token → place + width token ≤ blocks.end → IsTrue (is_expected stage (number token)) → (place + 4 ≤ blocks.end) × IsTrue (is_expected stage (u32_at blocks.file place))
   number_passes token is_at within may =
       let wide : 4 ≤ width token = (width-at_least token).0 in
@@ -115,7 +115,7 @@ module _ (blocks : TreeBlocks) (depth_limit place : ℕ) (stage : Stage) where
         ),
       )
 
--- A mark without its place.
+-- An event without its place.
 abbrev pub event_without_place : FileEvent → Event
 event_without_place (FileNodeStart place name) = NodeStart name
 event_without_place (FileNodeProperty property) = NodeProperty (property_of property)

@@ -48,7 +48,7 @@ next_nop blocks depth_limit place growth standing next =
     refl
     standing.is_growth
 
--- A node that begins stands there with its name.
+-- FDT_BEGIN_NODE that passes its checks is there with its name.
 start_is_there : (blocks : TreeBlocks) (depth_limit place : ℕ) (stage : Stage) → IsReadable blocks → IsNext blocks depth_limit place stage begin_node_number → IsTokenAt blocks.file place (BeginNode (name_from blocks.file (place + 4)))
 start_is_there blocks depth_limit place stage readable next =
     BeginNode-is_at blocks.file place (name_from blocks.file (place + 4)) readable.bytes
@@ -98,12 +98,12 @@ AreOpenNodes-property depth_limit o (parent ∷ outer) p are good = (
   are.2,
 )
 
--- The innermost of good open nodes is good.
+-- The properties of the innermost open node.
 pub innermost_properties : (depth_limit : ℕ) (o : PartialNode) (outer : List PartialNode) → AreOpenNodes depth_limit o outer → AreProperties (map (λ (q : FileProperty). (q.name, q.value)) o.properties)
 innermost_properties depth_limit o [] are = are.0.properties
 innermost_properties depth_limit o (parent ∷ outer) are = are.0.properties
 
--- The property that a token at this offset says.
+-- The property that a token at this offset encodes.
 abbrev pub property_at : TreeBlocks → ℕ → FileProperty
 property_at blocks place = record {
   name = name_from blocks.strings (u32_at blocks.file (place + 8));
@@ -111,7 +111,7 @@ property_at blocks place = record {
   place = place;
 }
 
--- The token that says it.
+-- The token that encodes it.
 abbrev pub property_token : TreeBlocks → ℕ → Token
 property_token blocks place = Prop (u32_at blocks.file (place + 8)) (slice blocks.file (place + 12) (u32_at blocks.file (place + 4)))
 
@@ -141,7 +141,7 @@ names-with_each : (nodes : Nodes FileNode) → names (with_each properties_of no
 names-with_each none = refl
 names-with_each (node n l cs later) = ap (λ l. n ∷ l) (names-with_each later)
 
--- A good open node stays so with one more child that is good.
+-- An open node and one more child.
 IsOpenNode-child : (depth_limit above : ℕ) (parent child : PartialNode) → IsOpenNode depth_limit above parent → IsOpenNode depth_limit (above + 1) child → MayBeChild parent child → IsOpenNode depth_limit above (with_one_child parent child)
 IsOpenNode-child depth_limit above parent child is is_child may =
     let deep : depth parent.children + above + 1 ≤ depth_limit = is.shallow in

@@ -31,7 +31,7 @@ pub record Continues (blocks : TreeBlocks) (depth_limit place : ℕ) : Type 0 wh
   pub further : place + 4 ≤ next
   pub standing : Standing blocks depth_limit next growth
 
--- A reader that has not begun stands at the beginning of the block.
+-- The state of a reader at the beginning of the block.
 pub standing_at_first : (blocks : TreeBlocks) (depth_limit : ℕ) → IsReadable blocks → Standing blocks depth_limit blocks.begin NotBegun
 standing_at_first blocks depth_limit readable = record {
   readable = readable;
@@ -43,7 +43,7 @@ standing_at_first blocks depth_limit readable = record {
   is_growth = tt;
 }
 
--- The first check that fails of the token at which a reader stands is the fault of the block.
+-- The first check of the next token that fails gives the fault of the block.
 pub fault_there : (blocks : TreeBlocks) (depth_limit place : ℕ) (growth : Growth) (fault : Fault) → Standing blocks depth_limit place growth → IsFirstFault (TokenPasses blocks depth_limit place (stage_of growth)) (token_fault place) (token_checks (u32_at blocks.file place)) fault → IsStructureFault blocks depth_limit fault
 fault_there blocks depth_limit place growth fault standing first = record {
   before = standing.tokens;
@@ -104,7 +104,7 @@ module _ (blocks : TreeBlocks) (depth_limit place : ℕ) where
         ended : HoldsTree blocks root × (depth_of root ≤ depth_limit) → HasTree blocks depth_limit
         ended whole = record { root = root; holds = whole.0; shallow = whole.1 }
 
--- From where a reader stands the block holds a tree or has a fault.
+-- From the state of a reader on, the block holds a tree or has a fault.
 tree_or_fault_from : (steps : ℕ) (blocks : TreeBlocks) (depth_limit place : ℕ) (growth : Growth) → blocks.end ≤ place + steps → Standing blocks depth_limit place growth → HasTree blocks depth_limit ⊎ ((fault : Fault) × IsStructureFault blocks depth_limit fault)
 tree_or_fault_from zero blocks depth_limit place growth left standing =
     inr (token_fault place HasTokenNumber, fault_there blocks depth_limit place growth (token_fault place HasTokenNumber) standing (inl ((λ (word : place + 4 ≤ blocks.end). omega arith), refl)))

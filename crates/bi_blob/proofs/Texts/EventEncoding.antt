@@ -10,15 +10,15 @@ use Rattle.bi_blob.proofs.Texts.Trees.{NameEndsAtZero}
 use Rattle.bi_blob.proofs.Texts.TokenEncoding.{width-token, length_unpadded-prop}
 use Rattle.bi_blob.proofs.Texts.Places.{placed_from}
 
--- The tokens of a text are tokens, and say its marks.
+-- The tokens of a text are tokens, and encode its events.
 
--- The name of a property stands in these strings where these names have it.
+-- The name of a property is in these strings where it is one of these names.
 abbrev pub IsNamedIn : List ℕ → List (List ℕ) → Event → Type 0
 IsNamedIn strings names (NodeStart name) = ⊤
 IsNamedIn strings names (NodeProperty property) = IsNameAt strings (offset_in names property.0) property.0
 IsNamedIn strings names NodeEnd = ⊤
 
--- The names that marks use stand among any names that have them.
+-- The names that events use are found among any names that have them.
 pub named_in : (names : List (List ℕ)) (events : List Event) → ((name : List ℕ) → Contains (used_names events) name → Contains names name) → AllByRecursion NameEndsAtZero events → AllByRecursion (IsNamedIn (strings_of names) names) events
 named_in names [] among good = tt
 named_in names (NodeStart name ∷ later) among good = (tt, named_in names later among good.1)
@@ -32,7 +32,7 @@ named_in names (NodeProperty property ∷ later) among good = (
 )
 named_in names (NodeEnd ∷ later) among good = (tt, named_in names later among good.1)
 
--- The tokens of marks whose names stand in the strings say these marks, at their places.
+-- The tokens of events whose names are in the strings encode these events, at their places.
 pub encodes_events : (strings : List ℕ) (names : List (List ℕ)) (at : ℕ) (events : List Event) → AllByRecursion (IsNamedIn strings names) events → EncodeEvents strings at (map (token_of names) events) (placed_from at events)
 encodes_events strings names at [] named = tt
 encodes_events strings names at (NodeStart name ∷ later) named = (
@@ -61,7 +61,7 @@ pub value-le : (name_offset : ℕ) (value : List ℕ) → length value ≤ lengt
 value-le name_offset value =
     omega (arith, length-append (token_bytes (Prop name_offset value)) (padding_to_4 (length (token_bytes (Prop name_offset value)))), length_unpadded-prop name_offset value)
 
--- The tokens of marks are tokens, where the blocks are short enough.
+-- The tokens of events are tokens, where the blocks are short enough.
 pub are_tokens : (names : List (List ℕ)) (events : List Event) → AllByRecursion NameEndsAtZero events → length (strings_of names) < 2 ^ 32 → length (flat_map encoding (map (token_of names) events)) < 2 ^ 32 → AllByRecursion IsToken (map (token_of names) events)
 are_tokens names [] good strings_fit structure_fits = tt
 are_tokens names (event ∷ later) good strings_fit structure_fits = (

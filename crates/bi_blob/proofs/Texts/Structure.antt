@@ -14,9 +14,9 @@ use Rattle.bi_blob.proofs.Texts.Places.{placed-tree}
 use Rattle.bi_blob.proofs.Texts.EventEncoding.{named_in, encodes_events, are_tokens}
 use Rattle.bi_blob.proofs.Texts.Length.{length-text_of_tree, up4-le}
 
--- The structure block of a text says its tree.
+-- The structure block of a text encodes its tree.
 
--- The tokens of marks take no more than the structure block.
+-- The tokens of events are no longer than the structure block.
 pub tokens-le : (events : List Event) → length (flat_map encoding (tokens_of events)) ≤ length (structure_block events)
 tokens-le events =
     subst (λ l. length (flat_map encoding (tokens_of events)) ≤ length l) (sym (flat_map-append encoding (tokens_of events) (End ∷ [])))
@@ -27,7 +27,7 @@ pub blocks-le : (cpu : ℕ) (reservations : List Reservation) (root : Root (List
 blocks-le cpu reservations root =
     omega (arith, length-text_of_tree cpu reservations root, up4-le (length_before_padding (length (reservation_block reservations)) (length (structure_block (events_of root))) (length (strings_block (events_of root)))))
 
--- The blocks of a text that is not too long say its tree.
+-- The blocks of a text that is not too long encode its tree.
 pub says_tree : TextEncodesItsTree
 says_tree cpu reservations root is short = record {
   is_encoded = is_encoded (tokens_of (events_of root) ++ End ∷ [])

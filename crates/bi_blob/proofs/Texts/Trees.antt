@@ -5,9 +5,9 @@ use Rattle.bi_blob.specs.Tree.{Nodes, none, node, Root, Property, HasNoZero, IsP
 use Rattle.bi_blob.specs.Events.{Event, NodeStart, NodeProperty, NodeEnd, events, events_of}
 use Rattle.bi_blob.proofs.Texts.Members.{each-append, each-map, each-weaker}
 
--- The names in the marks of a tree have no zero byte.
+-- The names in the events of a tree have no zero byte.
 
--- A zero byte can end the name in a mark.
+-- A zero byte can end the name of an event.
 abbrev pub NameEndsAtZero : Event → Type 0
 NameEndsAtZero (NodeStart name) = HasNoZero name
 NameEndsAtZero (NodeProperty property) = HasNoZero property.0
@@ -19,7 +19,7 @@ names_end-properties properties are =
     each-map NameEndsAtZero NodeProperty properties
     (each-weaker (λ property. IsPropertyName property.0) (λ property. HasNoZero property.0) (λ property is. is.no_zero) properties are.named)
 
--- A node, its children and the nodes behind it have such names where its parts have.
+-- A node, its children and the nodes after it have such names where its parts have.
 pub names_end-node : (name : List ℕ) (properties : List Property) (children later : Nodes (List Property)) → HasNoZero name → AreProperties properties → AllByRecursion NameEndsAtZero (events children) → AllByRecursion NameEndsAtZero (events later) → AllByRecursion NameEndsAtZero (events (node name properties children later))
 names_end-node name properties children later is_name are good_children good_later = (
   is_name,
