@@ -54,7 +54,7 @@ token_test blocks depth_limit place stage MayNameProperty = is_property_name (na
 token_test blocks depth_limit place stage IsNewProperty =
     is_new (name_from blocks.strings (u32_at blocks.file (place + 8))) (property_names stage)
 
-token_decides : (blocks : TreeBlocks) (depth_limit place : ℕ) (stage : Stage) (check : TokenCheck) → Decides (token_test blocks depth_limit place stage check) (TokenPasses blocks depth_limit place stage check)
+pub token_decides : (blocks : TreeBlocks) (depth_limit place : ℕ) (stage : Stage) (check : TokenCheck) → Decides (token_test blocks depth_limit place stage check) (TokenPasses blocks depth_limit place stage check)
 unfolding token_test
 token_decides blocks depth_limit place stage HasTokenNumber = le_decides (place + 4) blocks.end
 token_decides blocks depth_limit place stage IsExpected = ((λ e. e), (λ e. e))
