@@ -36,7 +36,7 @@ pub fn a_file_is_a_blob_where_it_has_no_fault()
 
 /// Tokens of a structure block that pass their checks are encoded in the file. The padding of the
 /// last of them may end in any three bytes after the file.
-pub fn passed_tokens_are_spelled()
+pub fn passed_tokens_are_encoded()
     ensures { PassedWhereEncoded }
 {}
 
