@@ -1,7 +1,10 @@
 use Rattle.std.specs.Prelude.{ℕ, ◌+◌, ◌*◌, ◌≤◌, ◌≡◌, ⊤, List, [], ◌∷◌, length, map, MatchBool}
-use Rattle.std.specs.Prelude.{if◌then◌else◌}
+use Rattle.std.specs.Prelude.{◌⊎◌, Result, Err, if◌then◌else◌}
 use Rattle.std.specs.Borrow.{Bor}
 use Rattle.bi_base.specs.declared.fault.Fault.{Fault}
+use Rattle.bi_base.specs.declared.fault.Error.{Error}
+use Rattle.bi_base.specs.declared.fault.Error.TheVariants.{Refused}
+use Rattle.bi_base.specs.Sinks.{Wrote}
 use Rattle.bi_base.specs.declared.fault.Cause.TheVariants.{TooLarge, EmptyPart, BadField}
 use Rattle.bi_base.specs.Limits.{Bounds}
 use Rattle.bi_base.specs.Checks.{IsFirstFault, HasNoFault}
@@ -75,3 +78,15 @@ IsEmitFault limits image fault =
 -- The image fails no check.
 abbrev pub HasNoEmitFault : Bounds → LegacyImage → Type 0
 HasNoEmitFault limits image = HasNoFault (Passes limits image) (checks image)
+
+-- What a call did that writes this image to a sink. It fails with the fault of the image and leaves the sink unchanged, or it
+-- writes the normal text as a call to the sink does. The image has a fault or none.
+pub record WroteImage {S : Type 0} (appends : S → List ℕ → S → Type 0)
+    (fails : S → List ℕ → S → Error → Type 0) (limits : Bounds) (image : LegacyImage)
+    (old : S) (result : Result (Unit {0}) Error) (new : S) : Type 0 where
+  pub refused : (fault : Fault) → IsEmitFault limits image fault →
+      (result ≡ Err (Refused fault)) × (new ≡ old)
+  pub written : HasNoEmitFault limits image →
+      Wrote appends fails old (legacy_text image) result new
+  pub refused_or_written : HasNoEmitFault limits image
+      ⊎ ((fault : Fault) × IsEmitFault limits image fault)
