@@ -79,8 +79,9 @@ IsEmitFault limits image fault =
 abbrev pub HasNoEmitFault : Bounds → LegacyImage → Type 0
 HasNoEmitFault limits image = HasNoFault (Passes limits image) (checks image)
 
--- What a call did that writes this image to a sink. It fails with the fault of the image and leaves the sink unchanged, or it
--- writes the normal text as a call to the sink does. The image has a fault or none.
+-- What a call did that writes this image to a sink. It fails with the fault of the image and leaves
+-- the sink unchanged, or it writes the normal text as a call to the sink does. The image has a
+-- fault or none.
 pub record WroteImage {S : Type 0} (appends : S → List ℕ → S → Type 0)
     (fails : S → List ℕ → S → Error → Type 0) (limits : Bounds) (image : LegacyImage)
     (old : S) (result : Result (Unit {0}) Error) (new : S) : Type 0 where

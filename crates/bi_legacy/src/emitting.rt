@@ -48,10 +48,11 @@ pub fn emit<S: Sink>(
 
 /// Appends the normal text of an image that was read, as `emit` does for its fields and parts.
 ///
-/// `parts` are the parts of the image. The CRC-32 of the data is not computed again where the data is the one part: it was
-/// checked when the image was read.
+/// `parts` are the parts of the image. The CRC-32 of the data is not computed again where the data
+/// is the one part: it was checked when the image was read.
 ///
-/// Fails with the same faults as `emit`, and then appends nothing. Otherwise it fails only as the sink does.
+/// Fails with the same faults as `emit`, and then appends nothing. Otherwise it fails only as the
+/// sink does.
 pub fn emit_image<S: Sink>(
     image: &Legacy<'_>,
     parts: &[&[u8]],
@@ -70,7 +71,8 @@ pub fn emit_image<S: Sink>(
     )
 }
 
-/// Appends the normal text of an image with these fields and parts, whose normal data may have a known CRC-32.
+/// Appends the normal text of an image with these fields and parts, whose normal data may have a
+/// known CRC-32.
 fn emit_with<S: Sink>(
     fields: Fields<'_>,
     parts: &[&[u8]],

@@ -111,7 +111,8 @@ impl<'a> Legacy<'a> {
         Some(self.parts().nth(index)?.place)
     }
 
-    /// The CRC-32 of the normal data, where the data of the file is its own normal data, and the header has it.
+    /// The CRC-32 of the normal data, where the data of the file is its own normal data, and the
+    /// header has it.
     pub(crate) fn normal_data_checksum(&self) -> Option<u32>
         ensures { let image = self.now.image in IfSome result (λ checksum.
             checksum ≡ crc32 (normal_body image.image_type image.parts)) }

@@ -20,7 +20,8 @@ pub(crate) struct DataSummary {
     pub(crate) checksum: u32,
 }
 
-/// Appends the normal text of an image with these fields and parts, whose normal data has this size and checksum.
+/// Appends the normal text of an image with these fields and parts, whose normal data has this size
+/// and checksum.
 pub(crate) fn put_image<S: Sink>(
     fields: Fields<'_>,
     parts: &[&[u8]],
@@ -29,7 +30,8 @@ pub(crate) fn put_image<S: Sink>(
 ) -> Result<(), Error>
     requires name { length fields.name.now ≤ 32 }
     requires size { summary.size ≡ length (normal_body fields.image_type (bytes_of parts.now)) }
-    requires checksum { summary.checksum ≡ crc32 (normal_body fields.image_type (bytes_of parts.now)) }
+    requires checksum { let body = normal_body fields.image_type (bytes_of parts.now) in
+        summary.checksum ≡ crc32 body }
     ensures { let image = image_of_parts fields.entry parts.now in
         Wrote S.appends S.fails sink.old (legacy_text image) result sink.new }
 {
