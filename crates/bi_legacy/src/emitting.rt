@@ -7,7 +7,8 @@ ghost use Rattle.bi_base.specs.Checks.{IsFirstFault, HasNoFault};
 ghost use Rattle.bi_legacy.specs.Meaning.{IsImageName, has_part_table};
 ghost use Rattle.bi_legacy.specs.Parts.{parts_end_from, parts_start};
 ghost use Rattle.bi_legacy.specs.Text.{normal_body};
-ghost use Rattle.bi_legacy.specs.Emitting.{PartPasses, part_fault, part_checks, IsEmitFault};
+ghost use Rattle.bi_legacy.specs.Emitting.{EmitPartPasses, emit_part_fault, emit_part_checks};
+ghost use Rattle.bi_legacy.specs.Emitting.{IsEmitFault};
 ghost use Rattle.bi_legacy.specs.Emitting.{HasNoEmitFault, WroteImage, bytes_of, image_of_parts};
 
 use crate::fields::{Fields, has_part_table};
@@ -171,9 +172,9 @@ fn end_within(start: usize, parts: &[&[u8]], most: usize) -> Option<usize>
 /// Fails with EmptyPart at `64 + 4 * index` for the first part that is empty.
 fn check_parts(parts: &[&[u8]]) -> Result<(), Fault>
     requires { 64 + 4 * length parts.now < 2 ^ 32 }
-    ensures ok { OnOk result (HasNoFault PartPasses (part_checks 0 (bytes_of parts.now))) }
-    ensures fault { let checks = part_checks 0 (bytes_of parts.now) in
-        IfErr result (IsFirstFault PartPasses part_fault checks) }
+    ensures ok { OnOk result (HasNoFault EmitPartPasses (emit_part_checks 0 (bytes_of parts.now))) }
+    ensures fault { let checks = emit_part_checks 0 (bytes_of parts.now) in
+        IfErr result (IsFirstFault EmitPartPasses emit_part_fault checks) }
 {
     for (index, part) in parts.iter().enumerate() {
         if part.is_empty() {
