@@ -6,3 +6,4 @@ pub mod Faults
 pub mod Text
 pub mod Judgement
 pub mod Building
+pub mod Laws

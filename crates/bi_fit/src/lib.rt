@@ -3,6 +3,7 @@
 
 mod form;
 mod key;
+pub mod laws;
 
 pub use form::Form;
 pub use key::Key;
