@@ -1,2 +1,4 @@
 pub mod Meanings
 pub mod Faults
+pub mod Trees
+pub mod Maps
