@@ -2,3 +2,4 @@ pub mod Meanings
 pub mod Faults
 pub mod Trees
 pub mod Maps
+pub mod Sources
