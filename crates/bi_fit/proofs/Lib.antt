@@ -3,3 +3,5 @@ pub mod Faults
 pub mod Trees
 pub mod Maps
 pub mod Sources
+pub mod Areas
+pub mod Shapes

@@ -11,8 +11,8 @@ use Rattle.bi_fit.specs.Laws.{OneMeaning, BeginsWithMagic}
 -- A file has one meaning.
 
 -- What is in two equal options is equal.
-pub same_in_some : {A : Type 0} (d x y : A) → Some x ≡ Some y → x ≡ y
-same_in_some d x y e = ap (λ o. unwrap_or o d) e
+pub same_in_some : {A : Type 0} (x y : A) → Some x ≡ Some y → x ≡ y
+same_in_some x y e = ap (λ o. unwrap_or o x) e
 
 -- A region has one payload.
 one_region : (file : List ℕ) (base : ℕ) (begin : FileProperty) (size : Option FileProperty) (one other : Option (List ℕ)) → IsSizedRegion file base begin size one → IsSizedRegion file base begin size other → one ≡ other
@@ -40,7 +40,7 @@ pub one_meaning : OneMeaning
 one_meaning file one other a b =
     let same = one_blob file one.cpu other.cpu one.reservations other.reservations a.root b.root a.blob b.blob in
     let images : a.images ≡ b.images =
-    same_in_some none a.images b.images (sym a.has_images ∙ ap image_nodes same.same_root ∙ b.has_images) in
+    same_in_some a.images b.images (sym a.has_images ∙ ap image_nodes same.same_root ∙ b.has_images) in
     let payloads : one.payloads ≡ other.payloads =
     one_list file (owns a.images) one.payloads other.payloads a.payloads
     (subst (λ nodes. AllZip (HasPayload file) (owns nodes) other.payloads) (sym images) b.payloads) in

@@ -64,6 +64,6 @@ module _ {Own : Type 0} (wanted : List ℕ) where
     where
       where_first : (b : Bool) → bytes_eq name wanted ≡ b → children_of wanted (node name own children later) ≡ Some inner → (children_of wanted later ≡ Some inner → with_children_of wanted back (with_children_of wanted change later) ≡ later) → with_children_of wanted back (with_children_of wanted change (node name own children later)) ≡ node name own children later
       where_first true is has rest =
-          let found : inner ≡ children = same_in_some none inner children (sym (rw is at has)) in
+          let found : inner ≡ children = same_in_some inner children (sym (rw is at has)) in
           rw (is, is) (ap (λ nodes. node name own nodes later) (subst (λ nodes. back (change nodes) ≡ nodes) found same))
       where_first false is has rest = rw (is, is) (ap (node name own children) (rest (rw is at has)))
