@@ -5,3 +5,4 @@ pub mod Maps
 pub mod Sources
 pub mod Areas
 pub mod Shapes
+pub mod Contents
