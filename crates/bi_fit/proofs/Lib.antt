@@ -6,3 +6,5 @@ pub mod Sources
 pub mod Areas
 pub mod Shapes
 pub mod Contents
+pub mod FileTrees
+pub mod Texts
