@@ -8,3 +8,5 @@ pub mod Shapes
 pub mod Contents
 pub mod FileTrees
 pub mod Texts
+pub mod TextLaws
+pub mod Places

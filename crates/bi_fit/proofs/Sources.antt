@@ -15,7 +15,7 @@ use Rattle.bi_fit.specs.declared.form.Form.{Form}
 use Rattle.bi_fit.specs.declared.form.Form.TheVariants.{Embedded, External}
 use Rattle.bi_fit.specs.Names.{data_name, data_offset_name, data_position_name, data_size_name}
 use Rattle.bi_fit.specs.ImageTree.{IsApart}
-use Rattle.bi_fit.specs.Payloads.{PayloadSource, NoSource, Data, DataOffset, DataPosition, first_source, source_of, property_named, number_of, external_base, TellsPayload, HasPayload}
+use Rattle.bi_fit.specs.Payloads.{PayloadSource, NoSource, Data, DataOffset, DataPosition, first_source, source_of, property_named, number_of, external_base, payload_place, TellsPayload, HasPayload}
 use Rattle.bi_fit.specs.Text.{with_payload}
 use Rattle.bi_fit.proofs.Meanings.{same_in_some}
 use Rattle.bi_fit.proofs.Maps.{get-put, get-put_other}
@@ -120,3 +120,13 @@ module _ (file : List ℕ) (place at begin : ℕ) where
   tells_payload form properties None apart there = no_payload properties apart
   tells_payload Embedded properties (Some payload) apart there = embedded_payload properties payload apart
   tells_payload External properties (Some payload) apart there = external_payload properties payload apart there
+
+  -- An image node of an external text places its payload.
+  pub external_place : (properties : PropertyMap) (payload : Option (List ℕ)) → IsApart properties payload → IsThere External file begin payload → payload_place file (source_of (node_with (with_payload External begin payload properties))) ≡ option_map (λ payload. external_base file + begin) payload
+  external_place properties None apart there =
+      rw (not_placed data_position_name at properties (apart.no_payload_name data_position_name refl), not_placed data_offset_name at properties (apart.no_payload_name data_offset_name refl), not_placed data_name at properties (apart.no_payload_name data_name refl)) refl
+  external_place properties (Some payload) apart there =
+      let new = with_payload External begin (Some payload) properties in
+      let offset = is_placed data_offset_name at new (cell begin) (get-put_other _ data_size_name _ data_offset_name refl ∙ get-put properties data_offset_name (cell begin)) in
+      rw (not_placed data_position_name at new (get-put_other _ data_size_name _ data_position_name refl ∙ get-put_other properties data_offset_name _ data_position_name refl ∙ apart.no_payload_name data_position_name refl), offset.1)
+      (ap (λ n. Some (external_base file + n)) (number-cell offset.0 begin there.begin_fits offset.2))

@@ -1,4 +1,5 @@
-use Rattle.std.specs.Prelude.{◌≡◌, ◌⊎◌, ◌↔◌, ℕ, ◌+◌, ◌≤◌, List, ◌++◌, length}
+use Rattle.std.specs.Prelude.{◌≡◌, ◌⊎◌, ◌↔◌, ℕ, ◌+◌, ◌%◌, ◌≤◌, List, ◌++◌, Option, length}
+use Rattle.std.specs.List.{AllZip}
 use Rattle.bi_base.specs.declared.fault.Fault.{Fault}
 use Rattle.bi_base.specs.Cells.{AreBytes}
 use Rattle.bi_base.specs.Limits.{Bounds}
@@ -6,9 +7,13 @@ use Rattle.bi_blob.specs.Tree.{depth_of}
 use Rattle.bi_blob.specs.Blob.{magic, blob_magic}
 use Rattle.bi_blob.specs.Layout.{longest_text}
 use Rattle.bi_fit.specs.declared.form.Form.{Form}
-use Rattle.bi_fit.specs.ImageTree.{ImageTree, IsImageTree}
+use Rattle.bi_fit.specs.declared.form.Form.TheVariants.{External}
+use Rattle.bi_fit.specs.ImageTree.{ImageTree, IsImageTree, owns}
+use Rattle.bi_fit.specs.Payloads.{source_of, payload_place}
 use Rattle.bi_fit.specs.File.{IsFitFile, FitMeans}
 use Rattle.bi_fit.specs.Faults.{IsFitFault}
+use Rattle.bi_fit.specs.Text.{blob_of, payloads_end, payload_places, fit_text}
+use Rattle.bi_fit.specs.Judgement.{judgement}
 
 -- Laws of what a flattened image tree is (Flattened Image Tree Specification), and of its faults and texts (profile of this
 -- project). Each is the contract of a function in `laws`.
@@ -44,3 +49,70 @@ abbrev pub MeaningWhereNoFault : Type 0
 MeaningWhereNoFault =
     (bounds : Bounds) (file : List ℕ) → AreBytes file
     → ((tree : ImageTree) × FitMeans bounds file tree) ↔ ((fault : Fault) → ¬ (IsFitFault bounds file fault))
+
+-- What a file says is an image tree.
+abbrev pub FileSaysImageTree : Type 0
+FileSaysImageTree = (file : List ℕ) (tree : ImageTree) → IsFitFile file tree → IsImageTree tree
+
+-- A file means an image tree within limits, and has no fault under them.
+pub record IsAcceptedAs (bounds : Bounds) (file : List ℕ) (tree : ImageTree) : Type 0 where
+  pub means : FitMeans bounds file tree
+  pub no_fault : (fault : Fault) → ¬ (IsFitFault bounds file fault)
+
+-- The text of an image tree is accepted under limits that hold it, and means the tree.
+abbrev pub TextIsAccepted : Type 0
+TextIsAccepted =
+    (bounds : Bounds) (form : Form) (tree : ImageTree) → IsImageTree tree
+    → depth_of tree.root ≤ bounds.depth → length (fit_text form tree) ≤ bounds.file → bounds.file ≤ longest_text
+    → IsAcceptedAs bounds (fit_text form tree) tree
+
+-- The normal text of a file is accepted under the same limits and means the same, if it is no longer than the limit.
+abbrev pub NormalTextIsAccepted : Type 0
+NormalTextIsAccepted =
+    (bounds : Bounds) (form : Form) (file : List ℕ) (tree : ImageTree) → FitMeans bounds file tree
+    → length (fit_text form tree) ≤ bounds.file → bounds.file ≤ longest_text
+    → IsAcceptedAs bounds (fit_text form tree) tree
+
+-- Texts in one form, one of which is not too long, are the same exactly where the image trees are.
+abbrev pub TextTellsTree : Type 0
+TextTellsTree =
+    (form : Form) (one other : ImageTree) → IsImageTree one → IsImageTree other
+    → length (fit_text form one) ≤ longest_text
+    → (fit_text form one ≡ fit_text form other) ↔ (one ≡ other)
+
+-- The normal text of a file has the verdicts, configurations, default and signatures of the file.
+abbrev pub TextKeepsJudgement : Type 0
+TextKeepsJudgement =
+    (form : Form) (file : List ℕ) (tree other : ImageTree) → IsFitFile file tree
+    → length (fit_text form tree) ≤ longest_text → IsFitFile (fit_text form tree) other
+    → judgement other ≡ judgement tree
+
+-- Files that say the same have the same verdicts, configurations, default and signatures, and so have files with the same
+-- normal text.
+abbrev pub SameTextSameJudgement : Type 0
+SameTextSameJudgement =
+    (form : Form) (file other_file : List ℕ) (tree other : ImageTree) → IsFitFile file tree → IsFitFile other_file other
+    → length (fit_text form tree) ≤ longest_text → fit_text form tree ≡ fit_text form other
+    → judgement tree ≡ judgement other
+
+-- How long an external text is: it can be told from the length of its blob and the sizes of its payloads. The blob ends at a
+-- multiple of four.
+pub record HasExternalLength (tree : ImageTree) : Type 0 where
+  pub is_length : length (fit_text External tree) ≡ length (blob_of External tree) + payloads_end 0 tree.payloads
+  pub blob_is_whole : length (blob_of External tree) % 4 ≡ 0
+
+-- Each external text is that long.
+abbrev pub EachExternalTextHasItsLength : Type 0
+EachExternalTextHasItsLength = (tree : ImageTree) → HasExternalLength tree
+
+-- Payloads end where some of the first of them do or after: a text is too long as soon as some of its payloads are.
+abbrev pub PayloadsEndLater : Type 0
+PayloadsEndLater =
+    (first later : List (Option (List ℕ))) → payloads_end 0 first ≤ payloads_end 0 (first ++ later)
+
+-- The payloads of an external text are where the layout has them.
+abbrev pub ExternalPayloadsArePlaced : Type 0
+ExternalPayloadsArePlaced =
+    (tree : ImageTree) → length (fit_text External tree) ≤ longest_text → (is : IsFitFile (fit_text External tree) tree)
+    → AllZip (λ own place. payload_place (fit_text External tree) (source_of own) ≡ place) (owns is.images)
+    (payload_places (length (blob_of External tree)) 0 tree.payloads)

@@ -31,10 +31,13 @@ abbrev pub payloads_end : (end : ℕ) → List (Option (List ℕ)) → ℕ
 payloads_end end [] = end
 payloads_end end (payload ∷ later) = payloads_end (end_after end payload) later
 
--- Where each of these external payloads begins, if those before them end at `end`.
-abbrev pub payload_begins : (end : ℕ) → List (Option (List ℕ)) → List ℕ
-payload_begins end [] = []
-payload_begins end (payload ∷ later) = up4 end ∷ payload_begins (end_after end payload) later
+-- The offset in the text of each of these external payloads, if it has a payload, where the blob has `base` bytes and the
+-- payloads before them end at `end`.
+abbrev pub payload_places : (base end : ℕ) → List (Option (List ℕ)) → List (Option ℕ)
+payload_places base end [] = []
+payload_places base end (None ∷ later) = None ∷ payload_places base end later
+payload_places base end (Some payload ∷ later) =
+    Some (base + up4 end) ∷ payload_places base (end_after end (Some payload)) later
 
 -- Image nodes with the properties that tell their payloads, if the external payloads before theirs end at `end`.
 abbrev pub with_payloads : Form → (end : ℕ) → List (Option (List ℕ)) → Nodes PropertyMap → Nodes PropertyMap

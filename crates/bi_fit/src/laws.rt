@@ -1,6 +1,6 @@
 //! Laws of flattened image trees. Their functions do nothing: what each of them ensures is the law.
 
-ghost use Rattle.bi_fit.specs.Laws.{OneMeaning, BeginsWithMagic, MeaningHasNoFault, OneFault, MeaningOrFault, MeaningWhereNoFault};
+ghost use Rattle.bi_fit.specs.Laws.{OneMeaning, BeginsWithMagic, MeaningHasNoFault, OneFault, MeaningOrFault, MeaningWhereNoFault, FileSaysImageTree, TextIsAccepted, NormalTextIsAccepted, TextTellsTree, TextKeepsJudgement, SameTextSameJudgement, EachExternalTextHasItsLength, PayloadsEndLater};
 
 /// A file is a flattened image tree of at most one meaning.
 pub fn one_meaning()
@@ -31,4 +31,52 @@ pub fn meaning_or_fault()
 /// A file of bytes is a flattened image tree within limits exactly where it has no fault under them.
 pub fn meaning_where_no_fault()
     ensures { MeaningWhereNoFault }
+{}
+
+/// What a file says as a flattened image tree can be laid out as a text: numbers, names and values are in their ranges, and
+/// each image node has one payload or none, apart from its properties.
+pub fn file_says_image_tree()
+    ensures { FileSaysImageTree }
+{}
+
+/// The text of an image tree in either form, if it is no longer than the limit on files, is accepted under limits that are
+/// no less than the depth of the tree, and means the tree. The limit on files is at most 0x7fffffff.
+pub fn text_is_accepted()
+    ensures { TextIsAccepted }
+{}
+
+/// The normal text of a file in either form, if it is no longer than the limit on files, is accepted under the limits under
+/// which the file is, and means what the file means.
+pub fn normal_text_is_accepted()
+    ensures { NormalTextIsAccepted }
+{}
+
+/// Two texts in one form, one of which has at most 0x7fffffff bytes, are the same exactly where they are of one image tree:
+/// the same boot processor, memory reservations, nodes in order, properties by name and payloads.
+pub fn text_tells_tree()
+    ensures { TextTellsTree }
+{}
+
+/// The normal text of a file in either form, if it has at most 0x7fffffff bytes, has the verdicts, configurations, default
+/// and signatures of the file.
+pub fn text_keeps_judgement()
+    ensures { TextKeepsJudgement }
+{}
+
+/// Two files with the same normal text in one form, which has at most 0x7fffffff bytes, have the same verdicts,
+/// configurations, default and signatures.
+pub fn same_text_same_judgement()
+    ensures { SameTextSameJudgement }
+{}
+
+/// An external text is as long as its blob and, after it, its payloads: the length depends on the length of the blob and
+/// the sizes of the payloads alone.
+pub fn each_external_text_has_its_length()
+    ensures { EachExternalTextHasItsLength }
+{}
+
+/// Payloads that follow a blob end no earlier than some of the first of them. So a text is too long as soon as its blob and
+/// some of its payloads are.
+pub fn payloads_end_later()
+    ensures { PayloadsEndLater }
 {}

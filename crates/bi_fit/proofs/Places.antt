@@ -1,0 +1,34 @@
+use Rattle.std.proofs.Common.{◌≡◌, ℕ, ◌+◌, ◌%◌, ◌^◌, ◌<◌, ◌≤◌, List, [], ◌∷◌, ◌++◌, length, Option, Some, None, refl, sym, ap, ap₂, subst, ◌∙◌, arith, length-append}
+use Rattle.std.specs.List.{AllZip}
+use Rattle.std.specs.FinMap.{entries}
+use Rattle.bi_base.specs.Cells.{up4}
+use Rattle.bi_blob.specs.Tree.{Nodes, none, node, PropertyMap, FileNode, with_each}
+use Rattle.bi_blob.specs.Events.{NodeStart, events}
+use Rattle.bi_blob.specs.Layout.{event_width, place_after_events, with_places, longest_text}
+use Rattle.bi_fit.specs.declared.form.Form.{Form}
+use Rattle.bi_fit.specs.declared.form.Form.TheVariants.{External}
+use Rattle.bi_fit.specs.ImageTree.{ImageTree, IsImageTree, IsApart, owns, image_nodes}
+use Rattle.bi_fit.specs.Payloads.{source_of, payload_place, external_base}
+use Rattle.bi_fit.specs.File.{IsFitFile}
+use Rattle.bi_fit.specs.Text.{with_payload, with_payloads, end_after, payload_places, blob_of, fit_text}
+use Rattle.bi_fit.specs.Laws.{ExternalPayloadsArePlaced}
+use Rattle.bi_fit.proofs.Sources.{IsThere, external_place}
+use Rattle.bi_fit.proofs.Areas.{AreThere}
+
+-- Where the payloads of an external text are.
+
+-- The image nodes of an external text place their payloads.
+pub place_payloads : (file : List ℕ) (at end : ℕ) (payloads : List (Option (List ℕ))) (nodes : Nodes PropertyMap) → AllZip IsApart (owns nodes) payloads → AreThere External file end payloads → AllZip (λ own place. payload_place file (source_of own) ≡ place) (owns (with_places at (with_each entries (with_payloads External end payloads nodes)))) (payload_places (external_base file) end payloads)
+place_payloads file at end [] none apart there = tt
+place_payloads file at end [] (node name own children later) apart there = absurd apart
+place_payloads file at end (payload ∷ payloads) none apart there = absurd apart
+place_payloads file at end (None ∷ payloads) (node name own children later) apart there = (
+  external_place file at (at + event_width (NodeStart name)) (up4 end) own None apart.0 there.0,
+  place_payloads file (place_after_events at (events (node name (entries (with_payload External (up4 end) None own)) (with_each entries children) none)))
+      end payloads later apart.1 there.1,
+)
+place_payloads file at end (Some payload ∷ payloads) (node name own children later) apart there = (
+  external_place file at (at + event_width (NodeStart name)) (up4 end) own (Some payload) apart.0 there.0,
+  place_payloads file (place_after_events at (events (node name (entries (with_payload External (up4 end) (Some payload) own)) (with_each entries children) none)))
+      (end_after end (Some payload)) payloads later apart.1 there.1,
+)
