@@ -76,7 +76,7 @@ source_bytes file (DataPosition position size) payload bytes data_bytes is =
     region_bytes file 0 position size payload bytes is
 
 -- Where the source is `data`, the property is there.
-source_is_data : (position offset size found : Option FileProperty) (property : FileProperty) → first_source position offset size found ≡ Data property → found ≡ Some property
+pub source_is_data : (position offset size found : Option FileProperty) (property : FileProperty) → first_source position offset size found ≡ Data property → found ≡ Some property
 source_is_data (Some position) offset size found property is = absurd cc
 source_is_data None (Some offset) size found property is = absurd cc
 source_is_data None None size (Some there) property is = let same : there ≡ property = cc in ap Some same

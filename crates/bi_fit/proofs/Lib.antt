@@ -10,3 +10,4 @@ pub mod FileTrees
 pub mod Texts
 pub mod TextLaws
 pub mod Places
+pub mod Values

@@ -57,12 +57,17 @@ blob_of_text form tree is short =
     (omega (arith, length-append (blob_of form tree) (after_blob form tree), short))
     (bytes-after_blob form tree is)
 
+-- External payloads are counted from the end of the blob.
+pub text_base : (form : Form) (tree : ImageTree) → IsImageTree tree → length (fit_text form tree) ≤ longest_text → external_base (fit_text form tree) ≡ length (blob_of form tree)
+text_base form tree is short =
+    omega (arith, (blob_of_text form tree is short).is_total, (has_text_length tree.cpu tree.reservations (normal_tree form tree)).is_whole)
+
 -- The external payloads are where a text says.
-text_has_payloads : (form : Form) (tree : ImageTree) → IsImageTree tree → length (fit_text form tree) ≤ longest_text → AreThere form (fit_text form tree) 0 tree.payloads
+pub text_has_payloads : (form : Form) (tree : ImageTree) → IsImageTree tree → length (fit_text form tree) ≤ longest_text → AreThere form (fit_text form tree) 0 tree.payloads
 text_has_payloads Embedded tree is short = embedded_are_there (fit_text Embedded tree) 0 tree.payloads
 text_has_payloads External tree is short =
     external_are_there (fit_text External tree) (blob_of External tree) 0 tree.payloads refl
-    (omega (arith, (blob_of_text External tree is short).is_total, (has_text_length tree.cpu tree.reservations (normal_tree External tree)).is_whole))
+    (omega (arith, text_base External tree is short))
     (omega (arith, short))
 
 -- The image nodes of the tree of a text.
@@ -70,6 +75,11 @@ normal_images : (form : Form) (tree : ImageTree) (is : IsImageTree tree) → ima
 normal_images form tree is =
     children_of-with_each entries images_name (with_image_nodes (with_payloads form 0 tree.payloads) tree.root).children
     ∙ ap (option_map (with_each entries)) (children_of-with_children_of images_name (with_payloads form 0 tree.payloads) tree.root.children is.images is.has_images)
+
+-- The same at the places of the layout.
+pub text_images : (form : Form) (tree : ImageTree) (is : IsImageTree tree) → (place : ℕ) × (image_nodes (tree_with_places tree.reservations (normal_tree form tree)) ≡ Some (with_places place (with_each entries (with_payloads form 0 tree.payloads is.images))))
+text_images form tree is =
+    children_of-with_places _ images_name (normal_tree form tree).children (with_each entries (with_payloads form 0 tree.payloads is.images)) (normal_images form tree is)
 
 -- The tree of a text is the tree, with the properties that tell payloads.
 normal_root : (form : Form) (tree : ImageTree) → IsImageTree tree → tree_without_payloads (tree_without_order (normal_tree form tree)) ≡ tree.root
@@ -83,7 +93,7 @@ normal_root form tree is =
 pub text_means : (form : Form) (tree : ImageTree) → IsImageTree tree → length (fit_text form tree) ≤ longest_text → (is : IsFitFile (fit_text form tree) tree) × (is.root ≡ tree_with_places tree.reservations (normal_tree form tree))
 text_means form tree is short =
     let blob = blob_of_text form tree is short in
-    let found = children_of-with_places _ images_name (normal_tree form tree).children (with_each entries (with_payloads form 0 tree.payloads is.images)) (normal_images form tree is) in (
+    let found = text_images form tree is in (
       record {
         root = tree_with_places tree.reservations (normal_tree form tree);
         blob = blob.blob;

@@ -9,7 +9,7 @@ use Rattle.bi_blob.specs.Layout.{longest_text}
 use Rattle.bi_fit.specs.declared.form.Form.{Form}
 use Rattle.bi_fit.specs.declared.form.Form.TheVariants.{External}
 use Rattle.bi_fit.specs.ImageTree.{ImageTree, IsImageTree, owns}
-use Rattle.bi_fit.specs.Payloads.{source_of, payload_place}
+use Rattle.bi_fit.specs.Payloads.{source_of, payload_place, IsAtPlace}
 use Rattle.bi_fit.specs.File.{IsFitFile, FitMeans}
 use Rattle.bi_fit.specs.Faults.{IsFitFault}
 use Rattle.bi_fit.specs.Text.{blob_of, payloads_end, payload_places, fit_text}
@@ -49,6 +49,12 @@ abbrev pub MeaningWhereNoFault : Type 0
 MeaningWhereNoFault =
     (bounds : Bounds) (file : List ℕ) → AreBytes file
     → ((tree : ImageTree) × FitMeans bounds file tree) ↔ ((fault : Fault) → ¬ (IsFitFault bounds file fault))
+
+-- The payload of each image node is in the file at its place.
+abbrev pub PayloadsAreAtPlaces : Type 0
+PayloadsAreAtPlaces =
+    (file : List ℕ) (tree : ImageTree) (is : IsFitFile file tree)
+    → AllZip (λ own payload. IsAtPlace file (payload_place file (source_of own)) payload) (owns is.images) tree.payloads
 
 -- What a file says is an image tree.
 abbrev pub FileSaysImageTree : Type 0

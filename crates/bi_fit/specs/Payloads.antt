@@ -1,4 +1,4 @@
-use Rattle.std.specs.Prelude.{◌≡◌, ℕ, ◌+◌, ◌≤◌, List, Option, Some, None, length, bytes_eq}
+use Rattle.std.specs.Prelude.{◌≡◌, ℕ, ◌+◌, ◌≤◌, List, Option, Some, None, length, bytes_eq, ⊤}
 use Rattle.std.specs.Int.{from_be_bytes, w32}
 use Rattle.std.specs.List.{find}
 use Rattle.bi_base.specs.Cells.{slice, up4}
@@ -79,3 +79,14 @@ payload_place file NoSource = None
 payload_place file (Data data_property) = Some (data_property.place + 12)
 payload_place file (DataOffset offset size) = Some (external_base file + number_of offset)
 payload_place file (DataPosition position size) = Some (number_of position)
+
+-- These bytes are in the file at this offset.
+pub record IsAt (file : List ℕ) (place : ℕ) (bytes : List ℕ) : Type 0 where
+  pub in_file : place + length bytes ≤ length file
+  pub is_slice : slice file place (length bytes) ≡ bytes
+
+-- A payload is in the file at its place, or there is neither.
+abbrev pub IsAtPlace : List ℕ → Option ℕ → Option (List ℕ) → Type 0
+IsAtPlace file None None = ⊤
+IsAtPlace file (Some place) (Some payload) = IsAt file place payload
+IsAtPlace file place payload = ⊥

@@ -1,6 +1,6 @@
 //! Laws of flattened image trees. Their functions do nothing: what each of them ensures is the law.
 
-ghost use Rattle.bi_fit.specs.Laws.{OneMeaning, BeginsWithMagic, MeaningHasNoFault, OneFault, MeaningOrFault, MeaningWhereNoFault, FileSaysImageTree, TextIsAccepted, NormalTextIsAccepted, TextTellsTree, TextKeepsJudgement, SameTextSameJudgement, EachExternalTextHasItsLength, PayloadsEndLater};
+ghost use Rattle.bi_fit.specs.Laws.{OneMeaning, BeginsWithMagic, MeaningHasNoFault, OneFault, MeaningOrFault, MeaningWhereNoFault, FileSaysImageTree, TextIsAccepted, NormalTextIsAccepted, TextTellsTree, TextKeepsJudgement, SameTextSameJudgement, EachExternalTextHasItsLength, PayloadsEndLater, ExternalPayloadsArePlaced, PayloadsAreAtPlaces};
 
 /// A file is a flattened image tree of at most one meaning.
 pub fn one_meaning()
@@ -31,6 +31,12 @@ pub fn meaning_or_fault()
 /// A file of bytes is a flattened image tree within limits exactly where it has no fault under them.
 pub fn meaning_where_no_fault()
     ensures { MeaningWhereNoFault }
+{}
+
+/// The payload of each image node is in the file at its place: the value of `data` at the offset after the three cells of its
+/// token, and a region of the file where its two properties tell.
+pub fn payloads_are_at_places()
+    ensures { PayloadsAreAtPlaces }
 {}
 
 /// What a file says as a flattened image tree can be laid out as a text: numbers, names and values are in their ranges, and
@@ -79,4 +85,10 @@ pub fn each_external_text_has_its_length()
 /// some of its payloads are.
 pub fn payloads_end_later()
     ensures { PayloadsEndLater }
+{}
+
+/// Each payload of an external text is at the offset that the layout gives it: the first multiple of four after the blob and
+/// the payloads before it. The text has at most 0x7fffffff bytes.
+pub fn external_payloads_are_placed()
+    ensures { ExternalPayloadsArePlaced }
 {}
