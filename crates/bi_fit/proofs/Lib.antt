@@ -11,3 +11,5 @@ pub mod Texts
 pub mod TextLaws
 pub mod Places
 pub mod Values
+pub mod BuiltTrees
+pub mod Building

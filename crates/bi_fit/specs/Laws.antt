@@ -1,8 +1,12 @@
-use Rattle.std.specs.Prelude.{◌≡◌, ◌⊎◌, ◌↔◌, ℕ, ◌+◌, ◌%◌, ◌≤◌, List, ◌++◌, Option, length}
+use Rattle.std.specs.Prelude.{◌≡◌, ◌⊎◌, ◌↔◌, ℕ, ◌+◌, ◌%◌, ◌≤◌, List, ◌++◌, Option, Some, length, map}
 use Rattle.std.specs.List.{AllZip}
 use Rattle.bi_base.specs.declared.fault.Fault.{Fault}
 use Rattle.bi_base.specs.Cells.{AreBytes}
 use Rattle.bi_base.specs.Limits.{Bounds}
+use Rattle.bi_hash.specs.declared.algo.Algo.TheVariants.{Sha256}
+use Rattle.bi_hash.specs.declared.verdicts.Verdict.TheVariants.{Good}
+use Rattle.bi_hash.specs.Algos.{name_of}
+use Rattle.bi_hash.specs.Digests.{digest_of}
 use Rattle.bi_blob.specs.Tree.{depth_of}
 use Rattle.bi_blob.specs.Blob.{magic, blob_magic}
 use Rattle.bi_blob.specs.Layout.{longest_text}
@@ -13,7 +17,8 @@ use Rattle.bi_fit.specs.Payloads.{source_of, payload_place, IsAtPlace}
 use Rattle.bi_fit.specs.File.{IsFitFile, FitMeans}
 use Rattle.bi_fit.specs.Faults.{IsFitFault}
 use Rattle.bi_fit.specs.Text.{blob_of, payloads_end, payload_places, fit_text}
-use Rattle.bi_fit.specs.Judgement.{judgement}
+use Rattle.bi_fit.specs.Judgement.{judgement, CheckedHash, verdicts_of}
+use Rattle.bi_fit.specs.Building.{FitHead, ImageSpecification, CanBeBuilt, hash_node_name, built}
 
 -- Laws of what a flattened image tree is (Flattened Image Tree Specification), and of its faults and texts (profile of this
 -- project). Each is the contract of a function in `laws`.
@@ -122,3 +127,29 @@ ExternalPayloadsArePlaced =
     (tree : ImageTree) → length (fit_text External tree) ≤ longest_text → (is : IsFitFile (fit_text External tree) tree)
     → AllZip (λ own place. payload_place (fit_text External tree) (source_of own) ≡ place) (owns is.images)
     (payload_places (length (blob_of External tree)) 0 tree.payloads)
+
+-- The text of a built tree, in either form, is accepted under limits that hold it and four open nodes, and means the tree.
+abbrev pub BuiltIsAccepted : Type 0
+BuiltIsAccepted =
+    (bounds : Bounds) (form : Form) (head : FitHead) (images : List ImageSpecification) → CanBeBuilt head images
+    → 4 ≤ bounds.depth → length (fit_text form (built head images)) ≤ bounds.file → bounds.file ≤ longest_text
+    → IsAcceptedAs bounds (fit_text form (built head images)) (built head images)
+
+-- The hash node of a built image: it has the SHA-256 of the payload, and its verdict is Good.
+abbrev pub good_hash : ImageSpecification → CheckedHash
+good_hash image = record {
+  image = image.name;
+  node_name = hash_node_name;
+  algo = Some (name_of Sha256);
+  value = Some (digest_of Sha256 image.payload);
+  verdict = Good;
+}
+
+-- The payloads of a built tree are those of its images in their order, and each image has one hash node, whose verdict is Good.
+pub record HasGoodPayloads (head : FitHead) (images : List ImageSpecification) : Type 0 where
+  pub payloads : (built head images).payloads ≡ map (λ image. Some image.payload) images
+  pub verdicts : verdicts_of (built head images) ≡ map good_hash images
+
+-- Each built tree does.
+abbrev pub BuiltHasGoodPayloads : Type 0
+BuiltHasGoodPayloads = (head : FitHead) (images : List ImageSpecification) → HasGoodPayloads head images

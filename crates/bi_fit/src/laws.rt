@@ -1,6 +1,6 @@
 //! Laws of flattened image trees. Their functions do nothing: what each of them ensures is the law.
 
-ghost use Rattle.bi_fit.specs.Laws.{OneMeaning, BeginsWithMagic, MeaningHasNoFault, OneFault, MeaningOrFault, MeaningWhereNoFault, FileSaysImageTree, TextIsAccepted, NormalTextIsAccepted, TextTellsTree, TextKeepsJudgement, SameTextSameJudgement, EachExternalTextHasItsLength, PayloadsEndLater, ExternalPayloadsArePlaced, PayloadsAreAtPlaces};
+ghost use Rattle.bi_fit.specs.Laws.{OneMeaning, BeginsWithMagic, MeaningHasNoFault, OneFault, MeaningOrFault, MeaningWhereNoFault, FileSaysImageTree, TextIsAccepted, NormalTextIsAccepted, TextTellsTree, TextKeepsJudgement, SameTextSameJudgement, EachExternalTextHasItsLength, PayloadsEndLater, ExternalPayloadsArePlaced, PayloadsAreAtPlaces, BuiltIsAccepted, BuiltHasGoodPayloads};
 
 /// A file is a flattened image tree of at most one meaning.
 pub fn one_meaning()
@@ -91,4 +91,16 @@ pub fn payloads_end_later()
 /// the payloads before it. The text has at most 0x7fffffff bytes.
 pub fn external_payloads_are_placed()
     ensures { ExternalPayloadsArePlaced }
+{}
+
+/// The text of a built tree in either form, if it is no longer than the limit on files, is accepted under limits that allow
+/// four open nodes, and means the tree that was to be built. The limit on files is at most 0x7fffffff.
+pub fn built_is_accepted()
+    ensures { BuiltIsAccepted }
+{}
+
+/// The payloads of a built tree are those of its images in their order. Each image has one hash node, with the SHA-256 of its
+/// payload, and the verdict on it is Good.
+pub fn built_has_good_payloads()
+    ensures { BuiltHasGoodPayloads }
 {}
