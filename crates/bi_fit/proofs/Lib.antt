@@ -13,3 +13,4 @@ pub mod Places
 pub mod Values
 pub mod BuiltTrees
 pub mod Building
+pub mod Tested

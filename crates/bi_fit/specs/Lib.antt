@@ -7,3 +7,4 @@ pub mod Text
 pub mod Judgement
 pub mod Building
 pub mod Laws
+pub mod KnownFiles
