@@ -171,7 +171,7 @@ built_images_bytes head (image ∷ later) each =
     (each.0.name_bytes, (tested_bytes _ refl, tt, tt), built_images_bytes head later each.1)
 
 -- No property is found under a name that passes a test which no property passes.
-none_found : (test : List ℕ → Bool) (name : List ℕ) (properties : List Property) → test name ≡ true → AllByRecursion (λ property. test property.0 ≡ false) properties → find (slice_cmp nat_cmp) name properties ≡ None
+pub none_found : (test : List ℕ → Bool) (name : List ℕ) (properties : List Property) → test name ≡ true → AllByRecursion (λ property. test property.0 ≡ false) properties → find (slice_cmp nat_cmp) name properties ≡ None
 none_found test name [] passes fail = refl
 none_found test name (property ∷ later) passes fail =
     rw (is_eq-slice_cmp name property.0, differ) (none_found test name later passes fail.1)

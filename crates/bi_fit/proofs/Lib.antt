@@ -14,3 +14,4 @@ pub mod Values
 pub mod BuiltTrees
 pub mod Building
 pub mod Tested
+pub mod FileFacts
