@@ -13,10 +13,10 @@ use Rattle.bi_blob.proofs.Texts.TextBlob.{text_blob}
 use Rattle.bi_fit.specs.declared.form.Form.{Form}
 use Rattle.bi_fit.specs.declared.form.Form.TheVariants.{Embedded, External}
 use Rattle.bi_fit.specs.Names.{is_payload_name, images_name, data_name, data_offset_name, data_position_name, data_size_name}
-use Rattle.bi_fit.specs.ImageTree.{without_payload}
+use Rattle.bi_fit.specs.ImageTree.{without_payload, without_payloads}
 use Rattle.bi_fit.specs.File.{IsFitFile}
-use Rattle.bi_fit.specs.Text.{with_payload, with_payloads, end_after, after_blob, fit_text}
-use Rattle.bi_fit.specs.KnownFiles.{tree_of_images, file_of_images, plain_images, plain_tree, SmallestIsFit, NoneIsNotEmpty, bare_file, empty_file}
+use Rattle.bi_fit.specs.Text.{with_payload, with_payloads, end_after, blob_of, after_blob, fit_text}
+use Rattle.bi_fit.specs.KnownFiles.{tree_of_images, file_of_images, plain_images, plain_tree, SmallestIsFit, NoneIsNotEmpty, region_of, ThreeImagesHaveTexts}
 use Rattle.bi_fit.proofs.Maps.{taken_out}
 use Rattle.bi_fit.proofs.BuiltTrees.{none_found}
 use Rattle.bi_fit.proofs.Tested.{is_tree, content_by_test, are_bytes_by_test}
@@ -78,11 +78,15 @@ images_listed form end (payload ∷ payloads) [] = refl
 images_listed form end (payload ∷ payloads) (name ∷ names) =
     ap₂ (λ own later. node name own none later) (entries_listed form (up4 end) payload) (images_listed form (end_after end payload) payloads names)
 
+-- The blob of image nodes that have no other properties.
+plain_blob : (form : Form) (names : List (List ℕ)) (payloads : List (Option (List ℕ))) → blob_of form (plain_tree names payloads) ≡ text_of_tree 0 [] (tree_of_images (listed_images form 0 payloads names))
+plain_blob form names payloads =
+    ap₂ (λ own images. text_of_tree 0 [] (record { own = own; children = node images_name own images none }))
+    no_entries (images_listed form 0 payloads names)
+
 -- The text of image nodes that have no other properties.
 plain_text : (form : Form) (names : List (List ℕ)) (payloads : List (Option (List ℕ))) → fit_text form (plain_tree names payloads) ≡ file_of_images (listed_images form 0 payloads names) (after_blob form (plain_tree names payloads))
-plain_text form names payloads =
-    ap₂ (λ own images. text_of_tree 0 [] (record { own = own; children = node images_name own images none }) ++ after_blob form (plain_tree names payloads))
-    no_entries (images_listed form 0 payloads names)
+plain_text form names payloads = ap (λ blob. blob ++ after_blob form (plain_tree names payloads)) (plain_blob form names payloads)
 
 pub smallest_is_fit : SmallestIsFit
 unfolding text_of_events text_of_blocks cell cell8 u32_at
@@ -127,3 +131,52 @@ none_is_not_empty = record {
   where
     one_image : PropertyMap → Root PropertyMap
     one_image own = record { own = empty; children = node images_name empty (node (codes "a") own none none) none }
+
+-- A root with these image nodes.
+abbrev root_of_images : Nodes PropertyMap → Root PropertyMap
+root_of_images images = record { own = empty; children = node images_name empty images none }
+
+-- The image nodes of a file with three images.
+abbrev three_nodes : (List Property) → (List Property) → (List Property) → Nodes (List Property)
+three_nodes a b c = node (codes "a") a none (node (codes "b") b none (node (codes "c") c none none))
+
+-- Three image nodes without the properties that tell their payloads are plain ones.
+three_plain : (a b c : List Property) → AllByRecursion (λ property. not (is_payload_name property.0) ≡ false) a → AllByRecursion (λ property. not (is_payload_name property.0) ≡ false) b → AllByRecursion (λ property. not (is_payload_name property.0) ≡ false) c → root_of_images (plain_images (codes "a" ∷ codes "b" ∷ codes "c" ∷ [])) ≡ root_of_images (without_payloads (with_each from_entries (three_nodes a b c)))
+three_plain a b c are_a are_b are_c =
+    λ i. root_of_images
+    (node (codes "a") (sym (all_taken_out a are_a) i) none
+    (node (codes "b") (sym (all_taken_out b are_b) i) none
+    (node (codes "c") (sym (all_taken_out c are_c) i) none none)))
+
+pub three_images_have_texts : ThreeImagesHaveTexts
+unfolding text_of_events text_of_blocks cell cell8 u32_at
+three_images_have_texts = record {
+  embedded_means = record {
+    root = tree_with_places [] (tree_of_images (three_nodes ((data_name, codes "hello") ∷ []) ((data_name, []) ∷ []) ((data_name, codes "x") ∷ [])));
+    blob = blob_by_test (tree_of_images (three_nodes ((data_name, codes "hello") ∷ []) ((data_name, []) ∷ []) ((data_name, codes "x") ∷ []))) [] refl refl (lit≤ tt);
+    images = _;
+    has_images = refl;
+    payloads = (refl, (refl, (refl, tt)));
+    is_root = three_plain ((data_name, codes "hello") ∷ []) ((data_name, []) ∷ []) ((data_name, codes "x") ∷ []) (refl, tt) (refl, tt) (refl, tt);
+  };
+  external_means = record {
+    root = tree_with_places [] (tree_of_images (three_nodes (region_of 0 5) (region_of 8 0) (region_of 8 1)));
+    blob = blob_by_test (tree_of_images (three_nodes (region_of 0 5) (region_of 8 0) (region_of 8 1))) (codes "hello" ++ 0 ∷ 0 ∷ 0 ∷ codes "x") refl refl (lit≤ tt);
+    images = _;
+    has_images = refl;
+    payloads = (
+      record { begin_cell = refl; size_cell = refl; in_file = lit≤ tt; is_slice = refl },
+      (
+        record { begin_cell = refl; size_cell = refl; in_file = lit≤ tt; is_slice = refl },
+        (record { begin_cell = refl; size_cell = refl; in_file = lit≤ tt; is_slice = refl }, tt),
+      ),
+    );
+    is_root = three_plain (region_of 0 5) (region_of 8 0) (region_of 8 1) (refl, (refl, tt)) (refl, (refl, tt)) (refl, (refl, tt));
+  };
+  embedded = plain_text Embedded (codes "a" ∷ codes "b" ∷ codes "c" ∷ []) (Some (codes "hello") ∷ Some [] ∷ Some (codes "x") ∷ []);
+  external = plain_text External (codes "a" ∷ codes "b" ∷ codes "c" ∷ []) (Some (codes "hello") ∷ Some [] ∷ Some (codes "x") ∷ []);
+  embedded_length = refl;
+  external_blob = ap length (plain_blob External (codes "a" ∷ codes "b" ∷ codes "c" ∷ []) (Some (codes "hello") ∷ Some [] ∷ Some (codes "x") ∷ []));
+  external_length = refl;
+  places = refl;
+}
