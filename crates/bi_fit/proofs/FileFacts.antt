@@ -7,8 +7,13 @@ use Rattle.std.proofs.lemmas.Cmp.{nat_list_cmp_total}
 use Rattle.bi_base.specs.Cells.{cell, cell8, u32_at, up4, AreBytes}
 use Rattle.bi_blob.specs.Tree.{Nodes, none, node, Root, Property, PropertyMap, with_each}
 use Rattle.bi_blob.specs.Blob.{IsBlob}
-use Rattle.bi_blob.specs.Layout.{text_of_tree, text_of_events, text_of_blocks, tree_with_places, longest_text}
+use Rattle.bi_blob.specs.Layout.{text_of_tree, text_of_events, text_of_blocks, tree_with_places, tokens_of, structure_block, longest_text}
+use Rattle.bi_blob.specs.Events.{events_of}
+use Rattle.bi_blob.specs.KnownFaults.{widest}
 use Rattle.bi_blob.specs.KnownTexts.{smallest_tree, smallest_text}
+use Rattle.bi_blob.proofs.HeaderTests.{test, fine_by_test}
+use Rattle.bi_blob.proofs.Blobs.Headers.{HasNoHeaderFault-Header}
+use Rattle.bi_blob.proofs.Texts.Structure.{says_tree}
 use Rattle.bi_blob.proofs.Texts.TextBlob.{text_blob}
 use Rattle.bi_fit.specs.declared.form.Form.{Form}
 use Rattle.bi_fit.specs.declared.form.Form.TheVariants.{Embedded, External}
@@ -16,7 +21,7 @@ use Rattle.bi_fit.specs.Names.{is_payload_name, images_name, data_name, data_off
 use Rattle.bi_fit.specs.ImageTree.{without_payload, without_payloads}
 use Rattle.bi_fit.specs.File.{IsFitFile}
 use Rattle.bi_fit.specs.Text.{with_payload, with_payloads, end_after, blob_of, after_blob, fit_text}
-use Rattle.bi_fit.specs.KnownFiles.{tree_of_images, file_of_images, plain_images, plain_tree, SmallestIsFit, NoneIsNotEmpty, region_of, ThreeImagesHaveTexts}
+use Rattle.bi_fit.specs.KnownFiles.{tree_of_images, file_of_images, plain_images, plain_tree, SmallestIsFit, NoneIsNotEmpty, region_of, ThreeImagesHaveTexts, ChildrenKeepOrder, PositionIsBeforeData, offset_file, OffsetIsFromAlignedEnd}
 use Rattle.bi_fit.proofs.Maps.{taken_out}
 use Rattle.bi_fit.proofs.BuiltTrees.{none_found}
 use Rattle.bi_fit.proofs.Tested.{is_tree, content_by_test, are_bytes_by_test}
@@ -179,4 +184,87 @@ three_images_have_texts = record {
   external_blob = ap length (plain_blob External (codes "a" ∷ codes "b" ∷ codes "c" ∷ []) (Some (codes "hello") ∷ Some [] ∷ Some (codes "x") ∷ []));
   external_length = refl;
   places = refl;
+}
+
+-- Two image nodes without the properties that tell their payloads are plain ones.
+two_plain : (first second : List ℕ) (a b : List Property) → AllByRecursion (λ property. not (is_payload_name property.0) ≡ false) a → AllByRecursion (λ property. not (is_payload_name property.0) ≡ false) b → root_of_images (plain_images (first ∷ second ∷ [])) ≡ root_of_images (without_payloads (with_each from_entries (node first a none (node second b none none))))
+two_plain first second a b are_a are_b =
+    λ i. root_of_images
+    (node first (sym (all_taken_out a are_a) i) none (node second (sym (all_taken_out b are_b) i) none none))
+
+-- One image node without the properties that tell its payload is a plain one.
+one_plain : (name : List ℕ) (a : List Property) → AllByRecursion (λ property. not (is_payload_name property.0) ≡ false) a → root_of_images (plain_images (name ∷ [])) ≡ root_of_images (without_payloads (with_each from_entries (node name a none none)))
+one_plain name a are = λ i. root_of_images (node name (sym (all_taken_out a are) i) none none)
+
+pub children_keep_order : ChildrenKeepOrder
+unfolding text_of_events text_of_blocks cell cell8 u32_at
+children_keep_order = record {
+  means = record {
+    root = tree_with_places [] (tree_of_images (node (codes "b") ((data_name, codes "x") ∷ []) none (node (codes "a") ((data_name, codes "y") ∷ []) none none)));
+    blob = blob_by_test (tree_of_images (node (codes "b") ((data_name, codes "x") ∷ []) none (node (codes "a") ((data_name, codes "y") ∷ []) none none))) [] refl refl (lit≤ tt);
+    images = _;
+    has_images = refl;
+    payloads = (refl, (refl, tt));
+    is_root = two_plain (codes "b") (codes "a") ((data_name, codes "x") ∷ []) ((data_name, codes "y") ∷ []) (refl, tt) (refl, tt);
+  };
+  embedded = plain_text Embedded (codes "b" ∷ codes "a" ∷ []) (Some (codes "x") ∷ Some (codes "y") ∷ []);
+}
+
+-- The properties of the image of the file with `data-position`.
+abbrev position_properties : List Property
+position_properties = (data_name, codes "old") ∷ (data_position_name, cell 180) ∷ (data_size_name, cell 3) ∷ []
+
+pub position_is_before_data : PositionIsBeforeData
+unfolding text_of_events text_of_blocks cell cell8 u32_at
+position_is_before_data = record {
+  means = record {
+    root = tree_with_places [] (tree_of_images (node (codes "a") position_properties none none));
+    blob = blob_by_test (tree_of_images (node (codes "a") position_properties none none)) (codes "new") refl refl (lit≤ tt);
+    images = _;
+    has_images = refl;
+    payloads = (record { begin_cell = refl; size_cell = refl; in_file = lit≤ tt; is_slice = refl }, tt);
+    is_root = one_plain (codes "a") position_properties (refl, (refl, (refl, tt)));
+  };
+  embedded = plain_text Embedded (codes "a" ∷ []) (Some (codes "new") ∷ []);
+  embedded_length = ap length (plain_text Embedded (codes "a" ∷ []) (Some (codes "new") ∷ []));
+}
+
+-- The tree of the file whose blob does not end at a multiple of four.
+abbrev offset_root : Root (List Property)
+offset_root = tree_of_images (node (codes "a") (region_of 0 3) none none)
+
+-- This file is a blob of it.
+offset_blob : IsBlob offset_file 0 [] (tree_with_places [] offset_root)
+unfolding text_of_events text_of_blocks cell cell8 u32_at test
+offset_blob = record {
+  bytes = are_bytes_by_test offset_file refl;
+  header = HasNoHeaderFault-Header widest offset_file (fine_by_test widest offset_file refl);
+  is_cpu = refl;
+  reserved = record { are_reservations = tt; trailing = _; is_at = refl };
+  holds = record {
+    tokens = tokens_of (events_of offset_root);
+    structure = structure_block (events_of offset_root);
+    trailing = [];
+    is_at = refl;
+    is_encoded = (says_tree 0 [] offset_root (content_by_test offset_root refl) (lit≤ tt)).is_encoded;
+    encodes = (says_tree 0 [] offset_root (content_by_test offset_root refl) (lit≤ tt)).encodes;
+    is_tree = (content_by_test offset_root refl).is_tree;
+  };
+}
+
+pub offset_is_from_aligned_end : OffsetIsFromAlignedEnd
+unfolding text_of_events text_of_blocks cell cell8 u32_at
+offset_is_from_aligned_end = record {
+  means = record {
+    root = tree_with_places [] offset_root;
+    blob = offset_blob;
+    images = _;
+    has_images = refl;
+    payloads = (record { begin_cell = refl; size_cell = refl; in_file = lit≤ tt; is_slice = refl }, tt);
+    is_root = one_plain (codes "a") (region_of 0 3) (refl, (refl, tt));
+  };
+  is_length = refl;
+  embedded_length = ap length (plain_text Embedded (codes "a" ∷ []) (Some (codes "abc") ∷ []));
+  external_blob = ap length (plain_blob External (codes "a" ∷ []) (Some (codes "abc") ∷ []));
+  external_length = ap length (plain_text External (codes "a" ∷ []) (Some (codes "abc") ∷ []));
 }
