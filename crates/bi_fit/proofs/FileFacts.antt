@@ -20,8 +20,8 @@ use Rattle.bi_fit.specs.declared.form.Form.TheVariants.{Embedded, External}
 use Rattle.bi_fit.specs.Names.{is_payload_name, images_name, data_name, data_offset_name, data_position_name, data_size_name}
 use Rattle.bi_fit.specs.ImageTree.{without_payload, without_payloads}
 use Rattle.bi_fit.specs.File.{IsFitFile}
-use Rattle.bi_fit.specs.Text.{with_payload, with_payloads, end_after, blob_of, after_blob, fit_text}
-use Rattle.bi_fit.specs.KnownFiles.{tree_of_images, file_of_images, plain_images, plain_tree, SmallestIsFit, NoneIsNotEmpty, region_of, ThreeImagesHaveTexts, ChildrenKeepOrder, PositionIsBeforeData, offset_file, OffsetIsFromAlignedEnd}
+use Rattle.bi_fit.specs.Text.{with_payload, with_payloads, end_after, normal_tree, blob_of, after_blob, fit_text}
+use Rattle.bi_fit.specs.KnownFiles.{tree_of_images, file_of_images, plain_images, plain_tree, SmallestIsFit, NoneIsNotEmpty, only_data, nested_tree, nested_image_tree, OnlyImagesHavePayloads, region_of, shared_region, SharedRegionIsRepeated, ThreeImagesHaveTexts, ChildrenKeepOrder, PositionIsBeforeData, offset_file, OffsetIsFromAlignedEnd}
 use Rattle.bi_fit.proofs.Maps.{taken_out}
 use Rattle.bi_fit.proofs.BuiltTrees.{none_found}
 use Rattle.bi_fit.proofs.Tested.{is_tree, content_by_test, are_bytes_by_test}
@@ -267,4 +267,81 @@ offset_is_from_aligned_end = record {
   embedded_length = ap length (plain_text Embedded (codes "a" ∷ []) (Some (codes "abc") ∷ []));
   external_blob = ap length (plain_blob External (codes "a" ∷ []) (Some (codes "abc") ∷ []));
   external_length = ap length (plain_text External (codes "a" ∷ []) (Some (codes "abc") ∷ []));
+}
+
+-- The tree of a file whose images share a region, where the first has its own.
+abbrev shared_root : (offset size : ℕ) → Root (List Property)
+shared_root offset size = tree_of_images (three_nodes (region_of offset size) (region_of 0 1000) (region_of 0 1000))
+
+pub shared_region_is_repeated : SharedRegionIsRepeated
+unfolding text_of_events text_of_blocks cell cell8 u32_at
+shared_region_is_repeated = record {
+  means = record {
+    root = tree_with_places [] (shared_root 0 1000);
+    blob = blob_by_test (shared_root 0 1000) shared_region refl refl (lit≤ tt);
+    images = _;
+    has_images = refl;
+    payloads = (
+      record { begin_cell = refl; size_cell = refl; in_file = lit≤ tt; is_slice = refl },
+      (
+        record { begin_cell = refl; size_cell = refl; in_file = lit≤ tt; is_slice = refl },
+        (record { begin_cell = refl; size_cell = refl; in_file = lit≤ tt; is_slice = refl }, tt),
+      ),
+    );
+    is_root = three_plain (region_of 0 1000) (region_of 0 1000) (region_of 0 1000) (refl, (refl, tt)) (refl, (refl, tt)) (refl, (refl, tt));
+  };
+  is_length = refl;
+  embedded_length = ap length (plain_text Embedded (codes "a" ∷ codes "b" ∷ codes "c" ∷ []) (Some shared_region ∷ Some shared_region ∷ Some shared_region ∷ []));
+  external_length = ap length (plain_text External (codes "a" ∷ codes "b" ∷ codes "c" ∷ []) (Some shared_region ∷ Some shared_region ∷ Some shared_region ∷ []));
+  empty_at_end = record {
+    root = tree_with_places [] (shared_root 1000 0);
+    blob = blob_by_test (shared_root 1000 0) shared_region refl refl (lit≤ tt);
+    images = _;
+    has_images = refl;
+    payloads = (
+      record { begin_cell = refl; size_cell = refl; in_file = lit≤ tt; is_slice = refl },
+      (
+        record { begin_cell = refl; size_cell = refl; in_file = lit≤ tt; is_slice = refl },
+        (record { begin_cell = refl; size_cell = refl; in_file = lit≤ tt; is_slice = refl }, tt),
+      ),
+    );
+    is_root = three_plain (region_of 1000 0) (region_of 0 1000) (region_of 0 1000) (refl, (refl, tt)) (refl, (refl, tt)) (refl, (refl, tt));
+  };
+}
+
+-- The nodes below the root in what the file with a deeper `images` says, where its image node has these properties.
+abbrev nested_nodes : PropertyMap → Nodes PropertyMap
+nested_nodes own =
+    node (codes "other") empty (node images_name empty (node (codes "n") (only_data (codes "o")) none none) none)
+    (node images_name (only_data (codes "p"))
+    (node (codes "a") own (node (codes "hash-1") (only_data (codes "s")) none none) none)
+    none)
+
+-- One property in byte order.
+entries_data : (value : List ℕ) → entries (only_data value) ≡ (data_name, value) ∷ []
+entries_data value = entries_listed Embedded 0 (Some value)
+
+-- The tree of the text is that of the file.
+nested_normal : normal_tree Embedded nested_image_tree ≡ nested_tree
+nested_normal =
+    λ i. record {
+      own = entries_data (codes "r") i;
+      children = node (codes "other") (no_entries i) (node images_name (no_entries i) (node (codes "n") (entries_data (codes "o") i) none none) none)
+          (node images_name (entries_data (codes "p") i)
+          (node (codes "a") (entries_data (codes "q") i) (node (codes "hash-1") (entries_data (codes "s") i) none none) none)
+          none);
+    }
+
+pub only_images_have_payloads : OnlyImagesHavePayloads
+unfolding text_of_events text_of_blocks cell cell8 u32_at
+only_images_have_payloads = record {
+  means = record {
+    root = tree_with_places [] nested_tree;
+    blob = blob_by_test nested_tree [] refl refl (lit≤ tt);
+    images = _;
+    has_images = refl;
+    payloads = (refl, tt);
+    is_root = ap (λ own. record { own = only_data (codes "r"); children = nested_nodes own }) (sym (all_taken_out ((data_name, codes "q") ∷ []) (refl, tt)));
+  };
+  embedded = ap (λ root. text_of_tree 0 [] root ++ []) nested_normal;
 }
