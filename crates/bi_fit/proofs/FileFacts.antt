@@ -21,7 +21,7 @@ use Rattle.bi_fit.specs.Names.{is_payload_name, images_name, data_name, data_off
 use Rattle.bi_fit.specs.ImageTree.{without_payload, without_payloads}
 use Rattle.bi_fit.specs.File.{IsFitFile}
 use Rattle.bi_fit.specs.Text.{with_payload, with_payloads, end_after, normal_tree, blob_of, after_blob, fit_text}
-use Rattle.bi_fit.specs.KnownFiles.{tree_of_images, file_of_images, plain_images, plain_tree, SmallestIsFit, NoneIsNotEmpty, only_data, nested_tree, nested_image_tree, OnlyImagesHavePayloads, region_of, shared_region, SharedRegionIsRepeated, ThreeImagesHaveTexts, ChildrenKeepOrder, PositionIsBeforeData, offset_file, OffsetIsFromAlignedEnd}
+use Rattle.bi_fit.specs.KnownFiles.{tree_of_images, file_of_images, plain_images, plain_tree, SmallestIsFit, NoneIsNotEmpty, only_data, nested_tree, nested_image_tree, OnlyImagesHavePayloads, UnusedHaveNoMeaning, region_of, shared_region, SharedRegionIsRepeated, ThreeImagesHaveTexts, ChildrenKeepOrder, PositionIsBeforeData, offset_file, OffsetIsFromAlignedEnd}
 use Rattle.bi_fit.proofs.Maps.{taken_out}
 use Rattle.bi_fit.proofs.BuiltTrees.{none_found}
 use Rattle.bi_fit.proofs.Tested.{is_tree, content_by_test, are_bytes_by_test}
@@ -344,4 +344,25 @@ only_images_have_payloads = record {
     is_root = ap (λ own. record { own = only_data (codes "r"); children = nested_nodes own }) (sym (all_taken_out ((data_name, codes "q") ∷ []) (refl, tt)));
   };
   embedded = ap (λ root. text_of_tree 0 [] root ++ []) nested_normal;
+}
+
+pub unused_have_no_meaning : UnusedHaveNoMeaning
+unfolding text_of_events text_of_blocks cell cell8 u32_at
+unused_have_no_meaning = record {
+  size = record {
+    root = tree_with_places [] (tree_of_images (node (codes "a") ((data_name, codes "abc") ∷ (data_size_name, codes "s") ∷ []) none none));
+    blob = blob_by_test (tree_of_images (node (codes "a") ((data_name, codes "abc") ∷ (data_size_name, codes "s") ∷ []) none none)) [] refl refl (lit≤ tt);
+    images = _;
+    has_images = refl;
+    payloads = (refl, tt);
+    is_root = one_plain (codes "a") ((data_name, codes "abc") ∷ (data_size_name, codes "s") ∷ []) (refl, (refl, tt));
+  };
+  offset = record {
+    root = tree_with_places [] (tree_of_images (node (codes "a") ((data_offset_name, codes "o") ∷ (data_position_name, cell 0) ∷ (data_size_name, cell 4) ∷ []) none none));
+    blob = blob_by_test (tree_of_images (node (codes "a") ((data_offset_name, codes "o") ∷ (data_position_name, cell 0) ∷ (data_size_name, cell 4) ∷ []) none none)) [] refl refl (lit≤ tt);
+    images = _;
+    has_images = refl;
+    payloads = (record { begin_cell = refl; size_cell = refl; in_file = lit≤ tt; is_slice = refl }, tt);
+    is_root = one_plain (codes "a") ((data_offset_name, codes "o") ∷ (data_position_name, cell 0) ∷ (data_size_name, cell 4) ∷ []) (refl, (refl, (refl, tt)));
+  };
 }

@@ -15,3 +15,4 @@ pub mod BuiltTrees
 pub mod Building
 pub mod Tested
 pub mod FileFacts
+pub mod FaultFacts

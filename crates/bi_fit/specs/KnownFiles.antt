@@ -214,3 +214,20 @@ nested_image_tree = record {
 pub record OnlyImagesHavePayloads : Type 0 where
   pub means : IsFitFile nested_file nested_image_tree
   pub embedded : fit_text Embedded nested_image_tree ≡ nested_file
+
+-- A file whose image `a` has `data` and a `data-size` that is no cell.
+abbrev pub unused_size_file : List ℕ
+unused_size_file =
+    file_of_images (node (codes "a") ((data_name, codes "abc") ∷ (data_size_name, codes "s") ∷ []) none none) []
+
+-- A file whose image `a` has `data-position` 0, `data-size` 4 and a `data-offset` that is no cell.
+abbrev pub unused_offset_file : List ℕ
+unused_offset_file =
+    file_of_images
+    (node (codes "a") ((data_offset_name, codes "o") ∷ (data_position_name, cell 0) ∷ (data_size_name, cell 4) ∷ []) none none)
+    []
+
+-- Properties that do not tell the payload have no meaning. A region may be anywhere in the file, also in its header.
+pub record UnusedHaveNoMeaning : Type 0 where
+  pub size : IsFitFile unused_size_file (plain_tree (codes "a" ∷ []) (Some (codes "abc") ∷ []))
+  pub offset : IsFitFile unused_offset_file (plain_tree (codes "a" ∷ []) (Some (0xd0 ∷ 0x0d ∷ 0xfe ∷ 0xed ∷ []) ∷ []))

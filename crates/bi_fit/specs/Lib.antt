@@ -8,3 +8,4 @@ pub mod Judgement
 pub mod Building
 pub mod Laws
 pub mod KnownFiles
+pub mod KnownFaults
