@@ -16,3 +16,4 @@ pub mod Building
 pub mod Tested
 pub mod FileFacts
 pub mod FaultFacts
+pub mod JudgementFacts

@@ -9,3 +9,4 @@ pub mod Building
 pub mod Laws
 pub mod KnownFiles
 pub mod KnownFaults
+pub mod KnownJudgements

@@ -3,6 +3,7 @@
 
 mod form;
 mod key;
+pub mod known_files;
 pub mod laws;
 
 pub use form::Form;
