@@ -1,9 +1,8 @@
-use Rattle.std.proofs.Common.{◌≡◌, ℕ, ◌+◌, ◌-◌, ◌^◌, ◌<◌, ◌≤◌, List, [], ◌∷◌, ◌++◌, length, replicate, Option, Some, None, refl, sym, ap, subst, ◌∙◌, arith, length-append, append_assoc}
+use Rattle.std.proofs.Common.{◌≡◌, ℕ, ◌+◌, ◌^◌, ◌<◌, ◌≤◌, List, [], ◌∷◌, ◌++◌, length, Option, Some, None, sym, ap, ◌∙◌, arith, length-append, append_assoc}
 use Rattle.std.specs.Prelude.{⊤}
-use Rattle.std.proofs.lemmas.List.{length-replicate}
 use Rattle.std.specs.List.{AllZip}
 use Rattle.std.specs.FinMap.{entries}
-use Rattle.bi_base.specs.Cells.{slice, up4, AreBytes}
+use Rattle.bi_base.specs.Cells.{slice, up4}
 use Rattle.bi_base.proofs.CellLaws.{slice-append}
 use Rattle.bi_blob.specs.Tree.{Nodes, none, node, PropertyMap, with_each}
 use Rattle.bi_blob.specs.Events.{NodeStart, events}
@@ -11,10 +10,10 @@ use Rattle.bi_blob.specs.Layout.{padding_to_4, event_width, place_after_events, 
 use Rattle.bi_blob.proofs.Texts.TokenEncoding.{length-padding_to_4}
 use Rattle.bi_fit.specs.declared.form.Form.{Form}
 use Rattle.bi_fit.specs.declared.form.Form.TheVariants.{Embedded, External}
-use Rattle.bi_fit.specs.ImageTree.{owns, IsApart}
+use Rattle.bi_fit.specs.ImageTree.{each_own, IsApart}
 use Rattle.bi_fit.specs.Payloads.{external_base, HasPayload}
 use Rattle.bi_fit.specs.Text.{with_payload, with_payloads, end_after, payloads_end, payload_area}
-use Rattle.bi_fit.proofs.Sources.{IsPayloadAt, IsThere, tells_payload}
+use Rattle.bi_fit.proofs.Sources.{IsThere, tells_payload}
 
 -- The payloads that follow the blob of a text.
 
@@ -30,7 +29,7 @@ embedded_are_there file end [] = tt
 embedded_are_there file end (payload ∷ later) = (tt, embedded_are_there file (end_after end payload) later)
 
 -- The image nodes of a text tell their payloads.
-pub tell_payloads : (form : Form) (file : List ℕ) (at end : ℕ) (payloads : List (Option (List ℕ))) (nodes : Nodes PropertyMap) → AllZip IsApart (owns nodes) payloads → AreThere form file end payloads → AllZip (HasPayload file) (owns (with_places at (with_each entries (with_payloads form end payloads nodes)))) payloads
+pub tell_payloads : (form : Form) (file : List ℕ) (at end : ℕ) (payloads : List (Option (List ℕ))) (nodes : Nodes PropertyMap) → AllZip IsApart (each_own nodes) payloads → AreThere form file end payloads → AllZip (HasPayload file) (each_own (with_places at (with_each entries (with_payloads form end payloads nodes)))) payloads
 tell_payloads form file at end [] none apart there = tt
 tell_payloads form file at end [] (node name own children later) apart there = absurd apart
 tell_payloads form file at end (payload ∷ payloads) none apart there = absurd apart

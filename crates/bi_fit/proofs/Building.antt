@@ -1,7 +1,6 @@
-use Rattle.std.proofs.Common.{◌≡◌, ℕ, ◌≤◌, List, [], ◌∷◌, ◌++◌, map, flat_map, length, Option, Some, None, refl, sym, ap, ap₂, ◌∙◌, arith}
+use Rattle.std.proofs.Common.{◌≡◌, ℕ, List, [], ◌∷◌, map, flat_map, Some, refl, ap, arith}
 use Rattle.std.specs.FinMap.{get, from_entries, get-from_entries}
 use Rattle.std.proofs.lemmas.Cmp.{nat_list_cmp_total}
-use Rattle.bi_base.specs.Limits.{Bounds}
 use Rattle.bi_blob.specs.Tree.{PropertyMap}
 use Rattle.bi_hash.specs.declared.algo.Algo.TheVariants.{Sha256}
 use Rattle.bi_hash.specs.declared.verdicts.Verdict.TheVariants.{Good}
@@ -10,8 +9,8 @@ use Rattle.bi_hash.specs.Digests.{digest_of}
 use Rattle.bi_hash.specs.Verdicts.{verdict_of, text_of}
 use Rattle.bi_hash.proofs.GoodValues.{good-from_digest}
 use Rattle.bi_fit.specs.Names.{algo_name, value_name}
-use Rattle.bi_fit.specs.Judgement.{CheckedHash, images_with, entries_of, checked_hash, hash_nodes, verdicts_of}
-use Rattle.bi_fit.specs.Building.{FitHead, ImageSpecification, text_value, image_properties, hash_properties, hash_node_name, built_images, built}
+use Rattle.bi_fit.specs.Judgement.{images_with, entries_of, checked_hash, hash_nodes}
+use Rattle.bi_fit.specs.Building.{FitHead, ImageSpecification, text_value, hash_properties, built_images, built}
 use Rattle.bi_fit.specs.Laws.{BuiltIsAccepted, good_hash, BuiltHasGoodPayloads}
 use Rattle.bi_fit.proofs.TextLaws.{text_is_accepted}
 use Rattle.bi_fit.proofs.BuiltTrees.{built_is_image_tree, depth-built}

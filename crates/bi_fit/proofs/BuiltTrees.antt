@@ -1,15 +1,15 @@
-use Rattle.std.proofs.Common.{◌≡◌, ◌≢◌, ℕ, ◌+◌, ◌≤◌, max, Bool, true, false, cond, not, List, [], ◌∷◌, ◌++◌, map, flat_map, filter, length, codes, bytes_eq, Option, Some, None, refl, sym, ap, ap₂, subst, ◌∙◌, arith, true≢false, nat_cmp}
-use Rattle.std.specs.Prelude.{⊤, ◌&&◌, ◌==◌}
+use Rattle.std.proofs.Common.{◌≡◌, ◌≢◌, ℕ, ◌≤◌, Bool, true, false, not, List, [], ◌∷◌, map, flat_map, codes, bytes_eq, Option, Some, None, refl, sym, ap, subst, ◌∙◌, arith, true≢false, nat_cmp}
+use Rattle.std.specs.Prelude.{◌==◌}
 use Rattle.std.specs.List.{AllByRecursion, AllZip, list_all}
 use Rattle.std.specs.Cmp.Lexicographic.{slice_cmp}
-use Rattle.std.specs.FinMap.{get, empty, from_entries, find, get-from_entries}
+use Rattle.std.specs.FinMap.{find, get-from_entries}
 use Rattle.std.proofs.lemmas.Cmp.{nat_list_cmp_total}
 use Rattle.std.proofs.lemmas.Bool.{and_parts, not-true, eqb-false}
 use Rattle.std.proofs.lemmas.Slice.Eq.{bytes_eq-Decides}
 use Rattle.std.proofs.lemmas.Map.Text.{is_eq-slice_cmp}
 use Rattle.bi_base.specs.Cells.{cell, AreBytes}
 use Rattle.bi_base.proofs.ByteLists.{AreBytes-none, AreBytes-cons, AreBytes-append, AreBytes-cell}
-use Rattle.bi_blob.specs.Tree.{Nodes, none, node, Root, Property, PropertyMap, names, depth, depth_of, IsChildName, IsNew, AreDistinct, AreNodes, IsTree}
+use Rattle.bi_blob.specs.Tree.{Property, names, depth, depth_of, IsChildName, IsNew, AreDistinct, AreNodes}
 use Rattle.bi_blob.specs.Layout.{strings_of}
 use Rattle.bi_blob.proofs.Texts.Members.{each-append}
 use Rattle.bi_hash.specs.declared.algo.Algo.TheVariants.{Sha256}
@@ -18,10 +18,9 @@ use Rattle.bi_hash.specs.Digests.{digest_of}
 use Rattle.bi_hash.proofs.DigestBytes.{AreBytes-digest_of}
 use Rattle.bi_fit.specs.declared.key.Key.{Key}
 use Rattle.bi_fit.specs.declared.key.Key.TheVariants.{Kernel, Fdt, Ramdisk, Firmware, Loadables, Script}
-use Rattle.bi_fit.specs.Names.{is_payload_name, key_name, all_keys, images_name, configurations_name, algo_name, value_name, default_name}
-use Rattle.bi_fit.specs.ImageTree.{IsProperty, ArePropertiesByName, HaveByteNames, IsApart, IsImageTree, owns}
-use Rattle.bi_fit.specs.Building.{FitHead, ImageSpecification, text_value, type_name, cell_property, root_properties, image_properties, hash_properties, hash_node_name, configuration_name, built_images, is_under, names_under, list_property, configuration_properties, built_nodes, built, IsText, IsSpecification, CanBeBuilt}
-use Rattle.bi_fit.proofs.Maps.{tests_differ}
+use Rattle.bi_fit.specs.Names.{is_payload_name, all_keys, images_name, configurations_name, default_name}
+use Rattle.bi_fit.specs.ImageTree.{IsProperty, ArePropertiesByName, HaveByteNames, IsApart, IsImageTree, each_own}
+use Rattle.bi_fit.specs.Building.{FitHead, ImageSpecification, text_value, type_name, cell_property, root_properties, image_properties, hash_properties, configuration_name, built_images, is_under, names_under, list_property, configuration_properties, built, IsText, IsSpecification, CanBeBuilt}
 use Rattle.bi_fit.proofs.Contents.{may_be_in_name, tested_name, tested_property, AreGood, properties-empty, properties-from_entries}
 
 -- A built tree is an image tree.
@@ -193,7 +192,7 @@ no_entry None = tt
 no_entry (Some number) = (refl, tt)
 
 -- The image nodes and their payloads are apart.
-built_images_apart : (head : FitHead) (images : List ImageSpecification) → AllByRecursion IsSpecification images → AllZip IsApart (owns (built_images head images)) (map (λ image. Some image.payload) images)
+built_images_apart : (head : FitHead) (images : List ImageSpecification) → AllByRecursion IsSpecification images → AllZip IsApart (each_own (built_images head images)) (map (λ image. Some image.payload) images)
 built_images_apart head [] each = tt
 built_images_apart head (image ∷ later) each = (
   record {

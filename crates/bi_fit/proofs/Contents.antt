@@ -1,24 +1,23 @@
-use Rattle.std.proofs.Common.{◌≡◌, ◌≢◌, ℕ, ◌<◌, ◌^◌, Bool, true, false, cond, not, List, [], ◌∷◌, ◌++◌, map, length, Option, Some, None, bytes_eq, refl, sym, ap, subst, ◌∙◌, inl, inr, nat_cmp}
-use Rattle.std.specs.Prelude.{⊤, ◌&&◌, ◌==◌, ltb, IfSome}
+use Rattle.std.proofs.Common.{◌≡◌, ℕ, ◌<◌, ◌^◌, Bool, true, false, cond, not, List, [], ◌∷◌, ◌++◌, map, length, Option, Some, None, bytes_eq, refl, sym, ap, subst, ◌∙◌, nat_cmp}
+use Rattle.std.specs.Prelude.{◌&&◌, ◌==◌, ltb, IfSome}
 use Rattle.std.specs.List.{AllByRecursion, AllZip, list_all}
 use Rattle.std.specs.Cmp.Lexicographic.{slice_cmp}
-use Rattle.std.specs.FinMap.{get, insert, empty, entries, from_entries, entries_sorted, get-insert, get-empty, get-from_entries}
+use Rattle.std.specs.FinMap.{get, insert, empty, entries, from_entries, entries_sorted, get-empty, get-from_entries}
 use Rattle.std.proofs.lemmas.Cmp.{nat_list_cmp_total}
 use Rattle.std.proofs.lemmas.Bool.{and_parts, not-true, eqb-false, ltb-true}
 use Rattle.std.proofs.lemmas.Slice.Eq.{bytes_eq-Decides}
-use Rattle.bi_base.specs.Cells.{cell, slice, up4, AreBytes}
+use Rattle.bi_base.specs.Cells.{cell, up4, AreBytes}
 use Rattle.bi_base.proofs.ByteLists.{AreBytes-none, AreBytes-cons, AreBytes-cell}
-use Rattle.bi_base.proofs.CellLaws.{AreBytes-slice}
-use Rattle.bi_blob.specs.Tree.{Nodes, none, node, Root, Property, PropertyMap, FileProperty, FileNode, HasNoZero, IsPropertyName, IsNew, AreProperties, AreNodes, IsTree, property_of, properties_of, with_each, tree_without_places, tree_without_order}
+use Rattle.bi_blob.specs.Tree.{Nodes, none, node, Root, Property, PropertyMap, HasNoZero, IsPropertyName, IsNew, AreProperties, AreNodes, IsTree, with_each}
 use Rattle.bi_blob.specs.Events.{NodeProperty, NodeEnd, events}
 use Rattle.bi_blob.specs.Blob.{Reservation, IsReservation}
 use Rattle.bi_blob.specs.Layout.{AreEventBytes, IsContent, in_byte_order}
-use Rattle.bi_blob.proofs.Texts.Members.{each-append, each-front, each-back, each-map, each-map_back, each-weaker}
+use Rattle.bi_blob.proofs.Texts.Members.{each-append, each-map, each-weaker}
 use Rattle.bi_blob.proofs.Texts.Ordering.{ordered_distinct, each-entries, found-each}
 use Rattle.bi_fit.specs.declared.form.Form.{Form}
 use Rattle.bi_fit.specs.declared.form.Form.TheVariants.{Embedded, External}
 use Rattle.bi_fit.specs.Names.{is_payload_name, data_name, data_offset_name, data_size_name, images_name}
-use Rattle.bi_fit.specs.ImageTree.{ImageTree, owns, image_nodes, with_image_nodes, without_payload, without_payloads, IsProperty, ArePropertiesByName, HaveByteNames, IsApart, IsImageTree}
+use Rattle.bi_fit.specs.ImageTree.{ImageTree, each_own, with_image_nodes, without_payload, without_payloads, IsProperty, ArePropertiesByName, HaveByteNames, IsApart, IsImageTree}
 use Rattle.bi_fit.specs.Text.{with_payload, with_payloads, end_after, normal_tree}
 use Rattle.bi_fit.proofs.Meanings.{same_in_some}
 use Rattle.bi_fit.proofs.Maps.{get-put, get-put_other, get-without}
@@ -133,7 +132,7 @@ content-in_byte_order cpu reservations root fits are is bytes = record {
 }
 
 -- Image nodes that tell payloads are nodes.
-nodes-with_payloads : (form : Form) (end : ℕ) (payloads : List (Option (List ℕ))) (nodes : Nodes PropertyMap) → AllZip IsApart (owns nodes) payloads → AreNodes ArePropertiesByName nodes → AreNodes ArePropertiesByName (with_payloads form end payloads nodes)
+nodes-with_payloads : (form : Form) (end : ℕ) (payloads : List (Option (List ℕ))) (nodes : Nodes PropertyMap) → AllZip IsApart (each_own nodes) payloads → AreNodes ArePropertiesByName nodes → AreNodes ArePropertiesByName (with_payloads form end payloads nodes)
 nodes-with_payloads form end [] nodes apart are = are
 nodes-with_payloads form end (payload ∷ payloads) none apart are = tt
 nodes-with_payloads form end (payload ∷ payloads) (node name own children later) apart are = (

@@ -1,12 +1,11 @@
-use Rattle.std.proofs.Common.{◌≡◌, ◌≢◌, ℕ, ◌+◌, ◌<◌, ◌≤◌, true, false, List, [], ◌∷◌, ◌++◌, length, codes, refl, inl, inr, lit≤, arith}
+use Rattle.std.proofs.Common.{◌≡◌, ℕ, ◌<◌, ◌≤◌, true, List, [], ◌∷◌, ◌++◌, length, codes, refl, inl, inr, lit≤, arith}
 use Rattle.std.specs.Prelude.{ltb}
 use Rattle.std.specs.List.{list_all}
 use Rattle.std.proofs.lemmas.Bool.{eqb-false, ltb-true, false≢true}
 use Rattle.bi_base.specs.declared.fault.Fault.{Fault}
 use Rattle.bi_base.specs.Cells.{cell, cell8, u32_at}
 use Rattle.bi_base.specs.Checks.{IsFirstFault}
-use Rattle.bi_base.specs.Limits.{Bounds}
-use Rattle.bi_blob.specs.Tree.{Nodes, none, node, Root, Property, depth_of}
+use Rattle.bi_blob.specs.Tree.{none, node, Root, Property, depth_of}
 use Rattle.bi_blob.specs.BlobFaults.{InHeader}
 use Rattle.bi_blob.specs.Layout.{text_of_tree, text_of_events, text_of_blocks, tree_with_places, longest_text}
 use Rattle.bi_blob.specs.KnownFaults.{widest}

@@ -1,9 +1,9 @@
-use Rattle.std.proofs.Common.{◌≡◌, ◌≢◌, ◌⊎◌, ℕ, ◌+◌, ◌≤◌, List, [], ◌∷◌, ◌++◌, length, Option, Some, None, inl, inr, refl, sym, ap, subst, ◌∙◌}
+use Rattle.std.proofs.Common.{◌≡◌, ◌⊎◌, ℕ, ◌+◌, List, [], ◌∷◌, length, Option, Some, None, inl, inr, refl, sym, subst}
 use Rattle.std.specs.Prelude.{IsSome}
-use Rattle.std.specs.List.{AllByRecursion, AllZip}
+use Rattle.std.specs.List.{AllZip}
 use Rattle.std.proofs.lemmas.Bool.{cases_eq, false≢true}
 use Rattle.bi_base.specs.declared.fault.Fault.{Fault}
-use Rattle.bi_base.specs.Cells.{AreBytes, slice}
+use Rattle.bi_base.specs.Cells.{slice}
 use Rattle.bi_base.specs.Checks.{IsFirstFault, HasNoFault}
 use Rattle.bi_base.specs.Limits.{Bounds}
 use Rattle.bi_base.proofs.FirstFault as first
@@ -14,8 +14,8 @@ use Rattle.bi_blob.proofs.Blobs.Decided.{le_decided}
 use Rattle.bi_blob.proofs.Blobs.OneBlob.{one_blob}
 use Rattle.bi_blob.proofs.Blobs.Faults.{blob_has_no_fault, one_blob_fault, blob_or_fault}
 use Rattle.bi_blob.proofs.Texts.Members.{each-append, each-front, each-back}
-use Rattle.bi_fit.specs.ImageTree.{ImageTree, image_nodes, owns, tree_without_payloads}
-use Rattle.bi_fit.specs.Payloads.{PayloadSource, NoSource, Data, DataOffset, DataPosition, source_of, number_of, external_base, IsRegion, IsSizedRegion, TellsPayload, HasPayload}
+use Rattle.bi_fit.specs.ImageTree.{ImageTree, image_nodes, each_own, tree_without_payloads}
+use Rattle.bi_fit.specs.Payloads.{PayloadSource, NoSource, Data, DataOffset, DataPosition, source_of, number_of, external_base, IsSizedRegion, IsPayload, HasPayload}
 use Rattle.bi_fit.specs.File.{IsFitFile, FitMeans}
 use Rattle.bi_fit.specs.Faults.{FitCheck, HasImages, HasBeginCell, HasSize, HasSizeCell, IsInFile, FitPasses, fit_fault, region_checks, source_checks, image_checks, images_checks, fit_checks, IsFitFault, InBlob, InTree}
 use Rattle.bi_fit.specs.Laws.{MeaningHasNoFault, OneFault, MeaningOrFault, MeaningWhereNoFault}
@@ -42,14 +42,14 @@ module _ (file : List ℕ) where
   region_passes base begin (Some size) payload is = (is.begin_cell, (refl, (is.size_cell, (is.in_file, tt))))
 
   -- The checks of a source that tells a payload pass.
-  source_passes : (source : PayloadSource) (payload : Option (List ℕ)) → TellsPayload file source payload → HasNoFault (FitPasses file) (source_checks file source)
+  source_passes : (source : PayloadSource) (payload : Option (List ℕ)) → IsPayload file source payload → HasNoFault (FitPasses file) (source_checks file source)
   source_passes NoSource payload is = tt
   source_passes (Data value) payload is = tt
   source_passes (DataOffset offset size) payload is = region_passes (external_base file) offset size payload is
   source_passes (DataPosition position size) payload is = region_passes 0 position size payload is
 
   -- The checks of image nodes with payloads pass.
-  images_pass : (nodes : Nodes FileNode) (payloads : List (Option (List ℕ))) → AllZip (HasPayload file) (owns nodes) payloads → HasNoFault (FitPasses file) (image_checks file nodes)
+  images_pass : (nodes : Nodes FileNode) (payloads : List (Option (List ℕ))) → AllZip (HasPayload file) (each_own nodes) payloads → HasNoFault (FitPasses file) (image_checks file nodes)
   images_pass none payloads have = tt
   images_pass (node name own children later) [] have = absurd have
   images_pass (node name own children later) (payload ∷ payloads) have =
@@ -65,14 +65,14 @@ module _ (file : List ℕ) where
   )
 
   -- A source whose checks pass tells a payload.
-  source_tells : (source : PayloadSource) → HasNoFault (FitPasses file) (source_checks file source) → (payload : Option (List ℕ)) × TellsPayload file source payload
+  source_tells : (source : PayloadSource) → HasNoFault (FitPasses file) (source_checks file source) → (payload : Option (List ℕ)) × IsPayload file source payload
   source_tells NoSource fine = (None, refl)
   source_tells (Data value) fine = (Some value.value, refl)
   source_tells (DataOffset offset size) fine = region_tells (external_base file) offset size fine
   source_tells (DataPosition position size) fine = region_tells 0 position size fine
 
   -- Image nodes whose checks pass have payloads.
-  images_tell : (nodes : Nodes FileNode) → HasNoFault (FitPasses file) (image_checks file nodes) → (payloads : List (Option (List ℕ))) × AllZip (HasPayload file) (owns nodes) payloads
+  images_tell : (nodes : Nodes FileNode) → HasNoFault (FitPasses file) (image_checks file nodes) → (payloads : List (Option (List ℕ))) × AllZip (HasPayload file) (each_own nodes) payloads
   images_tell none fine = ([], tt)
   images_tell (node name own children later) fine =
       let first_payload = source_tells (source_of own) (each-front (FitPasses file) (source_checks file (source_of own)) (image_checks file later) fine) in

@@ -1,16 +1,16 @@
-use Rattle.std.proofs.Common.{◌≡◌, ◌≢◌, ℕ, ◌+◌, ◌≤◌, Bool, true, false, cond, not, List, [], ◌∷◌, ◌++◌, map, length, filter, codes, Option, Some, None, refl, sym, ap, ap₂, subst, ◌∙◌, nat_cmp, lit≤, arith}
+use Rattle.std.proofs.Common.{◌≡◌, ℕ, ◌≤◌, true, false, not, List, [], ◌∷◌, ◌++◌, length, codes, Option, Some, None, refl, sym, ap, ap₂, ◌∙◌, nat_cmp, lit≤, arith}
 use Rattle.std.specs.Prelude.{ltb}
 use Rattle.std.specs.List.{AllByRecursion, list_all}
 use Rattle.std.specs.Cmp.Lexicographic.{slice_cmp}
-use Rattle.std.specs.FinMap.{get, insert, empty, entries, from_entries, put, len-empty, len-entries, entries-insert, get-empty, get-from_entries}
+use Rattle.std.specs.FinMap.{insert, empty, entries, from_entries, put, len-empty, len-entries, entries-insert, get-empty, get-from_entries}
 use Rattle.std.proofs.lemmas.Cmp.{nat_list_cmp_total}
-use Rattle.bi_base.specs.Cells.{cell, cell8, u32_at, up4, AreBytes}
+use Rattle.bi_base.specs.Cells.{cell, cell8, u32_at, up4}
 use Rattle.bi_blob.specs.Tree.{Nodes, none, node, Root, Property, PropertyMap, with_each}
 use Rattle.bi_blob.specs.Blob.{IsBlob}
 use Rattle.bi_blob.specs.Layout.{text_of_tree, text_of_events, text_of_blocks, tree_with_places, tokens_of, structure_block, longest_text}
 use Rattle.bi_blob.specs.Events.{events_of}
 use Rattle.bi_blob.specs.KnownFaults.{widest}
-use Rattle.bi_blob.specs.KnownTexts.{smallest_tree, smallest_text}
+use Rattle.bi_blob.specs.KnownTexts.{smallest_tree}
 use Rattle.bi_blob.proofs.HeaderTests.{test, fine_by_test}
 use Rattle.bi_blob.proofs.Blobs.Headers.{HasNoHeaderFault-Header}
 use Rattle.bi_blob.proofs.Texts.Structure.{says_tree}
@@ -19,7 +19,6 @@ use Rattle.bi_fit.specs.declared.form.Form.{Form}
 use Rattle.bi_fit.specs.declared.form.Form.TheVariants.{Embedded, External}
 use Rattle.bi_fit.specs.Names.{is_payload_name, images_name, data_name, data_offset_name, data_position_name, data_size_name}
 use Rattle.bi_fit.specs.ImageTree.{without_payload, without_payloads}
-use Rattle.bi_fit.specs.File.{IsFitFile}
 use Rattle.bi_fit.specs.Text.{with_payload, with_payloads, end_after, normal_tree, blob_of, after_blob, fit_text}
 use Rattle.bi_fit.specs.KnownFiles.{tree_of_images, file_of_images, plain_images, plain_tree, SmallestIsFit, NoneIsNotEmpty, only_data, nested_tree, nested_image_tree, OnlyImagesHavePayloads, UnusedHaveNoMeaning, region_of, shared_region, SharedRegionIsRepeated, ThreeImagesHaveTexts, ChildrenKeepOrder, PositionIsBeforeData, offset_file, OffsetIsFromAlignedEnd}
 use Rattle.bi_fit.proofs.Maps.{taken_out}
@@ -45,9 +44,9 @@ all_taken_out : (properties : List Property) → AllByRecursion (λ property. no
 all_taken_out properties are =
     taken_out by_name empty (λ name is. get-empty (slice_cmp nat_cmp) name)
     (λ name is.
-        get-from_entries nat_list_cmp_total properties name
-        ∙ none_found (λ name. not (is_payload_name name)) name properties (ap not is) are
-        ∙ sym (get-empty (slice_cmp nat_cmp) name))
+    get-from_entries nat_list_cmp_total properties name
+    ∙ none_found (λ name. not (is_payload_name name)) name properties (ap not is) are
+    ∙ sym (get-empty (slice_cmp nat_cmp) name))
   where
     by_name : PropertyMap
     by_name = from_entries properties

@@ -1,19 +1,19 @@
-use Rattle.std.proofs.Common.{◌≡◌, ℕ, ◌+◌, ◌≤◌, Bool, true, false, cond, not, List, [], ◌∷◌, ◌++◌, map, length, max, Option, Some, None, bytes_eq, refl, sym, ap, ap₂, subst, ◌∙◌}
-use Rattle.std.specs.Prelude.{⊤, IfSome}
+use Rattle.std.proofs.Common.{◌≡◌, ℕ, ◌+◌, Bool, true, false, cond, not, List, [], ◌∷◌, ◌++◌, map, max, Option, Some, None, bytes_eq, refl, sym, ap, subst, ◌∙◌}
+use Rattle.std.specs.Prelude.{IfSome}
 use Rattle.std.specs.Option.{option_map}
 use Rattle.std.specs.List.{AllByRecursion, AllZip}
 use Rattle.std.specs.FinMap.{get, from_entries}
-use Rattle.bi_base.specs.Cells.{slice, AreBytes}
+use Rattle.bi_base.specs.Cells.{AreBytes}
 use Rattle.bi_base.proofs.CellLaws.{AreBytes-slice}
-use Rattle.bi_blob.specs.Tree.{Nodes, none, node, Root, Property, PropertyMap, FileProperty, FileNode, IsPropertyName, IsNew, AreProperties, AreNodes, IsTree, property_of, properties_of, with_each, depth, depth_of, tree_without_places, tree_without_order}
-use Rattle.bi_blob.specs.Events.{NodeProperty, NodeEnd, events, events_of}
+use Rattle.bi_blob.specs.Tree.{Nodes, none, node, Property, PropertyMap, FileProperty, FileNode, IsPropertyName, AreProperties, AreNodes, IsTree, property_of, properties_of, with_each, depth_of, tree_without_places}
+use Rattle.bi_blob.specs.Events.{NodeProperty, NodeEnd, events}
 use Rattle.bi_blob.specs.Layout.{AreEventBytes, IsContent}
 use Rattle.bi_blob.proofs.Blobs.Complete.{depth-with_each}
 use Rattle.bi_blob.proofs.Texts.Members.{each-front, each-back}
 use Rattle.bi_blob.proofs.Texts.Content.{blob_has_content}
-use Rattle.bi_fit.specs.Names.{is_payload_name, data_name, images_name}
-use Rattle.bi_fit.specs.ImageTree.{ImageTree, owns, image_nodes, children_of, without_payload, without_payloads, tree_without_payloads, IsProperty, ArePropertiesByName, HaveByteNames, IsApart, IsImageTree}
-use Rattle.bi_fit.specs.Payloads.{PayloadSource, NoSource, Data, DataOffset, DataPosition, first_source, source_of, property_named, number_of, external_base, IsSizedRegion, TellsPayload, HasPayload}
+use Rattle.bi_fit.specs.Names.{data_name, images_name}
+use Rattle.bi_fit.specs.ImageTree.{ImageTree, each_own, image_nodes, children_of, without_payload, without_payloads, ArePropertiesByName, HaveByteNames, IsApart, IsImageTree}
+use Rattle.bi_fit.specs.Payloads.{PayloadSource, NoSource, Data, DataOffset, DataPosition, first_source, source_of, property_named, number_of, external_base, IsSizedRegion, IsPayload, HasPayload}
 use Rattle.bi_fit.specs.File.{IsFitFile}
 use Rattle.bi_fit.proofs.Meanings.{same_in_some}
 use Rattle.bi_fit.proofs.Maps.{get-without}
@@ -66,7 +66,7 @@ region_bytes file base begin (Some size) payload bytes is =
     subst (λ payload. IfSome payload AreBytes) (sym is.is_slice) (AreBytes-slice file (base + number_of begin) (number_of size) bytes)
 
 -- The payload that a source tells is bytes, where the value of `data` is.
-source_bytes : (file : List ℕ) (source : PayloadSource) (payload : Option (List ℕ)) → AreBytes file → ((property : FileProperty) → source ≡ Data property → AreBytes property.value) → TellsPayload file source payload → IfSome payload AreBytes
+source_bytes : (file : List ℕ) (source : PayloadSource) (payload : Option (List ℕ)) → AreBytes file → ((property : FileProperty) → source ≡ Data property → AreBytes property.value) → IsPayload file source payload → IfSome payload AreBytes
 source_bytes file NoSource payload bytes data_bytes is = subst (λ payload. IfSome payload AreBytes) (sym is) tt
 source_bytes file (Data property) payload bytes data_bytes is =
     subst (λ payload. IfSome payload AreBytes) (sym is) (data_bytes property refl)
@@ -96,7 +96,7 @@ node_apart file own payload bytes good has = record {
     by_name = from_entries (properties_of own)
 
 -- So are image nodes and their payloads.
-nodes_apart : (file : List ℕ) (nodes : Nodes FileNode) (payloads : List (Option (List ℕ))) → AreBytes file → AreNodes AreGood (with_each properties_of nodes) → AllZip (HasPayload file) (owns nodes) payloads → AllZip IsApart (owns (without_payloads (with_each from_entries (with_each properties_of nodes)))) payloads
+nodes_apart : (file : List ℕ) (nodes : Nodes FileNode) (payloads : List (Option (List ℕ))) → AreBytes file → AreNodes AreGood (with_each properties_of nodes) → AllZip (HasPayload file) (each_own nodes) payloads → AllZip IsApart (each_own (without_payloads (with_each from_entries (with_each properties_of nodes)))) payloads
 nodes_apart file none [] bytes good have = tt
 nodes_apart file none (payload ∷ payloads) bytes good have = absurd have
 nodes_apart file (node name own children later) [] bytes good have = absurd have

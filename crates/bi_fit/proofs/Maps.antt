@@ -1,10 +1,9 @@
-use Rattle.std.proofs.Common.{◌≡◌, ◌≢◌, ℕ, Bool, true, false, cond, not, List, [], ◌∷◌, Option, Some, None, bytes_eq, refl, sym, ap, subst, ◌∙◌, nat_cmp, true≢false}
-use Rattle.std.specs.Cmp.Lexicographic.{slice_cmp}
-use Rattle.std.specs.FinMap.{get, insert, retain_keys, entries, from_entries, find, same_map, get-insert, get-retain_keys, get-entries, get-from_entries}
+use Rattle.std.proofs.Common.{◌≡◌, ℕ, Bool, true, false, cond, not, List, Option, Some, None, bytes_eq, refl, sym, ap, ◌∙◌, true≢false}
+use Rattle.std.specs.FinMap.{get, insert, same_map, get-insert, get-retain_keys}
 use Rattle.std.proofs.lemmas.Cmp.{nat_list_cmp_total}
 use Rattle.std.proofs.lemmas.Slice.Eq.{bytes_eq-Decides}
 use Rattle.std.proofs.lemmas.Map.Text.{is_eq-slice_cmp}
-use Rattle.bi_blob.specs.Tree.{Property, PropertyMap}
+use Rattle.bi_blob.specs.Tree.{PropertyMap}
 use Rattle.bi_blob.proofs.Texts.Ordering.{order_tells}
 use Rattle.bi_fit.specs.declared.form.Form.{Form}
 use Rattle.bi_fit.specs.declared.form.Form.TheVariants.{Embedded, External}

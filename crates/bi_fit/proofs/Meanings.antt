@@ -1,11 +1,10 @@
 use Rattle.std.proofs.Common.{◌≡◌, ℕ, List, [], ◌∷◌, Option, Some, None, refl, sym, ap, ap₂, subst, ◌∙◌}
 use Rattle.std.specs.List.{AllZip}
 use Rattle.std.specs.Option.{unwrap_or}
-use Rattle.bi_blob.specs.Tree.{Nodes, none, FileNode, FileProperty, tree_without_places, tree_without_order}
+use Rattle.bi_blob.specs.Tree.{FileNode, FileProperty, tree_without_places, tree_without_order}
 use Rattle.bi_blob.proofs.Blobs.OneBlob.{one_blob}
-use Rattle.bi_fit.specs.ImageTree.{ImageTree, image_nodes, owns, tree_without_payloads}
-use Rattle.bi_fit.specs.Payloads.{PayloadSource, NoSource, Data, DataOffset, DataPosition, source_of, external_base, IsSizedRegion, TellsPayload, HasPayload}
-use Rattle.bi_fit.specs.File.{IsFitFile}
+use Rattle.bi_fit.specs.ImageTree.{image_nodes, each_own, tree_without_payloads}
+use Rattle.bi_fit.specs.Payloads.{PayloadSource, NoSource, Data, DataOffset, DataPosition, source_of, external_base, IsSizedRegion, IsPayload, HasPayload}
 use Rattle.bi_fit.specs.Laws.{OneMeaning, BeginsWithMagic}
 
 -- A file has one meaning.
@@ -20,7 +19,7 @@ one_region file base begin None one other a b = absurd a
 one_region file base begin (Some size) one other a b = a.is_slice ∙ sym b.is_slice
 
 -- A source tells one payload.
-pub one_payload : (file : List ℕ) (source : PayloadSource) (one other : Option (List ℕ)) → TellsPayload file source one → TellsPayload file source other → one ≡ other
+pub one_payload : (file : List ℕ) (source : PayloadSource) (one other : Option (List ℕ)) → IsPayload file source one → IsPayload file source other → one ≡ other
 one_payload file NoSource one other a b = a ∙ sym b
 one_payload file (Data value) one other a b = a ∙ sym b
 one_payload file (DataOffset offset size) one other a b = one_region file (external_base file) offset size one other a b
@@ -42,8 +41,8 @@ one_meaning file one other a b =
     let images : a.images ≡ b.images =
     same_in_some a.images b.images (sym a.has_images ∙ ap image_nodes same.same_root ∙ b.has_images) in
     let payloads : one.payloads ≡ other.payloads =
-    one_list file (owns a.images) one.payloads other.payloads a.payloads
-    (subst (λ nodes. AllZip (HasPayload file) (owns nodes) other.payloads) (sym images) b.payloads) in
+    one_list file (each_own a.images) one.payloads other.payloads a.payloads
+    (subst (λ nodes. AllZip (HasPayload file) (each_own nodes) other.payloads) (sym images) b.payloads) in
     let root : one.root ≡ other.root =
     a.is_root ∙ ap (λ root. tree_without_payloads (tree_without_order (tree_without_places root))) same.same_root ∙ sym b.is_root in
     λ i. record { cpu = same.same_cpu i; reservations = same.same_reservations i; root = root i; payloads = payloads i }

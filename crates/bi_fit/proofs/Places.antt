@@ -1,19 +1,17 @@
-use Rattle.std.proofs.Common.{◌≡◌, ℕ, ◌+◌, ◌%◌, ◌^◌, ◌<◌, ◌≤◌, List, [], ◌∷◌, ◌++◌, length, Option, Some, None, refl, sym, ap, ap₂, subst, ◌∙◌, arith, length-append}
+use Rattle.std.proofs.Common.{◌≡◌, ℕ, ◌+◌, List, [], ◌∷◌, length, Option, Some, None, sym, ap, subst, ◌∙◌}
 use Rattle.std.specs.List.{AllZip}
 use Rattle.std.specs.FinMap.{entries}
 use Rattle.bi_base.specs.Cells.{up4}
-use Rattle.bi_blob.specs.Tree.{Nodes, none, node, PropertyMap, FileNode, with_each}
+use Rattle.bi_blob.specs.Tree.{Nodes, none, node, PropertyMap, with_each}
 use Rattle.bi_blob.specs.Events.{NodeStart, events}
-use Rattle.bi_blob.specs.Layout.{event_width, place_after_events, with_places, longest_text}
-use Rattle.bi_fit.specs.declared.form.Form.{Form}
+use Rattle.bi_blob.specs.Layout.{event_width, place_after_events, with_places}
 use Rattle.bi_fit.specs.declared.form.Form.TheVariants.{External}
-use Rattle.bi_fit.specs.ImageTree.{ImageTree, IsImageTree, IsApart, owns, image_nodes}
+use Rattle.bi_fit.specs.ImageTree.{IsApart, each_own, image_nodes}
 use Rattle.bi_fit.specs.Payloads.{source_of, payload_place, external_base}
-use Rattle.bi_fit.specs.File.{IsFitFile}
 use Rattle.bi_fit.specs.Text.{with_payload, with_payloads, end_after, payload_places, blob_of, fit_text}
 use Rattle.bi_fit.specs.Laws.{ExternalPayloadsArePlaced}
 use Rattle.bi_fit.proofs.Meanings.{same_in_some}
-use Rattle.bi_fit.proofs.Sources.{IsThere, external_place}
+use Rattle.bi_fit.proofs.Sources.{external_place}
 use Rattle.bi_fit.proofs.FileTrees.{is_image_tree}
 use Rattle.bi_fit.proofs.Texts.{blob_of_text, text_has_payloads, text_images, text_base}
 use Rattle.bi_fit.proofs.Areas.{AreThere}
@@ -21,7 +19,7 @@ use Rattle.bi_fit.proofs.Areas.{AreThere}
 -- Where the payloads of an external text are.
 
 -- The image nodes of an external text place their payloads.
-pub place_payloads : (file : List ℕ) (at end : ℕ) (payloads : List (Option (List ℕ))) (nodes : Nodes PropertyMap) → AllZip IsApart (owns nodes) payloads → AreThere External file end payloads → AllZip (λ own place. payload_place file (source_of own) ≡ place) (owns (with_places at (with_each entries (with_payloads External end payloads nodes)))) (payload_places (external_base file) end payloads)
+pub place_payloads : (file : List ℕ) (at end : ℕ) (payloads : List (Option (List ℕ))) (nodes : Nodes PropertyMap) → AllZip IsApart (each_own nodes) payloads → AreThere External file end payloads → AllZip (λ own place. payload_place file (source_of own) ≡ place) (each_own (with_places at (with_each entries (with_payloads External end payloads nodes)))) (payload_places (external_base file) end payloads)
 place_payloads file at end [] none apart there = tt
 place_payloads file at end [] (node name own children later) apart there = absurd apart
 place_payloads file at end (payload ∷ payloads) none apart there = absurd apart
@@ -43,6 +41,6 @@ external_payloads_are_placed tree short is =
     let found = text_images External tree tree_is in
     let root = (blob.only tree.cpu tree.reservations is.root is.blob).same_root in
     let images = same_in_some _ is.images (sym found.1 ∙ ap image_nodes root ∙ is.has_images) in
-    subst (λ nodes. AllZip (λ own place. payload_place (fit_text External tree) (source_of own) ≡ place) (owns nodes) (payload_places (length (blob_of External tree)) 0 tree.payloads)) images
-    (subst (λ base. AllZip (λ own place. payload_place (fit_text External tree) (source_of own) ≡ place) (owns (with_places found.0 (with_each entries (with_payloads External 0 tree.payloads tree_is.images)))) (payload_places base 0 tree.payloads)) (text_base External tree tree_is short)
+    subst (λ nodes. AllZip (λ own place. payload_place (fit_text External tree) (source_of own) ≡ place) (each_own nodes) (payload_places (length (blob_of External tree)) 0 tree.payloads)) images
+    (subst (λ base. AllZip (λ own place. payload_place (fit_text External tree) (source_of own) ≡ place) (each_own (with_places found.0 (with_each entries (with_payloads External 0 tree.payloads tree_is.images)))) (payload_places base 0 tree.payloads)) (text_base External tree tree_is short)
     (place_payloads (fit_text External tree) found.0 0 tree.payloads tree_is.images tree_is.apart (text_has_payloads External tree tree_is short)))

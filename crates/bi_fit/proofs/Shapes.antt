@@ -1,11 +1,8 @@
-use Rattle.std.proofs.Common.{◌≡◌, ℕ, ◌+◌, max, Bool, true, false, List, [], ◌∷◌, bytes_eq, Option, Some, None, refl, sym, ap, ap₂, subst, ◌∙◌}
-use Rattle.std.specs.Prelude.{⊤}
-use Rattle.std.specs.List.{AllZip}
-use Rattle.bi_base.specs.Cells.{AreBytes}
+use Rattle.std.proofs.Common.{◌≡◌, ℕ, ◌+◌, max, Bool, true, false, List, [], ◌∷◌, bytes_eq, Option, Some, refl, sym, ap, subst}
 use Rattle.bi_blob.specs.Tree.{Nodes, none, node, PropertyMap, names, with_each, depth, IsNew, AreNodes}
 use Rattle.bi_fit.specs.declared.form.Form.{Form}
-use Rattle.bi_fit.specs.ImageTree.{children_of, with_children_of, owns, without_payload, without_payloads, HaveByteNames, IsApart}
-use Rattle.bi_fit.specs.Text.{with_payload, with_payloads, end_after}
+use Rattle.bi_fit.specs.ImageTree.{children_of, with_children_of, without_payloads, HaveByteNames}
+use Rattle.bi_fit.specs.Text.{with_payloads, end_after}
 use Rattle.bi_fit.proofs.Meanings.{same_in_some}
 
 -- Trees of one shape: names, depth, and what holds of each node.

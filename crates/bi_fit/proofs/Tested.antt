@@ -1,10 +1,10 @@
-use Rattle.std.proofs.Common.{◌≡◌, ◌≢◌, ℕ, ◌^◌, ◌<◌, ◌≤◌, Bool, true, false, not, List, [], ◌∷◌, ◌++◌, map, length, bytes_eq, refl, sym, ap, subst, ◌∙◌, arith}
-use Rattle.std.specs.Prelude.{⊤, ◌&&◌, ◌==◌, ltb}
+use Rattle.std.proofs.Common.{◌≡◌, ◌≢◌, ℕ, Bool, true, false, not, List, [], ◌∷◌, ◌++◌, map, bytes_eq, arith}
+use Rattle.std.specs.Prelude.{◌&&◌, ◌==◌, ltb}
 use Rattle.std.specs.List.{AllByRecursion, list_all}
 use Rattle.std.proofs.lemmas.Bool.{and_parts, not-true, eqb-false, ltb-true, false≢true}
 use Rattle.bi_base.specs.Cells.{AreBytes}
 use Rattle.bi_base.proofs.ByteLists.{AreBytes-none, AreBytes-cons}
-use Rattle.bi_blob.specs.Tree.{Nodes, none, node, Root, Property, names, HasNoZero, IsChildName, IsPropertyName, IsNew, AreDistinct, AreProperties, AreNodes}
+use Rattle.bi_blob.specs.Tree.{Nodes, none, node, Root, Property, names, IsChildName, IsNew, AreProperties, AreNodes}
 use Rattle.bi_blob.specs.Events.{NodeProperty, NodeEnd, events}
 use Rattle.bi_blob.specs.Layout.{AreEventBytes, IsContent}
 use Rattle.bi_blob.proofs.Texts.Members.{each-append}

@@ -1,19 +1,16 @@
-use Rattle.std.proofs.Common.{◌≡◌, ℕ, ◌+◌, ◌%◌, ◌^◌, ◌<◌, ◌≤◌, List, [], ◌∷◌, ◌++◌, length, Option, Some, None, refl, sym, ap, ap₂, subst, ◌∙◌, arith, length-append}
-use Rattle.std.specs.List.{AllZip}
-use Rattle.bi_base.specs.declared.fault.Fault.{Fault}
-use Rattle.bi_base.specs.Cells.{up4}
+use Rattle.std.proofs.Common.{◌≡◌, ℕ, ◌≤◌, List, [], ◌∷◌, ◌++◌, length, Option, refl, sym, ap, subst, ◌∙◌, arith, length-append}
 use Rattle.bi_base.specs.Limits.{Bounds}
-use Rattle.bi_blob.specs.Tree.{FileNode, depth_of}
+use Rattle.bi_blob.specs.Tree.{depth_of}
 use Rattle.bi_blob.specs.Blob.{IsWithin}
-use Rattle.bi_blob.specs.Layout.{tree_with_places, longest_text}
+use Rattle.bi_blob.specs.Layout.{longest_text}
 use Rattle.bi_blob.proofs.Texts.TextBlob.{has_text_length}
 use Rattle.bi_fit.specs.declared.form.Form.{Form}
 use Rattle.bi_fit.specs.declared.form.Form.TheVariants.{External}
-use Rattle.bi_fit.specs.ImageTree.{ImageTree, IsImageTree, owns}
+use Rattle.bi_fit.specs.ImageTree.{ImageTree, IsImageTree}
 use Rattle.bi_fit.specs.File.{IsFitFile, FitMeans}
 use Rattle.bi_fit.specs.Text.{normal_tree, blob_of, payloads_end, end_after, after_blob, fit_text}
 use Rattle.bi_fit.specs.Judgement.{judgement}
-use Rattle.bi_fit.specs.Laws.{FileSaysImageTree, IsAcceptedAs, TextIsAccepted, NormalTextIsAccepted, TextTellsTree, TextKeepsJudgement, SameTextSameJudgement, EachExternalTextHasItsLength, PayloadsEndLater}
+use Rattle.bi_fit.specs.Laws.{FileMeansImageTree, TextIsAccepted, NormalTextIsAccepted, SameTextSameTree, TextKeepsJudgement, SameTextSameJudgement, EachExternalTextHasItsLength, PayloadsEndLater}
 use Rattle.bi_fit.proofs.Meanings.{one_meaning}
 use Rattle.bi_fit.proofs.Faults.{meaning_has_no_fault}
 use Rattle.bi_fit.proofs.Areas.{length-payload_area, payloads_end-le}
@@ -22,8 +19,8 @@ use Rattle.bi_fit.proofs.Texts.{blob_of_text, text_means, depth-normal_tree}
 
 -- The laws of texts.
 
-pub file_says_image_tree : FileSaysImageTree
-file_says_image_tree = is_image_tree
+pub file_means_image_tree : FileMeansImageTree
+file_means_image_tree = is_image_tree
 
 -- A text means its tree within limits that hold it.
 text_means_within : (bounds : Bounds) (form : Form) (tree : ImageTree) → IsImageTree tree → depth_of tree.root ≤ bounds.depth → length (fit_text form tree) ≤ bounds.file → bounds.file ≤ longest_text → FitMeans bounds (fit_text form tree) tree
@@ -48,8 +45,8 @@ normal_text_is_accepted bounds form file tree means fits short =
     (subst (λ n. n ≤ bounds.depth) (sym (depth-image_tree file tree means.is_file)) means.within.shallow)
     fits short
 
-pub text_tells_tree : TextTellsTree
-text_tells_tree form one other is is_other short = (
+pub same_text_same_tree : SameTextSameTree
+same_text_same_tree form one other is is_other short = (
   (λ same.
       one_meaning (fit_text form one) one other (text_means form one is short).0
       (subst (λ text. IsFitFile text other) (sym same)
@@ -63,7 +60,7 @@ text_keeps_judgement form file tree other is short is_text =
 
 pub same_text_same_judgement : SameTextSameJudgement
 same_text_same_judgement form file other_file tree other is is_other short same =
-    ap judgement ((text_tells_tree form tree other (is_image_tree file tree is) (is_image_tree other_file other is_other) short).0 same)
+    ap judgement ((same_text_same_tree form tree other (is_image_tree file tree is) (is_image_tree other_file other is_other) short).0 same)
 
 pub each_external_text_has_its_length : EachExternalTextHasItsLength
 each_external_text_has_its_length tree = record {

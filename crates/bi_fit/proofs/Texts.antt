@@ -1,12 +1,11 @@
-use Rattle.std.proofs.Common.{◌≡◌, ℕ, ◌+◌, ◌%◌, ◌^◌, ◌<◌, ◌≤◌, max, List, [], ◌∷◌, ◌++◌, length, Option, Some, None, refl, sym, ap, subst, ◌∙◌, arith, length-append}
+use Rattle.std.proofs.Common.{◌≡◌, ℕ, ◌+◌, ◌≤◌, max, List, [], ◌∷◌, length, Option, Some, None, refl, sym, ap, ◌∙◌, arith, length-append}
 use Rattle.std.specs.Option.{option_map}
 use Rattle.std.specs.List.{AllZip}
 use Rattle.std.specs.FinMap.{entries}
 use Rattle.bi_base.specs.Cells.{up4, AreBytes}
-use Rattle.bi_base.specs.Limits.{Bounds}
 use Rattle.bi_base.proofs.ByteLists.{AreBytes-none, AreBytes-append, AreBytes-zeros}
-use Rattle.bi_blob.specs.Tree.{Nodes, none, node, Root, Property, PropertyMap, with_each, depth, depth_of, tree_without_places, tree_without_order}
-use Rattle.bi_blob.specs.Layout.{text_of_tree, in_byte_order, tree_with_places, with_places, IsContent, longest_text}
+use Rattle.bi_blob.specs.Tree.{Nodes, none, node, PropertyMap, with_each, depth_of, tree_without_order}
+use Rattle.bi_blob.specs.Layout.{tree_with_places, with_places, longest_text}
 use Rattle.bi_blob.specs.TextLaws.{IsBlobOf}
 use Rattle.bi_blob.proofs.Blobs.Complete.{depth-with_each}
 use Rattle.bi_blob.proofs.Texts.Normal.{has_one_order}
@@ -14,10 +13,10 @@ use Rattle.bi_blob.proofs.Texts.TextBlob.{text_is_blob, has_text_length}
 use Rattle.bi_fit.specs.declared.form.Form.{Form}
 use Rattle.bi_fit.specs.declared.form.Form.TheVariants.{Embedded, External}
 use Rattle.bi_fit.specs.Names.{images_name}
-use Rattle.bi_fit.specs.ImageTree.{ImageTree, owns, image_nodes, with_image_nodes, children_of, without_payloads, tree_without_payloads, IsApart, IsImageTree}
-use Rattle.bi_fit.specs.Payloads.{external_base, HasPayload}
-use Rattle.bi_fit.specs.File.{IsFitFile, FitMeans}
-use Rattle.bi_fit.specs.Text.{with_payload, with_payloads, end_after, normal_tree, blob_of, payload_area, after_blob, fit_text}
+use Rattle.bi_fit.specs.ImageTree.{ImageTree, each_own, image_nodes, with_image_nodes, without_payloads, tree_without_payloads, IsApart, IsImageTree}
+use Rattle.bi_fit.specs.Payloads.{external_base}
+use Rattle.bi_fit.specs.File.{IsFitFile}
+use Rattle.bi_fit.specs.Text.{with_payloads, end_after, normal_tree, blob_of, payload_area, after_blob, fit_text}
 use Rattle.bi_fit.proofs.Maps.{without-with_payload}
 use Rattle.bi_fit.proofs.Trees.{children_of-with_each, children_of-with_places, children_of-with_children_of, with_children_of-back}
 use Rattle.bi_fit.proofs.Areas.{AreThere, embedded_are_there, external_are_there, tell_payloads}
@@ -38,10 +37,10 @@ bytes-payload_area end (first ∷ own) (Some payload ∷ later) apart =
 -- What follows the blob of a text is bytes.
 pub bytes-after_blob : (form : Form) (tree : ImageTree) → IsImageTree tree → AreBytes (after_blob form tree)
 bytes-after_blob Embedded tree is = AreBytes-none
-bytes-after_blob External tree is = bytes-payload_area 0 (owns is.images) tree.payloads is.apart
+bytes-after_blob External tree is = bytes-payload_area 0 (each_own is.images) tree.payloads is.apart
 
 -- Image nodes without what tells their payloads are what they were.
-without-with_payloads : (form : Form) (end : ℕ) (payloads : List (Option (List ℕ))) (nodes : Nodes PropertyMap) → AllZip IsApart (owns nodes) payloads → without_payloads (with_payloads form end payloads nodes) ≡ nodes
+without-with_payloads : (form : Form) (end : ℕ) (payloads : List (Option (List ℕ))) (nodes : Nodes PropertyMap) → AllZip IsApart (each_own nodes) payloads → without_payloads (with_payloads form end payloads nodes) ≡ nodes
 without-with_payloads form end [] none apart = refl
 without-with_payloads form end [] (node name own children later) apart = absurd apart
 without-with_payloads form end (payload ∷ payloads) none apart = refl

@@ -1,12 +1,10 @@
-use Rattle.std.proofs.Common.{◌≡◌, ℕ, ◌+◌, max, Bool, true, false, List, [], ◌∷◌, map, bytes_eq, Option, Some, None, refl, sym, ap, ap₂, subst, ◌∙◌}
-use Rattle.std.specs.Prelude.{⊤}
+use Rattle.std.proofs.Common.{◌≡◌, ℕ, ◌+◌, Bool, true, false, List, map, bytes_eq, Some, refl, sym, ap, subst}
 use Rattle.std.specs.Option.{option_map}
-use Rattle.bi_base.specs.Cells.{AreBytes}
-use Rattle.bi_blob.specs.Tree.{Nodes, none, node, Root, Property, FileNode, names, with_each, depth, IsNew, AreNodes}
+use Rattle.bi_blob.specs.Tree.{Nodes, none, node, Property, with_each}
 use Rattle.bi_blob.specs.Events.{NodeStart, NodeProperty, events}
 use Rattle.bi_blob.specs.Layout.{event_width, place_after_events, with_places}
 use Rattle.bi_fit.proofs.Meanings.{same_in_some}
-use Rattle.bi_fit.specs.ImageTree.{children_of, with_children_of, owns, HaveByteNames}
+use Rattle.bi_fit.specs.ImageTree.{children_of, with_children_of}
 
 -- The children of a node that is found by its name, and trees that differ in these.
 

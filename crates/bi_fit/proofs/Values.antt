@@ -1,20 +1,19 @@
-use Rattle.std.proofs.Common.{◌≡◌, ℕ, ◌+◌, ◌<◌, ◌≤◌, Bool, true, false, List, [], ◌∷◌, ◌++◌, map, length, bytes_eq, Option, Some, None, refl, sym, ap, subst, ◌∙◌, arith, length-append}
+use Rattle.std.proofs.Common.{◌≡◌, ℕ, ◌+◌, Bool, true, false, List, [], ◌∷◌, ◌++◌, map, length, bytes_eq, Option, Some, None, refl, sym, ap, subst, arith, length-append}
 use Rattle.std.specs.Prelude.{⊤}
 use Rattle.std.specs.List.{AllByRecursion, AllZip}
 use Rattle.bi_base.specs.Cells.{cell, slice}
 use Rattle.bi_base.proofs.CellLaws.{length-cell, length-slice}
 use Rattle.bi_blob.specs.Tokens.{Token, BeginNode, EndNode, Prop, Nop, End, token_bytes, width, IsTokenAt}
-use Rattle.bi_blob.specs.Tree.{Nodes, none, node, Root, FileProperty, FileNode, as_nodes}
+use Rattle.bi_blob.specs.Tree.{Nodes, none, node, FileProperty, FileNode, as_nodes}
 use Rattle.bi_blob.specs.Events.{FileEvent, FileNodeStart, FileNodeProperty, FileNodeEnd, file_events, file_events_of, EncodeEvents}
-use Rattle.bi_blob.specs.Blob.{IsBlob, tree_blocks, off_dt_struct}
+use Rattle.bi_blob.specs.Blob.{tree_blocks}
 use Rattle.bi_blob.proofs.Blobs.Cells.{BytesAt, BytesAt-right, BytesAt-within}
 use Rattle.bi_blob.proofs.Blobs.TokenEncoding.{AllStand}
 use Rattle.bi_blob.proofs.Blobs.OneBlob.{HoldsTree-stand}
 use Rattle.bi_blob.proofs.Texts.Members.{each-front, each-back, each-map_back}
 use Rattle.bi_fit.specs.Names.{data_name, images_name}
-use Rattle.bi_fit.specs.ImageTree.{ImageTree, children_of, owns}
-use Rattle.bi_fit.specs.Payloads.{PayloadSource, NoSource, Data, DataOffset, DataPosition, source_of, property_named, number_of, external_base, IsSizedRegion, TellsPayload, HasPayload, payload_place, IsAt, IsAtPlace}
-use Rattle.bi_fit.specs.File.{IsFitFile}
+use Rattle.bi_fit.specs.ImageTree.{children_of, each_own}
+use Rattle.bi_fit.specs.Payloads.{PayloadSource, NoSource, Data, DataOffset, DataPosition, source_of, property_named, number_of, external_base, IsSizedRegion, IsPayload, HasPayload, payload_place, IsAt, IsAtPlace}
 use Rattle.bi_fit.specs.Laws.{PayloadsAreAtPlaces}
 use Rattle.bi_fit.proofs.Meanings.{same_in_some}
 use Rattle.bi_fit.proofs.FileTrees.{source_is_data}
@@ -116,7 +115,7 @@ region_place file base begin (Some size) payload is =
     long = length-slice file (base + number_of begin) (number_of size) is.in_file
 
 -- The payload that a source tells is at its place.
-source_place : (file : List ℕ) (source : PayloadSource) (payload : Option (List ℕ)) → ((property : FileProperty) → source ≡ Data property → HasValue file property) → TellsPayload file source payload → IsAtPlace file (payload_place file source) payload
+source_place : (file : List ℕ) (source : PayloadSource) (payload : Option (List ℕ)) → ((property : FileProperty) → source ≡ Data property → HasValue file property) → IsPayload file source payload → IsAtPlace file (payload_place file source) payload
 source_place file NoSource payload has_value is = subst (IsAtPlace file None) (sym is) tt
 source_place file (Data property) payload has_value is =
     subst (IsAtPlace file (Some (property.place + 12))) (sym is) (has_value property refl)
@@ -128,7 +127,7 @@ source_place file (DataPosition position size) payload has_value is =
     counted = omega arith
 
 -- So are those of image nodes.
-images_places : (file : List ℕ) (nodes : Nodes FileNode) (payloads : List (Option (List ℕ))) → HaveValues file nodes → AllZip (HasPayload file) (owns nodes) payloads → AllZip (λ own payload. IsAtPlace file (payload_place file (source_of own)) payload) (owns nodes) payloads
+images_places : (file : List ℕ) (nodes : Nodes FileNode) (payloads : List (Option (List ℕ))) → HaveValues file nodes → AllZip (HasPayload file) (each_own nodes) payloads → AllZip (λ own payload. IsAtPlace file (payload_place file (source_of own)) payload) (each_own nodes) payloads
 images_places file none [] have told = tt
 images_places file none (payload ∷ payloads) have told = absurd told
 images_places file (node name own children later) [] have told = absurd told

@@ -1,27 +1,32 @@
-use Rattle.std.specs.Prelude.{ℕ, Bool, true, false, List, [], ◌∷◌, ◌++◌, map, flat_map, Option, Some, None, codes, filter}
+use Rattle.std.specs.Prelude.{ℕ, Bool, true, false, List, [], ◌∷◌, ◌++◌, map, flat_map, Option}
+use Rattle.std.specs.Prelude.{Some, None, codes, filter}
 use Rattle.std.specs.List.{AllByRecursion}
 use Rattle.std.specs.FinMap.{empty, from_entries}
 use Rattle.bi_base.specs.Cells.{cell, AreBytes}
-use Rattle.bi_blob.specs.Tree.{Nodes, none, node, Property, PropertyMap, HasNoZero, IsChildName, AreDistinct}
+use Rattle.bi_blob.specs.Tree.{Nodes, none, node, Property, PropertyMap, HasNoZero, IsChildName}
+use Rattle.bi_blob.specs.Tree.{AreDistinct}
 use Rattle.bi_blob.specs.Layout.{strings_of}
 use Rattle.bi_hash.specs.declared.algo.Algo.TheVariants.{Sha256}
 use Rattle.bi_hash.specs.Algos.{name_of}
 use Rattle.bi_hash.specs.Digests.{digest_of}
 use Rattle.bi_fit.specs.declared.key.Key.{Key}
-use Rattle.bi_fit.specs.declared.key.Key.TheVariants.{Kernel, Fdt, Ramdisk, Firmware, Loadables, Script}
-use Rattle.bi_fit.specs.Names.{images_name, configurations_name, algo_name, value_name, default_name, key_name, all_keys}
+use Rattle.bi_fit.specs.declared.key.Key.TheVariants.{Kernel, Fdt, Ramdisk, Firmware, Loadables}
+use Rattle.bi_fit.specs.declared.key.Key.TheVariants.{Script}
+use Rattle.bi_fit.specs.Names.{images_name, configurations_name, algo_name, value_name}
+use Rattle.bi_fit.specs.Names.{default_name, key_name, all_keys}
 use Rattle.bi_fit.specs.ImageTree.{ImageTree}
 
--- The flattened image tree that is built from a description and a list of images (Flattened Image Tree Specification; what
--- is built is profile of this project).
+-- The flattened image tree that is built from a description and a list of images (Flattened Image
+-- Tree Specification; what is built is profile of this project).
 
--- What a built tree says beside its images: a description and a time.
+-- What a built tree has beside its images: a description and a time.
 pub record FitHead : Type 0 where
   pub description : List ℕ
   pub time : ℕ
 
--- An image to be built: its name, the key under which the configuration lists it, which also decides its type, the names of
--- its architecture, operating system and compression, where it is loaded and entered, if that is given, and its payload.
+-- An image to be built: its name, the key under which the configuration lists it, which also
+-- decides its type, the names of its architecture, operating system and compression, where it is
+-- loaded and entered, if that is given, and its payload.
 pub record ImageSpecification : Type 0 where
   pub name : List ℕ
   pub key : Key
@@ -36,7 +41,8 @@ pub record ImageSpecification : Type 0 where
 abbrev pub text_value : List ℕ → List ℕ
 text_value text = text ++ 0 ∷ []
 
--- The type of the images that are listed under a key, by its name (U-Boot, boot/image.c: uimage_type).
+-- The type of the images that are listed under a key, by its name (U-Boot, boot/image.c:
+-- uimage_type).
 abbrev pub type_name : Key → List ℕ
 type_name Kernel = codes "kernel"
 type_name Fdt = codes "flat_dt"
@@ -114,7 +120,8 @@ configuration_properties head images =
     (codes "description", text_value head.description)
     ∷ flat_map (λ key. list_property key (names_under key images)) all_keys
 
--- The nodes below the root: `images`, and `configurations` with the one configuration, which is the default.
+-- The nodes below the root: `images`, and `configurations` with the one configuration, which is
+-- the default.
 abbrev pub built_nodes : FitHead → List ImageSpecification → Nodes PropertyMap
 built_nodes head images =
     node images_name empty (built_images head images)

@@ -1,16 +1,19 @@
-use Rattle.std.specs.Prelude.{◌≡◌, ℕ, ◌+◌, ◌≤◌, List, [], ◌∷◌, ◌++◌, Option, Some, None, IsSome, length}
+use Rattle.std.specs.Prelude.{◌≡◌, ℕ, ◌+◌, ◌≤◌, List, [], ◌∷◌, ◌++◌, Option, Some, None, IsSome}
+use Rattle.std.specs.Prelude.{length}
 use Rattle.bi_base.specs.declared.fault.Fault.{Fault}
 use Rattle.bi_base.specs.declared.fault.Cause.TheVariants.{NoImages, BadCell, NoSize, OutsideFile}
-use Rattle.bi_base.specs.Checks.{IsFirstFault, HasNoFault}
+use Rattle.bi_base.specs.Checks.{IsFirstFault}
 use Rattle.bi_base.specs.Limits.{Bounds}
 use Rattle.bi_blob.specs.Tree.{Nodes, none, node, Root, FileProperty, FileNode}
 use Rattle.bi_blob.specs.Blob.{Reservation, IsBlob, IsWithin}
 use Rattle.bi_blob.specs.BlobFaults.{IsBlobFault}
 use Rattle.bi_fit.specs.ImageTree.{image_nodes}
-use Rattle.bi_fit.specs.Payloads.{PayloadSource, NoSource, Data, DataOffset, DataPosition, source_of, number_of, external_base}
+use Rattle.bi_fit.specs.Payloads.{PayloadSource, NoSource, Data, DataOffset, DataPosition}
+use Rattle.bi_fit.specs.Payloads.{source_of, number_of, external_base}
 
--- Why a blob within limits is no flattened image tree, and at which offset: the first check that fails. The order of the
--- checks, and that a file with a fault is refused, is profile of this project.
+-- Why a blob within limits is no flattened image tree, and at which offset: the first check that
+-- fails. The order of the checks, and that a file with a fault is refused, is profile of this
+-- project.
 
 -- A check, with what it looks at and the place of the token that it speaks of.
 pub data FitCheck : Type 0 where
@@ -67,7 +70,8 @@ images_checks file (Some images) = image_checks file images
 abbrev pub fit_checks : List ℕ → Root FileNode → List FitCheck
 fit_checks file root = HasImages (image_nodes root) root.own.place ∷ images_checks file (image_nodes root)
 
--- The fault of a file as a flattened image tree within limits: that of a blob, or else that of its tree.
+-- The fault of a file as a flattened image tree within limits: that of a blob, or else that of its
+-- tree.
 pub data IsFitFault (bounds : Bounds) (file : List ℕ) (fault : Fault) : Type 0 where
   InBlob : IsBlobFault bounds file fault → IsFitFault bounds file fault
   InTree : (cpu : ℕ) → (reservations : List Reservation) → (root : Root FileNode)

@@ -1,17 +1,21 @@
-use Rattle.std.specs.Prelude.{ℕ, ◌+◌, List, [], ◌∷◌, ◌++◌, map, flat_map, Option, Some, None, option_map, option_and_then, length, filter, bytes_eq, nat_eq, ◌==◌, if◌then◌else◌}
+use Rattle.std.specs.Prelude.{ℕ, ◌+◌, List, [], ◌∷◌, map, flat_map, Option, Some, None}
+use Rattle.std.specs.Prelude.{option_and_then, length, filter, bytes_eq, nat_eq, ◌==◌}
+use Rattle.std.specs.Prelude.{if◌then◌else◌}
 use Rattle.std.specs.List.{ends_with, find}
 use Rattle.std.specs.FinMap.{get}
 use Rattle.bi_blob.specs.Tree.{Nodes, none, node, PropertyMap}
 use Rattle.bi_hash.specs.declared.verdicts.Verdict.{Verdict}
 use Rattle.bi_hash.specs.Verdicts.{verdict_of, text_of}
 use Rattle.bi_fit.specs.declared.key.Key.{Key}
-use Rattle.bi_fit.specs.Names.{configurations_name, algo_name, value_name, default_name, is_hash_name, is_signature_name, key_name}
+use Rattle.bi_fit.specs.Names.{configurations_name, algo_name, value_name, default_name}
+use Rattle.bi_fit.specs.Names.{is_hash_name, is_signature_name, key_name}
 use Rattle.bi_fit.specs.ImageTree.{ImageTree, image_nodes}
 
--- What a flattened image tree tells of its images and configurations: the verdicts on its hash nodes, the images that each
--- configuration lists, the default configuration, and how many signatures there are (Flattened Image Tree Specification;
--- which keys there are, and the order of refusals, is profile of this project). All of it is a function of what the tree
--- says, so files that say the same agree in it.
+-- What follows from a flattened image tree about its images and configurations: the verdicts on
+-- its hash nodes, the images that each configuration lists, the default configuration, and how
+-- many signatures there are (Flattened Image Tree Specification; which keys there are, and the
+-- order of refusals, is profile of this project). All of it is a function of the image tree, so
+-- files that mean the same agree in it.
 
 -- A node with its name, what it has itself, and its children.
 pub record Entry : Type 0 where
@@ -45,7 +49,8 @@ nodes_or_none (Some nodes) = nodes
 abbrev pub images_of : ImageTree → List Image
 images_of tree = images_with (entries_of (nodes_or_none (image_nodes tree.root))) tree.payloads
 
--- A hash node: the names of its image and of itself, the text of its algo, if it has one, its value and the verdict on it.
+-- A hash node: the names of its image and of itself, the text of its algo, if it has one, its
+-- value and the verdict on it.
 pub record CheckedHash : Type 0 where
   pub image : List ℕ
   pub node_name : List ℕ
@@ -53,7 +58,7 @@ pub record CheckedHash : Type 0 where
   pub value : Option (List ℕ)
   pub verdict : Verdict
 
--- What there is to tell of a hash node of an image.
+-- A hash node of an image, with its verdict.
 abbrev pub checked_hash : Image → Entry → CheckedHash
 checked_hash image hash = record {
   image = image.entry.name;
@@ -92,7 +97,8 @@ configurations_of tree = children_or_none (configurations_node tree)
 abbrev pub property_of_entry : List ℕ → Option Entry → Option (List ℕ)
 property_of_entry name entry = option_and_then (λ entry. get entry.properties name) entry
 
--- The name of the default configuration: the text of `default`. Whether there is such a configuration is not asked.
+-- The name of the default configuration: the text of `default`. Whether there is such a
+-- configuration is not asked.
 abbrev pub default_of : ImageTree → Option (List ℕ)
 default_of tree = option_and_then text_of (property_of_entry default_name (configurations_node tree))
 
@@ -139,7 +145,8 @@ list_images images index [] = ListedImages []
 list_images images index (name ∷ later) =
     listed_from index name (image_named name images) (list_images images (index + 1) later)
 
--- What the value of a key lists. It is a list of names where its last byte is a zero, which an empty value does not have.
+-- What the value of a key lists. It is a list of names where its last byte is a zero, which an
+-- empty value does not have.
 abbrev pub listed_in : List Image → List ℕ → Listed
 listed_in images value =
     if ends_with nat_eq value (0 ∷ []) then list_images images 0 (listed_names value) else BadList
@@ -168,7 +175,7 @@ signature_count tree =
     length (flat_map (λ image. signatures_in image.entry) (images_of tree))
     + length (flat_map signatures_in (configurations_of tree))
 
--- All that a tree tells of its images and configurations.
+-- All that follows from a tree about its images and configurations.
 pub record Judgement : Type 0 where
   pub verdicts : List CheckedHash
   pub configurations : List (List ℕ)

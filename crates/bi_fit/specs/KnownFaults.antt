@@ -1,18 +1,19 @@
 use Rattle.std.specs.Prelude.{ℕ, List, [], ◌∷◌, ◌++◌, codes}
 use Rattle.bi_base.specs.declared.fault.Cause.{Cause}
-use Rattle.bi_base.specs.declared.fault.Cause.TheVariants.{TooLarge, NoImages, BadCell, NoSize, OutsideFile}
+use Rattle.bi_base.specs.declared.fault.Cause.TheVariants.{TooLarge, NoImages, BadCell, NoSize}
+use Rattle.bi_base.specs.declared.fault.Cause.TheVariants.{OutsideFile}
 use Rattle.bi_base.specs.Cells.{cell}
 use Rattle.bi_base.specs.Limits.{Bounds}
-use Rattle.bi_blob.specs.Tree.{Nodes, none, node, Root, Property}
+use Rattle.bi_blob.specs.Tree.{Nodes, none, node, Property}
 use Rattle.bi_blob.specs.Layout.{text_of_tree}
 use Rattle.bi_blob.specs.KnownFaults.{widest}
 use Rattle.bi_fit.specs.Names.{images_name, data_offset_name, data_position_name, data_size_name}
 use Rattle.bi_fit.specs.Faults.{IsFitFault}
 use Rattle.bi_fit.specs.KnownFiles.{file_of_images, region_of, shared_file}
 
--- Small files that are refused, each with its fault, by which a reader can judge the definitions: each check is the first
--- that fails in one of them. In these files the root's token is at 56, that of `images` at 64, that of the first image node
--- at 76 and that of its first property at 84.
+-- Small files that are refused, each with its fault, by which a reader can judge the definitions:
+-- each check is the first that fails in one of them. In these files the root's token is at 56,
+-- that of `images` at 64, that of the first image node at 76 and that of its first property at 84.
 
 -- A file has this fault under these limits.
 abbrev pub HasFault : Bounds → List ℕ → Cause → ℕ → Type 0
@@ -30,7 +31,8 @@ file_of_image properties = file_of_images (node (codes "a") properties none none
 abbrev pub file_of_two : (first second : List Property) → List ℕ
 file_of_two first second = file_of_images (node (codes "a") first none (node (codes "b") second none none)) []
 
--- Files that have no image nodes: a root alone, and one whose child `images` is no child of the root.
+-- Files that have no image nodes: a root alone, and one whose child `images` is no child of the
+-- root.
 pub record WithoutImages : Type 0 where
   pub no_child : HasFault widest (file_of_nodes none) NoImages 56
   pub elsewhere : HasFault widest (file_of_nodes (node (codes "x") [] (node images_name [] none none) none)) NoImages 56
@@ -44,8 +46,9 @@ pub record RegionsHaveFaults : Type 0 where
   pub offset_outside : HasFault widest (shared_file 0 1001) OutsideFile 84
   pub position_outside : HasFault widest (file_of_image ((data_position_name, cell 172) ∷ (data_size_name, cell 1) ∷ [])) OutsideFile 84
 
--- Files in which two checks fail: the fault is that of the first. The checks of one image node come before those of the next,
--- and `data-position` alone is checked where there is `data-offset` too.
+-- Files in which two checks fail: the fault is that of the first. The checks of one image node
+-- come before those of the next, and `data-position` alone is checked where there is `data-offset`
+-- too.
 pub record FirstFaultCounts : Type 0 where
   pub cell_before_size : HasFault widest (file_of_image ((data_offset_name, codes "abc") ∷ [])) BadCell 84
   pub cell_before_size_cell :

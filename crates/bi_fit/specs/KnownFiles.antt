@@ -1,4 +1,5 @@
-use Rattle.std.specs.Prelude.{◌≡◌, ℕ, List, [], ◌∷◌, ◌++◌, length, replicate, codes, Option, Some, None}
+use Rattle.std.specs.Prelude.{◌≡◌, ℕ, List, [], ◌∷◌, ◌++◌, length, replicate, codes, Option, Some}
+use Rattle.std.specs.Prelude.{None}
 use Rattle.std.specs.FinMap.{empty, insert}
 use Rattle.bi_base.specs.Cells.{cell}
 use Rattle.bi_blob.specs.Tree.{Nodes, none, node, Root, Property, PropertyMap}
@@ -6,7 +7,8 @@ use Rattle.bi_blob.specs.Layout.{text_of_tree}
 use Rattle.bi_blob.specs.KnownTexts.{smallest_text}
 use Rattle.bi_blob.specs.KnownFaults.{with_cell}
 use Rattle.bi_fit.specs.declared.form.Form.TheVariants.{Embedded, External}
-use Rattle.bi_fit.specs.Names.{images_name, data_name, data_offset_name, data_position_name, data_size_name}
+use Rattle.bi_fit.specs.Names.{images_name, data_name, data_offset_name, data_position_name}
+use Rattle.bi_fit.specs.Names.{data_size_name}
 use Rattle.bi_fit.specs.ImageTree.{ImageTree}
 use Rattle.bi_fit.specs.File.{IsFitFile}
 use Rattle.bi_fit.specs.Text.{blob_of, payload_places, fit_text}
@@ -17,7 +19,8 @@ use Rattle.bi_fit.specs.Text.{blob_of, payload_places, fit_text}
 abbrev pub tree_of_images : Nodes (List Property) → Root (List Property)
 tree_of_images images = record { own = []; children = node images_name [] images none }
 
--- A file with this tree, boot processor 0 and no memory reservations, and with these bytes after its blob.
+-- A file with this tree, boot processor 0 and no memory reservations, and with these bytes after
+-- its blob.
 abbrev pub file_of_images : Nodes (List Property) → List ℕ → List ℕ
 file_of_images images rest = text_of_tree 0 [] (tree_of_images images) ++ rest
 
@@ -26,7 +29,8 @@ abbrev pub plain_images : List (List ℕ) → Nodes PropertyMap
 plain_images [] = none
 plain_images (name ∷ later) = node name empty none (plain_images later)
 
--- What a file says that has image nodes of these names, with these payloads and without other properties.
+-- The meaning of a file that has image nodes of these names, with these payloads and without other
+-- properties.
 abbrev pub plain_tree : List (List ℕ) → List (Option (List ℕ)) → ImageTree
 plain_tree names payloads = record {
   cpu = 0;
@@ -41,8 +45,8 @@ pub record SmallestIsFit : Type 0 where
   pub embedded : fit_text Embedded (plain_tree [] []) ≡ smallest_text
   pub external : fit_text External (plain_tree [] []) ≡ smallest_text
 
--- A file whose image `a` has `data-offset` 0 and `data-size` 3, and whose `totalsize` is 157: three bytes follow the blob,
--- and the payload is at 160.
+-- A file whose image `a` has `data-offset` 0 and `data-size` 3, and whose `totalsize` is 157:
+-- three bytes follow the blob, and the payload is at 160.
 abbrev pub offset_file : List ℕ
 offset_file =
     with_cell
@@ -50,7 +54,7 @@ offset_file =
     (1 ∷ 2 ∷ 3 ∷ 4 ∷ codes "abc"))
     4 157
 
--- What it says.
+-- What it means.
 abbrev pub offset_tree : ImageTree
 offset_tree = plain_tree (codes "a" ∷ []) (Some (codes "abc") ∷ [])
 
@@ -83,7 +87,7 @@ bare_file = file_of_images (node (codes "a") [] none none) []
 abbrev pub empty_file : List ℕ
 empty_file = file_of_images (node (codes "a") ((data_name, []) ∷ []) none none) []
 
--- They do not say the same. Both are their own text in the form Embedded.
+-- They do not mean the same. Both are their own text in the form Embedded.
 pub record NoneIsNotEmpty : Type 0 where
   pub bare_means : IsFitFile bare_file (plain_tree (codes "a" ∷ []) (None ∷ []))
   pub empty_means : IsFitFile empty_file (plain_tree (codes "a" ∷ []) (Some [] ∷ []))
@@ -111,7 +115,7 @@ three_external =
     (node (codes "c") ((data_offset_name, cell 8) ∷ (data_size_name, cell 1) ∷ []) none none)))
     (codes "hello" ++ 0 ∷ 0 ∷ 0 ∷ codes "x")
 
--- What both say.
+-- What both mean.
 abbrev pub three_tree : ImageTree
 three_tree =
     plain_tree
@@ -133,11 +137,12 @@ pub record ThreeImagesHaveTexts : Type 0 where
 abbrev pub shared_region : List ℕ
 shared_region = replicate 1000 7
 
--- The properties of an image node that tell this region of external data.
+-- The properties of an image node that name this region of external data.
 abbrev pub region_of : (offset size : ℕ) → List Property
 region_of offset size = (data_offset_name, cell offset) ∷ (data_size_name, cell size) ∷ []
 
--- A file with three images, the first of which has this region, and the other two the whole of the shared region.
+-- A file with three images, the first of which has this region, and the other two the whole of the
+-- shared region.
 abbrev pub shared_file : (offset size : ℕ) → List ℕ
 shared_file offset size =
     file_of_images
@@ -146,13 +151,13 @@ shared_file offset size =
     (node (codes "c") (region_of 0 1000) none none)))
     shared_region
 
--- What it says, where the first payload is this.
+-- What it means, where this is the first payload.
 abbrev pub shared_tree : List ℕ → ImageTree
 shared_tree payload =
     plain_tree (codes "a" ∷ codes "b" ∷ codes "c" ∷ []) (Some payload ∷ Some shared_region ∷ Some shared_region ∷ [])
 
--- A file of 1244 bytes whose images share a region has texts of 3168 and 3244 bytes. An empty payload may be at the end of
--- the file.
+-- A file of 1244 bytes whose images share a region has texts of 3168 and 3244 bytes. An empty
+-- payload may be at the end of the file.
 pub record SharedRegionIsRepeated : Type 0 where
   pub means : IsFitFile (shared_file 0 1000) (shared_tree shared_region)
   pub is_length : length (shared_file 0 1000) ≡ 1244
@@ -174,9 +179,8 @@ pub record ChildrenKeepOrder : Type 0 where
   pub embedded : fit_text Embedded (plain_tree (codes "b" ∷ codes "a" ∷ []) (Some (codes "x") ∷ Some (codes "y") ∷ []))
       ≡ unsorted_file
 
-
--- A tree with `data` in the root, in `images`, in a hash node, and in a child of another node `images` that is no child of the
--- root.
+-- A tree with `data` in the root, in `images`, in a hash node, and in a child of another node
+-- `images` that is no child of the root.
 abbrev pub nested_tree : Root (List Property)
 nested_tree = record {
   own = (data_name, codes "r") ∷ [];
@@ -194,7 +198,7 @@ nested_file = text_of_tree 0 [] nested_tree ++ []
 abbrev pub only_data : List ℕ → PropertyMap
 only_data value = insert empty data_name value
 
--- What it says.
+-- What it means.
 abbrev pub nested_image_tree : ImageTree
 nested_image_tree = record {
   cpu = 0;
@@ -227,7 +231,8 @@ unused_offset_file =
     (node (codes "a") ((data_offset_name, codes "o") ∷ (data_position_name, cell 0) ∷ (data_size_name, cell 4) ∷ []) none none)
     []
 
--- Properties that do not tell the payload have no meaning. A region may be anywhere in the file, also in its header.
+-- Properties that do not give the payload have no meaning. A region may be anywhere in the file,
+-- also in its header.
 pub record UnusedHaveNoMeaning : Type 0 where
   pub size : IsFitFile unused_size_file (plain_tree (codes "a" ∷ []) (Some (codes "abc") ∷ []))
   pub offset : IsFitFile unused_offset_file (plain_tree (codes "a" ∷ []) (Some (0xd0 ∷ 0x0d ∷ 0xfe ∷ 0xed ∷ []) ∷ []))

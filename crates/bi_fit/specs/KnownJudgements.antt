@@ -1,13 +1,18 @@
-use Rattle.std.specs.Prelude.{◌≡◌, ℕ, List, [], ◌∷◌, ◌++◌, map, codes, Option, Some, None}
+use Rattle.std.specs.Prelude.{◌≡◌, List, [], ◌∷◌, ◌++◌, map, codes, Some, None}
 use Rattle.std.specs.FinMap.{empty, from_entries}
-use Rattle.bi_blob.specs.Tree.{Nodes, none, node, Property, PropertyMap}
-use Rattle.bi_hash.specs.declared.verdicts.Verdict.TheVariants.{Malformed, UnknownAlgo, NoPayload, Good, Bad}
-use Rattle.bi_fit.specs.declared.key.Key.TheVariants.{Kernel, Fdt, Ramdisk, Firmware, Loadables, Script}
-use Rattle.bi_fit.specs.Names.{images_name, configurations_name, algo_name, value_name, default_name}
+use Rattle.bi_blob.specs.Tree.{none, node, Property}
+use Rattle.bi_hash.specs.declared.verdicts.Verdict.TheVariants.{Malformed, UnknownAlgo, NoPayload}
+use Rattle.bi_hash.specs.declared.verdicts.Verdict.TheVariants.{Good, Bad}
+use Rattle.bi_fit.specs.declared.key.Key.TheVariants.{Kernel, Fdt, Ramdisk, Firmware, Loadables}
+use Rattle.bi_fit.specs.declared.key.Key.TheVariants.{Script}
+use Rattle.bi_fit.specs.Names.{images_name, configurations_name, algo_name, value_name}
+use Rattle.bi_fit.specs.Names.{default_name}
 use Rattle.bi_fit.specs.ImageTree.{ImageTree}
-use Rattle.bi_fit.specs.Judgement.{verdicts_of, listed_of, NoConfiguration, NoKey, BadList, MissingImage, ListedImages, default_of, signature_count}
+use Rattle.bi_fit.specs.Judgement.{verdicts_of, listed_of, NoConfiguration, NoKey, BadList}
+use Rattle.bi_fit.specs.Judgement.{MissingImage, ListedImages, default_of, signature_count}
 
--- What small trees tell of their images and configurations, by which a reader can judge the definitions.
+-- What follows from small trees about their images and configurations, by which a reader can judge
+-- the definitions.
 
 -- A configuration: its properties in no order.
 abbrev pub configuration_lists : List Property
@@ -27,8 +32,8 @@ other_lists = (codes "kernel", []) ∷ []
 abbrev pub default_list : List Property
 default_list = (default_name, codes "conf-3" ++ 0 ∷ []) ∷ []
 
--- A tree with one image, `a`, whose payload is `abc`, and these two configurations. The image and the first configuration have
--- a signature each.
+-- A tree with one image, `a`, whose payload is `abc`, and these two configurations. The image and
+-- the first configuration have a signature each.
 abbrev pub configured_tree : ImageTree
 configured_tree = record {
   cpu = 0;
@@ -44,8 +49,8 @@ configured_tree = record {
   payloads = Some (codes "abc") ∷ [];
 }
 
--- What the configurations list. One zero byte lists one empty name, and a second zero after a name an empty one too; what does
--- not end with a zero is no list, nor is an empty value.
+-- What the configurations list. One zero byte lists one empty name, and a second zero after a name
+-- an empty one too; what does not end with a zero is no list, nor is an empty value.
 pub record ListsAreRead : Type 0 where
   pub listed : listed_of configured_tree (codes "conf-1") Kernel
       ≡ ListedImages (record { name = codes "a"; payload = Some (codes "abc") } ∷ [])
@@ -59,8 +64,8 @@ pub record ListsAreRead : Type 0 where
   pub default : default_of configured_tree ≡ Some (codes "conf-3")
   pub signatures : signature_count configured_tree ≡ 2
 
--- The properties of hash nodes: the CRC-32 of `abc`, three of its four bytes, an algorithm without a meaning here, and no
--- value.
+-- The properties of hash nodes: the CRC-32 of `abc`, three of its four bytes, an algorithm without
+-- a meaning here, and no value.
 abbrev pub good_crc : List Property
 good_crc = (algo_name, codes "crc32" ++ 0 ∷ []) ∷ (value_name, 0x35 ∷ 0x24 ∷ 0x41 ∷ 0xc2 ∷ []) ∷ []
 
@@ -73,8 +78,8 @@ other_crc = (algo_name, codes "crc16-ccitt" ++ 0 ∷ []) ∷ (value_name, 0 ∷ 
 abbrev pub no_value : List Property
 no_value = (algo_name, codes "crc32" ++ 0 ∷ []) ∷ []
 
--- A tree with an image `a`, whose payload is `abc`, and an image `b` without a payload. Names that begin with `hash` are those of
--- hash nodes.
+-- A tree with an image `a`, whose payload is `abc`, and an image `b` without a payload. Names that
+-- begin with `hash` are those of hash nodes.
 abbrev pub hashed_tree : ImageTree
 hashed_tree = record {
   cpu = 0;

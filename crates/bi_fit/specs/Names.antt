@@ -1,12 +1,14 @@
-use Rattle.std.specs.Prelude.{ℕ, Bool, true, List, [], ◌∷◌, codes, bytes_eq, nat_eq}
+use Rattle.std.specs.Prelude.{ℕ, Bool, List, [], ◌∷◌, codes, bytes_eq, nat_eq}
 use Rattle.std.specs.List.{list_any, starts_with}
 use Rattle.bi_fit.specs.declared.key.Key.{Key}
-use Rattle.bi_fit.specs.declared.key.Key.TheVariants.{Kernel, Fdt, Ramdisk, Firmware, Loadables, Script}
+use Rattle.bi_fit.specs.declared.key.Key.TheVariants.{Kernel, Fdt, Ramdisk, Firmware, Loadables}
+use Rattle.bi_fit.specs.declared.key.Key.TheVariants.{Script}
 
--- The names of nodes and properties in a flattened image tree (Flattened Image Tree Specification; U-Boot,
--- include/image.h: FIT_*_PROP, FIT_*_PATH).
+-- The names of nodes and properties in a flattened image tree (Flattened Image Tree Specification;
+-- U-Boot, include/image.h: FIT_*_PROP, FIT_*_PATH).
 
--- The child of the root whose children are the image nodes, and the one whose children are the configuration nodes.
+-- The child of the root whose children are the image nodes, and the one whose children are the
+-- configuration nodes.
 abbrev pub images_name : List ℕ
 images_name = codes "images"
 
@@ -49,12 +51,13 @@ default_name = codes "default"
 abbrev pub is_hash_name : List ℕ → Bool
 is_hash_name name = starts_with nat_eq name (codes "hash")
 
--- Whether a child of an image node or of a configuration node is a signature node: its name begins with `signature`.
+-- Whether a child of an image node or of a configuration node is a signature node: its name begins
+-- with `signature`.
 abbrev pub is_signature_name : List ℕ → Bool
 is_signature_name name = starts_with nat_eq name (codes "signature")
 
--- The property of a configuration node that lists images under a key (other keys are profile of this project: they are
--- ordinary properties).
+-- The property of a configuration node that lists images under a key (other keys are profile of
+-- this project: they are ordinary properties).
 abbrev pub key_name : Key → List ℕ
 key_name Kernel = codes "kernel"
 key_name Fdt = codes "fdt"

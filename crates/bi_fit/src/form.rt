@@ -5,6 +5,7 @@
 pub enum Form {
     /// Each payload is the value of the property `data` of its image node.
     Embedded,
-    /// The payloads follow the blob, and `data-offset` and `data-size` of each image node tell where.
+    /// The payloads follow the blob. `data-offset` and `data-size` of each image node have the
+    /// offset of its payload and its size.
     External,
 }

@@ -1,4 +1,5 @@
-//! What a flattened image tree is, and the texts that one is laid out as: definitions and their laws.
+//! What a flattened image tree is, and the texts that one is laid out as: definitions and their
+//! laws.
 #![tactic(auto)]
 
 mod form;

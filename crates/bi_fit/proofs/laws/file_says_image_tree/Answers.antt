@@ -1,5 +1,0 @@
-use Rattle.bi_fit.proofs.TextLaws.{file_says_image_tree}
-use Rattle.bi_fit.proofs.laws.file_says_image_tree.Goals as goal
-
-pub returns : goal.returns
-returns c = file_says_image_tree
