@@ -107,7 +107,8 @@ is_under key other = false
 
 -- The names of the images that are listed under a key, in their order.
 abbrev pub names_under : Key → List ImageSpecification → List (List ℕ)
-names_under key images = map (λ image. image.name) (filter (λ image. is_under key image.key) images)
+names_under key images =
+    map (λ image. image.name) (filter (λ image. is_under key image.key) images)
 
 -- The property of a key that lists these names, where there is one at least.
 abbrev pub list_property : Key → List (List ℕ) → List Property

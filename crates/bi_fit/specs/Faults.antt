@@ -43,11 +43,15 @@ fit_fault (IsInFile end begin_place) = record { cause = OutsideFile; offset = be
 abbrev pub size_checks : (begin : ℕ) → (begin_place : ℕ) → Option FileProperty → List FitCheck
 size_checks begin begin_place None = HasSize None begin_place ∷ []
 size_checks begin begin_place (Some size) =
-    HasSize (Some size) begin_place ∷ HasSizeCell size ∷ IsInFile (begin + number_of size) begin_place ∷ []
+    HasSize (Some size) begin_place
+    ∷ HasSizeCell size
+    ∷ IsInFile (begin + number_of size) begin_place
+    ∷ []
 
 -- The checks of a region of the file, in their order.
 abbrev pub region_checks : (base : ℕ) → FileProperty → Option FileProperty → List FitCheck
-region_checks base begin size = HasBeginCell begin ∷ size_checks (base + number_of begin) begin.place size
+region_checks base begin size =
+    HasBeginCell begin ∷ size_checks (base + number_of begin) begin.place size
 
 -- The checks of the source of a payload: none where it is no region.
 abbrev pub source_checks : List ℕ → PayloadSource → List FitCheck
@@ -59,7 +63,8 @@ source_checks file (DataPosition position size) = region_checks 0 position size
 -- The checks of image nodes: all of one before those of the next.
 abbrev pub image_checks : List ℕ → Nodes FileNode → List FitCheck
 image_checks file none = []
-image_checks file (node name own children later) = source_checks file (source_of own) ++ image_checks file later
+image_checks file (node name own children later) =
+    source_checks file (source_of own) ++ image_checks file later
 
 -- The checks of image nodes, where there may be no child `images`.
 abbrev pub images_checks : List ℕ → Option (Nodes FileNode) → List FitCheck
@@ -68,7 +73,8 @@ images_checks file (Some images) = image_checks file images
 
 -- The checks of a blob's tree, in their order.
 abbrev pub fit_checks : List ℕ → Root FileNode → List FitCheck
-fit_checks file root = HasImages (image_nodes root) root.own.place ∷ images_checks file (image_nodes root)
+fit_checks file root =
+    HasImages (image_nodes root) root.own.place ∷ images_checks file (image_nodes root)
 
 -- The fault of a file as a flattened image tree within limits: that of a blob, or else that of its
 -- tree.

@@ -54,7 +54,8 @@ without_payload properties = retain_keys properties (λ name. not (is_payload_na
 -- a meaning in image nodes alone (profile of this project).
 abbrev pub without_payloads : Nodes PropertyMap → Nodes PropertyMap
 without_payloads none = none
-without_payloads (node name own children later) = node name (without_payload own) children (without_payloads later)
+without_payloads (node name own children later) =
+    node name (without_payload own) children (without_payloads later)
 
 -- A tree whose image nodes are without these properties.
 abbrev pub tree_without_payloads : Root PropertyMap → Root PropertyMap
@@ -74,7 +75,8 @@ ArePropertiesByName properties = (name value : List ℕ) → get properties name
 -- The names of these nodes and of all below them are bytes.
 abbrev pub HaveByteNames : {Own : Type 0} → Nodes Own → Type 0
 HaveByteNames none = ⊤
-HaveByteNames (node name own children later) = AreBytes name × HaveByteNames children × HaveByteNames later
+HaveByteNames (node name own children later) =
+    AreBytes name × HaveByteNames children × HaveByteNames later
 
 -- An image node has none of the four properties, and its payload, if it has one, is bytes.
 pub record IsApart (properties : PropertyMap) (payload : Option (List ℕ)) : Type 0 where

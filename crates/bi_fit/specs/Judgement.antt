@@ -38,7 +38,8 @@ pub record Image : Type 0 where
 abbrev pub images_with : List Entry → List (Option (List ℕ)) → List Image
 images_with [] payloads = []
 images_with entries [] = []
-images_with (entry ∷ entries) (payload ∷ payloads) = record { entry = entry; payload = payload } ∷ images_with entries payloads
+images_with (entry ∷ entries) (payload ∷ payloads) =
+    record { entry = entry; payload = payload } ∷ images_with entries payloads
 
 -- The nodes of an option, if it has some.
 abbrev pub nodes_or_none : Option (Nodes PropertyMap) → Nodes PropertyMap
@@ -65,7 +66,10 @@ checked_hash image hash = record {
   node_name = hash.name;
   algo = option_and_then text_of (get hash.properties algo_name);
   value = get hash.properties value_name;
-  verdict = verdict_of (get hash.properties algo_name) (get hash.properties value_name) image.payload;
+  verdict = verdict_of
+      (get hash.properties algo_name)
+      (get hash.properties value_name)
+      image.payload;
 }
 
 -- The hash nodes of an image, in their order.
@@ -100,7 +104,8 @@ property_of_entry name entry = option_and_then (λ entry. get entry.properties n
 -- The name of the default configuration: the text of `default`. Whether there is such a
 -- configuration is not asked.
 abbrev pub default_of : ImageTree → Option (List ℕ)
-default_of tree = option_and_then text_of (property_of_entry default_name (configurations_node tree))
+default_of tree =
+    option_and_then text_of (property_of_entry default_name (configurations_node tree))
 
 -- One more byte at the front of the first name of a list. What no zero follows is no name.
 abbrev pub with_byte : ℕ → List (List ℕ) → List (List ℕ)
@@ -110,7 +115,8 @@ with_byte byte (name ∷ later) = (byte ∷ name) ∷ later
 -- The names that these bytes list, each followed by a zero.
 abbrev pub listed_names : List ℕ → List (List ℕ)
 listed_names [] = []
-listed_names (byte ∷ later) = if byte == 0 then [] ∷ listed_names later else with_byte byte (listed_names later)
+listed_names (byte ∷ later) =
+    if byte == 0 then [] ∷ listed_names later else with_byte byte (listed_names later)
 
 -- A name that a configuration lists, and the payload of its image, if it has one.
 pub record ListedImage : Type 0 where
@@ -137,7 +143,8 @@ with_image image refusal = refusal
 -- The image of a name, and what follows it in the list.
 abbrev pub listed_from : (index : ℕ) → (name : List ℕ) → Option Image → Listed → Listed
 listed_from index name None later = MissingImage index
-listed_from index name (Some image) later = with_image (record { name = name; payload = image.payload }) later
+listed_from index name (Some image) later =
+    with_image (record { name = name; payload = image.payload }) later
 
 -- The images of these names, or the index of the first name that no image has.
 abbrev pub list_images : List Image → (index : ℕ) → List (List ℕ) → Listed
@@ -159,11 +166,13 @@ listed_at images (Some value) = listed_in images value
 -- What a node lists under a key, where there may be no node.
 abbrev pub listed_under : List Image → Option Entry → Key → Listed
 listed_under images None key = NoConfiguration
-listed_under images (Some configuration) key = listed_at images (get configuration.properties (key_name key))
+listed_under images (Some configuration) key =
+    listed_at images (get configuration.properties (key_name key))
 
 -- What the configuration of this name lists under a key.
 abbrev pub listed_of : ImageTree → List ℕ → Key → Listed
-listed_of tree name key = listed_under (images_of tree) (entry_named name (configurations_of tree)) key
+listed_of tree name key =
+    listed_under (images_of tree) (entry_named name (configurations_of tree)) key
 
 -- The signature nodes among the children of a node.
 abbrev pub signatures_in : Entry → List Entry

@@ -50,7 +50,8 @@ pub record SmallestIsFit : Type 0 where
 abbrev pub offset_file : List ℕ
 offset_file =
     with_cell
-    (file_of_images (node (codes "a") ((data_offset_name, cell 0) ∷ (data_size_name, cell 3) ∷ []) none none)
+    (file_of_images
+    (node (codes "a") ((data_offset_name, cell 0) ∷ (data_size_name, cell 3) ∷ []) none none)
     (1 ∷ 2 ∷ 3 ∷ 4 ∷ codes "abc"))
     4 157
 
@@ -70,7 +71,9 @@ pub record OffsetIsFromAlignedEnd : Type 0 where
 abbrev pub position_file : List ℕ
 position_file =
     file_of_images
-    (node (codes "a") ((data_name, codes "old") ∷ (data_position_name, cell 180) ∷ (data_size_name, cell 3) ∷ []) none none)
+    (node (codes "a")
+    ((data_name, codes "old") ∷ (data_position_name, cell 180) ∷ (data_size_name, cell 3) ∷ [])
+    none none)
     (codes "new")
 
 -- The payload is `new`: `data-position` comes before `data`. The text has one property `data`.
@@ -78,7 +81,8 @@ pub record PositionIsBeforeData : Type 0 where
   pub means : IsFitFile position_file (plain_tree (codes "a" ∷ []) (Some (codes "new") ∷ []))
   pub embedded : fit_text Embedded (plain_tree (codes "a" ∷ []) (Some (codes "new") ∷ []))
       ≡ file_of_images (node (codes "a") ((data_name, codes "new") ∷ []) none none) []
-  pub embedded_length : length (fit_text Embedded (plain_tree (codes "a" ∷ []) (Some (codes "new") ∷ []))) ≡ 124
+  pub embedded_length :
+      length (fit_text Embedded (plain_tree (codes "a" ∷ []) (Some (codes "new") ∷ []))) ≡ 124
 
 -- A file whose image `a` has no payload, and one whose image `a` has an empty one.
 abbrev pub bare_file : List ℕ
@@ -154,7 +158,9 @@ shared_file offset size =
 -- What it means, where this is the first payload.
 abbrev pub shared_tree : List ℕ → ImageTree
 shared_tree payload =
-    plain_tree (codes "a" ∷ codes "b" ∷ codes "c" ∷ []) (Some payload ∷ Some shared_region ∷ Some shared_region ∷ [])
+    plain_tree
+    (codes "a" ∷ codes "b" ∷ codes "c" ∷ [])
+    (Some payload ∷ Some shared_region ∷ Some shared_region ∷ [])
 
 -- A file of 1244 bytes whose images share a region has texts of 3168 and 3244 bytes. An empty
 -- payload may be at the end of the file.
@@ -173,20 +179,27 @@ unsorted_file =
     (node (codes "a") ((data_name, codes "y") ∷ []) none none))
     []
 
+-- What it means.
+abbrev pub unsorted_tree : ImageTree
+unsorted_tree =
+    plain_tree (codes "b" ∷ codes "a" ∷ []) (Some (codes "x") ∷ Some (codes "y") ∷ [])
+
 -- They stay so in its text.
 pub record ChildrenKeepOrder : Type 0 where
-  pub means : IsFitFile unsorted_file (plain_tree (codes "b" ∷ codes "a" ∷ []) (Some (codes "x") ∷ Some (codes "y") ∷ []))
-  pub embedded : fit_text Embedded (plain_tree (codes "b" ∷ codes "a" ∷ []) (Some (codes "x") ∷ Some (codes "y") ∷ []))
-      ≡ unsorted_file
+  pub means : IsFitFile unsorted_file unsorted_tree
+  pub embedded : fit_text Embedded unsorted_tree ≡ unsorted_file
 
 -- A tree with `data` in the root, in `images`, in a hash node, and in a child of another node
 -- `images` that is no child of the root.
 abbrev pub nested_tree : Root (List Property)
 nested_tree = record {
   own = (data_name, codes "r") ∷ [];
-  children = node (codes "other") [] (node images_name [] (node (codes "n") ((data_name, codes "o") ∷ []) none none) none)
+  children = node (codes "other") []
+      (node images_name [] (node (codes "n") ((data_name, codes "o") ∷ []) none none) none)
       (node images_name ((data_name, codes "p") ∷ [])
-      (node (codes "a") ((data_name, codes "q") ∷ []) (node (codes "hash-1") ((data_name, codes "s") ∷ []) none none) none)
+      (node (codes "a") ((data_name, codes "q") ∷ [])
+      (node (codes "hash-1") ((data_name, codes "s") ∷ []) none none)
+      none)
       none);
 }
 
@@ -222,17 +235,22 @@ pub record OnlyImagesHavePayloads : Type 0 where
 -- A file whose image `a` has `data` and a `data-size` that is no cell.
 abbrev pub unused_size_file : List ℕ
 unused_size_file =
-    file_of_images (node (codes "a") ((data_name, codes "abc") ∷ (data_size_name, codes "s") ∷ []) none none) []
+    file_of_images
+    (node (codes "a") ((data_name, codes "abc") ∷ (data_size_name, codes "s") ∷ []) none none)
+    []
 
 -- A file whose image `a` has `data-position` 0, `data-size` 4 and a `data-offset` that is no cell.
 abbrev pub unused_offset_file : List ℕ
 unused_offset_file =
     file_of_images
-    (node (codes "a") ((data_offset_name, codes "o") ∷ (data_position_name, cell 0) ∷ (data_size_name, cell 4) ∷ []) none none)
+    (node (codes "a")
+    ((data_offset_name, codes "o") ∷ (data_position_name, cell 0) ∷ (data_size_name, cell 4) ∷ [])
+    none none)
     []
 
 -- Properties that do not give the payload have no meaning. A region may be anywhere in the file,
 -- also in its header.
 pub record UnusedHaveNoMeaning : Type 0 where
   pub size : IsFitFile unused_size_file (plain_tree (codes "a" ∷ []) (Some (codes "abc") ∷ []))
-  pub offset : IsFitFile unused_offset_file (plain_tree (codes "a" ∷ []) (Some (0xd0 ∷ 0x0d ∷ 0xfe ∷ 0xed ∷ []) ∷ []))
+  pub offset : IsFitFile unused_offset_file
+      (plain_tree (codes "a" ∷ []) (Some (0xd0 ∷ 0x0d ∷ 0xfe ∷ 0xed ∷ []) ∷ []))

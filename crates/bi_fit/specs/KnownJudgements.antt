@@ -40,9 +40,11 @@ configured_tree = record {
   reservations = [];
   root = record {
     own = empty;
-    children = node images_name empty (node (codes "a") empty (node (codes "signature-1") empty none none) none)
+    children = node images_name empty
+        (node (codes "a") empty (node (codes "signature-1") empty none none) none)
         (node configurations_name (from_entries default_list)
-        (node (codes "conf-1") (from_entries configuration_lists) (node (codes "signature") empty none none)
+        (node (codes "conf-1") (from_entries configuration_lists)
+        (node (codes "signature") empty none none)
         (node (codes "conf-2") (from_entries other_lists) none none))
         none);
   };

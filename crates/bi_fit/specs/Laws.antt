@@ -51,20 +51,24 @@ OneFault =
 abbrev pub MeaningOrFault : Type 0
 MeaningOrFault =
     (bounds : Bounds) (file : List ℕ) → AreBytes file
-    → ((tree : ImageTree) × FitMeans bounds file tree) ⊎ ((fault : Fault) × IsFitFault bounds file fault)
+    → ((tree : ImageTree) × FitMeans bounds file tree)
+    ⊎ ((fault : Fault) × IsFitFault bounds file fault)
 
 -- A file of bytes is a flattened image tree within limits exactly where it has no fault under
 -- them.
 abbrev pub MeaningWhereNoFault : Type 0
 MeaningWhereNoFault =
     (bounds : Bounds) (file : List ℕ) → AreBytes file
-    → ((tree : ImageTree) × FitMeans bounds file tree) ↔ ((fault : Fault) → ¬ (IsFitFault bounds file fault))
+    → ((tree : ImageTree) × FitMeans bounds file tree)
+    ↔ ((fault : Fault) → ¬ (IsFitFault bounds file fault))
 
 -- The payload of each image node is in the file at its place.
 abbrev pub PayloadsAreAtPlaces : Type 0
 PayloadsAreAtPlaces =
     (file : List ℕ) (tree : ImageTree) (is : IsFitFile file tree)
-    → AllZip (λ own payload. IsAtPlace file (payload_place file (source_of own)) payload) (each_own is.images) tree.payloads
+    → AllZip
+    (λ own payload. IsAtPlace file (payload_place file (source_of own)) payload)
+    (each_own is.images) tree.payloads
 
 -- What a file means is an image tree.
 abbrev pub FileMeansImageTree : Type 0
@@ -117,7 +121,8 @@ SameTextSameJudgement =
 -- The length of an external text follows from the length of its blob and the sizes of its
 -- payloads. The blob ends at a multiple of four.
 pub record HasExternalLength (tree : ImageTree) : Type 0 where
-  pub is_length : length (fit_text External tree) ≡ length (blob_of External tree) + payloads_end 0 tree.payloads
+  pub is_length : length (fit_text External tree)
+      ≡ length (blob_of External tree) + payloads_end 0 tree.payloads
   pub blob_is_whole : length (blob_of External tree) % 4 ≡ 0
 
 -- Each external text is that long.
@@ -135,8 +140,9 @@ abbrev pub ExternalPayloadsArePlaced : Type 0
 ExternalPayloadsArePlaced =
     (tree : ImageTree) → length (fit_text External tree) ≤ longest_text
     → (is : IsFitFile (fit_text External tree) tree)
-    → AllZip (λ own place. payload_place (fit_text External tree) (source_of own) ≡ place) (each_own is.images)
-    (payload_places (length (blob_of External tree)) 0 tree.payloads)
+    → AllZip
+    (λ own place. payload_place (fit_text External tree) (source_of own) ≡ place)
+    (each_own is.images) (payload_places (length (blob_of External tree)) 0 tree.payloads)
 
 -- The text of a built tree, in either form, is accepted under limits that hold it and four open
 -- nodes, and means the tree.

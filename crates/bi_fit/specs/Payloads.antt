@@ -51,7 +51,8 @@ external_base file = up4 (totalsize file)
 
 -- Two properties, each of one cell, name this payload: a region of the file. It may be anywhere in
 -- the file (profile of this project).
-pub record IsRegion (file : List ℕ) (base : ℕ) (begin size : FileProperty) (payload : Option (List ℕ)) : Type 0 where
+pub record IsRegion (file : List ℕ) (base : ℕ) (begin size : FileProperty)
+    (payload : Option (List ℕ)) : Type 0 where
   pub begin_cell : length begin.value ≡ 4
   pub size_cell : length size.value ≡ 4
   pub in_file : base + number_of begin + number_of size ≤ length file
@@ -69,7 +70,8 @@ IsSizedRegion file base begin (Some size) payload = IsRegion file base begin siz
 abbrev pub IsPayload : List ℕ → PayloadSource → Option (List ℕ) → Type 0
 IsPayload file NoSource payload = payload ≡ None
 IsPayload file (Data data_property) payload = payload ≡ Some data_property.value
-IsPayload file (DataOffset offset size) payload = IsSizedRegion file (external_base file) offset size payload
+IsPayload file (DataOffset offset size) payload =
+    IsSizedRegion file (external_base file) offset size payload
 IsPayload file (DataPosition position size) payload = IsSizedRegion file 0 position size payload
 
 -- An image node of a file has this payload, or none.

@@ -55,7 +55,8 @@ with_payloads form end (payload ∷ payloads) (node name own children later) =
 -- The tree of a text: the image nodes have the properties that give their payloads, and the
 -- properties of each node are by name in byte order.
 abbrev pub normal_tree : Form → ImageTree → Root (List Property)
-normal_tree form tree = in_byte_order (with_image_nodes (with_payloads form 0 tree.payloads) tree.root)
+normal_tree form tree =
+    in_byte_order (with_image_nodes (with_payloads form 0 tree.payloads) tree.root)
 
 -- The blob of a text.
 abbrev pub blob_of : Form → ImageTree → List ℕ
