@@ -1,11 +1,14 @@
 pub mod Tree
+pub mod Lookups
 pub mod Tokens
 pub mod Events
 pub mod Stages
+pub mod Following
 pub mod Blob
 pub mod BlobFaults
 pub mod Layout
 pub mod BlobLaws
 pub mod TextLaws
 pub mod KnownTexts
+pub mod KnownBlobs
 pub mod KnownFaults

@@ -32,7 +32,7 @@ word_within blocks depth_limit place number stage readable next =
     let within : blocks.end ≤ length blocks.file = readable.within in
     omega arith
 
-length-opens_of : (name : List ℕ) (outer : List PartialNode) → length (opens_of name outer) ≡ length outer
+pub length-opens_of : (name : List ℕ) (outer : List PartialNode) → length (opens_of name outer) ≡ length outer
 length-opens_of name [] = refl
 length-opens_of name (parent ∷ outer) = ap suc (length-opens_of parent.name outer)
 
@@ -90,7 +90,7 @@ next_child blocks depth_limit place parent outer standing next =
     )
 
 -- Good open nodes stay so with one more property of the innermost.
-AreOpenNodes-property : (depth_limit : ℕ) (o : PartialNode) (outer : List PartialNode) (p : FileProperty) → AreOpenNodes depth_limit o outer → AreProperties (map (λ (q : FileProperty). (q.name, q.value)) (o.properties ++ p ∷ [])) → AreOpenNodes depth_limit (with_one_property o p) outer
+pub AreOpenNodes-property : (depth_limit : ℕ) (o : PartialNode) (outer : List PartialNode) (p : FileProperty) → AreOpenNodes depth_limit o outer → AreProperties (map (λ (q : FileProperty). (q.name, q.value)) (o.properties ++ p ∷ [])) → AreOpenNodes depth_limit (with_one_property o p) outer
 AreOpenNodes-property depth_limit o [] p are good = (record { properties = good; children = are.0.children; shallow = are.0.shallow }, are.1)
 AreOpenNodes-property depth_limit o (parent ∷ outer) p are good = (
   record { properties = good; children = are.0.children; shallow = are.0.shallow },
@@ -99,7 +99,7 @@ AreOpenNodes-property depth_limit o (parent ∷ outer) p are good = (
 )
 
 -- The innermost of good open nodes is good.
-innermost_properties : (depth_limit : ℕ) (o : PartialNode) (outer : List PartialNode) → AreOpenNodes depth_limit o outer → AreProperties (map (λ (q : FileProperty). (q.name, q.value)) o.properties)
+pub innermost_properties : (depth_limit : ℕ) (o : PartialNode) (outer : List PartialNode) → AreOpenNodes depth_limit o outer → AreProperties (map (λ (q : FileProperty). (q.name, q.value)) o.properties)
 innermost_properties depth_limit o [] are = are.0.properties
 innermost_properties depth_limit o (parent ∷ outer) are = are.0.properties
 
@@ -157,7 +157,7 @@ IsOpenNode-child depth_limit above parent child is is_child may =
       shallow = omega arith;
     }
 
-AreOpenNodes-child : (depth_limit : ℕ) (child parent : PartialNode) (outer : List PartialNode) → AreOpenNodes depth_limit child (parent ∷ outer) → AreOpenNodes depth_limit (with_one_child parent child) outer
+pub AreOpenNodes-child : (depth_limit : ℕ) (child parent : PartialNode) (outer : List PartialNode) → AreOpenNodes depth_limit child (parent ∷ outer) → AreOpenNodes depth_limit (with_one_child parent child) outer
 AreOpenNodes-child depth_limit child parent [] are =
     (IsOpenNode-child depth_limit 0 parent child are.2.0 are.0 are.1, are.2.1)
 AreOpenNodes-child depth_limit child parent (grandparent ∷ outer) are = (

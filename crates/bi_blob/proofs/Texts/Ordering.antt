@@ -14,12 +14,12 @@ pub order_tells : IsAntisymmetric (slice_cmp nat_cmp)
 order_tells = slice_cmp-IsAntisymmetric nat_cmp-IsAntisymmetric
 
 -- Both of two tests pass where they do together.
-both_pass : (a b : Bool) → T (a && b) → T a × T b
+pub both_pass : (a b : Bool) → T (a && b) → T a × T b
 both_pass true b passes = (tt, passes)
 both_pass false b passes = absurd passes
 
 -- A name that is below another is another.
-below_other : (name other : List ℕ) → T (is_lt (slice_cmp nat_cmp name other)) → other ≢ name
+pub below_other : (name other : List ℕ) → T (is_lt (slice_cmp nat_cmp name other)) → other ≢ name
 below_other name other below same =
     subst (λ o. T (is_lt o)) (tied_itself nat_list_cmp_total name) (subst (λ other. T (is_lt (slice_cmp nat_cmp name other))) same below)
 
