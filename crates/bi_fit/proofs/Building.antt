@@ -2,6 +2,7 @@ use Rattle.std.proofs.Common.{◌≡◌, ℕ, List, [], ◌∷◌, map, flat_map
 use Rattle.std.specs.FinMap.{get, from_entries, get-from_entries}
 use Rattle.std.proofs.lemmas.Cmp.{nat_list_cmp_total}
 use Rattle.bi_blob.specs.Tree.{PropertyMap}
+use Rattle.bi_blob.specs.Lookups.{siblings}
 use Rattle.bi_hash.specs.declared.algo.Algo.TheVariants.{Sha256}
 use Rattle.bi_hash.specs.declared.verdicts.Verdict.TheVariants.{Good}
 use Rattle.bi_hash.specs.Algos.{name_of}
@@ -9,7 +10,7 @@ use Rattle.bi_hash.specs.Digests.{digest_of}
 use Rattle.bi_hash.specs.Verdicts.{verdict_of, text_of}
 use Rattle.bi_hash.proofs.GoodValues.{good-from_digest}
 use Rattle.bi_fit.specs.Names.{algo_name, value_name}
-use Rattle.bi_fit.specs.Judgement.{images_with, entries_of, checked_hash, hash_nodes}
+use Rattle.bi_fit.specs.Judgement.{images_with, checked_hash, hash_nodes}
 use Rattle.bi_fit.specs.Building.{FitHead, ImageSpecification, text_value, hash_properties, built_images, built}
 use Rattle.bi_fit.specs.Laws.{BuiltIsAccepted, good_hash, BuiltHasGoodPayloads}
 use Rattle.bi_fit.proofs.TextLaws.{text_is_accepted}
@@ -39,7 +40,7 @@ verdict_is payload =
     (record { algorithm = Sha256; rest = []; bytes = payload; algo_is = refl; value_is = refl; payload_is = refl })
 
 -- What is told of the hash nodes of images.
-hashes : (head : FitHead) (images : List ImageSpecification) → flat_map (λ image. map (checked_hash image) (hash_nodes image)) (images_with (entries_of (built_images head images)) (map (λ image. Some image.payload) images)) ≡ map good_hash images
+hashes : (head : FitHead) (images : List ImageSpecification) → flat_map (λ image. map (checked_hash image) (hash_nodes image)) (images_with (siblings (built_images head images)) (map (λ image. Some image.payload) images)) ≡ map good_hash images
 unfolding text_of
 hashes head [] = refl
 hashes head (image ∷ later) =

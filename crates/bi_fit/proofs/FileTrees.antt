@@ -11,9 +11,10 @@ use Rattle.bi_blob.specs.Layout.{AreEventBytes, IsContent}
 use Rattle.bi_blob.proofs.Blobs.Complete.{depth-with_each}
 use Rattle.bi_blob.proofs.Texts.Members.{each-front, each-back}
 use Rattle.bi_blob.proofs.Texts.Content.{blob_has_content}
+use Rattle.bi_blob.specs.Lookups.{property_named}
 use Rattle.bi_fit.specs.Names.{data_name, images_name}
 use Rattle.bi_fit.specs.ImageTree.{ImageTree, each_own, image_nodes, children_of, without_payload, without_payloads, ArePropertiesByName, HaveByteNames, IsApart, IsImageTree}
-use Rattle.bi_fit.specs.Payloads.{PayloadSource, NoSource, Data, DataOffset, DataPosition, first_source, source_of, property_named, number_of, external_base, IsSizedRegion, IsPayload, HasPayload}
+use Rattle.bi_fit.specs.Payloads.{PayloadSource, NoSource, Data, DataOffset, DataPosition, first_source, source_of, number_of, external_base, IsSizedRegion, IsPayload, HasPayload}
 use Rattle.bi_fit.specs.File.{IsFitFile}
 use Rattle.bi_fit.proofs.Meanings.{same_in_some}
 use Rattle.bi_fit.proofs.Maps.{get-without}
@@ -48,12 +49,12 @@ good_nodes (node name properties children later) are bytes =
     )
 
 -- A property that is found among good ones is good.
-found_good : (name : List ℕ) (properties : List FileProperty) (property : FileProperty) → AreGood (map property_of properties) → property_named name properties ≡ Some property → AreBytes property.value
+found_good : (name : List ℕ) (properties : List FileProperty) (property : FileProperty) → AreGood (map property_of properties) → property_named properties name ≡ Some property → AreBytes property.value
 found_good name [] property good found = absurd cc
 found_good name (first ∷ later) property good found =
-    where_first (bytes_eq name first.name) refl found (found_good name later property good.1)
+    where_first (bytes_eq first.name name) refl found (found_good name later property good.1)
   where
-    where_first : (b : Bool) → bytes_eq name first.name ≡ b → property_named name (first ∷ later) ≡ Some property → (property_named name later ≡ Some property → AreBytes property.value) → AreBytes property.value
+    where_first : (b : Bool) → bytes_eq first.name name ≡ b → property_named (first ∷ later) name ≡ Some property → (property_named later name ≡ Some property → AreBytes property.value) → AreBytes property.value
     where_first true is found rest =
         let same : first ≡ property = same_in_some first property (rw is at found) in
         subst (λ property. AreBytes property.value) same good.0.value_bytes

@@ -5,17 +5,19 @@ use Rattle.std.specs.Int.{from_be_bytes, w32}
 use Rattle.std.specs.Cmp.Lexicographic.{slice_cmp}
 use Rattle.std.specs.FinMap.{get, entries, find, get-entries}
 use Rattle.std.proofs.lemmas.Nat.{from_be_bytes-to_be_bytes_4}
+use Rattle.std.proofs.lemmas.Cmp.{nat_list_eq_equiv}
 use Rattle.std.proofs.lemmas.Map.Text.{is_eq-slice_cmp}
 use Rattle.bi_base.specs.Cells.{cell, slice}
 use Rattle.bi_base.proofs.CellLaws.{length-cell}
 use Rattle.bi_blob.specs.Tree.{Property, PropertyMap, FileProperty, FileNode}
 use Rattle.bi_blob.specs.Events.{NodeProperty}
 use Rattle.bi_blob.specs.Layout.{event_width, properties_with_places}
+use Rattle.bi_blob.specs.Lookups.{property_named}
 use Rattle.bi_fit.specs.declared.form.Form.{Form}
 use Rattle.bi_fit.specs.declared.form.Form.TheVariants.{Embedded, External}
 use Rattle.bi_fit.specs.Names.{data_name, data_offset_name, data_position_name, data_size_name}
 use Rattle.bi_fit.specs.ImageTree.{IsApart}
-use Rattle.bi_fit.specs.Payloads.{source_of, property_named, number_of, external_base, payload_place, HasPayload}
+use Rattle.bi_fit.specs.Payloads.{source_of, number_of, external_base, payload_place, HasPayload}
 use Rattle.bi_fit.specs.Text.{with_payload}
 use Rattle.bi_fit.proofs.Maps.{get-put, get-put_other}
 
@@ -26,17 +28,17 @@ abbrev pub placed : ℕ → PropertyMap → List FileProperty
 placed at properties = properties_with_places at (entries properties)
 
 -- The value of the property of a name among properties with places is that among those without.
-value_named : (name : List ℕ) (at : ℕ) (properties : List Property) → option_map (λ property. property.value) (property_named name (properties_with_places at properties)) ≡ find (slice_cmp nat_cmp) name properties
+value_named : (name : List ℕ) (at : ℕ) (properties : List Property) → option_map (λ property. property.value) (property_named (properties_with_places at properties) name) ≡ find (slice_cmp nat_cmp) name properties
 value_named name at [] = refl
 value_named name at (property ∷ later) =
-    where_first (bytes_eq name property.0) refl (value_named name (at + event_width (NodeProperty property)) later)
+    where_first (bytes_eq property.0 name) refl (value_named name (at + event_width (NodeProperty property)) later)
   where
-    where_first : (b : Bool) → bytes_eq name property.0 ≡ b → option_map (λ property. property.value) (property_named name (properties_with_places (at + event_width (NodeProperty property)) later)) ≡ find (slice_cmp nat_cmp) name later → option_map (λ property. property.value) (property_named name (properties_with_places at (property ∷ later))) ≡ find (slice_cmp nat_cmp) name (property ∷ later)
-    where_first true is rest = rw (is, is_eq-slice_cmp name property.0, is) refl
-    where_first false is rest = rw (is, is_eq-slice_cmp name property.0, is) rest
+    where_first : (b : Bool) → bytes_eq property.0 name ≡ b → option_map (λ property. property.value) (property_named (properties_with_places (at + event_width (NodeProperty property)) later) name) ≡ find (slice_cmp nat_cmp) name later → option_map (λ property. property.value) (property_named (properties_with_places at (property ∷ later)) name) ≡ find (slice_cmp nat_cmp) name (property ∷ later)
+    where_first true is rest = rw (is, is_eq-slice_cmp name property.0, nat_list_eq_equiv.symm name property.0, is) refl
+    where_first false is rest = rw (is, is_eq-slice_cmp name property.0, nat_list_eq_equiv.symm name property.0, is) rest
 
 -- The same for properties by name.
-pub value_placed : (name : List ℕ) (at : ℕ) (properties : PropertyMap) → option_map (λ property. property.value) (property_named name (placed at properties)) ≡ get properties name
+pub value_placed : (name : List ℕ) (at : ℕ) (properties : PropertyMap) → option_map (λ property. property.value) (property_named (placed at properties) name) ≡ get properties name
 value_placed name at properties = value_named name at (entries properties) ∙ sym (get-entries properties name)
 
 -- What is mapped from nothing is nothing.
@@ -50,11 +52,11 @@ some_image f None y e = absurd cc
 some_image f (Some x) y e = (x, refl, cc)
 
 -- A property that is not among those by name is not among those with places.
-pub not_placed : (name : List ℕ) (at : ℕ) (properties : PropertyMap) → get properties name ≡ None → property_named name (placed at properties) ≡ None
+pub not_placed : (name : List ℕ) (at : ℕ) (properties : PropertyMap) → get properties name ≡ None → property_named (placed at properties) name ≡ None
 not_placed name at properties is = no_image (λ property. property.value) _ (value_placed name at properties ∙ is)
 
 -- A property by name is among those with places.
-pub is_placed : (name : List ℕ) (at : ℕ) (properties : PropertyMap) (value : List ℕ) → get properties name ≡ Some value → (property : FileProperty) × (property_named name (placed at properties) ≡ Some property) × (property.value ≡ value)
+pub is_placed : (name : List ℕ) (at : ℕ) (properties : PropertyMap) (value : List ℕ) → get properties name ≡ Some value → (property : FileProperty) × (property_named (placed at properties) name ≡ Some property) × (property.value ≡ value)
 is_placed name at properties value is = some_image (λ property. property.value) _ value (value_placed name at properties ∙ is)
 
 -- A region of a file that has a payload, and whose numbers are cells.

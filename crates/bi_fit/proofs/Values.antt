@@ -11,9 +11,10 @@ use Rattle.bi_blob.proofs.Blobs.Cells.{BytesAt, BytesAt-right, BytesAt-within}
 use Rattle.bi_blob.proofs.Blobs.TokenEncoding.{AllStand}
 use Rattle.bi_blob.proofs.Blobs.OneBlob.{HoldsTree-stand}
 use Rattle.bi_blob.proofs.Texts.Members.{each-front, each-back, each-map_back}
+use Rattle.bi_blob.specs.Lookups.{property_named}
 use Rattle.bi_fit.specs.Names.{data_name, images_name}
 use Rattle.bi_fit.specs.ImageTree.{children_of, each_own}
-use Rattle.bi_fit.specs.Payloads.{PayloadSource, NoSource, Data, DataOffset, DataPosition, source_of, property_named, number_of, external_base, IsSizedRegion, IsPayload, HasPayload, payload_place, IsAt, IsAtPlace}
+use Rattle.bi_fit.specs.Payloads.{PayloadSource, NoSource, Data, DataOffset, DataPosition, source_of, number_of, external_base, IsSizedRegion, IsPayload, HasPayload, payload_place, IsAt, IsAtPlace}
 use Rattle.bi_fit.specs.Laws.{PayloadsAreAtPlaces}
 use Rattle.bi_fit.proofs.Meanings.{same_in_some}
 use Rattle.bi_fit.proofs.FileTrees.{source_is_data}
@@ -91,12 +92,12 @@ found_values file wanted (node name own children later) inner has have =
     where_first false is has rest = rest (rw is at has)
 
 -- A property that is found by its name has its value.
-named_value : (file name : List ℕ) (properties : List FileProperty) (property : FileProperty) → AllByRecursion (HasValue file) properties → property_named name properties ≡ Some property → HasValue file property
+named_value : (file name : List ℕ) (properties : List FileProperty) (property : FileProperty) → AllByRecursion (HasValue file) properties → property_named properties name ≡ Some property → HasValue file property
 named_value file name [] property have found = absurd cc
 named_value file name (first ∷ later) property have found =
-    where_first (bytes_eq name first.name) refl found (named_value file name later property have.1)
+    where_first (bytes_eq first.name name) refl found (named_value file name later property have.1)
   where
-    where_first : (b : Bool) → bytes_eq name first.name ≡ b → property_named name (first ∷ later) ≡ Some property → (property_named name later ≡ Some property → HasValue file property) → HasValue file property
+    where_first : (b : Bool) → bytes_eq first.name name ≡ b → property_named (first ∷ later) name ≡ Some property → (property_named later name ≡ Some property → HasValue file property) → HasValue file property
     where_first true is found rest =
         let same : first ≡ property = same_in_some first property (rw is at found) in
         subst (HasValue file) same have.0

@@ -1,9 +1,10 @@
 use Rattle.std.specs.Prelude.{◌≡◌, ℕ, ◌^◌, ◌<◌, true, not, List, [], ◌∷◌, Option, Some, None}
-use Rattle.std.specs.Prelude.{bytes_eq, if◌then◌else◌, IfSome, ⊤}
+use Rattle.std.specs.Prelude.{option_map, bytes_eq, if◌then◌else◌, IfSome, ⊤}
 use Rattle.std.specs.List.{AllByRecursion, AllZip}
 use Rattle.std.specs.FinMap.{get, retain_keys}
 use Rattle.bi_base.specs.Cells.{AreBytes}
 use Rattle.bi_blob.specs.Tree.{Nodes, none, node, Root, PropertyMap, IsTree, IsPropertyName}
+use Rattle.bi_blob.specs.Lookups.{node_named}
 use Rattle.bi_blob.specs.Blob.{Reservation, IsReservation}
 use Rattle.bi_fit.specs.Names.{images_name, is_payload_name}
 
@@ -19,9 +20,7 @@ pub record ImageTree : Type 0 where
 
 -- The children of the first of these nodes that has this name, if one has it.
 abbrev pub children_of : {Own : Type 0} → List ℕ → Nodes Own → Option (Nodes Own)
-children_of wanted none = None
-children_of wanted (node name own children later) =
-    if bytes_eq name wanted then Some children else children_of wanted later
+children_of wanted nodes = option_map (λ found. found.children) (node_named nodes wanted)
 
 -- The same nodes, with other children in the first of them that has this name.
 abbrev pub with_children_of : {Own : Type 0} → List ℕ → (Nodes Own → Nodes Own) → Nodes Own

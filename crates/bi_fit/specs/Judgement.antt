@@ -3,13 +3,14 @@ use Rattle.std.specs.Prelude.{option_and_then, length, filter, bytes_eq, nat_eq,
 use Rattle.std.specs.Prelude.{if◌then◌else◌}
 use Rattle.std.specs.List.{ends_with, find}
 use Rattle.std.specs.FinMap.{get}
-use Rattle.bi_blob.specs.Tree.{Nodes, none, node, PropertyMap}
+use Rattle.bi_blob.specs.Tree.{Nodes, none, PropertyMap, names}
+use Rattle.bi_blob.specs.Lookups.{Sibling, siblings, node_named}
 use Rattle.bi_hash.specs.declared.verdicts.Verdict.{Verdict}
 use Rattle.bi_hash.specs.Verdicts.{verdict_of, text_of}
 use Rattle.bi_fit.specs.declared.key.Key.{Key}
 use Rattle.bi_fit.specs.Names.{configurations_name, algo_name, value_name, default_name}
 use Rattle.bi_fit.specs.Names.{is_hash_name, is_signature_name, key_name}
-use Rattle.bi_fit.specs.ImageTree.{ImageTree, image_nodes}
+use Rattle.bi_fit.specs.ImageTree.{ImageTree, image_nodes, children_of}
 
 -- What follows from a flattened image tree about its images and configurations: the verdicts on
 -- its hash nodes, the images that each configuration lists, the default configuration, and how
@@ -17,38 +18,27 @@ use Rattle.bi_fit.specs.ImageTree.{ImageTree, image_nodes}
 -- order of refusals, is profile of this project). All of it is a function of the image tree, so
 -- files that mean the same agree in it.
 
--- A node with its name, what it has itself, and its children.
-pub record Entry : Type 0 where
-  pub name : List ℕ
-  pub properties : PropertyMap
-  pub children : Nodes PropertyMap
-
--- Nodes as a list.
-abbrev pub entries_of : Nodes PropertyMap → List Entry
-entries_of none = []
-entries_of (node name own children later) =
-    record { name = name; properties = own; children = children } ∷ entries_of later
-
--- An image: its node and its payload, if it has one.
+-- An image: its node and its payload, if it has one. No definition here reads the nodes after the
+-- node.
 pub record Image : Type 0 where
-  pub entry : Entry
+  pub entry : Sibling PropertyMap
   pub payload : Option (List ℕ)
 
 -- Nodes and their payloads as a list of images.
-abbrev pub images_with : List Entry → List (Option (List ℕ)) → List Image
+abbrev pub images_with : List (Sibling PropertyMap) → List (Option (List ℕ)) → List Image
 images_with [] payloads = []
 images_with entries [] = []
 images_with (entry ∷ entries) (payload ∷ payloads) =
     record { entry = entry; payload = payload } ∷ images_with entries payloads
 
--- The nodes of an option, if it has some.
+-- The nodes of a list, where there may be no list.
 abbrev pub nodes_or_none : Option (Nodes PropertyMap) → Nodes PropertyMap
 nodes_or_none None = none
 nodes_or_none (Some nodes) = nodes
 
 -- The images of a tree, in their order.
 abbrev pub images_of : ImageTree → List Image
-images_of tree = images_with (entries_of (nodes_or_none (image_nodes tree.root))) tree.payloads
+images_of tree = images_with (siblings (nodes_or_none (image_nodes tree.root))) tree.payloads
 
 -- A hash node: the names of its image and of itself, the text of its algo, if it has one, its
 -- value and the verdict on it.
@@ -60,52 +50,37 @@ pub record CheckedHash : Type 0 where
   pub verdict : Verdict
 
 -- A hash node of an image, with its verdict.
-abbrev pub checked_hash : Image → Entry → CheckedHash
+abbrev pub checked_hash : Image → Sibling PropertyMap → CheckedHash
 checked_hash image hash = record {
   image = image.entry.name;
   node_name = hash.name;
-  algo = option_and_then text_of (get hash.properties algo_name);
-  value = get hash.properties value_name;
+  algo = option_and_then text_of (get hash.own algo_name);
+  value = get hash.own value_name;
   verdict = verdict_of
-      (get hash.properties algo_name)
-      (get hash.properties value_name)
+      (get hash.own algo_name)
+      (get hash.own value_name)
       image.payload;
 }
 
 -- The hash nodes of an image, in their order.
-abbrev pub hash_nodes : Image → List Entry
-hash_nodes image = filter (λ child. is_hash_name child.name) (entries_of image.entry.children)
+abbrev pub hash_nodes : Image → List (Sibling PropertyMap)
+hash_nodes image = filter (λ child. is_hash_name child.name) (siblings image.entry.children)
 
 -- The verdicts of a tree: image by image, and of each image hash node by hash node.
 abbrev pub verdicts_of : ImageTree → List CheckedHash
 verdicts_of tree = flat_map (λ image. map (checked_hash image) (hash_nodes image)) (images_of tree)
 
--- The first of these nodes that has this name, if one has it.
-abbrev pub entry_named : List ℕ → List Entry → Option Entry
-entry_named wanted entries = find (λ entry. bytes_eq entry.name wanted) entries
+-- The configuration nodes of a tree: the children of the root's child `configurations`.
+abbrev pub configuration_nodes : ImageTree → Nodes PropertyMap
+configuration_nodes tree = nodes_or_none (children_of configurations_name tree.root.children)
 
--- The node whose children are the configurations, if there is one.
-abbrev pub configurations_node : ImageTree → Option Entry
-configurations_node tree = entry_named configurations_name (entries_of tree.root.children)
-
--- The children of a node, where there may be none.
-abbrev pub children_or_none : Option Entry → List Entry
-children_or_none None = []
-children_or_none (Some entry) = entries_of entry.children
-
--- The configurations of a tree, in their order.
-abbrev pub configurations_of : ImageTree → List Entry
-configurations_of tree = children_or_none (configurations_node tree)
-
--- A property of a node, where there may be no node.
-abbrev pub property_of_entry : List ℕ → Option Entry → Option (List ℕ)
-property_of_entry name entry = option_and_then (λ entry. get entry.properties name) entry
-
--- The name of the default configuration: the text of `default`. Whether there is such a
--- configuration is not asked.
+-- The name of the default configuration: the text of the property `default` of `configurations`.
+-- Whether there is such a configuration is not asked.
 abbrev pub default_of : ImageTree → Option (List ℕ)
 default_of tree =
-    option_and_then text_of (property_of_entry default_name (configurations_node tree))
+    option_and_then
+    (λ configurations. option_and_then text_of (get configurations.own default_name))
+    (node_named tree.root.children configurations_name)
 
 -- One more byte at the front of the first name of a list. What no zero follows is no name.
 abbrev pub with_byte : ℕ → List (List ℕ) → List (List ℕ)
@@ -164,25 +139,25 @@ listed_at images None = NoKey
 listed_at images (Some value) = listed_in images value
 
 -- What a node lists under a key, where there may be no node.
-abbrev pub listed_under : List Image → Option Entry → Key → Listed
+abbrev pub listed_under : List Image → Option (Sibling PropertyMap) → Key → Listed
 listed_under images None key = NoConfiguration
 listed_under images (Some configuration) key =
-    listed_at images (get configuration.properties (key_name key))
+    listed_at images (get configuration.own (key_name key))
 
 -- What the configuration of this name lists under a key.
 abbrev pub listed_of : ImageTree → List ℕ → Key → Listed
 listed_of tree name key =
-    listed_under (images_of tree) (entry_named name (configurations_of tree)) key
+    listed_under (images_of tree) (node_named (configuration_nodes tree) name) key
 
 -- The signature nodes among the children of a node.
-abbrev pub signatures_in : Entry → List Entry
-signatures_in entry = filter (λ child. is_signature_name child.name) (entries_of entry.children)
+abbrev pub signatures_in : Sibling PropertyMap → List (Sibling PropertyMap)
+signatures_in entry = filter (λ child. is_signature_name child.name) (siblings entry.children)
 
 -- How many signature nodes there are: children of image nodes and of configuration nodes.
 abbrev pub signature_count : ImageTree → ℕ
 signature_count tree =
     length (flat_map (λ image. signatures_in image.entry) (images_of tree))
-    + length (flat_map signatures_in (configurations_of tree))
+    + length (flat_map signatures_in (siblings (configuration_nodes tree)))
 
 -- All that follows from a tree about its images and configurations.
 pub record Judgement : Type 0 where
@@ -196,7 +171,7 @@ pub record Judgement : Type 0 where
 unfoldable pub judgement : ImageTree → Judgement
 judgement tree = record {
   verdicts = verdicts_of tree;
-  configurations = map (λ entry. entry.name) (configurations_of tree);
+  configurations = names (configuration_nodes tree);
   listed = listed_of tree;
   default_configuration = default_of tree;
   signatures = signature_count tree;

@@ -64,8 +64,8 @@ pub record RegionsHaveFaults : Type 0 where
       OutsideFile 84
 
 -- Files in which two checks fail: the fault is that of the first. The checks of one image node
--- come before those of the next, and `data-position` alone is checked where there is
--- `data-offset` too.
+-- come before those of the next, and `data-position` alone is checked where there is `data-offset`
+-- too.
 pub record FirstFaultCounts : Type 0 where
   pub cell_before_size :
       HasFault widest (file_of_image ((data_offset_name, codes "abc") ∷ [])) BadCell 84

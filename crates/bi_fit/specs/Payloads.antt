@@ -1,8 +1,8 @@
-use Rattle.std.specs.Prelude.{◌≡◌, ℕ, ◌+◌, ◌≤◌, List, Option, Some, None, length, bytes_eq, ⊤}
+use Rattle.std.specs.Prelude.{◌≡◌, ℕ, ◌+◌, ◌≤◌, List, Option, Some, None, length, ⊤}
 use Rattle.std.specs.Int.{from_be_bytes, w32}
-use Rattle.std.specs.List.{find}
 use Rattle.bi_base.specs.Cells.{slice, up4}
 use Rattle.bi_blob.specs.Tree.{FileProperty, FileNode}
+use Rattle.bi_blob.specs.Lookups.{property_named}
 use Rattle.bi_blob.specs.Blob.{totalsize}
 use Rattle.bi_fit.specs.Names.{data_name, data_offset_name, data_position_name, data_size_name}
 
@@ -27,18 +27,14 @@ first_source None (Some offset) size data_property = DataOffset offset size
 first_source None None size (Some data_property) = Data data_property
 first_source None None size None = NoSource
 
--- The property of this name, if a node has one.
-abbrev pub property_named : List ℕ → List FileProperty → Option FileProperty
-property_named name properties = find (λ property. bytes_eq name property.name) properties
-
 -- The source of an image node's payload.
 abbrev pub source_of : FileNode → PayloadSource
 source_of own =
     first_source
-    (property_named data_position_name own.properties)
-    (property_named data_offset_name own.properties)
-    (property_named data_size_name own.properties)
-    (property_named data_name own.properties)
+    (property_named own.properties data_position_name)
+    (property_named own.properties data_offset_name)
+    (property_named own.properties data_size_name)
+    (property_named own.properties data_name)
 
 -- The number of a property whose value is one cell.
 abbrev pub number_of : FileProperty → ℕ
