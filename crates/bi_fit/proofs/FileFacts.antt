@@ -28,7 +28,7 @@ use Rattle.bi_fit.proofs.Tested.{is_tree, content_by_test, are_bytes_by_test}
 -- What the definitions compute for small files.
 
 -- No bytes are no entries.
-no_entries : entries (empty {X = List ℕ} {R = slice_cmp nat_cmp}) ≡ []
+pub no_entries : entries (empty {X = List ℕ} {R = slice_cmp nat_cmp}) ≡ []
 no_entries = by_length (entries empty) (sym (len-entries empty) ∙ len-empty (slice_cmp nat_cmp) (List ℕ))
   where
     by_length : (properties : List Property) → length properties ≡ 0 → properties ≡ []

@@ -17,3 +17,4 @@ pub mod Tested
 pub mod FileFacts
 pub mod FaultFacts
 pub mod JudgementFacts
+pub mod BuildFacts

@@ -10,3 +10,4 @@ pub mod Laws
 pub mod KnownFiles
 pub mod KnownFaults
 pub mod KnownJudgements
+pub mod KnownBuilds
