@@ -6,11 +6,11 @@ ghost use Rattle.bi_base.specs.Reading.{TakesAtMost};
 ghost use Rattle.bi_base.specs.Traces.{ReadsWell, WritesWell};
 ghost use Rattle.bi_base.specs.Writing.{WroteAndFlushed, WriteOrFlushStopped};
 ghost use Rattle.bi_base.specs.Transfers.{Moved, MoveFailed, Transferred, TransferFailed, SameStreams};
-ghost use Rattle.bi_norm.specs.declared.form.Form.{Form};
+ghost use Rattle.bi_fit.specs.declared.form.Form.{Form};
 ghost use Rattle.bi_legacy.specs.Reading.{IsParsedImage};
 ghost use Rattle.bi_norm.specs.NormalForm.{Appended, FailedInto, IsNormalForm, IsNormaliseError, IsStreamError, Normalised};
 
-use crate::form::Form;
+use bi_fit::Form;
 use crate::image::BootImage;
 use bi_base::{
     BufferedSink, Error, Limits, Sink, TracedRead, TracedReader, TracedWrite, TracedWriter, VecSink,
