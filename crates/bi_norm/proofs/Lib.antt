@@ -1,4 +1,3 @@
-pub mod LegacyForm
 pub mod Opening
 pub mod NormalForms
 pub mod Writing

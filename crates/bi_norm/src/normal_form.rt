@@ -16,7 +16,7 @@ use bi_base::{
     BufferedSink, Error, Limits, Sink, TracedRead, TracedReader, TracedWrite, TracedWriter, VecSink,
     read_all_traced,
 };
-use bi_legacy::{Legacy, emit};
+use bi_legacy::{Legacy, emit_image};
 use std::alloc::Global;
 use std::io::{Read, Write};
 
@@ -69,7 +69,7 @@ fn emit_legacy<S: Sink>(
         IfErr result (FailedInto S.fails limits form file sink.old sink.new) }
 {
     let parts = parts_of(alloc, image)?;
-    emit(image.fields(), &parts, limits, sink)?;
+    emit_image(image, &parts, limits, sink)?;
     Ok(0)
 }
 
