@@ -1,0 +1,4 @@
+pub mod NameOffsets
+pub mod Growing
+pub mod UsedNames
+pub mod Kept

@@ -1,0 +1,54 @@
+use Rattle.std.specs.Prelude.{◌≡◌, ◌≢◌, ℕ, ◌+◌, ◌≤◌, List, [], ◌∷◌, map, length, Option, Some, None, vec_len, vec_capacity}
+use Rattle.std.specs.List.{AllByRecursion}
+use Rattle.bi_blob.specs.Blob.{Reservation}
+use Rattle.bi_blob.specs.Stages.{Stage, BeforeRoot, Inside, AfterRoot, OpenNode, open_nodes}
+use Rattle.bi_blob.specs.Layout.{used_names, distinct_names}
+use Rattle.bi_lay.specs.declared.document.Doc.TheInside.{Inside as Fields}
+use Rattle.bi_lay.specs.declared.items.Item.{Item}
+use Rattle.bi_lay.specs.declared.items.Item.TheVariants.{Begin, Property, End}
+use Rattle.bi_lay.specs.Conditions.{stage_after, last}
+use Rattle.bi_lay.specs.Contents.{Content}
+use Rattle.bi_lay.specs.Items.{events_of_items, HasOffset}
+
+-- What a document's fields hold, and what is true of them.
+
+-- A reservation, from an address and a size.
+abbrev pub reservation_of : ℕ × ℕ → Reservation
+reservation_of pair = record { address = pair.0; size = pair.1 }
+
+-- What the fields hold.
+abbrev pub content_of : Fields → Content
+content_of doc = record {
+  boot_cpu = doc.boot_cpu;
+  reservations = map reservation_of doc.reservations.items;
+  events = events_of_items doc.items.items;
+}
+
+-- Where the tree has come to.
+abbrev pub stage_of : Fields → Stage
+stage_of doc = stage_after (events_of_items doc.items.items)
+
+-- The open nodes but for the innermost.
+abbrev pub outer_nodes : Stage → List OpenNode
+outer_nodes (Inside innermost outer) = outer
+outer_nodes stage = []
+
+-- The last item tells what the innermost open node has last.
+abbrev pub IsNewest : Option Item → Stage → Type 0
+IsNewest None BeforeRoot = Unit {0}
+IsNewest (Some (Begin name)) (Inside innermost outer) = (innermost.properties ≡ []) × (innermost.children ≡ [])
+IsNewest (Some (Property property)) (Inside innermost outer) =
+    (last innermost.properties ≡ Some property.name.now) × (innermost.children ≡ [])
+IsNewest (Some End) (Inside innermost outer) = innermost.children ≢ []
+IsNewest (Some End) AfterRoot = Unit {0}
+IsNewest item stage = ⊥
+
+-- What is true of the fields. There is room for the ends of all open nodes.
+pub record IsKept (doc : Fields) : Type 0 where
+  pub is_depth : doc.depth ≡ length (open_nodes (stage_of doc))
+  pub shallow : doc.depth ≤ 64
+  pub room : vec_len doc.items + doc.depth ≤ vec_capacity doc.items
+  pub newest : IsNewest (last doc.items.items) (stage_of doc)
+  pub parents : AllByRecursion (λ node. node.children ≢ []) (outer_nodes (stage_of doc))
+  pub names : doc.names ≡ distinct_names (used_names (events_of_items doc.items.items))
+  pub offsets : AllByRecursion (HasOffset doc.names) doc.items.items

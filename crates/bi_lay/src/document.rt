@@ -1,0 +1,164 @@
+//! A document: a devicetree blob in the making.
+
+ghost use Rattle.std.specs.Prelude.{◌≡◌, ◌+◌, ◌<◌, ◌↔◌, IsTrue, OnOk, IfOk, IfErr};
+ghost use Rattle.bi_base.specs.declared.fault.Error.TheVariants.{OutOfMemory};
+
+use crate::conditions::{is_child_name, is_property_name};
+use crate::items::{Item, Property, Value};
+use crate::names::Names;
+use bi_base::Error;
+use std::alloc::Global;
+use std::marker::Model;
+
+/// The most nodes that can be open at once, the root included.
+const MAX_DEPTH: usize = 64;
+
+/// A devicetree blob in the making: the boot processor, the memory reservations, and the events of a tree, which come in
+/// the order of the structure block (Devicetree Specification, 5.4.2). Names and values are borrowed and not copied.
+///
+/// Each call but `may_begin` takes constant time, apart from the growth of memory and the hash of a property's name.
+#[derive(Drop)]
+pub struct Doc<'a> {
+    boot_cpu: u32,
+    reservations: Vec<(u64, u64)>,
+    items: Vec<Item<'a>>,
+    depth: usize,
+    names: Names<'a>,
+}
+
+impl<'a> Model for Doc<'a> {
+    ghost use Rattle.bi_lay.specs.Contents.{Content};
+
+    ghost Value = { Content };
+
+    ghost use Rattle.bi_lay.specs.Documents.{content_of, IsKept};
+
+    ghost view = { content_of };
+
+    ghost invariant = { IsKept };
+}
+
+impl<'a> Doc<'a> {
+    ghost use Rattle.bi_blob.specs.Events.{NodeStart, NodeProperty, NodeEnd};
+    ghost use Rattle.bi_blob.specs.Stages.{AfterRoot};
+    ghost use Rattle.bi_lay.specs.Conditions.{stage_after, MayBegin, MayHaveProperty, MayEnd};
+    ghost use Rattle.bi_lay.specs.Contents.{empty_content, with_reservation, with_event};
+    ghost use Rattle.bi_lay.specs.Items.{value_bytes};
+
+    /// A document for this boot processor, without reservations, in which no node was begun. The only error is
+    /// `OutOfMemory`.
+    pub fn new(alloc: Global, boot_cpu: u32) -> Result<Doc<'a>, Error>
+        ensures empty { IfOk result (λ doc. doc ≡ empty_content boot_cpu) }
+        ensures refused { IfErr result (λ error. error ≡ OutOfMemory) }
+    {
+        Ok(Doc {
+            boot_cpu,
+            reservations: Vec::new(alloc),
+            items: Vec::new(alloc),
+            depth: 0,
+            names: Names::new(alloc),
+        })
+    }
+
+    /// Adds a memory reservation (Devicetree Specification, 5.3): `size` bytes from `address` on, which are not both zero.
+    ///
+    /// The only error is `OutOfMemory`, and the document is unchanged then.
+    pub fn reserve(&mut self, address: u64, size: u64) -> Result<(), Error>
+        requires { 0 < address + size }
+        ensures reserved { OnOk result (self.new ≡ with_reservation self.old address size) }
+        ensures refused { IfErr result (λ error. (error ≡ OutOfMemory) × (self.new ≡ self.old)) }
+    {
+        self.reservations.push((address, size))?;
+        Ok(())
+    }
+
+    /// Begins a node of this name, as a child of the innermost open node, or as the root, whose name is empty. It may only
+    /// be called where `may_begin` is true.
+    ///
+    /// The only error is `OutOfMemory`, and the document is unchanged then.
+    pub fn begin(&mut self, name: &'a [u8]) -> Result<(), Error>
+        requires { MayBegin name.now (stage_after self.old.events) }
+        ensures begun { OnOk result (self.new ≡ with_event self.old (NodeStart name.entry.now)) }
+        ensures refused { IfErr result (λ error. (error ≡ OutOfMemory) × (self.new ≡ self.old)) }
+    {
+        self.items.reserve(self.depth + 2)?;
+        self.items.push(Item::Begin(name)).unwrap();
+        self.depth += 1;
+        Ok(())
+    }
+
+    /// Gives the innermost open node a property. It may only be called where `may_property` is true.
+    ///
+    /// The only error is `OutOfMemory`, and the document is unchanged then.
+    pub fn property(&mut self, name: &'a [u8], value: Value<'a>) -> Result<(), Error>
+        requires { MayHaveProperty name.now (stage_after self.old.events) }
+        ensures added { OnOk result
+            (self.new ≡ with_event self.old (NodeProperty (name.entry.now, value_bytes value.entry))) }
+        ensures refused { IfErr result (λ error. (error ≡ OutOfMemory) × (self.new ≡ self.old)) }
+    {
+        self.items.reserve(self.depth + 1)?;
+        let name_offset = self.names.add(name)?;
+        let property = Property {
+            name,
+            name_offset,
+            value,
+        };
+        self.items.push(Item::Property(property)).unwrap();
+        Ok(())
+    }
+
+    /// Ends the innermost open node. It may only be called where `may_end` is true. It takes no memory.
+    pub fn end(&mut self)
+        requires { MayEnd (stage_after self.old.events) }
+        ensures { self.new ≡ with_event self.old NodeEnd }
+    {
+        self.items.push(Item::End).unwrap();
+        self.depth -= 1;
+    }
+
+    /// Whether `begin` may be called with this name: no node was begun and the name is empty; or 1 to 63 nodes are open,
+    /// the name has a byte and neither a zero nor a `/`, and no child of the innermost open node has it.
+    ///
+    /// It takes time linear in the number of events, since it looks for a child of the same name. `begin` itself does
+    /// not look, so a caller that knows that the names of children differ need not call this.
+    pub fn may_begin(&self, name: &[u8]) -> bool
+        ensures { IsTrue result ↔ MayBegin name.now (stage_after self.now.events) }
+    {
+        if self.depth == 0 {
+            return self.items.is_empty() && name.is_empty();
+        }
+        if self.depth == MAX_DEPTH {
+            return false;
+        }
+        if !is_child_name(name) {
+            return false;
+        }
+        true
+    }
+
+    /// Whether `property` may be called with this name: a node is open and has no child yet, the name has a byte and no
+    /// zero, and it is greater in byte order than that of the node's last property.
+    pub fn may_property(&self, name: &[u8]) -> bool
+        ensures { IsTrue result ↔ MayHaveProperty name.now (stage_after self.now.events) }
+    {
+        match self.items.last() {
+            Some(Item::Begin(_)) => is_property_name(name),
+            Some(Item::Property(last)) => is_property_name(name) && last.name.cmp(&name).is_lt(),
+            Some(Item::End) | None => false,
+        }
+    }
+
+    /// Whether `end` may be called: a node is open.
+    pub fn may_end(&self) -> bool
+        ensures { IsTrue result ↔ MayEnd (stage_after self.now.events) }
+    {
+        self.depth != 0
+    }
+
+    /// Whether the root was begun and ended.
+    pub fn is_closed(&self) -> bool
+        ensures { IsTrue result ↔ (stage_after self.now.events ≡ AfterRoot) }
+    {
+        self.depth == 0 && !self.items.is_empty()
+    }
+}

@@ -1,0 +1,10 @@
+//! Lays out a devicetree blob: a document is built event by event, and its text is measured and written to a sink.
+#![tactic(auto)]
+
+mod conditions;
+mod document;
+mod items;
+mod names;
+
+pub use document::Doc;
+pub use items::Value;
