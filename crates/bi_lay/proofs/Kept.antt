@@ -1,7 +1,7 @@
 use Rattle.std.proofs.Common.{◌≡◌, ℕ, ◌+◌, ◌≤◌, List, [], ◌∷◌, ◌++◌, length, Some, Bor, Contains, refl, sym, ap, subst, ◌∙◌, arith, vec_len, vec_capacity}
 use Rattle.std.specs.List.{AllByRecursion}
-use Rattle.bi_blob.specs.Events.{Event, NodeStart, NodeProperty, NodeEnd}
-use Rattle.bi_blob.specs.Stages.{Stage, next_stage, open_nodes}
+use Rattle.bi_blob.specs.Events.{NodeStart, NodeEnd}
+use Rattle.bi_blob.specs.Stages.{next_stage, open_nodes}
 use Rattle.bi_blob.specs.Layout.{offset_in, used_names, distinct_names}
 use Rattle.bi_blob.proofs.Texts.Members.{each-append}
 use Rattle.bi_lay.specs.declared.document.Doc.TheInside.{Inside as Fields}

@@ -2,3 +2,4 @@ pub mod NameOffsets
 pub mod Growing
 pub mod UsedNames
 pub mod Kept
+pub mod Scanning

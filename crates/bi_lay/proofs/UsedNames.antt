@@ -1,16 +1,16 @@
-use Rattle.std.proofs.Common.{◌≡◌, ℕ, Bool, true, false, cond, List, [], ◌∷◌, ◌++◌, Contains, refl, sym, ap, ◌∙◌, subst, true≢false}
+use Rattle.std.proofs.Common.{◌≡◌, ℕ, Bool, true, false, cond, List, [], ◌∷◌, ◌++◌, Contains, refl, sym, ap, ◌∙◌, true≢false}
 use Rattle.std.specs.List.{AllByRecursion}
 use Rattle.std.proofs.lemmas.List.Elements.{Contains-push, Contains-append_left}
 use Rattle.bi_blob.specs.Tree.{Property}
 use Rattle.bi_blob.specs.Events.{Event, NodeProperty}
-use Rattle.bi_blob.specs.Layout.{used_names, distinct_names, offset_in}
+use Rattle.bi_blob.specs.Layout.{used_names, distinct_names}
 use Rattle.bi_blob.proofs.Texts.FirstUse.{found_among, among_found, distinct_names-push, used_names-push}
 use Rattle.bi_blob.proofs.Texts.Names.{distinct_names-all, distinct_names-only}
 use Rattle.bi_lay.specs.declared.items.Item.{Item}
 use Rattle.bi_lay.specs.declared.items.Item.TheVariants.{Begin, Property as PropertyItem, End}
 use Rattle.bi_lay.specs.Names.{is_among, with_name, capped}
 use Rattle.bi_lay.specs.Items.{HasOffset}
-use Rattle.bi_lay.proofs.NameOffsets.{with_name-known, with_name-new, offset_in-stays}
+use Rattle.bi_lay.proofs.NameOffsets.{offset_in-stays}
 
 -- The names of a strings block as properties are added.
 
@@ -52,9 +52,10 @@ HasOffset-with_name names name (PropertyItem property) has = by (is_among name n
     by : (b : Bool) → is_among name names ≡ b → HasOffset (with_name names name) (PropertyItem property)
     by true is = rw is has
     by false is =
-        rw is
-        (Contains-append_left names (name ∷ []) property.name.now has.0,
-        has.1 ∙ ap capped (sym (offset_in-stays names property.name.now name (found_among names property.name.now has.0))))
+        rw is (
+          Contains-append_left names (name ∷ []) property.name.now has.0,
+          has.1 ∙ ap capped (sym (offset_in-stays names property.name.now name (found_among names property.name.now has.0))),
+        )
 
 pub each-with_name : (names : List (List ℕ)) (name : List ℕ) (items : List Item) → AllByRecursion (HasOffset names) items → AllByRecursion (HasOffset (with_name names name)) items
 each-with_name names name [] each = tt

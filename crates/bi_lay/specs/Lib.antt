@@ -3,3 +3,4 @@ pub mod Contents
 pub mod Names
 pub mod Items
 pub mod Documents
+pub mod Siblings

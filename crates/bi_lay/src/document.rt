@@ -6,6 +6,7 @@ ghost use Rattle.bi_base.specs.declared.fault.Error.TheVariants.{OutOfMemory};
 use crate::conditions::{is_child_name, is_property_name};
 use crate::items::{Item, Property, Value};
 use crate::names::Names;
+use crate::siblings::is_new_child;
 use bi_base::Error;
 use std::alloc::Global;
 use std::marker::Model;
@@ -130,10 +131,7 @@ impl<'a> Doc<'a> {
         if self.depth == MAX_DEPTH {
             return false;
         }
-        if !is_child_name(name) {
-            return false;
-        }
-        true
+        is_child_name(name) && is_new_child(&self.items, self.depth, name)
     }
 
     /// Whether `property` may be called with this name: a node is open and has no child yet, the name has a byte and no

@@ -5,6 +5,7 @@ mod conditions;
 mod document;
 mod items;
 mod names;
+mod siblings;
 
 pub use document::Doc;
 pub use items::Value;

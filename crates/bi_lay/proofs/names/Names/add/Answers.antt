@@ -1,8 +1,7 @@
-use Rattle.std.proofs.Common.{◌≡◌, ℕ, ◌++◌, ◌∷◌, [], map, bytes_eq, subst, length, sym, ap, ◌∙◌, arith, refl}
-use Rattle.std.proofs.lemmas.Option.{same_Some}
+use Rattle.std.proofs.Common.{◌≡◌, ◌++◌, ◌∷◌, [], bytes_eq, subst, length, sym, ap, ◌∙◌, arith}
 use Rattle.indexmap.proofs.CallerLemmas.{insert_entry-new}
 use Rattle.bi_blob.specs.Layout.{offset_in, strings_of}
-use Rattle.bi_lay.specs.Names.{with_name, capped, entry_names, AreAt}
+use Rattle.bi_lay.specs.Names.{capped, entry_names, AreAt}
 use Rattle.bi_lay.proofs.NameOffsets.{entry_names-push, look_up-some, look_up-none, with_name-known, with_name-new, AreAt-push, strings-push, offset_in-new}
 use Rattle.bi_lay.proofs.names.Names.add.Goals as goal
 
