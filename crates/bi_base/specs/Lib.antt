@@ -2,10 +2,13 @@ pub mod Cells
 pub mod Causes
 pub mod Checks
 pub mod Limits
-pub mod Outcomes
+pub mod Traces
 pub mod Reading
-pub mod Sinks
-pub mod CrcSink
-pub mod WriteSink
 pub mod Writing
+pub mod Sinks
+pub mod SinkLaws
+pub mod CrcSink
+pub mod VecSinks
+pub mod WriteSinks
+pub mod BufferedSinks
 pub mod Crc

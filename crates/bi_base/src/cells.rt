@@ -20,18 +20,17 @@ pub fn be32_at(bytes: &[u8], at: usize) -> Option<u32>
     Some(u32::from_be_bytes(*cell))
 }
 
-/// Appends the cell of this number: its four bytes, the highest first (Devicetree Specification, 2.2.4.2: u32). An error
-/// is one that the sink names, and a prefix of the cell was appended then.
+/// Appends the cell of this number: its four bytes, the highest first (Devicetree Specification, 2.2.4.2: u32). Fails as
+/// the sink does.
 pub fn put_cell<S: Sink>(sink: &mut S, number: u32) -> Result<(), Error>
-    ensures { Wrote S.appends S.names sink.old (cell number) result sink.new }
+    ensures { Wrote S.appends S.fails sink.old (cell number) result sink.new }
 {
     sink.put(&number.to_be_bytes())
 }
 
-/// Appends the cells of these numbers in their order. An error is one that the sink names, and a prefix of the
-/// cells was appended then.
+/// Appends the cells of these numbers in their order. Fails as the sink does.
 pub fn put_cells<S: Sink>(sink: &mut S, numbers: &[u32]) -> Result<(), Error>
-    ensures { Wrote S.appends S.names sink.old (flat_map cell numbers.now) result sink.new }
+    ensures { Wrote S.appends S.fails sink.old (flat_map cell numbers.now) result sink.new }
 {
     for &number in numbers {
         put_cell(sink, number)?;
@@ -43,7 +42,7 @@ pub fn put_cells<S: Sink>(sink: &mut S, numbers: &[u32]) -> Result<(), Error>
 mod tests {
     use super::*;
     use crate::crc::Crc32;
-    use crate::sinks::VecSink;
+    use crate::vec_sink::VecSink;
     use std::test::Fail;
 
     #[test]

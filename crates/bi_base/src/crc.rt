@@ -52,20 +52,24 @@ impl Crc32 {
     }
 }
 
-/// As a sink, a `Crc32` keeps no bytes: it goes on over those that are appended. No call answers an error.
+/// As a sink, a `Crc32` keeps no bytes: it continues over those that are appended. No call fails.
 impl Sink for Crc32 {
     ghost appends = { GoesOn };
 
-    ghost names = { λ _. ⊥ };
+    ghost fails = { λ _ _ _ _. ⊥ };
 
     fn put(&mut self, bytes: &[u8]) -> Result<(), Error> {
         self.update(bytes);
         Ok(())
     }
 
-    ghost nothing = { goes_on_nothing };
+    ghost appends_nothing = { goes_on_nothing };
 
-    ghost in_turn = { goes_on_in_turn };
+    ghost appends_in_turn = { goes_on_in_turn };
+
+    ghost fails_after = { λ _ _ _ _ _ _ _ failed. failed };
+
+    ghost fails_before = { λ _ _ _ _ _ failed. failed };
 }
 
 /// The register after these bytes.

@@ -2,6 +2,7 @@
 //! that bytes are written to.
 #![tactic(auto)]
 
+mod buffered_sink;
 mod cells;
 mod checksum;
 mod crc;
@@ -11,13 +12,22 @@ mod limits;
 mod outcomes;
 mod reading;
 mod sinks;
+mod traced_read;
+mod traced_write;
+mod vec_sink;
+mod write_sink;
 mod writing;
 
+pub use buffered_sink::BufferedSink;
 pub use cells::{be32_at, put_cell, put_cells};
 pub use checksum::crc32;
 pub use crc::Crc32;
 pub use fault::{Cause, Error, Fault};
 pub use limits::Limits;
-pub use reading::{ReaderSource, Source, read_all, read_source};
-pub use sinks::{Sink, VecSink, WriteSink};
-pub use writing::{Target, WriterTarget, flush, write_text, write_whole};
+pub use reading::{read_all, read_all_traced};
+pub use sinks::Sink;
+pub use traced_read::{TracedRead, TracedReader};
+pub use traced_write::{TracedWrite, TracedWriter};
+pub use vec_sink::VecSink;
+pub use write_sink::WriteSink;
+pub use writing::{flush, write_all, write_and_flush};
