@@ -59,7 +59,7 @@ module _ (blocks : TreeBlocks) (depth_limit : ℕ) where
     record {
       no_end = λ (e : BeginNode [] ≡ End). absurd cc;
       is_at = is_at;
-      passes = begin_passes blocks depth_limit blocks.begin BeforeRoot [] is_at within (refl, shallow, refl, tt);
+      passes = begin_passes blocks depth_limit blocks.begin BeforeRoot [] is_at within (shallow, refl);
     },
     tt,
   )
@@ -71,7 +71,7 @@ module _ (blocks : TreeBlocks) (depth_limit : ℕ) where
       no_end = λ (e : BeginNode (codes "images") ≡ End). absurd cc;
       is_at = is_at;
       passes = begin_passes blocks depth_limit (place_after blocks to_root) (stage_after blocks.strings to_root) (codes "images") is_at within
-          (refl, shallow, images_is, tt);
+          (shallow, images_is, tt);
     },
     passed,
   )
@@ -82,7 +82,7 @@ module _ (blocks : TreeBlocks) (depth_limit : ℕ) where
     record {
       no_end = λ (e : EndNode ≡ End). absurd cc;
       is_at = is_at;
-      passes = end_node_passes blocks depth_limit (place_after blocks before) (stage_after blocks.strings before) is_at within (rw inside refl);
+      passes = end_node_passes blocks depth_limit (place_after blocks before) (stage_after blocks.strings before) is_at within (rw inside tt);
     },
     passed,
   )

@@ -9,12 +9,15 @@ pub mod Length
 pub mod Structure
 pub mod Header
 pub mod Blocks
+pub mod Lengths
 pub mod TextBytes
 pub mod TextBlob
 pub mod EncodedBytes
 pub mod Content
 pub mod Normal
+pub mod Rests
 pub mod Ordering
 pub mod Accepted
 pub mod Ordered
 pub mod FirstUse
+pub mod Offsets

@@ -1,14 +1,14 @@
-use Rattle.std.specs.Prelude.{◌≡◌, ℕ, ◌%◌, ◌≤◌, List, [], ◌∷◌, ◌++◌, length, Contains, ◌↔◌}
+use Rattle.std.specs.Prelude.{◌≡◌, ℕ, ◌+◌, ◌*◌, ◌%◌, ◌≤◌, List, [], ◌∷◌, ◌++◌, length, sum_by, Contains, ◌↔◌}
 use Rattle.bi_base.specs.declared.fault.Fault.{Fault}
 use Rattle.bi_base.specs.Cells.{up4, AreBytes}
 use Rattle.bi_base.specs.Limits.{Bounds}
 use Rattle.bi_blob.specs.Tokens.{End, AreEncodings, IsNameAt}
 use Rattle.bi_blob.specs.Tree.{Root, Property, PropertyMap, FileNode, HasNoZero, AreDistinct, IsNormal, tree_without_places, tree_without_order, depth_of}
-use Rattle.bi_blob.specs.Events.{Event, NodeProperty, events_of, file_events_of, EncodeEvents}
+use Rattle.bi_blob.specs.Events.{Event, NodeStart, NodeProperty, NodeEnd, events_of, file_events_of, EncodeEvents}
 use Rattle.bi_blob.specs.Blob.{Reservation, reservation_block, IsBlob, IsWithin, totalsize}
 use Rattle.bi_blob.specs.BlobFaults.{IsBlobFault}
 use Rattle.bi_blob.specs.BlobLaws.{SameContent}
-use Rattle.bi_blob.specs.Layout.{event_names, used_names, distinct_names, offset_in, tokens_of, structure_block, strings_block, text_of_tree, length_before_padding, structure_place, tree_with_places, in_byte_order, IsContent, IsNormalText, longest_text}
+use Rattle.bi_blob.specs.Layout.{event_names, used_names, distinct_names, offset_in, tokens_of, structure_block, strings_block, text_of_events, text_of_tree, event_width, length_before_padding, structure_place, tree_with_places, in_byte_order, IsContent, IsNormalText, longest_text}
 
 -- Laws of the text that a blob is laid out as (profile of this project). Each is the contract of a function in `text_laws`.
 
@@ -39,6 +39,18 @@ abbrev pub EachNameIsFound : Type 0
 EachNameIsFound =
     (events : List Event) (name : List ℕ) → Contains (used_names events) name → HasNoZero name
     → IsNameAt (strings_block events) (offset_in (distinct_names (used_names events)) name) name
+
+-- A name that events use has the same offset in their strings block after any further events.
+abbrev pub OffsetsStay : Type 0
+OffsetsStay =
+    (events later : List Event) (name : List ℕ) → Contains (used_names events) name
+    → offset_in (distinct_names (used_names (events ++ later))) name ≡ offset_in (distinct_names (used_names events)) name
+
+-- A name that is used for the first time has its offset at the end of the strings block of the events before.
+abbrev pub NewOffsetIsAtEnd : Type 0
+NewOffsetIsAtEnd =
+    (events : List Event) (property : Property) → ¬ (Contains (used_names events) property.0)
+    → offset_in (distinct_names (used_names (events ++ NodeProperty property ∷ []))) property.0 ≡ length (strings_block events)
 
 -- The structure block of a text spells tokens and FDT_END, and these say the tree over the strings block, at its places.
 pub record EncodesTree (reservations : List Reservation) (root : Root (List Property)) : Type 0 where
@@ -103,6 +115,27 @@ pub record HasTextLength (cpu : ℕ) (reservations : List Reservation) (root : R
 abbrev pub EachTextHasItsLength : Type 0
 EachTextHasItsLength = (cpu : ℕ) (reservations : List Reservation) (root : Root (List Property)) → HasTextLength cpu reservations root
 
+-- How long a text of these events is, and each of its blocks: sixteen bytes for each reservation and for the end pair, the
+-- width of each event and four bytes for FDT_END, and each name once with a zero byte.
+pub record HasLengthOfEvents (cpu : ℕ) (reservations : List Reservation) (events : List Event) : Type 0 where
+  pub reserved : length (reservation_block reservations) ≡ 16 * length reservations + 16
+  pub structure : length (structure_block events) ≡ sum_by event_width events + 4
+  pub strings : length (strings_block events) ≡ sum_by (λ name. length name + 1) (distinct_names (used_names events))
+  pub is_length : length (text_of_events cpu reservations events)
+      ≡ up4 (length_before_padding (length (reservation_block reservations)) (length (structure_block events)) (length (strings_block events)))
+  pub is_whole : length (text_of_events cpu reservations events) % 4 ≡ 0
+
+-- Each text of events is as long as its header and its blocks, filled up to a multiple of four.
+abbrev pub TextOfEventsHasItsLength : Type 0
+TextOfEventsHasItsLength =
+    (cpu : ℕ) (reservations : List Reservation) (events : List Event) → HasLengthOfEvents cpu reservations events
+
+-- How many bytes the token of an event takes.
+pub record HasEventWidths : Type 0 where
+  pub node_start : (name : List ℕ) → event_width (NodeStart name) ≡ up4 (length name + 5)
+  pub property : (property : Property) → event_width (NodeProperty property) ≡ up4 (length property.1 + 12)
+  pub node_end : event_width NodeEnd ≡ 4
+
 -- What a file says as a blob is content: it can be written again.
 abbrev pub BlobHasContent : Type 0
 BlobHasContent =
@@ -117,6 +150,18 @@ TextHasOneContent =
     → length (text_of_tree cpu reservations root) ≤ longest_text
     → text_of_tree cpu reservations root ≡ text_of_tree other_cpu other_reservations other_root
     → SameContent cpu other_cpu reservations other_reservations root other_root
+
+-- The same of texts with other bytes after them, neither of which is too long: where the files are the same, the contents
+-- are the same, and so are the bytes after them.
+abbrev pub TextWithRestHasOneContent : Type 0
+TextWithRestHasOneContent =
+    (cpu other_cpu : ℕ) (reservations other_reservations : List Reservation) (root other_root : Root (List Property))
+    → (rest other_rest : List ℕ)
+    → IsContent cpu reservations root → IsContent other_cpu other_reservations other_root
+    → length (text_of_tree cpu reservations root) ≤ longest_text
+    → length (text_of_tree other_cpu other_reservations other_root) ≤ longest_text
+    → text_of_tree cpu reservations root ++ rest ≡ text_of_tree other_cpu other_reservations other_root ++ other_rest
+    → SameContent cpu other_cpu reservations other_reservations root other_root × (rest ≡ other_rest)
 
 -- A tree of properties by name has one order of them that is normal.
 pub record HasOneOrder (root : Root PropertyMap) : Type 0 where
@@ -149,3 +194,15 @@ NormalTextTellsContent =
     → IsNormalText cpu reservations root text → IsNormalText other_cpu other_reservations other_root other_text
     → length text ≤ longest_text
     → (text ≡ other_text) ↔ SameContent cpu other_cpu reservations other_reservations (tree_without_order root) (tree_without_order other_root)
+
+-- The same of normal texts with other bytes after them, neither of which is too long.
+abbrev pub NormalTextWithRestTellsContent : Type 0
+NormalTextWithRestTellsContent =
+    (cpu other_cpu : ℕ) (reservations other_reservations : List Reservation) (root other_root : Root (List Property))
+    → (text other_text rest other_rest : List ℕ)
+    → IsContent cpu reservations root → IsContent other_cpu other_reservations other_root
+    → IsNormalText cpu reservations root text → IsNormalText other_cpu other_reservations other_root other_text
+    → length text ≤ longest_text → length other_text ≤ longest_text
+    → (text ++ rest ≡ other_text ++ other_rest)
+    ↔ (SameContent cpu other_cpu reservations other_reservations (tree_without_order root) (tree_without_order other_root)
+    × (rest ≡ other_rest))

@@ -1,7 +1,7 @@
 //! Laws of the text that a blob is laid out as, and of the normal text among these. Their functions do nothing: what each
 //! of them ensures is the law.
 
-ghost use Rattle.bi_blob.specs.TextLaws.{EachNameIsThereOnce, StringsGrowByUse, EachNameIsFound, TextEncodesItsTree, EachTextHasItsLength, TextIsBlob, TextIsAccepted, NormalTextIsAccepted, BlobHasContent, TextHasOneContent, EachTreeHasOneOrder, ContentMayBeOrdered, NormalTextTellsContent};
+ghost use Rattle.bi_blob.specs.TextLaws.{EachNameIsThereOnce, StringsGrowByUse, EachNameIsFound, OffsetsStay, NewOffsetIsAtEnd, TextEncodesItsTree, EachTextHasItsLength, TextOfEventsHasItsLength, HasEventWidths, TextIsBlob, TextIsAccepted, NormalTextIsAccepted, BlobHasContent, TextHasOneContent, EachTreeHasOneOrder, ContentMayBeOrdered, NormalTextTellsContent, TextWithRestHasOneContent, NormalTextWithRestTellsContent};
 ghost use Rattle.bi_blob.specs.KnownTexts.{HasSmallestText, IsLaidOut};
 
 /// The strings block of a text has each name that the marks use once, and no other name (profile of this project;
@@ -22,6 +22,13 @@ pub fn each_name_is_found()
     ensures { EachNameIsFound }
 {}
 
+/// The offset of a name in the strings block does not change by further events, once an event has used the name. A name that
+/// is used for the first time is after all names that were used before it (profile of this project).
+pub fn offsets_stay()
+    ensures used { OffsetsStay }
+    ensures new { NewOffsetIsAtEnd }
+{}
+
 /// The structure block of a text of at most 0x7fffffff bytes spells tokens with FDT_END behind them, and over its strings
 /// block these tokens say the tree, each at the place that the layout gives it (Devicetree Specification, 5.4).
 pub fn text_encodes_its_tree()
@@ -32,6 +39,15 @@ pub fn text_encodes_its_tree()
 /// of four (profile of this project).
 pub fn each_text_has_its_length()
     ensures { EachTextHasItsLength }
+{}
+
+/// A text of any events, whether or not they are those of a tree, is as long as its header and its three blocks together,
+/// padded to a multiple of four; and each block is as long as what it has. The token of a node's start takes five bytes and
+/// its name, that of a property twelve bytes and its value, each padded to a multiple of four, and that of a node's end
+/// four bytes (profile of this project; Devicetree Specification, 5.4.1).
+pub fn text_of_events_has_its_length()
+    ensures length { TextOfEventsHasItsLength }
+    ensures widths { HasEventWidths }
 {}
 
 /// The text of a boot processor, memory reservations and a tree, if it has at most 0x7fffffff bytes, and with any bytes
@@ -82,6 +98,19 @@ pub fn content_may_be_ordered()
 /// the same memory reservations and one tree, its nodes in order and its properties by name.
 pub fn normal_text_tells_content()
     ensures { NormalTextTellsContent }
+{}
+
+/// Two equal files that each begin with a text of at most 0x7fffffff bytes have texts of the same boot processor, memory
+/// reservations and tree, and the same bytes after the texts.
+pub fn text_with_rest_has_one_content()
+    ensures { TextWithRestHasOneContent }
+{}
+
+/// Two files that each begin with a normal text of at most 0x7fffffff bytes are equal exactly where the texts are of one boot
+/// processor, the same memory reservations and one tree, its nodes in order and its properties by name, and the bytes after
+/// the texts are equal.
+pub fn normal_text_with_rest_tells_content()
+    ensures { NormalTextWithRestTellsContent }
 {}
 
 /// The normal text of the smallest tree, a root with one child `images`, is 88 known bytes.

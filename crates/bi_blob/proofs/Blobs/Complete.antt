@@ -5,13 +5,14 @@ use Rattle.bi_blob.specs.Tokens.{Token, BeginNode, EndNode, Prop, Nop, End, widt
 use Rattle.bi_blob.specs.Tree.{Nodes, none, node, Root, Property, FileProperty, FileNode, property_of, properties_of, tree_without_places, with_each, depth, depth_of}
 use Rattle.bi_blob.specs.Events.{NodeStart, NodeProperty, NodeEnd, events, events_of, FileEvent, FileNodeStart, FileNodeProperty, FileNodeEnd, file_events, file_events_of, EncodeEvents}
 use Rattle.bi_blob.specs.Stages.{BeforeRoot, next_stage}
+use Rattle.bi_blob.specs.Following.{MayFollow}
 use Rattle.bi_blob.specs.Blob.{TreeBlocks, HoldsTree}
 use Rattle.bi_blob.specs.BlobFaults.{stage_after, place_after, ArePassed}
 use Rattle.bi_blob.proofs.Blobs.Names.{name_from-IsNameAt}
 use Rattle.bi_blob.proofs.Blobs.TokenEncoding.{behind_all, AllStand, AreEncodings-length}
 use Rattle.bi_blob.proofs.Blobs.OneBlob.{HoldsTree-stand}
 use Rattle.bi_blob.proofs.Blobs.OneFault.{IsEnded}
-use Rattle.bi_blob.proofs.Blobs.Following.{AllFollow, tree_follows}
+use Rattle.bi_blob.proofs.Blobs.Following.{FollowToEnd, tree_follows}
 use Rattle.bi_blob.proofs.Blobs.PassedTokens.{behind_all-past}
 use Rattle.bi_blob.proofs.Blobs.Passing.{plain_mark, nop_passes, begin_passes, prop_passes, end_node_passes, end_passes}
 
@@ -46,7 +47,7 @@ depth-properties_of root = depth-with_each properties_of (node [] root.own root.
 
 module _ (blocks : TreeBlocks) (depth_limit : ℕ) where
   -- The block ends behind tokens that pass, where those that follow say what may stand.
-  pub ends_from : (ts : List Token) (before : List Token) (token_events : List FileEvent) → ArePassed blocks depth_limit before → AllStand blocks.file (place_after blocks before) (ts ++ End ∷ []) → behind_all (place_after blocks before) (ts ++ End ∷ []) ≤ blocks.end → EncodeEvents blocks.strings (place_after blocks before) ts token_events → AllFollow depth_limit (stage_after blocks.strings before) (map plain_mark token_events) → (tokens : List Token) × IsEnded blocks depth_limit tokens
+  pub ends_from : (ts : List Token) (before : List Token) (token_events : List FileEvent) → ArePassed blocks depth_limit before → AllStand blocks.file (place_after blocks before) (ts ++ End ∷ []) → behind_all (place_after blocks before) (ts ++ End ∷ []) ≤ blocks.end → EncodeEvents blocks.strings (place_after blocks before) ts token_events → FollowToEnd (MayFollow depth_limit) (stage_after blocks.strings before) (map plain_mark token_events) → (tokens : List Token) × IsEnded blocks depth_limit tokens
   ends_from [] before [] passed stand within encodes follow = (
     before,
     record {
@@ -73,8 +74,8 @@ module _ (blocks : TreeBlocks) (depth_limit : ℕ) where
       let here : place + width (BeginNode name) ≤ behind_all (place + width (BeginNode name)) (ts ++ End ∷ []) =
       behind_all-past (place + width (BeginNode name)) (ts ++ End ∷ []) in
       let fits : place + width (BeginNode name) ≤ blocks.end = omega arith in
-      let both : AllFollow depth_limit (stage_after blocks.strings before) (NodeStart name ∷ map plain_mark token_events) =
-      subst (λ n. AllFollow depth_limit (stage_after blocks.strings before) (NodeStart n ∷ map plain_mark token_events)) (sym encodes.0.same_name) follow in
+      let both : FollowToEnd (MayFollow depth_limit) (stage_after blocks.strings before) (NodeStart name ∷ map plain_mark token_events) =
+      subst (λ n. FollowToEnd (MayFollow depth_limit) (stage_after blocks.strings before) (NodeStart n ∷ map plain_mark token_events)) (sym encodes.0.same_name) follow in
       ends_from ts (BeginNode name ∷ before) token_events (
         record {
           no_end = λ (e : BeginNode name ≡ End). absurd cc;
@@ -101,7 +102,7 @@ module _ (blocks : TreeBlocks) (depth_limit : ℕ) where
         passed,
       )
       stand.1 within encodes.1
-      (subst (λ (p : Property). AllFollow depth_limit (next_stage (stage_after blocks.strings before) (NodeProperty p)) (map plain_mark token_events)) same follow.1)
+      (subst (λ (p : Property). FollowToEnd (MayFollow depth_limit) (next_stage (stage_after blocks.strings before) (NodeProperty p)) (map plain_mark token_events)) same follow.1)
   ends_from (EndNode ∷ ts) before (FileNodeEnd ∷ token_events) passed stand within encodes follow =
       let place : ℕ = place_after blocks before in
       let here : place + width EndNode ≤ behind_all (place + width EndNode) (ts ++ End ∷ []) = behind_all-past (place + width EndNode) (ts ++ End ∷ []) in
@@ -133,5 +134,5 @@ module _ (blocks : TreeBlocks) (depth_limit : ℕ) where
   pub tree_ends : (root : Root FileNode) → HoldsTree blocks root → blocks.begin ≤ blocks.end → depth_of root ≤ depth_limit → (tokens : List Token) × IsEnded blocks depth_limit tokens
   tree_ends root holds ordered shallow =
       ends_from holds.tokens [] (file_events_of root) tt (HoldsTree-stand blocks root holds) (holds_within root holds ordered) holds.encodes
-      (subst (AllFollow depth_limit BeforeRoot) (sym (plain_marks_of root))
+      (subst (FollowToEnd (MayFollow depth_limit) BeforeRoot) (sym (plain_marks_of root))
       (tree_follows depth_limit (tree_without_places root) holds.is_tree (subst (λ n. n ≤ depth_limit) (depth-properties_of root) shallow)))
