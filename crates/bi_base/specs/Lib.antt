@@ -7,6 +7,7 @@ pub mod Reading
 pub mod Writing
 pub mod Sinks
 pub mod SinkLaws
+pub mod CountSinks
 pub mod CrcSink
 pub mod VecSinks
 pub mod WriteSinks

@@ -5,6 +5,7 @@
 mod buffered_sink;
 mod cells;
 mod checksum;
+mod count_sink;
 mod crc;
 pub mod crc_laws;
 mod fault;
@@ -21,6 +22,7 @@ mod writing;
 pub use buffered_sink::BufferedSink;
 pub use cells::{be32_at, put_cell, put_cells};
 pub use checksum::crc32;
+pub use count_sink::CountSink;
 pub use crc::Crc32;
 pub use fault::{Cause, Error, Fault};
 pub use limits::Limits;

@@ -1,4 +1,4 @@
-use Rattle.std.proofs.Common.{◌≡◌, ◌≢◌, ℕ, ◌+◌, ◌-◌, ◌<◌, List, [], ◌∷◌, ◌++◌, length, get_or, Some, Bor, refl, ap, ◌∙◌, arith, length-append, append-nil}
+use Rattle.std.proofs.Common.{◌≡◌, ◌≢◌, ℕ, ◌+◌, ◌-◌, ◌<◌, List, [], ◌∷◌, ◌++◌, length, get_or, Some, Bor, refl, ap, ◌∙◌, arith, length-append, append-nil, fold}
 use Rattle.std.specs.List.{AllByRecursion}
 use Rattle.std.proofs.Math.Seq.{get_or-append_seam}
 use Rattle.std.proofs.lemmas.Option.{slice_get-get_or}
@@ -8,12 +8,12 @@ use Rattle.std.proofs.lemmas.List.Concat.{flat_map-append}
 use Rattle.bi_blob.specs.Events.{Event, NodeStart, NodeProperty, NodeEnd}
 use Rattle.bi_blob.specs.Stages.{Stage, BeforeRoot, Inside, AfterRoot, OpenNode, next_stage, open_nodes}
 use Rattle.bi_blob.specs.Layout.{event_names, used_names, distinct_names}
-use Rattle.bi_lay.specs.Conditions.{stage_after, last, MayBegin, MayHaveProperty, MayEnd}
+use Rattle.bi_blob.specs.Following.{stage_of_events, MayBegin, most_open_nodes, MayHaveNextProperty, MayEnd, AllFollow}
 use Rattle.bi_lay.specs.declared.items.Item.{Item}
 use Rattle.bi_lay.specs.declared.items.Item.TheVariants.{Begin, Property, End}
 use Rattle.bi_lay.specs.declared.items.Property.{Property as PropertyItem}
 use Rattle.bi_lay.specs.Items.{event_of, events_of_items}
-use Rattle.bi_lay.specs.Documents.{IsNewest, outer_nodes}
+use Rattle.bi_lay.specs.Documents.{last, IsNewest, outer_nodes}
 
 -- What one more item does to the events of a document and to the stage after them.
 
@@ -22,8 +22,13 @@ pub events-push : (items : List Item) (item : Item) → events_of_items (items +
 events-push items item = map-append event_of items (item ∷ [])
 
 -- The stage after events with one more.
-pub stage_after-push : (events : List Event) (event : Event) → stage_after (events ++ event ∷ []) ≡ next_stage (stage_after events) event
-stage_after-push events event = fold-append next_stage BeforeRoot events (event ∷ [])
+pub stage-push : (events : List Event) (event : Event) → stage_of_events (events ++ event ∷ []) ≡ next_stage (stage_of_events events) event
+stage-push events event = fold-append next_stage BeforeRoot events (event ∷ [])
+
+-- Events that may follow one another do so with one more that may follow them.
+pub follow-push : (May : Stage → Event → Type 0) (stage : Stage) (events : List Event) (event : Event) → AllFollow May stage events → May (fold next_stage stage events) event → AllFollow May stage (events ++ event ∷ [])
+follow-push May stage [] event follow may = (may, tt)
+follow-push May stage (first ∷ later) event follow may = (follow.0, follow-push May (next_stage stage first) later event follow.1 may)
 
 -- The last of a list with one more.
 pub last-push : {X : Type 0} (xs : List X) (x : X) → last (xs ++ x ∷ []) ≡ Some x
@@ -46,12 +51,12 @@ abbrev pub HasChild : OpenNode → Type 0
 HasChild node = node.children ≢ []
 
 -- A node that begins is one more open node, has nothing yet, and is a child of the one around it.
-pub begun-depth : (stage : Stage) (name : List ℕ) → MayBegin name stage → length (open_nodes (next_stage stage (NodeStart name))) ≡ length (open_nodes stage) + 1
+pub begun-depth : (stage : Stage) (name : List ℕ) → MayBegin most_open_nodes name stage → length (open_nodes (next_stage stage (NodeStart name))) ≡ length (open_nodes stage) + 1
 begun-depth BeforeRoot name may = refl
 begun-depth (Inside innermost outer) name may = omega arith
 begun-depth AfterRoot name may = absurd may
 
-pub begun-shallow : (stage : Stage) (name : List ℕ) → MayBegin name stage → length (open_nodes stage) < 64
+pub begun-shallow : (stage : Stage) (name : List ℕ) → MayBegin most_open_nodes name stage → length (open_nodes stage) < 64
 begun-shallow BeforeRoot name may = omega arith
 begun-shallow (Inside innermost outer) name may = may.0
 begun-shallow AfterRoot name may = absurd may
@@ -72,7 +77,7 @@ added-depth BeforeRoot name value = refl
 added-depth (Inside innermost outer) name value = refl
 added-depth AfterRoot name value = refl
 
-pub added-newest : (stage : Stage) (property : PropertyItem) (value : List ℕ) → MayHaveProperty property.name.now stage → IsNewest (Some (Property property)) (next_stage stage (NodeProperty (property.name.now, value)))
+pub added-newest : (stage : Stage) (property : PropertyItem) (value : List ℕ) → MayHaveNextProperty property.name.now stage → IsNewest (Some (Property property)) (next_stage stage (NodeProperty (property.name.now, value)))
 added-newest BeforeRoot property value may = absurd may
 added-newest (Inside innermost outer) property value may = (last-push innermost.properties property.name.now, may.0)
 added-newest AfterRoot property value may = absurd may

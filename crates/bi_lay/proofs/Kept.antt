@@ -1,7 +1,7 @@
 use Rattle.std.proofs.Common.{◌≡◌, ℕ, ◌+◌, ◌≤◌, List, [], ◌∷◌, ◌++◌, length, Some, Bor, Contains, refl, sym, ap, subst, ◌∙◌, arith, vec_len, vec_capacity}
 use Rattle.std.specs.List.{AllByRecursion}
 use Rattle.bi_blob.specs.Events.{NodeStart, NodeEnd}
-use Rattle.bi_blob.specs.Stages.{next_stage, open_nodes}
+use Rattle.bi_blob.specs.Stages.{BeforeRoot, next_stage, open_nodes}
 use Rattle.bi_blob.specs.Layout.{offset_in, used_names, distinct_names}
 use Rattle.bi_blob.proofs.Texts.Members.{each-append}
 use Rattle.bi_lay.specs.declared.document.Doc.TheInside.{Inside as Fields}
@@ -10,9 +10,9 @@ use Rattle.bi_lay.specs.declared.items.Item.TheVariants.{Begin, Property, End}
 use Rattle.bi_lay.specs.declared.items.Property.{Property as PropertyItem}
 use Rattle.bi_lay.specs.Names.{with_name, capped}
 use Rattle.bi_lay.specs.Items.{event_of, events_of_items, value_bytes, HasOffset}
-use Rattle.bi_lay.specs.Conditions.{stage_after, last, MayBegin, MayHaveProperty, MayEnd}
-use Rattle.bi_lay.specs.Documents.{IsKept, IsNewest, stage_of, outer_nodes}
-use Rattle.bi_lay.proofs.Growing.{HasChild, events-push, stage_after-push, last-push, names-same, begun-depth, begun-shallow, begun-newest, begun-parents, added-depth, added-newest, added-parents, ended-depth, ended-newest, ended-parents}
+use Rattle.bi_blob.specs.Following.{stage_of_events, MayBegin, most_open_nodes, MayHaveNextProperty, MayEnd, MayFollowInText, AllFollow}
+use Rattle.bi_lay.specs.Documents.{IsKept, IsNewest, last, stage_of, outer_nodes}
+use Rattle.bi_lay.proofs.Growing.{HasChild, events-push, stage-push, follow-push, last-push, names-same, begun-depth, begun-shallow, begun-newest, begun-parents, added-depth, added-newest, added-parents, ended-depth, ended-newest, ended-parents}
 use Rattle.bi_lay.proofs.UsedNames.{names-push, with_name-has, each-with_name}
 
 -- What is true of a document's fields is so after one more item.
@@ -25,8 +25,13 @@ pub record HasOneMore (old new : Fields) (item : Item) : Type 0 where
 -- Where the tree has come to with one more item.
 pub stage-more : (old new : Fields) (item : Item) → HasOneMore old new item → stage_of new ≡ next_stage (stage_of old) (event_of item)
 stage-more old new item more =
-    ap (λ items. stage_after (events_of_items items)) more.items ∙ ap stage_after (events-push old.items.items item)
-    ∙ stage_after-push (events_of_items old.items.items) (event_of item)
+    ap (λ items. stage_of_events (events_of_items items)) more.items ∙ ap stage_of_events (events-push old.items.items item)
+    ∙ stage-push (events_of_items old.items.items) (event_of item)
+
+-- Each event may follow those before it, with one more that may follow them.
+follow-more : (old new : Fields) (item : Item) → HasOneMore old new item → AllFollow MayFollowInText BeforeRoot (events_of_items old.items.items) → MayFollowInText (stage_of old) (event_of item) → AllFollow MayFollowInText BeforeRoot (events_of_items new.items.items)
+follow-more old new item more follow may =
+    rw (ap events_of_items more.items ∙ events-push old.items.items item) (follow-push MayFollowInText BeforeRoot (events_of_items old.items.items) (event_of item) follow may)
 
 -- The last of the items is the one that was added.
 newest-more : (old new : Fields) (item : Item) → HasOneMore old new item → IsNewest (Some item) (next_stage (stage_of old) (event_of item)) → IsNewest (last new.items.items) (stage_of new)
@@ -44,8 +49,9 @@ offsets-more old new item more each has =
     subst (AllByRecursion (HasOffset new.names)) (sym more.items) (each-append (HasOffset new.names) old.items.items (item ∷ []) each (has, tt))
 
 -- A node begins.
-pub kept-begun : (old new : Fields) (name : Bor (List ℕ)) → IsKept old → MayBegin name.now (stage_of old) → HasOneMore old new (Begin name) → new.depth ≡ old.depth + 1 → new.names ≡ old.names → IsKept new
+pub kept-begun : (old new : Fields) (name : Bor (List ℕ)) → IsKept old → MayBegin most_open_nodes name.now (stage_of old) → HasOneMore old new (Begin name) → new.depth ≡ old.depth + 1 → new.names ≡ old.names → IsKept new
 kept-begun old new name kept may more deeper same = record {
+  follow = follow-more old new (Begin name) more kept.follow may;
   is_depth = deeper ∙ (omega (arith, kept.is_depth, begun-depth (stage_of old) name.now may)) ∙ ap (λ stage. length (open_nodes stage)) (sym (stage-more old new (Begin name) more));
   shallow = omega (arith, deeper, kept.is_depth, begun-shallow (stage_of old) name.now may);
   room = more.room;
@@ -58,6 +64,7 @@ kept-begun old new name kept may more deeper same = record {
 -- A node ends.
 pub kept-ended : (old new : Fields) → IsKept old → MayEnd (stage_of old) → HasOneMore old new End → new.depth + 1 ≡ old.depth → new.names ≡ old.names → IsKept new
 kept-ended old new kept may more less same = record {
+  follow = follow-more old new End more kept.follow may;
   is_depth = (omega (arith, less, kept.is_depth, ended-depth (stage_of old) may)) ∙ ap (λ stage. length (open_nodes stage)) (sym (stage-more old new End more));
   shallow = omega (arith, less, kept.shallow);
   room = more.room;
@@ -68,8 +75,9 @@ kept-ended old new kept may more less same = record {
 }
 
 -- A node gets a property.
-pub kept-added : (old new : Fields) (property : PropertyItem) → IsKept old → MayHaveProperty property.name.now (stage_of old) → HasOneMore old new (Property property) → new.depth ≡ old.depth → new.names ≡ with_name old.names property.name.now → property.name_offset ≡ capped (offset_in new.names property.name.now) → IsKept new
+pub kept-added : (old new : Fields) (property : PropertyItem) → IsKept old → MayHaveNextProperty property.name.now (stage_of old) → HasOneMore old new (Property property) → new.depth ≡ old.depth → new.names ≡ with_name old.names property.name.now → property.name_offset ≡ capped (offset_in new.names property.name.now) → IsKept new
 kept-added old new property kept may more same names is_offset = record {
+  follow = follow-more old new (Property property) more kept.follow may;
   is_depth = same ∙ kept.is_depth ∙ sym (added-depth (stage_of old) property.name.now (value_bytes property.value)) ∙ ap (λ stage. length (open_nodes stage)) (sym (stage-more old new (Property property) more));
   shallow = omega (arith, same, kept.shallow);
   room = more.room;

@@ -1,4 +1,4 @@
-use Rattle.std.specs.Prelude.{◌≡◌, ◌≢◌, ℕ, ◌+◌, ◌≤◌, List, [], map, length, Option, Some, None, vec_len, vec_capacity}
+use Rattle.std.specs.Prelude.{◌≡◌, ◌≢◌, ℕ, ◌+◌, ◌-◌, ◌≤◌, List, [], map, length, Option, Some, None, slice_get, vec_len, vec_capacity}
 use Rattle.std.specs.List.{AllByRecursion}
 use Rattle.bi_blob.specs.Blob.{Reservation}
 use Rattle.bi_blob.specs.Stages.{Stage, BeforeRoot, Inside, AfterRoot, OpenNode, open_nodes}
@@ -6,7 +6,7 @@ use Rattle.bi_blob.specs.Layout.{used_names, distinct_names}
 use Rattle.bi_lay.specs.declared.document.Doc.TheInside.{Inside as Fields}
 use Rattle.bi_lay.specs.declared.items.Item.{Item}
 use Rattle.bi_lay.specs.declared.items.Item.TheVariants.{Begin, Property, End}
-use Rattle.bi_lay.specs.Conditions.{stage_after, last}
+use Rattle.bi_blob.specs.Following.{stage_of_events, AllFollow, MayFollowInText}
 use Rattle.bi_lay.specs.Contents.{Content}
 use Rattle.bi_lay.specs.Items.{events_of_items, HasOffset}
 
@@ -26,14 +26,18 @@ content_of doc = record {
 
 -- Where the tree has come to.
 abbrev pub stage_of : Fields → Stage
-stage_of doc = stage_after (events_of_items doc.items.items)
+stage_of doc = stage_of_events (events_of_items doc.items.items)
+
+-- The last of these, if there is one.
+abbrev pub last : {X : Type 0} → List X → Option X
+last xs = slice_get xs (length xs - 1)
 
 -- The open nodes but for the innermost.
 abbrev pub outer_nodes : Stage → List OpenNode
 outer_nodes (Inside innermost outer) = outer
 outer_nodes stage = []
 
--- The last item tells what the innermost open node has last.
+-- What the last item says of the innermost open node.
 abbrev pub IsNewest : Option Item → Stage → Type 0
 IsNewest None BeforeRoot = Unit {0}
 IsNewest (Some (Begin name)) (Inside innermost outer) = (innermost.properties ≡ []) × (innermost.children ≡ [])
@@ -45,6 +49,7 @@ IsNewest item stage = ⊥
 
 -- What is true of the fields. There is room for the ends of all open nodes.
 pub record IsKept (doc : Fields) : Type 0 where
+  pub follow : AllFollow MayFollowInText BeforeRoot (events_of_items doc.items.items)
   pub is_depth : doc.depth ≡ length (open_nodes (stage_of doc))
   pub shallow : doc.depth ≤ 64
   pub room : vec_len doc.items + doc.depth ≤ vec_capacity doc.items

@@ -1,4 +1,3 @@
-pub mod Conditions
 pub mod Contents
 pub mod Names
 pub mod Items

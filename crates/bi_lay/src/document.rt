@@ -41,8 +41,8 @@ impl<'a> Model for Doc<'a> {
 
 impl<'a> Doc<'a> {
     ghost use Rattle.bi_blob.specs.Events.{NodeStart, NodeProperty, NodeEnd};
-    ghost use Rattle.bi_blob.specs.Stages.{AfterRoot};
-    ghost use Rattle.bi_lay.specs.Conditions.{stage_after, MayBegin, MayHaveProperty, MayEnd};
+    ghost use Rattle.bi_blob.specs.Stages.{BeforeRoot, AfterRoot};
+    ghost use Rattle.bi_blob.specs.Following.{stage_of_events, MayBegin, most_open_nodes, MayHaveNextProperty, MayEnd, AllFollow, MayFollowInText};
     ghost use Rattle.bi_lay.specs.Contents.{empty_content, with_reservation, with_event};
     ghost use Rattle.bi_lay.specs.Items.{value_bytes};
 
@@ -78,7 +78,7 @@ impl<'a> Doc<'a> {
     ///
     /// The only error is `OutOfMemory`, and the document is unchanged then.
     pub fn begin(&mut self, name: &'a [u8]) -> Result<(), Error>
-        requires { MayBegin name.now (stage_after self.old.events) }
+        requires { MayBegin most_open_nodes name.now (stage_of_events self.old.events) }
         ensures begun { OnOk result (self.new ≡ with_event self.old (NodeStart name.entry.now)) }
         ensures refused { IfErr result (λ error. (error ≡ OutOfMemory) × (self.new ≡ self.old)) }
     {
@@ -92,7 +92,7 @@ impl<'a> Doc<'a> {
     ///
     /// The only error is `OutOfMemory`, and the document is unchanged then.
     pub fn property(&mut self, name: &'a [u8], value: Value<'a>) -> Result<(), Error>
-        requires { MayHaveProperty name.now (stage_after self.old.events) }
+        requires { MayHaveNextProperty name.now (stage_of_events self.old.events) }
         ensures added { OnOk result
             (self.new ≡ with_event self.old (NodeProperty (name.entry.now, value_bytes value.entry))) }
         ensures refused { IfErr result (λ error. (error ≡ OutOfMemory) × (self.new ≡ self.old)) }
@@ -110,7 +110,7 @@ impl<'a> Doc<'a> {
 
     /// Ends the innermost open node. It may only be called where `may_end` is true. It takes no memory.
     pub fn end(&mut self)
-        requires { MayEnd (stage_after self.old.events) }
+        requires { MayEnd (stage_of_events self.old.events) }
         ensures { self.new ≡ with_event self.old NodeEnd }
     {
         self.items.push(Item::End).unwrap();
@@ -123,7 +123,7 @@ impl<'a> Doc<'a> {
     /// It takes time linear in the number of events, since it looks for a child of the same name. `begin` itself does
     /// not look, so a caller that knows that the names of children differ need not call this.
     pub fn may_begin(&self, name: &[u8]) -> bool
-        ensures { IsTrue result ↔ MayBegin name.now (stage_after self.now.events) }
+        ensures { IsTrue result ↔ MayBegin most_open_nodes name.now (stage_of_events self.now.events) }
     {
         if self.depth == 0 {
             return self.items.is_empty() && name.is_empty();
@@ -137,7 +137,7 @@ impl<'a> Doc<'a> {
     /// Whether `property` may be called with this name: a node is open and has no child yet, the name has a byte and no
     /// zero, and it is greater in byte order than that of the node's last property.
     pub fn may_property(&self, name: &[u8]) -> bool
-        ensures { IsTrue result ↔ MayHaveProperty name.now (stage_after self.now.events) }
+        ensures { IsTrue result ↔ MayHaveNextProperty name.now (stage_of_events self.now.events) }
     {
         match self.items.last() {
             Some(Item::Begin(_)) => is_property_name(name),
@@ -148,14 +148,15 @@ impl<'a> Doc<'a> {
 
     /// Whether `end` may be called: a node is open.
     pub fn may_end(&self) -> bool
-        ensures { IsTrue result ↔ MayEnd (stage_after self.now.events) }
+        ensures { IsTrue result ↔ MayEnd (stage_of_events self.now.events) }
     {
         self.depth != 0
     }
 
     /// Whether the root was begun and ended.
     pub fn is_closed(&self) -> bool
-        ensures { IsTrue result ↔ (stage_after self.now.events ≡ AfterRoot) }
+        ensures ended { IsTrue result ↔ (stage_of_events self.now.events ≡ AfterRoot) }
+        ensures follow { AllFollow MayFollowInText BeforeRoot self.now.events }
     {
         self.depth == 0 && !self.items.is_empty()
     }

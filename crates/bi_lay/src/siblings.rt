@@ -3,7 +3,7 @@
 ghost use Rattle.std.specs.Prelude.{◌≡◌, ◌≢◌, ◌+◌, ◌<◌, ◌^◌, ◌↔◌, length, IsTrue, true};
 ghost use Rattle.bi_blob.specs.Tree.{IsNew};
 ghost use Rattle.bi_blob.specs.Stages.{Stage, next_stage, open_nodes, child_names};
-ghost use Rattle.bi_lay.specs.Conditions.{stage_after};
+ghost use Rattle.bi_blob.specs.Following.{stage_of_events};
 ghost use Rattle.bi_lay.specs.Items.{event_of, events_of_items};
 ghost use Rattle.bi_lay.specs.Siblings.{IsScan};
 
@@ -20,9 +20,9 @@ struct Scan {
 
 /// Whether no child of the innermost open node has this name, where so many nodes are open after these items.
 pub(crate) fn is_new_child(items: &[Item<'_>], depth: usize, name: &[u8]) -> bool
-    requires open { depth ≡ length (open_nodes (stage_after (events_of_items items.now))) }
+    requires open { depth ≡ length (open_nodes (stage_of_events (events_of_items items.now))) }
     requires some { 0 < depth }
-    ensures { IsTrue result ↔ IsNew name.now (child_names (stage_after (events_of_items items.now))) }
+    ensures { IsTrue result ↔ IsNew name.now (child_names (stage_of_events (events_of_items items.now))) }
 {
     let mut scan = Scan {
         depth: 0,

@@ -1,7 +1,7 @@
 use Rattle.std.proofs.Common.{sym, ap, subst, ◌∙◌, arith, refl, cond, is_ok, ◌+◌, ◌++◌, ◌∷◌, [], vec_len}
 use Rattle.bi_lay.specs.declared.items.Item.{Item}
 use Rattle.bi_lay.specs.declared.items.Item.TheVariants.{Property}
-use Rattle.bi_lay.specs.Conditions.{stage_after, MayHaveProperty}
+use Rattle.bi_blob.specs.Following.{stage_of_events, MayHaveNextProperty}
 use Rattle.bi_lay.proofs.Kept.{kept-added}
 use Rattle.bi_lay.proofs.document.Doc.property.Goals as goal
 
@@ -12,6 +12,6 @@ invariant_of-self-2 c =
     let items = c.push.ensures.items ∙ ap (λ b. cond b (c.reserve.new.self.items ++ item ∷ []) c.reserve.new.self.items) ok ∙ ap (λ l. l ++ item ∷ []) c.in_ok-reserve.ensures.items in
     let len = c.push.ensures.len ∙ ap (λ b. cond b (vec_len c.reserve.new.self + 1) (vec_len c.reserve.new.self)) ok in
     kept-added c.self.inside _ _ c.self.invariant
-    (subst (λ content. MayHaveProperty c.args.name.now (stage_after content.events)) (sym c.self.view_is) c.requires)
+    (subst (λ content. MayHaveNextProperty c.args.name.now (stage_of_events content.events)) (sym c.self.view_is) c.requires)
     (record { items = items; room = omega (arith, len, c.push.ensures.capacity, c.in_ok-reserve.ensures.ok) })
     refl c.in_ok-name_offset.ensures.names c.in_ok-name_offset.ensures.offset
