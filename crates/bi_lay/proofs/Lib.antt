@@ -3,3 +3,5 @@ pub mod Growing
 pub mod UsedNames
 pub mod Kept
 pub mod Scanning
+pub mod Chains
+pub mod TokenBytes

@@ -1,7 +1,8 @@
-use Rattle.std.specs.Prelude.{◌≡◌, ℕ, List, map, Contains}
+use Rattle.std.specs.Prelude.{◌≡◌, ℕ, List, ◌++◌, map, flat_map, Contains}
 use Rattle.bi_base.specs.Cells.{cell}
 use Rattle.bi_blob.specs.Events.{Event, NodeStart, NodeProperty, NodeEnd}
-use Rattle.bi_blob.specs.Layout.{offset_in}
+use Rattle.bi_blob.specs.Tokens.{BeginNode, Prop, EndNode, End as EndToken}
+use Rattle.bi_blob.specs.Layout.{offset_in, encoding}
 use Rattle.bi_lay.specs.declared.items.Value.{Value}
 use Rattle.bi_lay.specs.declared.items.Value.TheVariants.{Slice, Cell}
 use Rattle.bi_lay.specs.declared.items.Item.{Item}
@@ -24,6 +25,16 @@ event_of End = NodeEnd
 -- The events that these items are.
 abbrev pub events_of_items : List Item → List Event
 events_of_items items = map event_of items
+
+-- The bytes of the token of an item, its padding included (Devicetree Specification, 5.4.1).
+abbrev pub item_encoding : Item → List ℕ
+item_encoding (Begin name) = encoding (BeginNode name.now)
+item_encoding (Property property) = encoding (Prop property.name_offset (value_bytes property.value))
+item_encoding End = encoding EndNode
+
+-- The structure block of these items (Devicetree Specification, 5.4).
+abbrev pub structure_of_items : List Item → List ℕ
+structure_of_items items = flat_map item_encoding items ++ encoding EndToken
 
 -- The name of a property is among these names, and its offset is the one that it has there.
 abbrev pub HasOffset : List (List ℕ) → Item → Type 0

@@ -1,4 +1,7 @@
 //! What a document keeps of its tree.
+#![tactic(auto, unfolding(bi_base::specs::Cells::cell))]
+
+ghost use Rattle.std.specs.Prelude.{◌≡◌, length};
 
 /// The value of a property.
 #[derive(Clone, Copy, Debug)]
@@ -7,6 +10,20 @@ pub enum Value<'a> {
     Slice(&'a [u8]),
     /// The four big-endian bytes of this number (Devicetree Specification, 2.2.4.2: u32).
     Cell(u32),
+}
+
+impl<'a> Value<'a> {
+    ghost use Rattle.bi_lay.specs.Items.{value_bytes};
+
+    /// Returns how many bytes the value has.
+    pub(crate) fn len(&self) -> usize
+        ensures { result ≡ length (value_bytes self.now) }
+    {
+        match self {
+            Value::Slice(bytes) => bytes.len(),
+            Value::Cell(_) => 4,
+        }
+    }
 }
 
 /// A property, with the offset of its name in the strings block.

@@ -6,6 +6,7 @@ mod document;
 mod items;
 mod names;
 mod siblings;
+mod structure;
 
 pub use document::Doc;
 pub use items::Value;
