@@ -5,3 +5,4 @@ pub mod Kept
 pub mod Scanning
 pub mod Chains
 pub mod TokenBytes
+pub mod BlockBytes

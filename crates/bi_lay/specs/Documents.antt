@@ -1,6 +1,5 @@
 use Rattle.std.specs.Prelude.{◌≡◌, ◌≢◌, ℕ, ◌+◌, ◌-◌, ◌≤◌, List, [], map, length, Option, Some, None, slice_get, vec_len, vec_capacity}
 use Rattle.std.specs.List.{AllByRecursion}
-use Rattle.bi_blob.specs.Blob.{Reservation}
 use Rattle.bi_blob.specs.Stages.{Stage, BeforeRoot, Inside, AfterRoot, OpenNode, open_nodes}
 use Rattle.bi_blob.specs.Layout.{used_names, distinct_names}
 use Rattle.bi_lay.specs.declared.document.Doc.TheInside.{Inside as Fields}
@@ -8,19 +7,15 @@ use Rattle.bi_lay.specs.declared.items.Item.{Item}
 use Rattle.bi_lay.specs.declared.items.Item.TheVariants.{Begin, Property, End}
 use Rattle.bi_blob.specs.Following.{stage_of_events, AllFollow, MayFollowInText}
 use Rattle.bi_lay.specs.Contents.{Content}
-use Rattle.bi_lay.specs.Items.{events_of_items, HasOffset}
+use Rattle.bi_lay.specs.Items.{events_of_items, reservations_of, HasOffset}
 
 -- What a document's fields hold, and what is true of them.
-
--- A reservation, from an address and a size.
-abbrev pub reservation_of : ℕ × ℕ → Reservation
-reservation_of pair = record { address = pair.0; size = pair.1 }
 
 -- What the fields hold.
 abbrev pub content_of : Fields → Content
 content_of doc = record {
   boot_cpu = doc.boot_cpu;
-  reservations = map reservation_of doc.reservations.items;
+  reservations = reservations_of doc.reservations.items;
   events = events_of_items doc.items.items;
 }
 

@@ -6,7 +6,9 @@ mod document;
 mod items;
 mod names;
 mod siblings;
+mod sizes;
 mod structure;
+mod text;
 
 pub use document::Doc;
 pub use items::Value;
