@@ -37,5 +37,6 @@ text_bytes cpu reserved structure strings reserved_size structure_size strings_s
   where
     header : List ℕ
     header = blob_header cpu (length reserved) (length structure) (length strings)
+
     padding : List ℕ
     padding = padding_to_4 (length_before_padding (length reserved) (length structure) (length strings))

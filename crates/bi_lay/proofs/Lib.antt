@@ -6,3 +6,4 @@ pub mod Scanning
 pub mod Chains
 pub mod TokenBytes
 pub mod BlockBytes
+pub mod Texts

@@ -1,4 +1,4 @@
-use Rattle.std.proofs.Common.{◌≡◌, ℕ, ◌+◌, ◌-◌, ◌/◌, ◌%◌, ◌^◌, suc, List, [], ◌∷◌, ◌++◌, length, replicate, flat_map, refl, sym, ap, ◌∙◌, arith, append_assoc, append-nil, length-append}
+use Rattle.std.proofs.Common.{◌≡◌, ℕ, ◌+◌, ◌-◌, ◌/◌, ◌%◌, ◌^◌, suc, List, [], ◌∷◌, ◌++◌, length, replicate, flat_map, refl, sym, ap, ◌∙◌, arith, append_assoc, length-append}
 use Rattle.bi_base.specs.Cells.{cell, up4}
 use Rattle.bi_blob.specs.Tokens.{BeginNode, Prop, token_bytes}
 use Rattle.bi_blob.specs.Layout.{encoding, padding_to_4}
@@ -16,8 +16,10 @@ begin_bytes name =
   where
     padding : List ℕ
     padding = padding_to_4 (length (token_bytes (BeginNode name)))
+
     is_length : length (token_bytes (BeginNode name)) ≡ length name + 5
     is_length = length-append (cell 1) (name ++ 0 ∷ []) ∙ omega (arith, length-cell 1, length-append name (0 ∷ []))
+
     one_more : 4 - length name % 4 ≡ suc (up4 (length (token_bytes (BeginNode name))) - length (token_bytes (BeginNode name)))
     one_more = omega (arith, is_length)
 
@@ -28,10 +30,13 @@ cell-low n = λ j. first j ∷ second j ∷ third j ∷ fourth j ∷ []
   where
     first : n % 2 ^ 32 / 16777216 % 256 ≡ n / 16777216 % 256
     first = omega arith
+
     second : n % 2 ^ 32 / 65536 % 256 ≡ n / 65536 % 256
     second = omega arith
+
     third : n % 2 ^ 32 / 256 % 256 ≡ n / 256 % 256
     third = omega arith
+
     fourth : n % 2 ^ 32 % 256 ≡ n % 256
     fourth = omega arith
 
@@ -48,7 +53,9 @@ property_bytes offset value size low_size low_offset is_size is_low_size is_low_
   where
     same_size : cell low_size ≡ cell (length value)
     same_size = ap cell is_low_size ∙ cell-low size ∙ ap cell is_size
+
     same_offset : cell low_offset ≡ cell offset
     same_offset = ap cell is_low_offset ∙ cell-low offset
+
     same_padding : up4 size - size ≡ up4 (length (token_bytes (Prop offset value))) - length (token_bytes (Prop offset value))
     same_padding = omega (arith, is_size, length_unpadded-prop offset value)

@@ -1,6 +1,7 @@
 use Rattle.std.specs.Prelude.{ℕ, List, [], ◌∷◌, ◌++◌}
 use Rattle.bi_blob.specs.Blob.{Reservation}
 use Rattle.bi_blob.specs.Events.{Event}
+use Rattle.bi_blob.specs.Layout.{text_of_events}
 
 -- What a document holds.
 
@@ -13,6 +14,10 @@ pub record Content : Type 0 where
 -- A document without reservations, in which no node was begun.
 abbrev pub empty_content : ℕ → Content
 empty_content boot_cpu = record { boot_cpu = boot_cpu; reservations = []; events = [] }
+
+-- The text of a document, as this project lays it out.
+abbrev pub text_of : Content → List ℕ
+text_of content = text_of_events content.boot_cpu content.reservations content.events
 
 -- One more reservation.
 abbrev pub with_reservation : Content → (address size : ℕ) → Content

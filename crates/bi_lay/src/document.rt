@@ -1,13 +1,16 @@
 //! A document: a devicetree blob in the making.
 
-ghost use Rattle.std.specs.Prelude.{◌≡◌, ◌+◌, ◌<◌, ◌↔◌, IsTrue, OnOk, IfOk, IfErr};
+ghost use Rattle.std.specs.Prelude.{◌≡◌, ◌+◌, ◌<◌, ◌≤◌, ◌↔◌, length, IsTrue, OnOk, IfOk, IfErr, MatchOption};
+ghost use Rattle.bi_base.specs.Sinks.{Wrote};
 ghost use Rattle.bi_base.specs.declared.fault.Error.TheVariants.{OutOfMemory};
 
 use crate::conditions::{is_child_name, is_property_name};
 use crate::items::{Item, Property, Value};
 use crate::names::Names;
 use crate::siblings::is_new_child;
-use bi_base::Error;
+use crate::sizes::BlockSizes;
+use crate::text::{Parts, put_text};
+use bi_base::{Error, Sink};
 use std::alloc::Global;
 use std::marker::Model;
 
@@ -43,7 +46,8 @@ impl<'a> Doc<'a> {
     ghost use Rattle.bi_blob.specs.Events.{NodeStart, NodeProperty, NodeEnd};
     ghost use Rattle.bi_blob.specs.Stages.{BeforeRoot, AfterRoot};
     ghost use Rattle.bi_blob.specs.Following.{stage_of_events, MayBegin, most_open_nodes, MayHaveNextProperty, MayEnd, AllFollow, MayFollowInText};
-    ghost use Rattle.bi_lay.specs.Contents.{empty_content, with_reservation, with_event};
+    ghost use Rattle.bi_blob.specs.Layout.{longest_text};
+    ghost use Rattle.bi_lay.specs.Contents.{empty_content, text_of, with_reservation, with_event};
     ghost use Rattle.bi_lay.specs.Items.{value_bytes};
 
     /// A document for this boot processor, without reservations, in which no node was begun. The only error is
@@ -159,5 +163,35 @@ impl<'a> Doc<'a> {
         ensures follow { AllFollow MayFollowInText BeforeRoot self.now.events }
     {
         self.depth == 0 && !self.items.is_empty()
+    }
+
+    /// Returns the length of the document's text in bytes, or None if it has more than 0x7fffffff bytes. It may only be
+    /// called where `is_closed` is true. It takes time linear in the number of events.
+    pub fn size(&self) -> Option<u32>
+        requires { stage_of_events self.now.events ≡ AfterRoot }
+        ensures { MatchOption result (longest_text < length (text_of self.now))
+            (λ size. (size ≡ length (text_of self.now)) × (size ≤ longest_text)) }
+    {
+        let sizes = BlockSizes::measure(self.reservations.len(), &self.items, self.names.length())?;
+        Some(sizes.total())
+    }
+
+    /// Appends the document's text: the header, the reservation block, the structure block, the strings block, and zeros up
+    /// to a multiple of four. It may only be called where `is_closed` is true and `size` is not None. Fails as the sink does.
+    ///
+    /// It takes time linear in the length of the text, and no memory but what the sink takes.
+    pub fn emit<S: Sink>(&self, sink: &mut S) -> Result<(), Error>
+        requires closed { stage_of_events self.now.events ≡ AfterRoot }
+        requires small { length (text_of self.now) ≤ longest_text }
+        ensures { Wrote S.appends S.fails sink.old (text_of self.now) result sink.new }
+    {
+        let sizes = BlockSizes::measure(self.reservations.len(), &self.items, self.names.length());
+        let parts = Parts {
+            boot_cpu: self.boot_cpu,
+            reservations: &self.reservations,
+            items: &self.items,
+            names: self.names.as_slice(),
+        };
+        put_text(parts, sizes.unwrap(), sink)
     }
 }

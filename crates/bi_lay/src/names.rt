@@ -31,6 +31,7 @@ impl<'a> Model for Names<'a> {
 
 impl<'a> Names<'a> {
     ghost use Rattle.bi_lay.specs.Names.{with_name, capped};
+    ghost use Rattle.bi_lay.specs.Items.{bytes_of};
 
     /// No names. It takes no memory yet.
     pub(crate) fn new(alloc: Global) -> Names<'a>
@@ -47,6 +48,13 @@ impl<'a> Names<'a> {
         ensures { result ≡ capped (length (strings_of self.now)) }
     {
         self.length
+    }
+
+    /// Returns the names in the order of their first use.
+    pub(crate) fn as_slice(&self) -> &[&'a [u8]]
+        ensures { bytes_of result.now ≡ self.now }
+    {
+        self.offsets.keys().as_slice()
     }
 
     /// Adds a name if it is not there yet, and returns its offset in the strings block, or the greatest `usize` if it is

@@ -68,7 +68,10 @@ fn put_property<S: Sink>(property: Property<'_>, sink: &mut S) -> Result<(), Err
         Wrote S.appends S.fails sink.old (encoding (Prop property.entry.name_offset value)) result sink.new }
 {
     let size = property.value.len();
-    put_cells(sink, &[PROP, low_cell(size), low_cell(property.name_offset)])?;
+    put_cells(
+        sink,
+        &[PROP, low_cell(size), low_cell(property.name_offset)],
+    )?;
     put_value(property.value, sink)?;
     put_padding(size, sink)
 }

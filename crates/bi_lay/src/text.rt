@@ -20,6 +20,7 @@ const RESERVATIONS_OFFSET: u32 = 40;
 
 /// The version of the text, and the least version whose readers can read it (Devicetree Specification, 5.2).
 const VERSION: u32 = 17;
+
 const LAST_COMPATIBLE_VERSION: u32 = 16;
 
 /// What the text of a document is made from.
@@ -32,14 +33,18 @@ pub(crate) struct Parts<'a> {
 }
 
 /// Appends the text of these parts, whose blocks have these sizes. Fails as the sink does.
-pub(crate) fn put_text<S: Sink>(parts: Parts<'_>, sizes: BlockSizes, sink: &mut S) -> Result<(), Error>
+pub(crate) fn put_text<S: Sink>(
+    parts: Parts<'_>,
+    sizes: BlockSizes,
+    sink: &mut S,
+) -> Result<(), Error>
     requires reservations { sizes.reservations ≡ length (reservation_block (reservations_of parts.reservations.now)) }
     requires structure { sizes.structure ≡ length (structure_of_items parts.items.now) }
     requires strings { sizes.strings ≡ length (strings_of (bytes_of parts.names.now)) }
     ensures { let parts = parts.entry in
         Wrote S.appends S.fails sink.old
         (text_of_blocks parts.boot_cpu (reservation_block (reservations_of parts.reservations.now))
-            (structure_of_items parts.items.now) (strings_of (bytes_of parts.names.now)))
+        (structure_of_items parts.items.now) (strings_of (bytes_of parts.names.now)))
         result sink.new }
 {
     put_header(parts.boot_cpu, sizes, sink)?;
@@ -73,7 +78,7 @@ fn put_blocks<S: Sink>(parts: Parts<'_>, sink: &mut S) -> Result<(), Error>
     ensures { let parts = parts.entry in
         Wrote S.appends S.fails sink.old
         (reservation_block (reservations_of parts.reservations.now)
-            ++ structure_of_items parts.items.now ++ strings_of (bytes_of parts.names.now))
+        ++ structure_of_items parts.items.now ++ strings_of (bytes_of parts.names.now))
         result sink.new }
 {
     put_reservations(parts.reservations, sink)?;

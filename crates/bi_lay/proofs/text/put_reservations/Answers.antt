@@ -1,5 +1,4 @@
-use Rattle.std.proofs.Common.{[], ◌++◌, take_all, flat_map, arith, subst, ap, sym, ◌∙◌}
-use Rattle.bi_base.specs.Sinks.{Wrote}
+use Rattle.std.proofs.Common.{◌++◌, take_all, flat_map, arith, subst, ap, ◌∙◌}
 use Rattle.bi_base.proofs.SinkLaws.{failed_within, passed_on, wrote_after}
 use Rattle.bi_blob.specs.Blob.{pair_bytes, end_pair}
 use Rattle.bi_lay.proofs.BlockBytes.{bytes_of_pair, reservations_bytes}

@@ -1,4 +1,4 @@
-use Rattle.std.proofs.Common.{List, ℕ, ◌++◌}
+use Rattle.std.proofs.Common.{◌++◌}
 use Rattle.bi_base.proofs.SinkLaws.{passed_on}
 use Rattle.bi_blob.specs.Blob.{reservation_block}
 use Rattle.bi_blob.specs.Layout.{blob_header, strings_of, padding_to_4, length_before_padding}
