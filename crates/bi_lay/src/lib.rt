@@ -12,3 +12,6 @@ mod text;
 
 pub use document::Doc;
 pub use items::Value;
+
+#[cfg(test)]
+mod tests;
