@@ -21,3 +21,4 @@ pub mod Accepted
 pub mod Ordered
 pub mod FirstUse
 pub mod Offsets
+pub mod NormalEvents

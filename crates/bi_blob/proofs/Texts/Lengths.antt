@@ -1,4 +1,4 @@
-use Rattle.std.proofs.Common.{◌≡◌, ℕ, ◌+◌, ◌*◌, ◌%◌, List, [], ◌∷◌, ◌++◌, length, map, flat_map, refl, ap, ◌∙◌, arith, length-append}
+use Rattle.std.proofs.Common.{◌≡◌, ℕ, ◌+◌, ◌%◌, List, [], ◌∷◌, ◌++◌, length, map, flat_map, refl, ap, ◌∙◌, arith, length-append}
 use Rattle.std.specs.List.{sum_by}
 use Rattle.std.proofs.lemmas.List.{length_push}
 use Rattle.std.proofs.lemmas.List.Concat.{flat_map-append}
@@ -6,14 +6,13 @@ use Rattle.std.proofs.lemmas.List.Sums.{sum_by-cons}
 use Rattle.bi_base.specs.Cells.{up4}
 use Rattle.bi_blob.specs.Tokens.{End}
 use Rattle.bi_blob.specs.Events.{Event}
-use Rattle.bi_blob.specs.Blob.{Reservation, pair_bytes, end_pair, reservation_block}
+use Rattle.bi_blob.specs.Blob.{reservation_block}
 use Rattle.bi_blob.specs.Layout.{used_names, distinct_names, encoding, token_of, tokens_of, event_width, structure_block, strings_block, strings_of, text_of_events}
 use Rattle.bi_blob.specs.TextLaws.{TextOfEventsHasItsLength, HasEventWidths}
 use Rattle.bi_base.proofs.CellLaws.{length-cell}
-use Rattle.bi_blob.proofs.Blobs.Cells.{length-cell8}
+pub use Rattle.bi_blob.proofs.Blobs.ReservationFaults.{length-reservation_block}
 use Rattle.bi_blob.proofs.Texts.TokenEncoding.{length-encoding, width-token, length_unpadded-prop}
 use Rattle.bi_blob.proofs.Texts.Length.{length-text_of_blocks, up4-whole}
-use Rattle.bi_blob.proofs.Texts.Blocks.{length-reservations}
 
 -- How long the text of some events is.
 
@@ -24,15 +23,6 @@ has_event_widths = record {
   property = λ property. ap up4 (length_unpadded-prop 0 property.1 ∙ omega arith);
   node_end = ap up4 (length-cell 2);
 }
-
--- The reservation block has sixteen bytes for each reservation and for the end pair.
-pub length-reservation_block : (reservations : List Reservation) → length (reservation_block reservations) ≡ 16 * length reservations + 16
-length-reservation_block reservations =
-    length-append (flat_map pair_bytes reservations) (pair_bytes end_pair)
-    ∙ omega (arith, length-reservations reservations, length-end_pair)
-  where
-    length-end_pair : length (pair_bytes end_pair) ≡ 16
-    length-end_pair = simp (length-append, length-cell8)
 
 -- The tokens of events take the widths of the events, whatever the names are.
 length-tokens : (names : List (List ℕ)) (events : List Event) → length (flat_map encoding (map (token_of names) events)) ≡ sum_by event_width events
@@ -58,7 +48,7 @@ length-strings_of (name ∷ later) =
     length-append (name ++ 0 ∷ []) (strings_of later)
     ∙ omega (arith, length_push name 0, length-strings_of later, sum_by-cons (λ name. length name + 1) name later)
 
--- The length of each text is what the layout says.
+-- The length of each text is that of the layout.
 pub text_of_events_has_length : TextOfEventsHasItsLength
 unfolding text_of_events
 text_of_events_has_length cpu reservations events = record {
