@@ -58,7 +58,7 @@ END
 
 compile shared_tail.dtb << END
 /dts-v1/;
-/ { name = [02]; filename = [01]; images { }; };
+/ { device = [02]; boot-device = [01]; images { }; };
 END
 
 compile board.dtb -b 3 << END
@@ -107,7 +107,7 @@ compile version_16.dtb -V 16 << END
 / { compatible = "old"; node { compatible = "older"; reg = <1 2 3>; }; };
 END
 
-python3 -c 'import sys; sys.stdout.buffer.write(bytes(range(256)) * 4096 + b"end")' > kernel
+python3 -c 'import sys; sys.stdout.buffer.write(bytes(range(256)) * 256 + b"end")' > kernel
 compile images.dtb << END
 /dts-v1/;
 / {
@@ -132,7 +132,7 @@ compile images.dtb << END
 };
 END
 
-nodes=63
+nodes=30
 source=""
 while [ "$nodes" -gt 0 ]; do
     source="n { x = <$nodes>; $source };"
@@ -141,8 +141,8 @@ done
 echo "/dts-v1/; / { $source };" | compile deep.dtb
 
 names="empty shared_tail board padded version_16 images deep"
-for name in $names; do
-    check "dtc makes $name" test -s "$name.dtb"
+for one in $names; do
+    check "dtc makes $one" test -s "$one.dtb"
 done
 [ "$failed" = 0 ] || finish
 check "fdtget and fdtdump say what the blobs have" sh -c \
@@ -158,7 +158,7 @@ mkdir -p "$work/copy/crates/layout_of_events/src"
 cp "$root/tests/layout/main.rt" "$work/copy/crates/layout_of_events/src/main.rt"
 (cd "$work/copy/crates/layout_of_events" && rt try < "$work/blobs/events" > "$work/blobs/texts" 2> "$work/blobs/errors")
 check "the program writes texts" test -s texts
-[ "$failed" = 0 ] || { cat errors; finish; }
+[ "$failed" = 0 ] || { tail -n 20 errors; finish; }
 
 # Each text has as many bytes as its header says.
 check "the texts are one after the other" python3 -c '
@@ -177,9 +177,9 @@ printed() {
     dtc -q -s -I dtb -O dts "$1"
 }
 
-# dumped FILE: what fdtdump prints of a blob without its header, in any order.
+# dumped FILE: what fdtdump prints of a blob without its header but for the boot processor, the lines sorted.
 dumped() {
-    fdtdump "$1" 2> /dev/null | sed '/^\/\/ /d' | sort
+    fdtdump "$1" 2> /dev/null | sed '/^\/\/ [^b]/d' | sort
 }
 
 # same COMMAND NAME: the command prints the same of the text as of the blob.
@@ -187,11 +187,9 @@ same() {
     "$1" "$2.dtb" > wanted && "$1" "$2.text" > output && [ -s output ] && cmp wanted output
 }
 
-for name in $names; do
-    check "dtc prints the same of $name" same printed "$name"
-    check "fdtdump prints the same of $name" same dumped "$name"
-    check "fdtget finds the boot processor of $name" sh -c \
-        "fdtdump $name.text 2> /dev/null | grep -q \"\$(fdtdump $name.dtb 2> /dev/null | grep boot_cpuid_phys)\""
+for one in $names; do
+    check "dtc prints the same of $one" same printed "$one"
+    check "fdtdump prints the same of $one" same dumped "$one"
 done
-check "two names share no bytes" grep -aq "filename.name" shared_tail.text
+check "two names share no bytes" grep -aq "boot-device.device" shared_tail.text
 finish

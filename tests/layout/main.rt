@@ -90,7 +90,7 @@ fn emit(doc: &Doc<'_>, sink: &mut VecSink) -> Result<(), Error> {
 
 /// Builds the document that the input begins with, and appends its text.
 fn copy(alloc: Global, left: &mut &[u8], sink: &mut VecSink) -> Result<(), Error> {
-    if next(left, 1)? != b"D" {
+    if next(left, 1)? != b"D".as_slice() {
         return Err(Error::ReadFailed);
     }
     let mut doc = Doc::new(alloc, number(left)?)?;
