@@ -5,6 +5,7 @@ pub mod Limits
 pub mod Traces
 pub mod Reading
 pub mod Writing
+pub mod Transfers
 pub mod Sinks
 pub mod SinkLaws
 pub mod CountSinks
@@ -13,3 +14,5 @@ pub mod VecSinks
 pub mod WriteSinks
 pub mod BufferedSinks
 pub mod Crc
+pub mod Strings
+pub mod CrcTables

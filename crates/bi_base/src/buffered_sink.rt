@@ -27,8 +27,9 @@ impl<'a, T: TracedWrite> BufferedSink<'a, T> {
 
     /// Returns a sink of this writer that holds nothing back yet.
     pub fn new(target: &'a mut T) -> BufferedSink<'a, T>
-        ensures { buffered T.trace result ≡
-            record { borrow = target.entry.ghost_name; trace = T.trace target.old; held = [] } }
+        ensures same_borrow { (buffered T.trace result).borrow ≡ target.entry.ghost_name }
+        ensures same_trace { (buffered T.trace result).trace ≡ T.trace target.old }
+        ensures none_held { (buffered T.trace result).held ≡ [] }
     {
         BufferedSink {
             target,

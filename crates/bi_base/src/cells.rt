@@ -1,9 +1,9 @@
 //! Cells: big-endian numbers, read at an offset and appended to a sink.
 #![tactic(auto, unfolding(crate::specs::Cells::cell, crate::specs::Cells::u32_at))]
 
-ghost use Rattle.std.specs.Prelude.{◌≡◌, ◌+◌, ◌≤◌, ◌↔◌, length, IsSome, IfSome};
+ghost use Rattle.std.specs.Prelude.{◌≡◌, ◌+◌, ◌^◌, ◌<◌, ◌≤◌, ◌↔◌, length, IsSome, IfSome};
 ghost use Rattle.std.specs.List.{flat_map};
-ghost use Rattle.bi_base.specs.Cells.{cell, slice, u32_at};
+ghost use Rattle.bi_base.specs.Cells.{cell, slice, u32_at, up4 as up4_of};
 ghost use Rattle.bi_base.specs.Sinks.{Wrote};
 
 use crate::fault::Error;
@@ -18,6 +18,14 @@ pub fn be32_at(bytes: &[u8], at: usize) -> Option<u32>
 {
     let cell = bytes.get(at..)?.first_chunk::<4>()?;
     Some(u32::from_be_bytes(*cell))
+}
+
+/// The least multiple of four that is at least `n`, which is at most `usize::MAX - 3`.
+pub fn up4(n: usize) -> usize
+    requires { n + 3 < 2 ^ 64 }
+    ensures { result ≡ up4_of n }
+{
+    (n + 3) / 4 * 4
 }
 
 /// Appends the cell of this number: its four bytes, the highest first (Devicetree Specification, 2.2.4.2: u32). Fails as
@@ -52,6 +60,19 @@ mod tests {
         assert_eq!(rt; be32_at(&bytes, 1), Some(0x0dfe_ed07));
         assert_eq!(rt; be32_at(&bytes, 2), None);
         assert_eq!(rt; be32_at(&bytes, usize::MAX), None);
+    }
+
+    #[test]
+    fn numbers_are_rounded_up_to_a_multiple_of_four(rt: HostRuntime) {
+        for (n, rounded) in [
+            (0, 0),
+            (1, 4),
+            (4, 4),
+            (5, 8),
+            (usize::MAX - 3, usize::MAX - 3),
+        ] {
+            assert_eq!(rt; up4(n), rounded);
+        }
     }
 
     #[test]

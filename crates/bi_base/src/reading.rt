@@ -48,8 +48,7 @@ pub fn read_all_traced<S: TracedRead>(
     ensures within { IfOk result (λ bytes. vec_len bytes ≤ limits.file) }
     ensures failed { IfErr result
         (IsReadError (S.trace source.old).remaining limits.file (MustStopReading (S.trace source.new))) }
-    ensures takes_at_most_one_byte_more {
-        TakesAtMost (S.trace source.old).remaining (S.trace source.new).remaining (limits.file + 1) }
+    ensures takes_at_most_one_byte_more { TakesAtMost (S.trace source.old).remaining (S.trace source.new).remaining (limits.file + 1) }
     ensures no_failure_ignored { ReadsWell (S.trace source.old) →
         (IsErrOf result Error.ReadFailed → ⊥) → ReadsWell (S.trace source.new) }
     ensures same_reader { (S.trace source.new).reader ≡ (S.trace source.old).reader }
@@ -82,8 +81,7 @@ pub fn read_all<R: Read>(alloc: Global, reader: &mut R, limits: Limits) -> Resul
         ReadWhole (R.remaining reader.old) (R.remaining reader.new) bytes.items) }
     ensures within { IfOk result (λ bytes. vec_len bytes ≤ limits.file) }
     ensures failed { IfErr result (IsReadError (R.remaining reader.old) limits.file ⊤) }
-    ensures takes_at_most_one_byte_more {
-        TakesAtMost (R.remaining reader.old) (R.remaining reader.new) (limits.file + 1) }
+    ensures takes_at_most_one_byte_more { TakesAtMost (R.remaining reader.old) (R.remaining reader.new) (limits.file + 1) }
 {
     let mut source = TracedReader::new(reader);
     read_all_traced(alloc, &mut source, limits)

@@ -5,7 +5,7 @@ use Rattle.std.proofs.lemmas.Grind.{common_steps}
 use Rattle.std.proofs.lemmas.List.Sums.{split_at_first, passes_at_first}
 use Rattle.std.proofs.lemmas.Bool.{eqb-true}
 use borrow.Author.Tests.{ltb-true}
-use Rattle.bi_hash.specs.Verdicts.{text_of}
+use Rattle.bi_hash.specs.Verdicts.{text_before_nul}
 
 -- The test that is `true` for a number plus one is that for the number.
 ltb-after : (m n : ℕ) → ltb m n ≡ ltb (1 + m) (1 + n)
@@ -22,8 +22,8 @@ taken_before true end bytes = refl
 taken_before false end bytes = refl
 
 -- The text ends where the first zero stands, and there is none where there is no zero.
-pub text_by_place : (bytes : List ℕ) (place : Option ℕ) → place ≡ position (λ byte. byte == 0) bytes → option_map (λ end. take end bytes) place ≡ text_of bytes
-unfolding text_of
+pub text_by_place : (bytes : List ℕ) (place : Option ℕ) → place ≡ position (λ byte. byte == 0) bytes → option_map (λ end. take end bytes) place ≡ text_before_nul bytes
+unfolding text_before_nul
 text_by_place bytes place e = rw (e, list_any-by_place (λ byte. byte == 0) bytes) (taken_before _ _ bytes)
 
 -- What a choice gives under a test that failed is nothing.
@@ -32,8 +32,8 @@ chosen_text true text name e = (refl, cc)
 chosen_text false text name e = cc
 
 -- What begins with a text goes on with a zero.
-pub text_then_zero : (bytes name : List ℕ) → text_of bytes ≡ Some name → (rest : List ℕ) × (bytes ≡ name ++ 0 ∷ rest)
-unfolding text_of
+pub text_then_zero : (bytes name : List ℕ) → text_before_nul bytes ≡ Some name → (rest : List ℕ) × (bytes ≡ name ++ 0 ∷ rest)
+unfolding text_before_nul
 text_then_zero bytes name e =
     let p : ℕ → Bool = λ byte. byte == 0 in
     let here = chosen_text (list_any p bytes) (before_first p bytes) name e in

@@ -1,0 +1,4 @@
+pub mod LegacyForm
+pub mod Opening
+pub mod NormalForms
+pub mod Writing
