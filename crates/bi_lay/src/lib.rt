@@ -14,4 +14,6 @@ pub use document::Doc;
 pub use items::Value;
 
 #[cfg(test)]
+mod refused_growths;
+#[cfg(test)]
 mod tests;
