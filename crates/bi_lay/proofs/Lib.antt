@@ -7,3 +7,4 @@ pub mod Chains
 pub mod TokenBytes
 pub mod BlockBytes
 pub mod Texts
+pub mod Closed

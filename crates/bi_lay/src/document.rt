@@ -44,9 +44,10 @@ impl<'a> Model for Doc<'a> {
 
 impl<'a> Doc<'a> {
     ghost use Rattle.bi_blob.specs.Events.{NodeStart, NodeProperty, NodeEnd};
-    ghost use Rattle.bi_blob.specs.Stages.{BeforeRoot, AfterRoot};
-    ghost use Rattle.bi_blob.specs.Following.{stage_of_events, MayBegin, most_open_nodes, MayHaveNextProperty, MayEnd, AllFollow, MayFollowInText};
+    ghost use Rattle.bi_blob.specs.Stages.{AfterRoot};
+    ghost use Rattle.bi_blob.specs.Following.{stage_of_events, MayBegin, most_open_nodes, MayHaveNextProperty, MayEnd};
     ghost use Rattle.bi_blob.specs.Layout.{longest_text};
+    ghost use Rattle.bi_blob.specs.TextLaws.{HasOneNormalTree};
     ghost use Rattle.bi_lay.specs.Contents.{empty_content, text_of, with_reservation, with_event};
     ghost use Rattle.bi_lay.specs.Items.{value_bytes};
 
@@ -157,10 +158,11 @@ impl<'a> Doc<'a> {
         self.depth != 0
     }
 
-    /// Whether the root was begun and ended.
+    /// Whether the root was begun and ended. The events are then those of exactly one tree that a blob can hold, and the
+    /// properties of each of its nodes come in byte order.
     pub fn is_closed(&self) -> bool
         ensures ended { IsTrue result ↔ (stage_of_events self.now.events ≡ AfterRoot) }
-        ensures follow { AllFollow MayFollowInText BeforeRoot self.now.events }
+        ensures tree { IsTrue result → HasOneNormalTree self.now.events }
     {
         self.depth == 0 && !self.items.is_empty()
     }
