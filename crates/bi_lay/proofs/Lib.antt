@@ -8,3 +8,4 @@ pub mod TokenBytes
 pub mod BlockBytes
 pub mod Texts
 pub mod Closed
+pub mod Building

@@ -3,3 +3,4 @@ pub mod Names
 pub mod Items
 pub mod Documents
 pub mod Siblings
+pub mod Laws

@@ -4,6 +4,7 @@
 mod conditions;
 mod document;
 mod items;
+pub mod laws;
 mod names;
 mod siblings;
 mod sizes;

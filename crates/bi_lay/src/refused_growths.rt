@@ -29,12 +29,7 @@ fn count(rt: &impl Abort, error: Error, refusals: &mut u64) {
 }
 
 /// Adds a reservation, again where memory was refused.
-fn reserve(
-    rt: &impl Abort,
-    doc: &mut Doc<'_>,
-    size: u64,
-    refusals: &mut u64,
-) -> Result<(), Error> {
+fn reserve(rt: &impl Abort, doc: &mut Doc<'_>, size: u64, refusals: &mut u64) -> Result<(), Error> {
     if let Err(error) = doc.reserve(0x1000, size) {
         count(rt, error, refusals);
         doc.reserve(0x1000, size)?;
