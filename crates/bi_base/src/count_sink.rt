@@ -7,7 +7,8 @@ use crate::fault::Error;
 use crate::sinks::Sink;
 use std::marker::Model;
 
-/// A sink that keeps no bytes, and counts them up to the greatest u64. Contracts see it as the count.
+/// A sink that keeps no bytes, and counts them up to the greatest u64. Contracts see it as the
+/// count.
 #[derive(Clone, Copy, Debug, PartialEq, Eq)]
 pub struct CountSink {
     count: u64,

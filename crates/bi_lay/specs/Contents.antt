@@ -22,7 +22,8 @@ text_of content = text_of_events content.boot_cpu content.reservations content.e
 -- One more reservation.
 abbrev pub with_reservation : Content → (address size : ℕ) → Content
 with_reservation content address size =
-    record content { reservations = content.reservations ++ (record { address = address; size = size }) ∷ [] }
+    let reservation : Reservation = record { address = address; size = size } in
+    record content { reservations = content.reservations ++ reservation ∷ [] }
 
 -- One more event.
 abbrev pub with_event : Content → Event → Content

@@ -1,4 +1,5 @@
-use Rattle.std.specs.Prelude.{◌≡◌, ◌≢◌, ◌+◌, ◌-◌, ◌≤◌, List, [], length, Option, Some, None, slice_get, vec_len, vec_capacity}
+use Rattle.std.specs.Prelude.{◌≡◌, ◌≢◌, ◌+◌, ◌-◌, ◌≤◌, List, [], length}
+use Rattle.std.specs.Prelude.{Option, Some, None, slice_get, vec_len, vec_capacity}
 use Rattle.std.specs.List.{AllByRecursion}
 use Rattle.bi_blob.specs.Stages.{Stage, BeforeRoot, Inside, AfterRoot, OpenNode, open_nodes}
 use Rattle.bi_blob.specs.Layout.{used_names, distinct_names}
@@ -35,7 +36,8 @@ outer_nodes stage = []
 -- What the last item says of the innermost open node.
 abbrev pub IsNewest : Option Item → Stage → Type 0
 IsNewest None BeforeRoot = Unit {0}
-IsNewest (Some (Begin name)) (Inside innermost outer) = (innermost.properties ≡ []) × (innermost.children ≡ [])
+IsNewest (Some (Begin name)) (Inside innermost outer) =
+    (innermost.properties ≡ []) × (innermost.children ≡ [])
 IsNewest (Some (Property property)) (Inside innermost outer) =
     (last innermost.properties ≡ Some property.name.now) × (innermost.children ≡ [])
 IsNewest (Some End) (Inside innermost outer) = innermost.children ≢ []

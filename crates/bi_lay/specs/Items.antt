@@ -31,7 +31,8 @@ events_of_items items = map event_of items
 -- The bytes of the token of an item, its padding included (Devicetree Specification, 5.4.1).
 abbrev pub item_encoding : Item → List ℕ
 item_encoding (Begin name) = encoding (BeginNode name.now)
-item_encoding (Property property) = encoding (Prop property.name_offset (value_bytes property.value))
+item_encoding (Property property) =
+    encoding (Prop property.name_offset (value_bytes property.value))
 item_encoding End = encoding EndNode
 
 -- The structure block of these items (Devicetree Specification, 5.4).
@@ -49,5 +50,6 @@ bytes_of slices = map (λ slice. slice.now) slices
 -- The name of a property is among these names, and its offset is the one that it has there.
 abbrev pub HasOffset : List (List ℕ) → Item → Type 0
 HasOffset names (Property property) =
-    Contains names property.name.now × (property.name_offset ≡ capped (offset_in names property.name.now))
+    Contains names property.name.now
+    × (property.name_offset ≡ capped (offset_in names property.name.now))
 HasOffset names item = Unit {0}

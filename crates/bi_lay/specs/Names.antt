@@ -1,10 +1,12 @@
-use Rattle.std.specs.Prelude.{◌≡◌, ℕ, ◌+◌, ◌-◌, ◌^◌, min, Bool, List, [], ◌∷◌, ◌++◌, map, length, bytes_eq, if◌then◌else◌}
+use Rattle.std.specs.Prelude.{◌≡◌, ℕ, ◌+◌, ◌-◌, ◌^◌, min, Bool, List, [], ◌∷◌, ◌++◌, map, length}
+use Rattle.std.specs.Prelude.{bytes_eq, if◌then◌else◌}
 use Rattle.std.specs.List.{list_any}
 use Rattle.std.specs.Borrow.{Bor}
 use Rattle.bi_lay.specs.declared.names.Names.TheInside.{Inside}
 use Rattle.bi_blob.specs.Layout.{strings_of}
 
--- The names of properties that the strings block has (Devicetree Specification, 5.5), in the order of their first use.
+-- The names of properties that the strings block has (Devicetree Specification, 5.5), in the order
+-- of their first use.
 
 -- Whether a name is among names.
 abbrev pub is_among : List ℕ → List (List ℕ) → Bool
@@ -31,7 +33,8 @@ entry_names entries = map (λ entry. entry.0.now) entries
 abbrev pub names_of : Inside → List (List ℕ)
 names_of names = entry_names names.offsets.entries
 
--- What is true of the fields: each name has its offset, and the length is that of the strings block.
+-- What is true of the fields: each name has its offset, and the length is that of the strings
+-- block.
 pub record AreNames (names : Inside) : Type 0 where
   pub placed : AreAt 0 names.offsets.entries
   pub is_length : names.length ≡ capped (length (strings_of (names_of names)))

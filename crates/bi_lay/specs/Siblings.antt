@@ -5,12 +5,13 @@ use Rattle.bi_lay.specs.declared.siblings.Scan.{Scan}
 
 -- What a search for a child of some name knows.
 
--- If so many nodes were open when the node in question was the innermost, it is one of these open nodes, the innermost first,
--- and has a child of the name or not.
+-- If so many nodes were open when the node in question was the innermost, it is one of these open
+-- nodes, the innermost first, and has a child of the name or not.
 abbrev pub KnowsChildren : List ℕ → ℕ → Bool → List OpenNode → Type 0
 KnowsChildren name depth is_new [] = Unit {0}
 KnowsChildren name depth is_new (node ∷ outer) =
-    (suc (length outer) ≡ depth → IsTrue is_new ↔ IsNew name node.children) × KnowsChildren name depth is_new outer
+    (suc (length outer) ≡ depth → IsTrue is_new ↔ IsNew name node.children)
+    × KnowsChildren name depth is_new outer
 
 -- A scan is at this stage.
 pub record IsScan (name : List ℕ) (depth : ℕ) (scan : Scan) (stage : Stage) : Type 0 where

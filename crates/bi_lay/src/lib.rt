@@ -1,4 +1,5 @@
-//! Lays out a devicetree blob: a document is built event by event, and its text is measured and written to a sink.
+//! Lays out a devicetree blob: a document is built event by event, and its text is measured and
+//! written to a sink.
 #![tactic(auto)]
 
 mod conditions;

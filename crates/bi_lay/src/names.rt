@@ -9,8 +9,8 @@ use indexmap::IndexMap;
 use std::alloc::Global;
 use std::marker::Model;
 
-/// The names that the strings block has, in the order of their first use (Devicetree Specification, 5.5). Contracts see
-/// the list of the names.
+/// The names that the strings block has, in the order of their first use (Devicetree
+/// Specification, 5.5). Contracts see the list of the names.
 #[derive(Drop)]
 pub(crate) struct Names<'a> {
     offsets: IndexMap<&'a [u8], usize>,
@@ -43,7 +43,8 @@ impl<'a> Names<'a> {
         }
     }
 
-    /// The length of the strings block in bytes, or the greatest `usize` if it is longer than that.
+    /// The length of the strings block in bytes, or the greatest `usize` if it is longer than
+    /// that.
     pub(crate) fn length(&self) -> usize
         ensures { result ≡ capped (length (strings_of self.now)) }
     {
@@ -57,12 +58,14 @@ impl<'a> Names<'a> {
         self.offsets.keys().as_slice()
     }
 
-    /// Adds a name if it is not there yet, and returns its offset in the strings block, or the greatest `usize` if it is
-    /// greater than that. The time it takes is linear in the name's length, whatever other names there are.
+    /// Adds a name if it is not there yet, and returns its offset in the strings block, or the
+    /// greatest `usize` if it is greater than that. The time it takes is linear in the name's
+    /// length, whatever other names there are.
     ///
     /// The only error is `OutOfMemory`, and the names are unchanged then.
     pub(crate) fn add(&mut self, name: &'a [u8]) -> Result<usize, Error>
-        ensures offset { IfOk result (λ offset. offset ≡ capped (offset_in self.new name.entry.now)) }
+        ensures offset { IfOk result (λ offset.
+            offset ≡ capped (offset_in self.new name.entry.now)) }
         ensures names { OnOk result (self.new ≡ with_name self.old name.entry.now) }
         ensures refused { IfErr result (λ error. (error ≡ OutOfMemory) × (self.new ≡ self.old)) }
     {

@@ -1,5 +1,5 @@
-//! A document that is built with one of its growths refused. `rt test` builds it with none refused; the script
-//! tests/refused_growths.sh adds a test for each growth, and has it refused.
+//! A document that is built with one of its growths refused. `rt test` builds it with none
+//! refused; the script tests/refused_growths.sh adds a test for each growth, and has it refused.
 
 use crate::{Doc, Value};
 use bi_base::{Error, VecSink};
@@ -29,10 +29,10 @@ fn count(rt: &impl Abort, error: Error, refusals: &mut u64) {
 }
 
 /// Adds a reservation, again where memory was refused.
-fn reserve(rt: &impl Abort, doc: &mut Doc<'_>, size: u64, refusals: &mut u64) -> Result<(), Error> {
-    if let Err(error) = doc.reserve(0x1000, size) {
+fn reserve(rt: &impl Abort, doc: &mut Doc<'_>, refusals: &mut u64) -> Result<(), Error> {
+    if let Err(error) = doc.reserve(0x1000, 16) {
         count(rt, error, refusals);
-        doc.reserve(0x1000, size)?;
+        doc.reserve(0x1000, 16)?;
     }
     Ok(())
 }
@@ -75,13 +75,13 @@ fn end(rt: &impl Abort, doc: &mut Doc<'_>) {
     doc.end();
 }
 
-/// Adds reservations, a root with properties, and its children with a property each. Returns how many calls were refused
-/// memory.
+/// Adds reservations, a root with properties, and its children with a property each. Returns how
+/// many calls were refused memory.
 fn build(rt: &impl Abort, doc: &mut Doc<'_>) -> Result<u64, Error> {
     let mut refusals = 0;
     begin(rt, doc, b"", &mut refusals)?;
     for name in NAMES.chunks(1) {
-        reserve(rt, doc, 16, &mut refusals)?;
+        reserve(rt, doc, &mut refusals)?;
         property(rt, doc, name, &mut refusals)?;
     }
     for name in NAMES.chunks(1) {
@@ -102,9 +102,9 @@ fn text_of(rt: &(impl Abort + AllocGlobal), doc: &Doc<'_>) -> Result<Vec<u8>, Er
     Ok(sink.into_vec())
 }
 
-/// Builds a document, and of the allocations for it has the one of this number, from 1, refused. It is the one call that
-/// is refused memory, is made again, and the text is that of a document that was built without a refusal. True where there
-/// was a refusal.
+/// Builds a document, and of the allocations for it has the one of this number, from 1, refused.
+/// It is the one call that is refused memory, is made again, and the text is that of a document
+/// that was built without a refusal. True where there was a refusal.
 fn builds(rt: &(impl Abort + AllocGlobal), growth: u64) -> Result<bool, Fail> {
     let is_over = is_refused(rt.alloc(), REFUSED.saturating_sub(growth));
     let mut doc = Doc::new(rt.alloc(), 7)?;

@@ -18,11 +18,13 @@ struct Scan {
     is_new: bool,
 }
 
-/// Whether no child of the innermost open node has this name, where so many nodes are open after these items.
+/// Whether no child of the innermost open node has this name, where so many nodes are open after
+/// these items.
 pub(crate) fn is_new_child(items: &[Item<'_>], depth: usize, name: &[u8]) -> bool
     requires open { depth ≡ length (open_nodes (stage_of_events (events_of_items items.now))) }
     requires some { 0 < depth }
-    ensures { IsTrue result ↔ IsNew name.now (child_names (stage_of_events (events_of_items items.now))) }
+    ensures { let stage = stage_of_events (events_of_items items.now) in
+        IsTrue result ↔ IsNew name.now (child_names stage) }
 {
     let mut scan = Scan {
         depth: 0,

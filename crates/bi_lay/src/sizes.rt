@@ -24,8 +24,8 @@ pub(crate) struct BlockSizes {
 }
 
 impl BlockSizes {
-    /// Returns the sizes of the blocks with this many reservations, these items and a strings block of this many bytes.
-    /// None where the text would have more than 0x7fffffff bytes.
+    /// Returns the sizes of the blocks with this many reservations, these items and a strings
+    /// block of this many bytes. None where the text would have more than 0x7fffffff bytes.
     pub(crate) fn measure(
         reservation_count: usize,
         items: &[Item<'_>],
@@ -35,7 +35,8 @@ impl BlockSizes {
             let reserved = 16 * reservation_count + 16 in
             MatchOption result
             (longest_text < up4 (length_before_padding reserved structure strings))
-            (λ sizes. (sizes.reservations ≡ reserved) × (sizes.structure ≡ structure) × (sizes.strings ≡ strings)) }
+            (λ sizes. (sizes.reservations ≡ reserved) × (sizes.structure ≡ structure)
+            × (sizes.strings ≡ strings)) }
     {
         let most = LONGEST_BEFORE_PADDING;
         let pairs = (reservation_count as u64).saturating_add(1);
@@ -70,14 +71,16 @@ impl BlockSizes {
 
     /// Returns the length of the text before its padding.
     pub(crate) fn before_padding(&self) -> u32
-        ensures { result ≡ length_before_padding self.now.reservations self.now.structure self.now.strings }
+        ensures { let sizes = self.now in
+            result ≡ length_before_padding sizes.reservations sizes.structure sizes.strings }
     {
         self.strings_offset() + self.strings
     }
 
     /// Returns the length of the text.
     pub(crate) fn total(&self) -> u32
-        ensures { result ≡ up4 (length_before_padding self.now.reservations self.now.structure self.now.strings) }
+        ensures { let sizes = self.now in
+            result ≡ up4 (length_before_padding sizes.reservations sizes.structure sizes.strings) }
     {
         self.before_padding().div_ceil(4) * 4
     }

@@ -1,7 +1,7 @@
 //! Writing the structure block (Devicetree Specification, 5.4).
 #![tactic(auto, unfolding(bi_base::specs::Cells::cell))]
 
-ghost use Rattle.std.specs.Prelude.{◌≡◌, ◌+◌, ◌-◌, ◌%◌, ◌^◌, ◌≤◌, ◌++◌, length, flat_map, replicate, min};
+ghost use Rattle.std.specs.Prelude.{◌≡◌, ◌-◌, ◌%◌, ◌^◌, ◌≤◌, length, replicate, min};
 ghost use Rattle.bi_base.specs.Cells.{cell};
 ghost use Rattle.bi_base.specs.Sinks.{Wrote};
 ghost use Rattle.bi_blob.specs.Tokens.{BeginNode, Prop, End};
@@ -23,7 +23,8 @@ const PROP: u32 = 3;
 /// The number of the token that ends the structure block (Devicetree Specification, 5.4.1).
 const END: u32 = 9;
 
-/// Returns how many bytes the structure block of these items has, or the greatest u64 if it has more than that.
+/// Returns how many bytes the structure block of these items has, or the greatest u64 if it has
+/// more than that.
 pub(crate) fn structure_size(items: &[Item<'_>]) -> u64
     ensures { result ≡ min (length (structure_of_items items.now)) (2 ^ 64 - 1) }
 {
@@ -65,7 +66,8 @@ fn put_begin<S: Sink>(name: &[u8], sink: &mut S) -> Result<(), Error>
 /// Appends the token of a property. Fails as the sink does.
 fn put_property<S: Sink>(property: Property<'_>, sink: &mut S) -> Result<(), Error>
     ensures { let value = value_bytes property.entry.value in
-        Wrote S.appends S.fails sink.old (encoding (Prop property.entry.name_offset value)) result sink.new }
+        Wrote S.appends S.fails sink.old (encoding (Prop property.entry.name_offset value))
+        result sink.new }
 {
     let size = property.value.len();
     put_cells(

@@ -1,4 +1,5 @@
-//! Writing a text: its header, reservation block, structure block and strings block (Devicetree Specification, chapter 5).
+//! Writing a text: its header, reservation block, structure block and strings block (Devicetree
+//! Specification, chapter 5).
 
 ghost use Rattle.std.specs.Prelude.{◌≡◌, ◌++◌, ◌∷◌, [], length};
 ghost use Rattle.bi_base.specs.Cells.{cell8};
@@ -18,7 +19,8 @@ const MAGIC: u32 = 0xd00d_feed;
 /// The offset of the reservation block, after the header (Devicetree Specification, 5.2).
 const RESERVATIONS_OFFSET: u32 = 40;
 
-/// The version of the text, and the least version whose readers can read it (Devicetree Specification, 5.2).
+/// The version of the text, and the least version whose readers can read it (Devicetree
+/// Specification, 5.2).
 const VERSION: u32 = 17;
 
 const LAST_COMPATIBLE_VERSION: u32 = 16;
@@ -38,7 +40,8 @@ pub(crate) fn put_text<S: Sink>(
     sizes: BlockSizes,
     sink: &mut S,
 ) -> Result<(), Error>
-    requires reservations { sizes.reservations ≡ length (reservation_block (reservations_of parts.reservations.now)) }
+    requires reservations { let reservations = reservations_of parts.reservations.now in
+        sizes.reservations ≡ length (reservation_block reservations) }
     requires structure { sizes.structure ≡ length (structure_of_items parts.items.now) }
     requires strings { sizes.strings ≡ length (strings_of (bytes_of parts.names.now)) }
     ensures { let parts = parts.entry in
@@ -73,7 +76,8 @@ fn put_header<S: Sink>(boot_cpu: u32, sizes: BlockSizes, sink: &mut S) -> Result
     put_cells(sink, &cells)
 }
 
-/// Appends the reservation block, the structure block and the strings block of these parts. Fails as the sink does.
+/// Appends the reservation block, the structure block and the strings block of these parts. Fails
+/// as the sink does.
 fn put_blocks<S: Sink>(parts: Parts<'_>, sink: &mut S) -> Result<(), Error>
     ensures { let parts = parts.entry in
         Wrote S.appends S.fails sink.old
@@ -88,7 +92,8 @@ fn put_blocks<S: Sink>(parts: Parts<'_>, sink: &mut S) -> Result<(), Error>
 
 /// Appends the reservation block (Devicetree Specification, 5.3). Fails as the sink does.
 fn put_reservations<S: Sink>(reservations: &[(u64, u64)], sink: &mut S) -> Result<(), Error>
-    ensures { Wrote S.appends S.fails sink.old (reservation_block (reservations_of reservations.now)) result sink.new }
+    ensures { let reservations = reservations_of reservations.now in
+        Wrote S.appends S.fails sink.old (reservation_block reservations) result sink.new }
 {
     for &(address, size) in reservations {
         put_pair(address, size, sink)?;
@@ -96,7 +101,8 @@ fn put_reservations<S: Sink>(reservations: &[(u64, u64)], sink: &mut S) -> Resul
     put_pair(0, 0, sink)
 }
 
-/// Appends a pair of the reservation block (Devicetree Specification, 5.3.2). Fails as the sink does.
+/// Appends a pair of the reservation block (Devicetree Specification, 5.3.2). Fails as the sink
+/// does.
 fn put_pair<S: Sink>(address: u64, size: u64, sink: &mut S) -> Result<(), Error>
     ensures { Wrote S.appends S.fails sink.old (cell8 address ++ cell8 size) result sink.new }
 {
@@ -104,7 +110,8 @@ fn put_pair<S: Sink>(address: u64, size: u64, sink: &mut S) -> Result<(), Error>
     put_two_cells(size, sink)
 }
 
-/// Appends the eight bytes of a number, the highest first (Devicetree Specification, 2.2.4.2: u64). Fails as the sink does.
+/// Appends the eight bytes of a number, the highest first (Devicetree Specification, 2.2.4.2:
+/// u64). Fails as the sink does.
 #[tactic(auto, unfolding(bi_base::specs::Cells::cell8))]
 fn put_two_cells<S: Sink>(number: u64, sink: &mut S) -> Result<(), Error>
     ensures { Wrote S.appends S.fails sink.old (cell8 number) result sink.new }
@@ -112,7 +119,8 @@ fn put_two_cells<S: Sink>(number: u64, sink: &mut S) -> Result<(), Error>
     sink.put(&number.to_be_bytes())
 }
 
-/// Appends the strings block of these names (Devicetree Specification, 5.5). Fails as the sink does.
+/// Appends the strings block of these names (Devicetree Specification, 5.5). Fails as the sink
+/// does.
 fn put_names<S: Sink>(names: &[&[u8]], sink: &mut S) -> Result<(), Error>
     ensures { Wrote S.appends S.fails sink.old (strings_of (bytes_of names.now)) result sink.new }
 {

@@ -12,18 +12,18 @@ unwrap-requires g c =
     (λ long. omega (
       arith,
       subst (λ content. length (text_of content) ≤ longest_text) (sym c.self.view_is) c.requires.small,
-      measured-long c.self.inside c.len.result c.deref.result.now c.length.result c.self.invariant
-          (record { is_count = c.len.ensures; are_items = c.deref.ensures.value; is_strings = c.length.ensures }) long,
+      measured-long c.self.inside c.len-count.result c.deref.result.now c.length.result c.self.invariant
+          (record { is_count = c.len-count.ensures; are_items = c.deref.ensures.value; is_strings = c.length.ensures }) long,
     ))
 
 pub put_text-requires : goal.put_text-requires
 put_text-requires g c =
     let sizes = rw c.unwrap.ensures at c.measure-sizes.ensures in
     let fits = c.unwrap.result.fits in
-    let are : AreMeasured c.self.inside c.len.result c.deref.result.now c.length.result = record { is_count = c.len.ensures; are_items = c.deref.ensures.value; is_strings = c.length.ensures } in
-    let exact = strings-exact c.self.inside c.len.result c.deref.result.now c.length.result are (omega (arith, sizes.0, sizes.1, sizes.2, fits)) in
+    let are : AreMeasured c.self.inside c.len-count.result c.deref.result.now c.length.result = record { is_count = c.len-count.ensures; are_items = c.deref.ensures.value; is_strings = c.length.ensures } in
+    let exact = strings-exact c.self.inside c.len-count.result c.deref.result.now c.length.result are (omega (arith, sizes.0, sizes.1, sizes.2, fits)) in
     record {
-      reservations = sizes.0 ∙ sym (length-block c.deref-2.result.now c.len.result (omega (arith, c.len.ensures, c.deref-2.ensures.len)));
+      reservations = sizes.0 ∙ sym (length-block c.deref-2.result.now c.len-count.result (omega (arith, c.len-count.ensures, c.deref-2.ensures.len)));
       structure = sizes.1 ∙ ap (λ items. length (structure_of_items items)) (c.deref.ensures.value ∙ sym c.deref-3.ensures.value);
       strings = sizes.2 ∙ exact ∙ ap (λ names. length (strings_of names)) (sym c.as_slice.ensures);
     }
