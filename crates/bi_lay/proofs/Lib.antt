@@ -1,7 +1,7 @@
 pub mod NameOffsets
 pub mod Growing
 pub mod UsedNames
-pub mod Kept
+pub mod Consistent
 pub mod Scanning
 pub mod Chains
 pub mod TokenBytes

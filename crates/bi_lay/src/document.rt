@@ -38,11 +38,11 @@ impl<'a> Model for Doc<'a> {
 
     ghost Value = { Content };
 
-    ghost use Rattle.bi_lay.specs.Documents.{content_of, IsKept};
+    ghost use Rattle.bi_lay.specs.Documents.{content_of, IsConsistent};
 
     ghost view = { content_of };
 
-    ghost invariant = { IsKept };
+    ghost invariant = { IsConsistent };
 }
 
 impl<'a> Doc<'a> {
