@@ -5,6 +5,7 @@
 mod buffered_sink;
 mod cells;
 mod checksum;
+mod count_sink;
 mod crc;
 pub mod crc_laws;
 mod crc_tables;
@@ -23,6 +24,7 @@ mod writing;
 pub use buffered_sink::BufferedSink;
 pub use cells::{be32_at, put_cell, put_cells, up4};
 pub use checksum::crc32;
+pub use count_sink::CountSink;
 pub use crc::Crc32;
 pub use fault::{Cause, Error, Fault, refuse};
 pub use limits::Limits;
