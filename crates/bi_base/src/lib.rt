@@ -13,7 +13,7 @@ mod reading;
 mod sinks;
 mod writing;
 
-pub use cells::{be32_at, put_cell, put_cells};
+pub use cells::{be32_at, be64_at, put_cell, put_cells};
 pub use checksum::crc32;
 pub use crc::Crc32;
 pub use fault::{Cause, Error, Fault};
