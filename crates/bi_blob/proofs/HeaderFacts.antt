@@ -16,8 +16,7 @@ headers_have_faults = record {
   three_bytes = InHeader (inr (lit≤ tt, inl ((λ (wrong : 4 ≤ 3). omega arith), refl)));
   other_magic = InHeader (inr (lit≤ tt, inr (lit≤ tt, inl ((λ (wrong : 0x01020304 ≡ 0xd00dfeed). omega arith), refl))));
   short_header = InHeader (inr (lit≤ tt, inr (lit≤ tt, inr (refl, inl ((λ (wrong : 40 ≤ 39). omega arith), refl)))));
-  version_15 = InHeader (inr (lit≤ tt, inr (lit≤ tt, inr (refl, inr (lit≤ tt, inl ((λ (wrong : 17 ≤ 15). omega arith), refl))))));
-  version_16 = InHeader (inr (lit≤ tt, inr (lit≤ tt, inr (refl, inr (lit≤ tt, inl ((λ (wrong : 17 ≤ 16). omega arith), refl))))));
+  version_15 = InHeader (inr (lit≤ tt, inr (lit≤ tt, inr (refl, inr (lit≤ tt, inl ((λ (wrong : 16 ≤ 15). omega arith), refl))))));
   compatible_18 = InHeader (inr (lit≤ tt, inr (lit≤ tt, inr (refl, inr (lit≤ tt, inr (lit≤ tt, inl ((λ (wrong : 18 ≤ 17). omega arith), refl)))))));
   total_39 = InHeader (inr (lit≤ tt, inr (lit≤ tt, inr (refl, inr (lit≤ tt, inr (lit≤ tt, inr (lit≤ tt, inl ((λ (wrong : 40 ≤ 39). omega arith), refl))))))));
   total_past_end = InHeader (inr (lit≤ tt, inr (lit≤ tt, inr (refl, inr (lit≤ tt, inr (lit≤ tt, inr (lit≤ tt, inr (lit≤ tt, inl ((λ (wrong : 89 ≤ 88). omega arith), refl)))))))));
@@ -29,8 +28,8 @@ headers_have_faults = record {
   structure_past_end = InHeader (inr (lit≤ tt, inr (lit≤ tt, inr (refl, inr (lit≤ tt, inr (lit≤ tt, inr (lit≤ tt, inr (lit≤ tt, inr (lit≤ tt, inr ((lit≤ tt, refl, lit≤ tt), inl ((λ wrong. let past : 0x10000001c ≤ 88 = wrong.3 in omega arith), refl)))))))))));
   strings_in_header = InHeader (inr (lit≤ tt, inr (lit≤ tt, inr (refl, inr (lit≤ tt, inr (lit≤ tt, inr (lit≤ tt, inr (lit≤ tt, inr (lit≤ tt, inr ((lit≤ tt, refl, lit≤ tt), inr ((lit≤ tt, refl, lit≤ tt, lit≤ tt), inl ((λ wrong. let inside : 40 ≤ 39 = wrong.0 in omega arith), refl))))))))))));
   strings_past_end = InHeader (inr (lit≤ tt, inr (lit≤ tt, inr (refl, inr (lit≤ tt, inr (lit≤ tt, inr (lit≤ tt, inr (lit≤ tt, inr (lit≤ tt, inr ((lit≤ tt, refl, lit≤ tt), inr ((lit≤ tt, refl, lit≤ tt, lit≤ tt), inl ((λ wrong. let past : 0xffffffff ≤ 88 = wrong.1 in omega arith), refl))))))))))));
-  version_before_compatible = InHeader (inr (lit≤ tt, inr (lit≤ tt, inr (refl, inr (lit≤ tt, inl ((λ (wrong : 17 ≤ 15). omega arith), refl))))));
-  version_before_total = InHeader (inr (lit≤ tt, inr (lit≤ tt, inr (refl, inr (lit≤ tt, inl ((λ (wrong : 17 ≤ 15). omega arith), refl))))));
+  version_before_compatible = InHeader (inr (lit≤ tt, inr (lit≤ tt, inr (refl, inr (lit≤ tt, inl ((λ (wrong : 16 ≤ 15). omega arith), refl))))));
+  version_before_total = InHeader (inr (lit≤ tt, inr (lit≤ tt, inr (refl, inr (lit≤ tt, inl ((λ (wrong : 16 ≤ 15). omega arith), refl))))));
   reservations_before_structure = InHeader (inr (lit≤ tt, inr (lit≤ tt, inr (refl, inr (lit≤ tt, inr (lit≤ tt, inr (lit≤ tt, inr (lit≤ tt, inr (lit≤ tt, inl ((λ wrong. let unaligned : 4 ≡ 0 = wrong.1 in omega arith), refl))))))))));
   structure_before_strings = InHeader (inr (lit≤ tt, inr (lit≤ tt, inr (refl, inr (lit≤ tt, inr (lit≤ tt, inr (lit≤ tt, inr (lit≤ tt, inr (lit≤ tt, inr ((lit≤ tt, refl, lit≤ tt), inl ((λ wrong. let past : 0x10000001c ≤ 88 = wrong.3 in omega arith), refl)))))))))));
 }

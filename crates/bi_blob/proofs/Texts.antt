@@ -14,6 +14,7 @@ pub mod TextBlob
 pub mod EncodedBytes
 pub mod Content
 pub mod Normal
+pub mod Rests
 pub mod Ordering
 pub mod Accepted
 pub mod Ordered

@@ -1,4 +1,4 @@
-use Rattle.std.specs.Prelude.{◌≡◌, ℕ, ◌+◌, ◌-◌, ◌%◌, ◌^◌, ◌<◌, ◌≤◌, List, [], ◌∷◌, ◌++◌, length, flat_map}
+use Rattle.std.specs.Prelude.{◌≡◌, ℕ, ◌+◌, ◌-◌, ◌%◌, ◌^◌, ◌<◌, ◌≤◌, Bool, ◌==◌, if◌then◌else◌, List, [], ◌∷◌, ◌++◌, length, flat_map}
 use Rattle.std.specs.List.{AllByRecursion}
 use Rattle.bi_base.specs.Cells.{cell8, slice, u32_at, AreBytes}
 use Rattle.bi_base.specs.Limits.{Bounds}
@@ -45,29 +45,39 @@ size_dt_struct file = u32_at file 36
 abbrev pub blob_magic : ℕ
 blob_magic = 0xd00dfeed
 
--- The least version that is read (profile of this project).
+-- The least version that is accepted (profile of this project).
 abbrev pub least_version : ℕ
-least_version = 17
+least_version = 16
 
 -- The version that a reader here is of: `last_comp_version` may be this at most (5.1).
 abbrev pub reader_version : ℕ
 reader_version = 17
 
--- How many bytes the header has (5.2).
-abbrev pub header_length : List ℕ → ℕ
-header_length file = 40
+-- The version whose header ends before `size_dt_struct`: this cell joined with version 17 (5.2).
+abbrev pub version_without_structure_size : ℕ
+version_without_structure_size = 16
 
--- Where the structure block ends (5.2).
+-- Whether the header has no cell `size_dt_struct`.
+abbrev pub lacks_structure_size : List ℕ → Bool
+lacks_structure_size file = version file == version_without_structure_size
+
+-- How many bytes the header has: ten cells, or nine in version 16 (5.2). In a file too short for the cell of its version
+-- what is read there makes no difference: neither length fits.
+abbrev pub header_length : List ℕ → ℕ
+header_length file = if lacks_structure_size file then 36 else 40
+
+-- The offset of the structure block's end (5.2). Where the header has no size of the block, it may extend to `totalsize`.
 abbrev pub structure_end : List ℕ → ℕ
-structure_end file = off_dt_struct file + size_dt_struct file
+structure_end file =
+    if lacks_structure_size file then totalsize file else off_dt_struct file + size_dt_struct file
 
 -- Where the strings block ends (5.2).
 abbrev pub strings_end : List ℕ → ℕ
 strings_end file = off_dt_strings file + size_dt_strings file
 
 -- The header of a blob (5.2, 5.6). The three blocks stand behind the header and before `totalsize`, in any order, and may
--- overlap (profile of this project). That the structure block does not end before it begins (`structure_ordered`) asks for
--- something only where its end is not told by its size.
+-- overlap (profile of this project). That the structure block does not end before it begins (`structure_ordered`) is a
+-- condition in version 16 alone, where the block has no size.
 pub record Header (file : List ℕ) : Type 0 where
   pub whole : header_length file ≤ length file
   pub is_magic : magic file ≡ blob_magic

@@ -1,4 +1,4 @@
-use Rattle.std.specs.Prelude.{◌≡◌, ◌≢◌, ℕ, ◌+◌, ◌*◌, ◌%◌, ◌<◌, ◌≤◌, List, [], ◌∷◌, length, ◌==◌, if◌then◌else◌, fold, IsTrue}
+use Rattle.std.specs.Prelude.{◌≡◌, ◌≢◌, ◌⊎◌, ℕ, ◌+◌, ◌*◌, ◌%◌, ◌<◌, ◌≤◌, List, [], ◌∷◌, length, ◌==◌, if◌then◌else◌, fold, IsTrue}
 use Rattle.bi_base.specs.declared.fault.Cause.{Cause}
 use Rattle.bi_base.specs.declared.fault.Cause.TheVariants.{Truncated, BadMagic, BadTotalSize, BadVersion, BadOffset, BadToken, BadName, BadNameOffset, PropertyAfterChild, DuplicateProperty, DuplicateNode, TooDeep, TooLarge}
 use Rattle.bi_base.specs.declared.fault.Fault.{Fault}
@@ -93,6 +93,18 @@ pub record IsReservationsFault (file : List ℕ) (at total : ℕ) (fault : Fault
   pub fits : at + 16 * index ≤ total
   pub past : total < at + 16 * index + 16
   pub is : fault ≡ record { cause = Truncated; offset = at + 16 * index }
+
+-- The header and the reservation block of a file are at no fault.
+pub record HasNoFaultBeforeTree (bounds : Bounds) (file : List ℕ) : Type 0 where
+  pub header : HasNoHeaderFault bounds file
+  pub count : ℕ
+  pub reservations : HasReservations file (off_mem_rsvmap file) (totalsize file) count
+
+-- The fault of a file before its structure block: in the header or in the reservation block.
+abbrev pub IsFaultBeforeTree : Bounds → List ℕ → Fault → Type 0
+IsFaultBeforeTree bounds file fault =
+    IsHeaderFault bounds file fault
+    ⊎ (HasNoHeaderFault bounds file × IsReservationsFault file (off_mem_rsvmap file) (totalsize file) fault)
 
 -- The checks of one token (5.4.1, 5.4.2).
 pub data TokenCheck : Type 0 where

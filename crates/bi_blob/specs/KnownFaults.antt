@@ -67,7 +67,6 @@ pub record HeadersHaveFaults : Type 0 where
   pub other_magic : HasFault widest (1 ∷ 2 ∷ 3 ∷ 4 ∷ []) BadMagic 0
   pub short_header : HasFault widest (take 39 smallest_text) Truncated 0
   pub version_15 : HasFault widest (with_cell smallest_text 20 15) BadVersion 20
-  pub version_16 : HasFault widest (with_cell smallest_text 20 16) BadVersion 20
   pub compatible_18 : HasFault widest (with_cell smallest_text 24 18) BadVersion 24
   pub total_39 : HasFault widest (with_cell smallest_text 4 39) BadTotalSize 4
   pub total_past_end : HasFault widest (with_cell smallest_text 4 89) Truncated 4

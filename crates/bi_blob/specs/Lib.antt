@@ -1,7 +1,9 @@
 pub mod Tree
+pub mod Lookups
 pub mod Tokens
 pub mod Events
 pub mod Stages
+pub mod Following
 pub mod Blob
 pub mod BlobFaults
 pub mod Layout

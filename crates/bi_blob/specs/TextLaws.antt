@@ -118,6 +118,18 @@ TextHasOneContent =
     → text_of_tree cpu reservations root ≡ text_of_tree other_cpu other_reservations other_root
     → SameContent cpu other_cpu reservations other_reservations root other_root
 
+-- The same of texts with other bytes after them, neither of which is too long: where the files are the same, the contents
+-- are the same, and so are the bytes after them.
+abbrev pub TextWithRestHasOneContent : Type 0
+TextWithRestHasOneContent =
+    (cpu other_cpu : ℕ) (reservations other_reservations : List Reservation) (root other_root : Root (List Property))
+    → (rest other_rest : List ℕ)
+    → IsContent cpu reservations root → IsContent other_cpu other_reservations other_root
+    → length (text_of_tree cpu reservations root) ≤ longest_text
+    → length (text_of_tree other_cpu other_reservations other_root) ≤ longest_text
+    → text_of_tree cpu reservations root ++ rest ≡ text_of_tree other_cpu other_reservations other_root ++ other_rest
+    → SameContent cpu other_cpu reservations other_reservations root other_root × (rest ≡ other_rest)
+
 -- A tree of properties by name has one order of them that is normal.
 pub record HasOneOrder (root : Root PropertyMap) : Type 0 where
   pub is_normal : IsNormal (in_byte_order root)
@@ -149,3 +161,15 @@ NormalTextTellsContent =
     → IsNormalText cpu reservations root text → IsNormalText other_cpu other_reservations other_root other_text
     → length text ≤ longest_text
     → (text ≡ other_text) ↔ SameContent cpu other_cpu reservations other_reservations (tree_without_order root) (tree_without_order other_root)
+
+-- The same of normal texts with other bytes after them, neither of which is too long.
+abbrev pub NormalTextWithRestTellsContent : Type 0
+NormalTextWithRestTellsContent =
+    (cpu other_cpu : ℕ) (reservations other_reservations : List Reservation) (root other_root : Root (List Property))
+    → (text other_text rest other_rest : List ℕ)
+    → IsContent cpu reservations root → IsContent other_cpu other_reservations other_root
+    → IsNormalText cpu reservations root text → IsNormalText other_cpu other_reservations other_root other_text
+    → length text ≤ longest_text → length other_text ≤ longest_text
+    → (text ++ rest ≡ other_text ++ other_rest)
+    ↔ (SameContent cpu other_cpu reservations other_reservations (tree_without_order root) (tree_without_order other_root)
+    × (rest ≡ other_rest))

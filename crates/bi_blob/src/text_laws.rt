@@ -1,7 +1,7 @@
 //! Laws of the text that a blob is laid out as, and of the normal text among these. Their functions do nothing: what each
 //! of them ensures is the law.
 
-ghost use Rattle.bi_blob.specs.TextLaws.{EachNameIsThereOnce, StringsGrowByUse, EachNameIsFound, TextEncodesItsTree, EachTextHasItsLength, TextIsBlob, TextIsAccepted, NormalTextIsAccepted, BlobHasContent, TextHasOneContent, EachTreeHasOneOrder, ContentMayBeOrdered, NormalTextTellsContent};
+ghost use Rattle.bi_blob.specs.TextLaws.{EachNameIsThereOnce, StringsGrowByUse, EachNameIsFound, TextEncodesItsTree, EachTextHasItsLength, TextIsBlob, TextIsAccepted, NormalTextIsAccepted, BlobHasContent, TextHasOneContent, EachTreeHasOneOrder, ContentMayBeOrdered, NormalTextTellsContent, TextWithRestHasOneContent, NormalTextWithRestTellsContent};
 ghost use Rattle.bi_blob.specs.KnownTexts.{HasSmallestText, IsLaidOut};
 
 /// The strings block of a text has each name that the marks use once, and no other name (profile of this project;
@@ -82,6 +82,19 @@ pub fn content_may_be_ordered()
 /// the same memory reservations and one tree, its nodes in order and its properties by name.
 pub fn normal_text_tells_content()
     ensures { NormalTextTellsContent }
+{}
+
+/// Two equal files that each begin with a text of at most 0x7fffffff bytes have texts of the same boot processor, memory
+/// reservations and tree, and the same bytes after the texts.
+pub fn text_with_rest_has_one_content()
+    ensures { TextWithRestHasOneContent }
+{}
+
+/// Two files that each begin with a normal text of at most 0x7fffffff bytes are equal exactly where the texts are of one boot
+/// processor, the same memory reservations and one tree, its nodes in order and its properties by name, and the bytes after
+/// the texts are equal.
+pub fn normal_text_with_rest_tells_content()
+    ensures { NormalTextWithRestTellsContent }
 {}
 
 /// The normal text of the smallest tree, a root with one child `images`, is 88 known bytes.

@@ -1,14 +1,28 @@
-use Rattle.std.proofs.Common.{ℕ, ◌≤◌, List, length, arith}
+use Rattle.std.proofs.Common.{◌≡◌, ℕ, ◌+◌, ◌≤◌, Bool, true, false, if◌then◌else◌, List, length, ap, arith}
+use Rattle.std.specs.Prelude.{◌==◌}
 use Rattle.bi_base.specs.Cells.{AreBytes}
 use Rattle.bi_base.specs.Limits.{Bounds}
-use Rattle.bi_blob.specs.Blob.{Header, header_length, tree_blocks, totalsize, structure_end, IsReadable}
+use Rattle.bi_blob.specs.Blob.{Header, version, version_without_structure_size, lacks_structure_size, header_length, tree_blocks, totalsize, off_dt_struct, size_dt_struct, structure_end, IsReadable}
 use Rattle.bi_blob.specs.BlobFaults.{HasNoHeaderFault}
 
 -- The checks of a header and the conditions of a header are the same.
 
--- A header holds the word that a blob begins with.
+-- The header of any version has the magic number.
 header_length-magic : (file : List ℕ) → 4 ≤ header_length file
-header_length-magic file = omega arith
+header_length-magic file = by (lacks_structure_size file)
+  where
+    by : (lacks : Bool) → 4 ≤ (if lacks then 36 else 40)
+    by true = omega arith
+    by false = omega arith
+
+-- The header of version 17 has ten cells.
+pub header_length-17 : (file : List ℕ) → version file ≡ 17 → header_length file ≡ 40
+header_length-17 file is_17 = ap (λ n. if n == version_without_structure_size then 36 else 40) is_17
+
+-- The structure block of version 17 ends after its size.
+pub structure_end-17 : (file : List ℕ) → version file ≡ 17 → structure_end file ≡ off_dt_struct file + size_dt_struct file
+structure_end-17 file is_17 =
+    ap (λ n. if n == version_without_structure_size then totalsize file else off_dt_struct file + size_dt_struct file) is_17
 
 -- A header whose checks pass meets the conditions.
 pub HasNoHeaderFault-Header : (bounds : Bounds) (file : List ℕ) → HasNoHeaderFault bounds file → Header file

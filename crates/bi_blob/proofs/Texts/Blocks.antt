@@ -2,9 +2,10 @@ use Rattle.std.proofs.Common.{◌≡◌, ℕ, ◌+◌, ◌-◌, ◌*◌, ◌%◌
 use Rattle.std.proofs.lemmas.List.{take_at, drop_at}
 use Rattle.std.proofs.Math.Seq.{take-append-add}
 use Rattle.bi_base.specs.Cells.{slice, up4}
-use Rattle.bi_blob.specs.Blob.{Header, Reservation, pair_bytes, end_pair, reservation_block}
+use Rattle.bi_blob.specs.Blob.{Header, Reservation, pair_bytes, end_pair, reservation_block, header_length, structure_end, off_dt_struct, size_dt_struct}
 use Rattle.bi_blob.specs.Layout.{blob_header, padding_to_4, length_before_padding, text_of_blocks}
 use Rattle.bi_blob.proofs.Blobs.Cells.{length-cell8}
+use Rattle.bi_blob.proofs.Blobs.Headers.{header_length-17, structure_end-17}
 use Rattle.bi_blob.proofs.Texts.Header.{HasCells}
 
 -- The blocks of a text are the slices that its header names.
@@ -62,20 +63,23 @@ reserved-aligned reservations =
 
 -- What has the cells of a text, and is as long at least, has the header of a blob.
 pub text_header : (file : List ℕ) (cpu reserved structure strings : ℕ) → HasCells file cpu reserved structure strings → reserved % 8 ≡ 0 → up4 (length_before_padding reserved structure strings) ≤ length file → Header file
-text_header file cpu reserved structure strings cells aligned long = record {
-  whole = omega arith;
-  is_magic = cells.is_magic;
-  is_read = omega (arith, cells.is_version);
-  is_understood = omega (arith, cells.is_compatible);
-  total_holds_header = omega (arith, cells.is_total);
-  file_holds_total = omega (arith, cells.is_total);
-  reservations_after_header = omega (arith, cells.is_off_reserved);
-  reservations_aligned = omega (arith, cells.is_off_reserved);
-  reservations_within = omega (arith, cells.is_off_reserved, cells.is_total);
-  structure_after_header = omega (arith, cells.is_off_struct);
-  structure_aligned = omega (arith, cells.is_off_struct);
-  structure_ordered = omega (arith, cells.is_off_struct);
-  structure_within = omega (arith, cells.is_off_struct, cells.is_size_struct, cells.is_total);
-  strings_after_header = omega (arith, cells.is_off_strings);
-  strings_within = omega (arith, cells.is_off_strings, cells.is_size_strings, cells.is_total);
-}
+text_header file cpu reserved structure strings cells aligned long =
+    let header : header_length file ≡ 40 = header_length-17 file cells.is_version in
+    let structure_ends : structure_end file ≡ off_dt_struct file + size_dt_struct file = structure_end-17 file cells.is_version in
+    record {
+      whole = omega arith;
+      is_magic = cells.is_magic;
+      is_read = omega (arith, cells.is_version);
+      is_understood = omega (arith, cells.is_compatible);
+      total_holds_header = omega (arith, cells.is_total);
+      file_holds_total = omega (arith, cells.is_total);
+      reservations_after_header = omega (arith, cells.is_off_reserved);
+      reservations_aligned = omega (arith, cells.is_off_reserved);
+      reservations_within = omega (arith, cells.is_off_reserved, cells.is_total);
+      structure_after_header = omega (arith, cells.is_off_struct);
+      structure_aligned = omega (arith, cells.is_off_struct);
+      structure_ordered = omega (arith, cells.is_off_struct);
+      structure_within = omega (arith, cells.is_off_struct, cells.is_size_struct, cells.is_total);
+      strings_after_header = omega (arith, cells.is_off_strings);
+      strings_within = omega (arith, cells.is_off_strings, cells.is_size_strings, cells.is_total);
+    }

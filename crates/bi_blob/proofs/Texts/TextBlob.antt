@@ -6,6 +6,7 @@ use Rattle.bi_blob.specs.Blob.{Reservation, tree_blocks, HoldsTree, IsBlob, rese
 use Rattle.bi_blob.specs.Layout.{blob_header, padding_to_4, length_before_padding, text_of_blocks, text_of_events, text_of_tree, tokens_of, structure_block, strings_block, tree_with_places, IsContent, longest_text}
 use Rattle.bi_blob.specs.TextLaws.{EncodesTree, TextIsBlob, EachTextHasItsLength}
 use Rattle.bi_blob.proofs.Blobs.OneBlob.{one_blob}
+use Rattle.bi_blob.proofs.Blobs.Headers.{structure_end-17}
 use Rattle.bi_blob.proofs.Texts.Places.{properties_of-tree, depth-tree}
 use Rattle.bi_blob.proofs.Texts.Length.{length-header, length-text_of_blocks, length-text_of_tree, up4-whole}
 use Rattle.bi_blob.proofs.Texts.Structure.{says_tree}
@@ -34,7 +35,7 @@ parts_of cpu reserved structure strings rest cpu_fits fits = record {
       (omega (arith, cells.is_total, cells.is_off_reserved));
   is_structure = third_slice front reserved structure (strings ++ rest) (off_dt_struct file) (structure_end file - off_dt_struct file)
       (omega (arith, long, cells.is_off_struct))
-      (omega (arith, cells.is_size_struct));
+      (omega (arith, cells.is_size_struct, structure_end-17 file cells.is_version));
   is_strings = fourth_slice front reserved structure strings rest (off_dt_strings file) (size_dt_strings file)
       (omega (arith, long, cells.is_off_strings))
       (sym cells.is_size_strings);
