@@ -5,7 +5,9 @@ use Rattle.std.proofs.lemmas.Bool.{eqb-true, eq-eqb, ne_eqb}
 use Rattle.std.proofs.lemmas.List.{get_or-take, length-take, length-drop, take-take}
 use Rattle.std.proofs.lemmas.List.Sums.{position_or_len_is, passes_at_first}
 use Rattle.bi_blob.specs.Tokens.{name_from}
+use Rattle.bi_blob.specs.Tree.{HasNoZero}
 use Rattle.bi_blob.specs.BlobFaults.{HasName}
+use Rattle.bi_blob.proofs.Blobs.Names.{HasNoZero-before_zero}
 
 -- Looking for the zero byte that ends a name.
 
@@ -46,3 +48,7 @@ no_name_found bytes rest at end fits ordered is nonzero has =
     nonzero n 0 (omega arith) (omega arith)
     (ap (λ l. get_or l n 0) is ∙ get_or-take (end - at) (drop at bytes) n 0 inside
     ∙ eqb-true _ 0 (passes_at_first (λ byte. byte == 0) (drop at bytes) 0 (omega arith)))
+
+-- What is read as a name has no zero.
+pub no_zero_in_name : (bytes name : List ℕ) (at : ℕ) → name ≡ name_from bytes at → HasNoZero name
+no_zero_in_name bytes name at is = subst HasNoZero (sym is) (HasNoZero-before_zero (drop at bytes))

@@ -1,1 +1,4 @@
 pub mod Header
+pub mod Blocks
+pub mod Table
+pub mod Growth

@@ -1,6 +1,6 @@
 //! Reading a devicetree blob.
 
-use crate::blocks::TreeBlocks;
+use crate::blocks::Blocks;
 use crate::cells::{cell_at, two_cells_at};
 use crate::header::{check_header, structure_end};
 use crate::node::NodeRef;
@@ -69,9 +69,9 @@ fn check_before_tree(file: &[u8], limits: Limits) -> Result<usize, Fault> {
 }
 
 /// Where a file whose header was checked has its tree.
-fn tree_blocks<'a>(file: &'a [u8]) -> TreeBlocks<'a> {
+fn tree_blocks<'a>(file: &'a [u8]) -> Blocks<'a> {
     let strings = cell_at(file, 12) as usize;
-    TreeBlocks {
+    Blocks {
         file,
         begin: cell_at(file, 8) as usize,
         end: structure_end(file),

@@ -1,6 +1,11 @@
 //! A tree while its tokens are read.
 
-use crate::table::{Entry, NodeEntry, Property, close_node, count_property};
+ghost use Rattle.std.specs.Prelude.{◌≡◌, ℕ, ◌+◌, List, [], ◌↔◌, length, IsTrue, IfOk, IfErr, OnOk};
+ghost use Rattle.bi_blob.specs.Tree.{names};
+ghost use Rattle.bi_blob.proofs.Blobs.PartialNodes.{PartialNode};
+ghost use Rattle.bi_fdt.specs.Growth.{IsGrowing};
+
+use crate::table::{Entry, NodeEntry, Property, set_after, set_property_count};
 use bi_base::{Cause, Error, Fault};
 use std::alloc::Global;
 use std::collections::BTreeSet;
@@ -56,7 +61,9 @@ impl<'a> Growing<'a> {
     }
 
     /// The number of the open nodes.
-    pub(crate) fn depth(&self) -> usize {
+    pub(crate) fn depth(&self) -> usize
+        ensures { (innermost : PartialNode) (outer : List PartialNode) → IsGrowing self.now innermost outer → result ≡ length outer + 1 }
+    {
         self.outer.len() + 1
     }
 
@@ -111,7 +118,8 @@ impl<'a> Growing<'a> {
             return Err(Error::Refused(Fault { cause: Cause::DuplicateProperty, offset: property.place }));
         }
         entries.push(Entry::Property(property))?;
-        count_property(&mut entries, innermost.entry);
+        let property_count = entries.len() - innermost.entry - 1;
+        set_property_count(&mut entries, innermost.entry, property_count);
         Ok(Growing {
             entries,
             innermost,
@@ -128,7 +136,8 @@ impl<'a> Growing<'a> {
             mut outer,
             properties,
         } = self;
-        close_node(&mut entries, innermost.entry);
+        let after = entries.len();
+        set_after(&mut entries, innermost.entry, after);
         match outer.pop() {
             Some(parent) => Ending::Inside(Growing {
                 entries,

@@ -10,6 +10,7 @@ pub(crate) fn name_at<'a>(bytes: &'a [u8], at: usize, end: usize) -> Option<&'a 
     requires { end ≤ length bytes.now }
     ensures some { IsSome result ↔ HasName bytes.entry.now at end }
     ensures value { IfSome result (λ name. name.now ≡ name_from bytes.entry.now at) }
+    ensures no_zero { IfSome result (λ name. HasNoZero name.now) }
 {
     let rest = bytes.get(at..end)?;
     let length = rest.iter().position(|byte| *byte == 0)?;

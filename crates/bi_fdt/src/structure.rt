@@ -1,16 +1,16 @@
 //! The structure block as a whole (Devicetree Specification, 5.4.2).
 
-use crate::blocks::TreeBlocks;
+use crate::blocks::{Blocks, number_at, root_name};
 use crate::cells::up4;
 use crate::growing::Growing;
 use crate::refusal::refuse;
 use crate::table::Entry;
-use crate::tokens::{BEGIN_NODE, END, NOP, Next, Reading, node_name, number_at, step};
+use crate::tokens::{BEGIN_NODE, END, NOP, Next, Reading, step};
 use bi_base::{Cause, Error, Fault};
 use std::alloc::Global;
 
 /// The table of the tree that the structure block holds.
-pub(crate) fn read_tree<'a>(alloc: Global, blocks: TreeBlocks<'a>, depth_limit: usize) -> Result<Vec<Entry<'a>>, Error> {
+pub(crate) fn read_tree<'a>(alloc: Global, blocks: Blocks<'a>, depth_limit: usize) -> Result<Vec<Entry<'a>>, Error> {
     let place = skip_before_root(blocks)?;
     let begun = begin_root(alloc, blocks, depth_limit, place)?;
     let (place, entries) = read_root(alloc, blocks, depth_limit, begun)?;
@@ -19,7 +19,7 @@ pub(crate) fn read_tree<'a>(alloc: Global, blocks: TreeBlocks<'a>, depth_limit: 
 }
 
 /// The offset of the token of the root.
-fn skip_before_root(blocks: TreeBlocks) -> Result<usize, Fault> {
+fn skip_before_root(blocks: Blocks) -> Result<usize, Fault> {
     let mut place = blocks.begin;
     while number_at(blocks, place)? == NOP {
         place += 4;
@@ -31,8 +31,8 @@ fn skip_before_root(blocks: TreeBlocks) -> Result<usize, Fault> {
 }
 
 /// A reader inside the root, whose token is at `place`.
-fn begin_root<'a>(alloc: Global, blocks: TreeBlocks<'a>, depth_limit: usize, place: usize) -> Result<Reading<'a>, Error> {
-    let name = node_name(blocks, place, 0, depth_limit)?;
+fn begin_root<'a>(alloc: Global, blocks: Blocks<'a>, depth_limit: usize, place: usize) -> Result<Reading<'a>, Error> {
+    let name = root_name(blocks, place, depth_limit)?;
     Ok(Reading {
         place: place + up4(name.len() + 5),
         growing: Growing::new(alloc, name, place as u32)?,
@@ -42,7 +42,7 @@ fn begin_root<'a>(alloc: Global, blocks: TreeBlocks<'a>, depth_limit: usize, pla
 /// Reads the tokens inside the root.
 fn read_root<'a>(
     alloc: Global,
-    blocks: TreeBlocks<'a>,
+    blocks: Blocks<'a>,
     depth_limit: usize,
     begun: Reading<'a>,
 ) -> Result<(usize, Vec<Entry<'a>>), Error> {
@@ -56,7 +56,7 @@ fn read_root<'a>(
 }
 
 /// Checks the tokens after the root, from `place` on.
-fn check_after_root(blocks: TreeBlocks, place: usize) -> Result<(), Fault> {
+fn check_after_root(blocks: Blocks, place: usize) -> Result<(), Fault> {
     let mut place = place;
     while number_at(blocks, place)? == NOP {
         place += 4;

@@ -1,5 +1,9 @@
 //! The table of a tree: one entry for each node and each property, in the order of their tokens in the file.
 
+ghost use Rattle.std.specs.Prelude.{◌≡◌, ◌<◌, length, slice_get, slice_set};
+ghost use Rattle.bi_fdt.specs.declared.table.NodeEntry.{NodeEntry};
+ghost use Rattle.bi_fdt.specs.declared.table.Entry.TheVariants as entry;
+
 /// A node: its token FDT_BEGIN_NODE (Devicetree Specification, 5.4.1), and where its entries are in the table.
 #[derive(Clone, Copy, Debug, Drop)]
 pub(crate) struct NodeEntry<'a> {
@@ -33,22 +37,27 @@ pub(crate) enum Entry<'a> {
     Property(Property<'a>),
 }
 
-/// Counts one more property of the node whose entry is at `index`.
-pub(crate) fn count_property(entries: &mut [Entry], index: usize) {
+/// Sets the number of the properties of the node whose entry is at `index`.
+pub(crate) fn set_property_count(entries: &mut [Entry], index: usize, property_count: usize)
+    requires { index < length entries.old }
+    ensures { (node_entry : NodeEntry) → slice_get entries.old index ≡ Some (entry.Node node_entry)
+        → entries.new ≡ slice_set entries.old index (entry.Node (record node_entry { property_count = property_count })) }
+{
     if let Entry::Node(node) = entries[index] {
         entries[index] = Entry::Node(NodeEntry {
-            property_count: node.property_count + 1,
+            property_count,
             ..node
         });
     }
 }
 
-/// Closes the node whose entry is at `index`: its last descendant is the last entry.
-pub(crate) fn close_node(entries: &mut [Entry], index: usize) {
+/// Sets the index of the entry after the last descendant of the node whose entry is at `index`.
+pub(crate) fn set_after(entries: &mut [Entry], index: usize, after: usize)
+    requires { index < length entries.old }
+    ensures { (node_entry : NodeEntry) → slice_get entries.old index ≡ Some (entry.Node node_entry)
+        → entries.new ≡ slice_set entries.old index (entry.Node (record node_entry { after = after })) }
+{
     if let Entry::Node(node) = entries[index] {
-        entries[index] = Entry::Node(NodeEntry {
-            after: entries.len(),
-            ..node
-        });
+        entries[index] = Entry::Node(NodeEntry { after, ..node });
     }
 }
