@@ -1,1 +1,5 @@
 pub mod FirstZero
+pub mod NameSets
+pub mod Items
+pub mod Links
+pub mod OpenEntries

@@ -1,9 +1,11 @@
 //! A tree while its tokens are read.
 
-ghost use Rattle.std.specs.Prelude.{◌≡◌, ℕ, ◌+◌, List, [], ◌↔◌, length, IsTrue, IfOk, IfErr, OnOk};
-ghost use Rattle.bi_blob.specs.Tree.{names};
-ghost use Rattle.bi_blob.proofs.Blobs.PartialNodes.{PartialNode};
-ghost use Rattle.bi_fdt.specs.Growth.{IsGrowing};
+ghost use Rattle.std.specs.Prelude.{◌≡◌, ℕ, ◌+◌, List, [], ◌∷◌, ◌↔◌, length, map, IsTrue, IfOk, IfErr, OnOk};
+ghost use Rattle.bi_blob.specs.Tree.{names, IsNew};
+ghost use Rattle.bi_blob.specs.BlobFaults.{token_fault, IsNewNode, IsNewProperty};
+ghost use Rattle.bi_blob.proofs.Blobs.PartialNodes.{PartialNode, begun, with_one_property};
+ghost use Rattle.bi_fdt.specs.Table.{file_property_of};
+ghost use Rattle.bi_fdt.specs.Growth.{IsGrowing, IsGrown, IsEnding, IsRefusal};
 
 use crate::table::{Entry, NodeEntry, Property, set_after, set_property_count};
 use bi_base::{Cause, Error, Fault};
@@ -40,7 +42,10 @@ pub(crate) enum Ending<'a> {
 
 impl<'a> Growing<'a> {
     /// A tree whose root has begun at `place`.
-    pub(crate) fn new(alloc: Global, name: &'a [u8], place: u32) -> Result<Growing<'a>, Error> {
+    pub(crate) fn new(alloc: Global, name: &'a [u8], place: u32) -> Result<Growing<'a>, Error>
+        ensures ok { IfOk result (λ growing. IsGrowing growing (begun name.entry.now place) []) }
+        ensures error { IfErr result (IsRefusal (λ _. ⊥)) }
+    {
         let mut entries = Vec::new(alloc);
         entries.push(Entry::Node(NodeEntry {
             name,
@@ -68,13 +73,24 @@ impl<'a> Growing<'a> {
     }
 
     /// Whether the innermost open node has no child yet.
-    pub(crate) fn is_childless(&self) -> bool {
+    pub(crate) fn is_childless(&self) -> bool
+        ensures { (innermost : PartialNode) (outer : List PartialNode) → IsGrowing self.now innermost outer
+            → (IsTrue result ↔ (names innermost.children ≡ [])) }
+    {
         self.innermost.children.is_empty()
     }
 
     /// The tree after a child of the innermost open node has begun at `place`. DuplicateNode where a child has the name
     /// already.
-    pub(crate) fn begin_node(self, alloc: Global, name: &'a [u8], place: u32) -> Result<Growing<'a>, Error> {
+    pub(crate) fn begin_node(self, alloc: Global, name: &'a [u8], place: u32) -> Result<Growing<'a>, Error>
+        ensures new { OnOk result ((innermost : PartialNode) (outer : List PartialNode) → IsGrowing self.entry innermost outer
+            → IsNew name.entry.now (names innermost.children)) }
+        ensures grown { IfOk result (λ grown. (innermost : PartialNode) (outer : List PartialNode) → IsGrowing self.entry innermost outer
+            → IsGrowing grown (begun name.entry.now place) (innermost ∷ outer)) }
+        ensures fault { IfErr result (IsRefusal (λ fault. fault ≡ token_fault place IsNewNode)) }
+        ensures duplicate { IfErr result (IsRefusal (λ _. (innermost : PartialNode) (outer : List PartialNode) → IsGrowing self.entry innermost outer
+            → ¬ (IsNew name.entry.now (names innermost.children)))) }
+    {
         let Growing {
             mut entries,
             mut innermost,
@@ -107,7 +123,16 @@ impl<'a> Growing<'a> {
 
     /// The tree after a property of the innermost open node, which has no child yet. DuplicateProperty where a property has
     /// the name already.
-    pub(crate) fn add_property(self, property: Property<'a>) -> Result<Growing<'a>, Error> {
+    pub(crate) fn add_property(self, property: Property<'a>) -> Result<Growing<'a>, Error>
+        requires { IsGrown self }
+        ensures new { OnOk result ((innermost : PartialNode) (outer : List PartialNode) → IsGrowing self.entry innermost outer
+            → names innermost.children ≡ [] → IsNew property.entry.name.now (map (λ other. other.name) innermost.properties)) }
+        ensures grown { IfOk result (λ grown. (innermost : PartialNode) (outer : List PartialNode) → IsGrowing self.entry innermost outer
+            → names innermost.children ≡ [] → IsGrowing grown (with_one_property innermost (file_property_of property.entry)) outer) }
+        ensures fault { IfErr result (IsRefusal (λ fault. fault ≡ token_fault property.entry.place IsNewProperty)) }
+        ensures duplicate { IfErr result (IsRefusal (λ _. (innermost : PartialNode) (outer : List PartialNode) → IsGrowing self.entry innermost outer
+            → names innermost.children ≡ [] → ¬ (IsNew property.entry.name.now (map (λ other. other.name) innermost.properties)))) }
+    {
         let Growing {
             mut entries,
             innermost,
@@ -129,15 +154,19 @@ impl<'a> Growing<'a> {
     }
 
     /// The tree after the innermost open node has ended.
-    pub(crate) fn end_node(self) -> Ending<'a> {
+    pub(crate) fn end_node(self) -> Ending<'a>
+        requires { IsGrown self }
+        ensures { IsEnding self.entry result }
+    {
         let Growing {
             mut entries,
             innermost,
             mut outer,
             properties,
         } = self;
+        let OpenNode { entry, children: _ } = innermost;
         let after = entries.len();
-        set_after(&mut entries, innermost.entry, after);
+        set_after(&mut entries, entry, after);
         match outer.pop() {
             Some(parent) => Ending::Inside(Growing {
                 entries,
