@@ -3,3 +3,4 @@ pub mod NameSets
 pub mod Items
 pub mod Links
 pub mod OpenEntries
+pub mod GrowingTables
