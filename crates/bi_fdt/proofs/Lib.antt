@@ -4,3 +4,5 @@ pub mod Items
 pub mod Links
 pub mod OpenEntries
 pub mod GrowingTables
+pub mod TokenSteps
+pub mod Refusals

@@ -1,4 +1,5 @@
-use Rattle.std.specs.Prelude.{ℕ, ◌^◌, ◌<◌, List, [], ◌∷◌}
+use Rattle.std.specs.Prelude.{◌≡◌, ℕ, ◌+◌, ◌^◌, ◌<◌, ◌≤◌, List, [], ◌∷◌}
+use Rattle.bi_base.specs.Cells.{u32_at}
 use Rattle.bi_blob.specs.Blob.{TreeBlocks, IsReadable}
 use Rattle.bi_blob.specs.BlobFaults.{TokenCheck, IsWithinDepth, HasNodeName, MayNameNode, IsBeforeChildren, HasValue, HasPropertyName, MayNameProperty}
 use Rattle.bi_fdt.specs.declared.blocks.Blocks.{Blocks}
@@ -16,6 +17,11 @@ blocks_of blocks = record {
 pub record AreBlocks (blocks : TreeBlocks) : Type 0 where
   pub readable : IsReadable blocks
   pub small : blocks.end < 2 ^ 31
+
+-- The number of the token at this offset is within the structure block, and it is this.
+pub record IsNumberAt (blocks : TreeBlocks) (place number : ℕ) : Type 0 where
+  pub within : place + 4 ≤ blocks.end
+  pub is_number : u32_at blocks.file place ≡ number
 
 -- The checks of FDT_BEGIN_NODE that ask for nothing of the other children of a node.
 abbrev pub node_name_checks : List TokenCheck

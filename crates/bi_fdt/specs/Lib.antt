@@ -2,3 +2,4 @@ pub mod Header
 pub mod Blocks
 pub mod Table
 pub mod Growth
+pub mod Reading

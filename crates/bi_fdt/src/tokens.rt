@@ -1,5 +1,12 @@
 //! The tokens of the structure block, one at a time (Devicetree Specification, 5.4.1).
 
+ghost use Rattle.std.specs.Prelude.{IfOk, IfErr};
+ghost use Rattle.bi_blob.specs.BlobFaults.{IsStructureFault};
+ghost use Rattle.bi_blob.specs.Tokens.{begin_node_number, prop_number};
+ghost use Rattle.bi_fdt.specs.Blocks.{blocks_of, AreBlocks, IsNumberAt};
+ghost use Rattle.bi_fdt.specs.Growth.{IsRefusal};
+ghost use Rattle.bi_fdt.specs.Reading.{IsReading, IsAhead};
+
 use crate::blocks::{Blocks, child_name, number_at, property_at};
 use crate::cells::up4;
 use crate::growing::{Ending, Growing};
@@ -35,28 +42,78 @@ pub(crate) fn step<'a>(
     blocks: Blocks<'a>,
     depth_limit: usize,
     reading: Reading<'a>,
-) -> Result<Next<'a>, Error> {
-    let Reading { place, growing } = reading;
-    let number = number_at(blocks, place)?;
-    if number == NOP {
-        return Ok(Next::Inside(Reading { place: place + 4, growing }));
-    }
+) -> Result<Next<'a>, Error>
+    requires blocks { AreBlocks (blocks_of blocks) }
+    requires reading { IsReading (blocks_of blocks) depth_limit reading }
+    ensures ok { IfOk result (IsAhead (blocks_of blocks.entry) depth_limit reading.entry.place) }
+    ensures fault { IfErr result (IsRefusal (IsStructureFault (blocks_of blocks.entry) depth_limit)) }
+{
+    let number = number_at(blocks, reading.place)?;
     if number == BEGIN_NODE {
-        let name = child_name(blocks, place, growing.depth(), depth_limit)?;
-        let growing = growing.begin_node(alloc, name, place as u32)?;
-        return Ok(Next::Inside(Reading { place: place + up4(name.len() + 5), growing }));
+        return begin_node(alloc, blocks, depth_limit, reading);
     }
     if number == PROP {
-        let property = property_at(blocks, place, growing.is_childless())?;
-        let width = up4(property.value.len() + 12);
-        let growing = growing.add_property(property)?;
-        return Ok(Next::Inside(Reading { place: place + width, growing }));
+        return add_property(blocks, depth_limit, reading);
     }
-    if number == END_NODE {
-        return Ok(match growing.end_node() {
-            Ending::Inside(growing) => Next::Inside(Reading { place: place + 4, growing }),
-            Ending::Root(entries) => Next::After(place + 4, entries),
-        });
+    let Reading { place, growing } = reading;
+    if number == NOP {
+        let place = place + 4;
+        return Ok(Next::Inside(Reading { place, growing }));
     }
-    Err(Error::Refused(Fault { cause: Cause::BadToken, offset: place as u32 }))
+    if number != END_NODE {
+        return Err(Error::Refused(Fault {
+            cause: Cause::BadToken,
+            offset: place as u32,
+        }));
+    }
+    Ok(match growing.end_node() {
+        Ending::Inside(growing) => Next::Inside(Reading {
+            place: place + 4,
+            growing,
+        }),
+        Ending::Root(entries) => Next::After(place + 4, entries),
+    })
+}
+
+/// The reader after FDT_BEGIN_NODE at its place.
+fn begin_node<'a>(
+    alloc: Global,
+    blocks: Blocks<'a>,
+    depth_limit: usize,
+    reading: Reading<'a>,
+) -> Result<Next<'a>, Error>
+    requires blocks { AreBlocks (blocks_of blocks) }
+    requires reading { IsReading (blocks_of blocks) depth_limit reading }
+    requires number { IsNumberAt (blocks_of blocks) reading.place begin_node_number }
+    ensures ok { IfOk result (IsAhead (blocks_of blocks.entry) depth_limit reading.entry.place) }
+    ensures fault { IfErr result (IsRefusal (IsStructureFault (blocks_of blocks.entry) depth_limit)) }
+{
+    let Reading { place, growing } = reading;
+    let name = child_name(blocks, place, growing.depth(), depth_limit)?;
+    let growing = growing.begin_node(alloc, name, place as u32)?;
+    Ok(Next::Inside(Reading {
+        place: place + up4(name.len() + 5),
+        growing,
+    }))
+}
+
+/// The reader after FDT_PROP at its place.
+fn add_property<'a>(
+    blocks: Blocks<'a>,
+    depth_limit: usize,
+    reading: Reading<'a>,
+) -> Result<Next<'a>, Error>
+    requires blocks { AreBlocks (blocks_of blocks) }
+    requires reading { IsReading (blocks_of blocks) depth_limit reading }
+    requires number { IsNumberAt (blocks_of blocks) reading.place prop_number }
+    ensures ok { IfOk result (IsAhead (blocks_of blocks.entry) depth_limit reading.entry.place) }
+    ensures fault { IfErr result (IsRefusal (IsStructureFault (blocks_of blocks.entry) depth_limit)) }
+{
+    let Reading { place, growing } = reading;
+    let property = property_at(blocks, place, growing.is_childless())?;
+    let width = up4(property.value.len() + 12);
+    Ok(Next::Inside(Reading {
+        place: place + width,
+        growing: growing.add_property(property)?,
+    }))
 }
