@@ -24,7 +24,7 @@ use Rattle.bi_fdt.specs.declared.table.Property.{Property}
 use Rattle.bi_fdt.specs.declared.tokens.Reading.{Reading}
 use Rattle.bi_fdt.specs.Blocks.{AreBlocks, IsNumberAt, node_name_checks, property_token_checks}
 use Rattle.bi_fdt.specs.Table.{item_of, items_of, file_property_of, AreLinked}
-use Rattle.bi_fdt.specs.Growth.{IsGrowing, IsFinished, EndsInside}
+use Rattle.bi_fdt.specs.Growth.{IsGrowing, IsFinished, EndsInside, IsEnding}
 use Rattle.bi_fdt.specs.Reading.{IsReading, IsTable, IsAfter}
 use Rattle.bi_fdt.proofs.Items.{items_of-append}
 
@@ -130,3 +130,31 @@ finished_table entries o unnamed finished = record {
       ∙ ap (items_of 0) (sym (said_by-root o unnamed));
   linked = finished.linked;
 }
+
+-- A reader after FDT_END_NODE of a child.
+pub after_end_inside : (blocks : TreeBlocks) (depth_limit : ℕ) (reading : Reading) (grown : table.Growing) → IsReading blocks depth_limit reading → IsNumberAt blocks reading.place end_node_number → IsEnding reading.growing (ending.Inside grown) → IsReading blocks depth_limit (record { place = reading.place + 4; growing = grown })
+after_end_inside blocks depth_limit reading grown r number ended = by_outer r.innermost r.outer r.standing (ended r.innermost r.outer r.growing) where
+  by_outer : (o : PartialNode) (outer : List PartialNode) → Standing blocks depth_limit reading.place (Growing o outer) → EndsInside grown o outer → IsReading blocks depth_limit (record { place = reading.place + 4; growing = grown })
+  by_outer o [] standing ended = absurd ended
+  by_outer o (parent ∷ outer) standing ended = record {
+    innermost = with_one_child parent o;
+    outer = outer;
+    standing = after_child blocks depth_limit reading.place o parent outer standing number;
+    growing = ended;
+    within = (let within : reading.place + 4 ≤ blocks.end = number.within in omega arith);
+  }
+
+-- A reader after FDT_END_NODE of the root.
+pub after_end_root : (blocks : TreeBlocks) (depth_limit : ℕ) (reading : Reading) (entries : List Entry) → IsReading blocks depth_limit reading → IsNumberAt blocks reading.place end_node_number → ((o : PartialNode) (outer : List PartialNode) → IsGrowing reading.growing o outer → (outer ≡ []) × IsFinished entries o) → IsAfter blocks depth_limit (reading.place + 4) entries
+after_end_root blocks depth_limit reading entries r number ended =
+    by_outer r.outer r.standing (ended r.innermost r.outer r.growing) where
+      by_outer : (outer : List PartialNode) → Standing blocks depth_limit reading.place (Growing r.innermost outer) → (outer ≡ []) × IsFinished entries r.innermost → IsAfter blocks depth_limit (reading.place + 4) entries
+      by_outer (parent ∷ outer) standing whole = absurd (one_more whole.0) where
+        one_more : parent ∷ outer ≡ [] → ⊥
+        one_more e = cc
+      by_outer [] standing whole = record {
+        root = root_of r.innermost;
+        standing = after_root blocks depth_limit reading.place r.innermost standing number;
+        is_table = finished_table entries r.innermost standing.is_growth.1 whole.1;
+        within = (let within : reading.place + 4 ≤ blocks.end = number.within in omega arith);
+      }
