@@ -6,3 +6,4 @@ pub mod OpenEntries
 pub mod GrowingTables
 pub mod TokenSteps
 pub mod Refusals
+pub mod RootSteps

@@ -1,7 +1,7 @@
 use Rattle.std.specs.Prelude.{◌≡◌, ℕ, ◌+◌, ◌<◌, ◌≤◌, List, map}
-use Rattle.bi_blob.specs.Tree.{Root, FileNode}
+use Rattle.bi_blob.specs.Tree.{Root, FileNode, depth_of}
 use Rattle.bi_blob.specs.Events.{file_events_of}
-use Rattle.bi_blob.specs.Blob.{TreeBlocks}
+use Rattle.bi_blob.specs.Blob.{TreeBlocks, HoldsTree}
 use Rattle.bi_blob.proofs.Blobs.PartialNodes.{PartialNode, Standing, NotBegun, Growing, Grown}
 use Rattle.bi_fdt.specs.declared.table.Entry.{Entry}
 use Rattle.bi_fdt.specs.declared.tokens.Reading.{Reading}
@@ -41,3 +41,10 @@ pub record IsAfter (blocks : TreeBlocks) (depth_limit place : ℕ) (entries : Li
 abbrev pub IsAhead : TreeBlocks → (depth_limit place : ℕ) → Next → Type 0
 IsAhead blocks depth_limit place (next.Inside reading) = IsReading blocks depth_limit reading × (place < reading.place)
 IsAhead blocks depth_limit place (next.After end entries) = IsAfter blocks depth_limit end entries.items
+
+-- A table is that of the tree that a structure block holds, which is no deeper than a limit.
+pub record HasTable (blocks : TreeBlocks) (depth_limit : ℕ) (entries : List Entry) : Type 0 where
+  pub root : Root FileNode
+  pub holds : HoldsTree blocks root
+  pub shallow : depth_of root ≤ depth_limit
+  pub is_table : IsTable entries root
