@@ -21,3 +21,12 @@ passed_on (Err x) e P Q R is one other both = subst (IsRefusal R) (sym is) (by_e
   by_error error.OutOfMemory one other = tt
   by_error error.ReadFailed one other = absurd one
   by_error error.WriteFailed one other = absurd one
+
+-- A fault is passed on as it is.
+pub fault_passed_on : {A : Type 0} (r : Result A Fault) (fault : Fault) (P : Fault → Type 0) → IsErrAnd r (λ e. e ≡ fault) → P fault → IfErr r P
+fault_passed_on (Ok a) fault P is holds = absurd is
+fault_passed_on (Err e) fault P is holds = subst P (sym is) holds
+
+-- A refusal by a fault of which something holds.
+pub refused_with : {A : Type 0} (r : Result A Fault) (fault : Fault) (P : Fault → Type 0) → r ≡ Err fault → P fault → IfErr r P
+refused_with r fault P is holds = subst (λ x. IfErr x P) (sym is) holds

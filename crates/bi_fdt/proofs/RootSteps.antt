@@ -1,5 +1,6 @@
-use Rattle.std.proofs.Common.{◌≡◌, ℕ, ◌+◌, ◌<◌, ◌≤◌, List, [], length, refl, sym, subst, inl, inr, arith}
-use Rattle.std.specs.Prelude.{IsTrue}
+use Rattle.std.proofs.Common.{◌≡◌, ◌≢◌, ap, ◌∙◌, Bool, false, ℕ, ◌+◌, ◌<◌, ◌≤◌, List, [], length, refl, sym, subst, inl, inr, arith}
+use Rattle.std.specs.Prelude.{IsTrue, ◌||◌}
+use Rattle.std.proofs.lemmas.Bool.{ne_eqb, false≢true}
 use Rattle.bi_base.specs.declared.fault.Fault.{Fault}
 use Rattle.bi_base.specs.Cells.{u32_at, up4}
 use Rattle.bi_base.specs.Checks.{IsFirstFault, HasNoFault}
@@ -7,7 +8,7 @@ use Rattle.bi_blob.specs.Tokens.{BeginNode, Nop, width, name_from, begin_node_nu
 use Rattle.bi_blob.specs.Tree.{Root, FileNode, depth_of}
 use Rattle.bi_blob.specs.Stages.{BeforeRoot, AfterRoot, is_expected}
 use Rattle.bi_blob.specs.Blob.{TreeBlocks, HoldsTree}
-use Rattle.bi_blob.specs.BlobFaults.{TokenPasses, HasTokenNumber, token_checks, token_fault, begin_checks, IsStructureFault}
+use Rattle.bi_blob.specs.BlobFaults.{TokenPasses, HasTokenNumber, IsExpected, token_checks, token_fault, begin_checks, IsStructureFault}
 use Rattle.bi_blob.proofs.Blobs.PartialNodes.{Growth, Standing, NotBegun, Growing, Grown, begun, stage_of}
 use Rattle.bi_blob.proofs.Blobs.Steps.{next_nop, next_root}
 use Rattle.bi_blob.proofs.Blobs.Ending.{last_token}
@@ -54,3 +55,19 @@ past_end blocks depth_limit place root standing number =
       is_number = number.is_number;
       passes = (number.within, (subst (λ n. IsTrue (is_expected AfterRoot n)) (sym number.is_number) refl, tt));
     })
+
+-- A token that is not expected.
+pub bad_token : (blocks : TreeBlocks) (depth_limit place : ℕ) (growth : Growth) (number : ℕ) → Standing blocks depth_limit place growth → IsNumberAt blocks place number → is_expected (stage_of growth) number ≡ false → IsStructureFault blocks depth_limit (token_fault place IsExpected)
+bad_token blocks depth_limit place growth number standing is_number unexpected =
+    fault_there blocks depth_limit place growth (token_fault place IsExpected) standing
+    (inr (is_number.within, inl ((λ may. false≢true (sym unexpected ∙ ap (is_expected (stage_of growth)) (sym is_number.is_number) ∙ may)), refl)))
+
+pub unexpected_before : (number : ℕ) → number ≢ nop_number → number ≢ begin_node_number → is_expected BeforeRoot number ≡ false
+unexpected_before number nop begin = or_false _ _ (ne_eqb number nop_number nop) (ne_eqb number begin_node_number begin) where
+  or_false : (a b : Bool) → a ≡ false → b ≡ false → (a || b) ≡ false
+  or_false a b e f = ap (λ x. x || b) e ∙ f
+
+pub unexpected_after : (number : ℕ) → number ≢ nop_number → number ≢ end_number → is_expected AfterRoot number ≡ false
+unexpected_after number nop end = or_false _ _ (ne_eqb number nop_number nop) (ne_eqb number end_number end) where
+  or_false : (a b : Bool) → a ≡ false → b ≡ false → (a || b) ≡ false
+  or_false a b e f = ap (λ x. x || b) e ∙ f
