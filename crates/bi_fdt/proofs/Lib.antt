@@ -7,3 +7,4 @@ pub mod GrowingTables
 pub mod TokenSteps
 pub mod Refusals
 pub mod RootSteps
+pub mod Parsing

@@ -3,3 +3,4 @@ pub mod Blocks
 pub mod Table
 pub mod Growth
 pub mod Reading
+pub mod Content
