@@ -10,13 +10,13 @@ use Rattle.bi_fdt.specs.Reading.{IsTable}
 
 -- What a blob that was read holds.
 
--- The file, its boot processor, its length as a blob, its memory reservations and its tree.
+-- The file, its boot processor, its length as a blob, its memory reservations and the table of its tree.
 pub record BlobContent : Type 0 where
   pub file : List ℕ
   pub cpu : ℕ
   pub total_size : ℕ
   pub reservations : List Reservation
-  pub root : Root FileNode
+  pub table : List Item
 
 -- The first of some nodes as a root.
 abbrev pub first_as_root : Nodes FileNode → Root FileNode
@@ -26,6 +26,10 @@ first_as_root (node name own children later) = record { own = own; children = ch
 -- The tree of a table.
 abbrev pub root_in : List Item → Root FileNode
 root_in items = first_as_root (nodes_of 0 items)
+
+-- The tree that a blob holds.
+abbrev pub root_of : BlobContent → Root FileNode
+root_of content = root_in content.table
 
 -- The table of a tree.
 abbrev pub table_of : Root FileNode → List Item

@@ -4,3 +4,4 @@ pub mod Table
 pub mod Growth
 pub mod Reading
 pub mod Content
+pub mod Refused
