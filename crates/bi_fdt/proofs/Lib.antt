@@ -8,3 +8,4 @@ pub mod TokenSteps
 pub mod Refusals
 pub mod RootSteps
 pub mod Parsing
+pub mod Contents
