@@ -9,3 +9,4 @@ pub mod Refusals
 pub mod RootSteps
 pub mod Parsing
 pub mod Contents
+pub mod NodeEntries

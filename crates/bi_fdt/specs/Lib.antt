@@ -5,3 +5,4 @@ pub mod Growth
 pub mod Reading
 pub mod Content
 pub mod Refused
+pub mod Views

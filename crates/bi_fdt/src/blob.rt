@@ -5,7 +5,11 @@ ghost use Rattle.bi_base.specs.declared.fault.Fault.{Fault};
 ghost use Rattle.bi_blob.specs.Tree.{Root, FileNode};
 ghost use Rattle.bi_blob.specs.Blob.{Reservation, header_length, totalsize, off_mem_rsvmap, tree_blocks as tree_blocks_of, IsBlob, IsBlobWithin, Header};
 ghost use Rattle.bi_blob.specs.BlobFaults.{HasNoHeaderFault, HasReservations, HasNoFaultBeforeTree, IsFaultBeforeTree, IsBlobFault};
+ghost use Rattle.bi_blob.specs.BlobLaws.{SameContent};
 ghost use Rattle.bi_fdt.specs.Blocks.{blocks_of};
+ghost use Rattle.bi_blob.specs.Lookups.{root_node};
+ghost use Rattle.bi_fdt.specs.Table.{item_of};
+ghost use Rattle.bi_fdt.specs.Reading.{IsTable};
 ghost use Rattle.bi_fdt.specs.Content.{root_of};
 ghost use Rattle.bi_fdt.specs.Refused.{IsRefused};
 
@@ -50,11 +54,16 @@ impl<'a> Model for Blob<'a> {
 }
 
 impl<'a> Blob<'a> {
+    ghost use Rattle.bi_fdt.specs.Views.{node_of};
+
     /// Reads a blob of version 16 or 17, or of a later version that is compatible with 17. The file may be longer than
     /// the blob.
     pub fn read(alloc: Global, file: &'a [u8], limits: Limits) -> Result<Blob<'a>, Error>
         ensures accepts { OnOk result (IsBlobWithin limits file.entry.now) }
         ensures content { IfOk result (λ blob. IsBlob file.entry.now blob.cpu blob.reservations (root_of blob)) }
+        ensures one_content { IfOk result (λ blob. (cpu : ℕ) (reservations : List Reservation) (root : Root FileNode) → IsBlob file.entry.now cpu reservations root
+            → SameContent blob.cpu cpu blob.reservations reservations (root_of blob) root) }
+        ensures no_fault { OnOk result ((fault : Fault) → ¬ (IsBlobFault limits file.entry.now fault)) }
         ensures file { IfOk result (λ blob. blob.file ≡ file.entry.now) }
         ensures total_size { IfOk result (λ blob. blob.total_size ≡ totalsize file.entry.now) }
         ensures refused { IfErr result (IsRefused limits file.entry.now) }
@@ -104,8 +113,18 @@ impl<'a> Blob<'a> {
     }
 
     /// The root of the tree.
-    pub fn root<'b>(&'b self) -> NodeRef<'a, 'b> {
-        NodeRef::new(&self.entries, 0)
+    pub fn root<'b>(&'b self) -> NodeRef<'a, 'b>
+        ensures { node_of result ≡ root_node (root_of self.now) }
+    {
+        NodeRef::root_of(self)
+    }
+
+    /// The table of the tree.
+    pub(crate) fn entries<'b>(&'b self) -> &'b [Entry<'a>]
+        ensures items { map item_of result.now ≡ self.now.table }
+        ensures is_table { IsTable result.now (root_of self.now) }
+    {
+        &self.entries
     }
 }
 

@@ -8,6 +8,7 @@ mod growing;
 mod header;
 mod names;
 mod node;
+mod properties;
 mod refusal;
 mod reservations;
 mod structure;
@@ -15,7 +16,8 @@ mod table;
 mod tokens;
 
 pub use blob::Blob;
-pub use node::{NodeRef, Properties};
+pub use node::NodeRef;
+pub use properties::Properties;
 pub use table::Property;
 
 #[cfg(test)]

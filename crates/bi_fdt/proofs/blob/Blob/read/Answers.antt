@@ -2,6 +2,8 @@ use Rattle.std.proofs.Common.{◌≡◌, ℕ, sym, ap, subst, ◌∙◌, arith, 
 use Rattle.bi_base.specs.Cells.{AreBytes}
 use Rattle.bi_blob.specs.Blob.{tree_blocks}
 use Rattle.bi_blob.specs.BlobFaults.{IsStructureFault}
+use Rattle.bi_blob.proofs.Blobs.OneBlob.{one_blob}
+use Rattle.bi_blob.proofs.Blobs.Faults.{blob_has_no_fault}
 use Rattle.bi_fdt.specs.Growth.{IsRefusal}
 use Rattle.bi_fdt.specs.Reading.{HasTable}
 use Rattle.bi_fdt.proofs.Refusals.{error_passed_on}
@@ -48,3 +50,10 @@ returns-clause-content c =
     c.in_ok-reservation_count.ensures.header c.in_ok-reservation_count.ensures.reservations
     (subst (λ n. HasTable (tree_blocks c.args.file.now) n c.in_ok-entries.entries.items) depth
     (subst (λ b. HasTable b c.from.result c.in_ok-entries.entries.items) c.tree_blocks.ensures c.in_ok-entries.ensures.ok))
+
+pub returns-clause-one_content : goal.returns-clause-one_content
+returns-clause-one_content c = λ cpu reservations root is.
+    one_blob c.args.file.now _ cpu _ reservations _ root (returns-clause-content c) is
+
+pub returns-clause-no_fault : goal.returns-clause-no_fault
+returns-clause-no_fault c = λ fault is. blob_has_no_fault c.args.limits c.args.file.now fault (returns-clause-accepts c) is
