@@ -119,3 +119,81 @@ after_inside depth (NodeItem own place name ∷ items) rest item at = elim (case
   one_more n = omega arith
   first : {a b : Item} {u v : List Item} → a ∷ u ≡ b ∷ v → b ≡ a
   first e = cc
+
+-- Where items have a node at an index, the entries go that far.
+pub node_within : (entries : List Entry) (table : List Item) (index : ℕ) → map item_of entries ≡ table → IsTrue (begins_with_node (drop index table)) → index < length entries
+node_within entries table index same is_node =
+    by_entries entries index (subst (λ t. IsTrue (begins_with_node (drop index t))) (sym same) is_node) where
+      by_entries : (es : List Entry) (i : ℕ) → IsTrue (begins_with_node (drop i (map item_of es))) → i < length es
+      by_entries [] zero is = absurd (false≢true is)
+      by_entries [] (suc i) is = absurd (false≢true is)
+      by_entries (e ∷ es) zero is = omega arith
+      by_entries (e ∷ es) (suc i) is = let rest : i < length es = by_entries es i is in omega arith
+
+-- The entry of a node in a table.
+pub record IsNodeOf (table : List Item) (index : ℕ) (n : NodeEntry) : Type 0 where
+  pub later : List Item
+  pub is_at : drop index table ≡ NodeItem n.depth n.place n.name.now ∷ later
+  pub linked : IsLinked 0 index n later
+  pub below : (events : List FileEvent) × (later ≡ items_of (n.depth + 1) events)
+
+pub node_of_table : (entries : List Entry) (table : List Item) (es : List FileEvent) (index : ℕ) (n : NodeEntry) (d : Entry) → map item_of entries ≡ table → map item_of entries ≡ items_of 0 es → AreLinked 0 0 entries → IsTrue (begins_with_node (drop index table)) → get_or entries index d ≡ entry.Node n → IsNodeOf table index n
+node_of_table entries table es index n d same events linked is_node is =
+    let within : index < length entries = node_within entries table index same is_node in
+    let later : List Entry = drop (suc index) entries in
+    let here : drop index entries ≡ entry.Node n ∷ later = entry_here entries index (entry.Node n) d within is in
+    let at : drop index table ≡ NodeItem n.depth n.place n.name.now ∷ map item_of later =
+    ap (drop index) (sym same) ∙ items_here entries index (entry.Node n) d within is in
+    let below : AreBelow n.depth (map item_of later) =
+    items_below 0 es index n.depth n.place n.name.now (map item_of later) (ap (drop index) (sym events ∙ same) ∙ at) in
+    record {
+      later = map item_of later;
+      is_at = at;
+      linked = subst (λ k. IsLinked 0 k n (map item_of later)) (omega arith) (linked_at 0 entries later index n linked here);
+      below = (below.events, below.is);
+    }
+
+-- Where a list goes on after an index, the next goes on there.
+pub drop-next : {X : Type 0} (xs later : List X) (index more : ℕ) (x : X) → drop index xs ≡ x ∷ later → drop (index + 1 + more) xs ≡ drop more later
+drop-next xs later index more x at =
+    ap (λ n. drop n xs) (turned index more) ∙ sym (drop-drop (suc more) index xs) ∙ ap (drop (suc more)) at where
+      turned : (i m : ℕ) → i + 1 + m ≡ i + suc m
+      turned i m = omega arith
+
+-- No more first properties than items.
+pub first_most : (items : List Item) → length (first_properties items) ≤ length items
+first_most [] = omega arith
+first_most (PropertyItem p ∷ items) = let rest : length (first_properties items) ≤ length items = first_most items in omega arith
+first_most (NodeItem own place name ∷ items) = omega arith
+
+-- As many items as there are first properties have them all.
+pub first_take : (items : List Item) → first_properties (take (length (first_properties items)) items) ≡ first_properties items
+first_take [] = refl
+first_take (PropertyItem p ∷ items) = ap (λ l. p ∷ l) (first_take items)
+first_take (NodeItem own place name ∷ items) = refl
+
+-- A first property at an index.
+pub record IsFirstAt (items : List Item) (index : ℕ) : Type 0 where
+  pub property : FileProperty
+  pub rest : List Item
+  pub is_at : drop index items ≡ PropertyItem property ∷ rest
+  pub is_got : slice_get (first_properties items) index ≡ Some property
+
+pub first_at : (items : List Item) (index : ℕ) → index < length (first_properties items) → IsFirstAt items index
+first_at [] index within = absurd (omega arith)
+first_at (PropertyItem p ∷ items) zero within = record { property = p; rest = items; is_at = refl; is_got = refl }
+first_at (PropertyItem p ∷ items) (suc index) within =
+    let r : IsFirstAt items index = first_at items index (omega arith) in
+    record { property = r.property; rest = r.rest; is_at = r.is_at; is_got = r.is_got }
+first_at (NodeItem own place name ∷ items) index within = absurd (omega arith)
+
+-- Nothing is got past the end, and what is got of changed elements is the changed element.
+pub get_past : {X : Type 0} (xs : List X) (index : ℕ) → length xs ≤ index → slice_get xs index ≡ None
+get_past [] index past = refl
+get_past (x ∷ xs) zero past = absurd (omega arith)
+get_past (x ∷ xs) (suc index) past = get_past xs index (omega arith)
+
+pub get_map : {X Y : Type 0} (f : X → Y) (xs : List X) (index : ℕ) (x : X) → slice_get xs index ≡ Some x → slice_get (map f xs) index ≡ Some (f x)
+get_map f [] index x got = absurd cc
+get_map f (y ∷ xs) zero x got = let e : y ≡ x = cc in ap (λ z. Some (f z)) e
+get_map f (y ∷ xs) (suc index) x got = get_map f xs index x got

@@ -1,10 +1,11 @@
 use Rattle.std.specs.Prelude.{◌≡◌, ℕ, ◌+◌, List, [], ◌∷◌, drop, map, Option, MatchOption}
 use Rattle.bi_blob.specs.Tree.{FileProperty, FileNode}
+use Rattle.bi_blob.specs.Events.{FileEvent}
 use Rattle.bi_blob.specs.Lookups.{Sibling}
 use Rattle.bi_fdt.specs.declared.node.NodeRef.{NodeRef}
 use Rattle.bi_fdt.specs.declared.table.NodeEntry.{NodeEntry}
 use Rattle.bi_fdt.specs.declared.table.Property.{Property}
-use Rattle.bi_fdt.specs.Table.{Item, NodeItem, IsLinked, file_property_of}
+use Rattle.bi_fdt.specs.Table.{Item, NodeItem, items_of, IsLinked, file_property_of}
 use Rattle.bi_fdt.specs.Content.{first_sibling}
 
 -- What a reference to a node of a blob refers to.
@@ -18,6 +19,7 @@ pub record IsEntryOf (reference : NodeRef) (node_entry : NodeEntry) : Type 0 whe
   pub later : List Item
   pub is_at : drop reference.index reference.blob.now.table ≡ NodeItem node_entry.depth node_entry.place node_entry.name.now ∷ later
   pub linked : IsLinked 0 reference.index node_entry later
+  pub below : (events : List FileEvent) × (later ≡ items_of (node_entry.depth + 1) events)
 
 -- A call that gives the first of some properties, and leaves the others; None where none are left.
 abbrev pub GivesProperty : List FileProperty → Option Property → List FileProperty → Type 0

@@ -116,13 +116,14 @@ impl<'a> Blob<'a> {
     pub fn root<'b>(&'b self) -> NodeRef<'a, 'b>
         ensures { node_of result ≡ root_node (root_of self.now) }
     {
-        NodeRef::root_of(self)
+        NodeRef::new(self)
     }
 
     /// The table of the tree.
     pub(crate) fn entries<'b>(&'b self) -> &'b [Entry<'a>]
         ensures items { map item_of result.now ≡ self.now.table }
         ensures is_table { IsTable result.now (root_of self.now) }
+        ensures small { length self.now.table < 2 ^ 63 }
     {
         &self.entries
     }

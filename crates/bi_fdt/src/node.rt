@@ -1,6 +1,6 @@
 //! The nodes of a blob.
 
-ghost use Rattle.std.specs.Prelude.{◌≡◌, drop, length, map, slice_get, IsTrue};
+ghost use Rattle.std.specs.Prelude.{◌≡◌, ◌<◌, ◌^◌, drop, length, map, slice_get, IsTrue};
 ghost use Rattle.std.specs.Option.{option_map};
 ghost use Rattle.bi_blob.specs.Tree.{property_of, properties_of};
 ghost use Rattle.bi_blob.specs.Lookups.{siblings, root_node, node_at, node_named, value_named, property_named};
@@ -17,23 +17,26 @@ pub struct NodeRef<'a, 'b> {
     blob: &'b Blob<'a>,
     index: usize,
     ghost is_node: { IsTrue (begins_with_node (drop index blob.now.table)) },
+    ghost small: { length blob.now.table < 2 ^ 63 },
 }
 
 impl<'a, 'b> NodeRef<'a, 'b> {
     ghost use Rattle.bi_fdt.specs.Views.{node_of, IsEntryOf};
 
     /// The root of a blob.
-    pub(crate) fn root_of(blob: &'b Blob<'a>) -> NodeRef<'a, 'b>
+    pub(crate) fn new(blob: &'b Blob<'a>) -> NodeRef<'a, 'b>
         ensures { node_of result ≡ root_node (root_of blob.entry.now) }
     {
+        let _ = blob.entries();
         NodeRef { blob, index: 0 }
     }
 
+    /// The node's entry.
     fn entry(self) -> NodeEntry<'a>
         ensures { IsEntryOf self.entry result }
     {
-        let entries = self.blob.entries();
-        match entries[self.index] {
+        let entry = self.blob.entries()[self.index];
+        match entry {
             Entry::Node(node) => node,
             Entry::Property(_) => unreachable!(),
         }
@@ -77,7 +80,8 @@ impl<'a, 'b> NodeRef<'a, 'b> {
         if index >= self.property_count() {
             return None;
         }
-        match self.blob.entries()[self.index + 1 + index] {
+        let entry = self.blob.entries()[self.index + 1 + index];
+        match entry {
             Entry::Property(property) => Some((property.name, property.value)),
             Entry::Node(_) => unreachable!(),
         }
@@ -97,6 +101,7 @@ impl<'a, 'b> NodeRef<'a, 'b> {
         Some(self.find_property(name)?.place)
     }
 
+    /// The property of this name. None exactly where there is no such property.
     fn find_property(self, name: &[u8]) -> Option<Property<'a>>
         ensures { option_map file_property_of result ≡ property_named (node_of self.entry).own.properties name.now }
     {
