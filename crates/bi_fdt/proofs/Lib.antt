@@ -10,3 +10,4 @@ pub mod RootSteps
 pub mod Parsing
 pub mod Contents
 pub mod NodeEntries
+pub mod NodeViews

@@ -12,6 +12,7 @@ use Rattle.bi_fdt.specs.declared.table.NodeEntry.{NodeEntry}
 use Rattle.bi_fdt.specs.declared.table.Property.{Property}
 use Rattle.bi_fdt.specs.Table.{Item, NodeItem, PropertyItem, first_properties, nodes_of, items_of, count_inside, item_of, file_property_of, IsLinked, AreLinked}
 use Rattle.bi_fdt.specs.Content.{begins_with_node, first_sibling, root_in, table_of}
+use Rattle.bi_fdt.specs.Views.{IsNodeOf}
 use Rattle.bi_fdt.proofs.Parsing.{nodes-same, nodes-deeper, nodes-above, nodes-table}
 use Rattle.bi_fdt.proofs.Items.{inside-deeper, inside-stops}
 use Rattle.bi_fdt.proofs.Links.{inside-most}
@@ -63,7 +64,7 @@ items_below first (FileNodeProperty property ∷ es) (suc index) depth place nam
 items_below first (FileNodeEnd ∷ es) index depth place name later at = items_below (first - 1) es index depth place name later at
 
 -- The first node after properties is no deeper than where the events begin.
-first_depth : (depth : ℕ) (es : List FileEvent) (own place : ℕ) (name : List ℕ) (rest : List Item) → drop (length (first_properties (items_of depth es))) (items_of depth es) ≡ NodeItem own place name ∷ rest → own ≤ depth
+pub first_depth : (depth : ℕ) (es : List FileEvent) (own place : ℕ) (name : List ℕ) (rest : List Item) → drop (length (first_properties (items_of depth es))) (items_of depth es) ≡ NodeItem own place name ∷ rest → own ≤ depth
 first_depth depth [] own place name rest at = absurd cc
 first_depth depth (FileNodeStart other_place other_name ∷ es) own place name rest at = let same : depth ≡ own = node_depth at in omega arith where
   node_depth : {a b x y : ℕ} {k l : List ℕ} {u v : List Item} → NodeItem a x k ∷ u ≡ NodeItem b y l ∷ v → a ≡ b
@@ -73,7 +74,7 @@ first_depth depth (FileNodeEnd ∷ es) own place name rest at =
     let least : own ≤ depth - 1 = first_depth (depth - 1) es own place name rest at in omega arith
 
 -- After their first properties items are none or begin with a node.
-first_rest : (items : List Item) (p : FileProperty) (rest : List Item) → drop (length (first_properties items)) items ≡ PropertyItem p ∷ rest → ⊥
+pub first_rest : (items : List Item) (p : FileProperty) (rest : List Item) → drop (length (first_properties items)) items ≡ PropertyItem p ∷ rest → ⊥
 first_rest [] p rest at = cc
 first_rest (PropertyItem q ∷ items) p rest at = first_rest items p rest at
 first_rest (NodeItem own place name ∷ items) p rest at = cc
@@ -84,7 +85,7 @@ nodes-past_properties depth [] = refl
 nodes-past_properties depth (PropertyItem p ∷ items) = nodes-past_properties depth items
 nodes-past_properties depth (NodeItem own place name ∷ items) = refl
 
-inside-past_properties : (depth : ℕ) (items : List Item) → count_inside depth items ≡ length (first_properties items) + count_inside depth (drop (length (first_properties items)) items)
+pub inside-past_properties : (depth : ℕ) (items : List Item) → count_inside depth items ≡ length (first_properties items) + count_inside depth (drop (length (first_properties items)) items)
 inside-past_properties depth [] = refl
 inside-past_properties depth (PropertyItem p ∷ items) = let e : count_inside depth items ≡ length (first_properties items) + count_inside depth (drop (length (first_properties items)) items) = inside-past_properties depth items in omega arith
 inside-past_properties depth (NodeItem own place name ∷ items) = omega arith
@@ -131,12 +132,6 @@ node_within entries table index same is_node =
       by_entries (e ∷ es) (suc i) is = let rest : i < length es = by_entries es i is in omega arith
 
 -- The entry of a node in a table.
-pub record IsNodeOf (table : List Item) (index : ℕ) (n : NodeEntry) : Type 0 where
-  pub later : List Item
-  pub is_at : drop index table ≡ NodeItem n.depth n.place n.name.now ∷ later
-  pub linked : IsLinked 0 index n later
-  pub below : (events : List FileEvent) × (later ≡ items_of (n.depth + 1) events)
-
 pub node_of_table : (entries : List Entry) (table : List Item) (es : List FileEvent) (index : ℕ) (n : NodeEntry) (d : Entry) → map item_of entries ≡ table → map item_of entries ≡ items_of 0 es → AreLinked 0 0 entries → IsTrue (begins_with_node (drop index table)) → get_or entries index d ≡ entry.Node n → IsNodeOf table index n
 node_of_table entries table es index n d same events linked is_node is =
     let within : index < length entries = node_within entries table index same is_node in

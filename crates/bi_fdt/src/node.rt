@@ -21,7 +21,7 @@ pub struct NodeRef<'a, 'b> {
 }
 
 impl<'a, 'b> NodeRef<'a, 'b> {
-    ghost use Rattle.bi_fdt.specs.Views.{node_of, IsEntryOf};
+    ghost use Rattle.bi_fdt.specs.Views.{node_of, IsNodeOf};
 
     /// The root of a blob.
     pub(crate) fn new(blob: &'b Blob<'a>) -> NodeRef<'a, 'b>
@@ -33,7 +33,7 @@ impl<'a, 'b> NodeRef<'a, 'b> {
 
     /// The node's entry.
     fn entry(self) -> NodeEntry<'a>
-        ensures { IsEntryOf self.entry result }
+        ensures { IsNodeOf self.entry.blob.now.table self.entry.index result }
     {
         let entry = self.blob.entries()[self.index];
         match entry {
@@ -67,9 +67,10 @@ impl<'a, 'b> NodeRef<'a, 'b> {
     pub fn properties(self) -> Properties<'a, 'b>
         ensures { result ≡ (node_of self.entry).own.properties }
     {
+        let entries = self.blob.entries();
         let begin = self.index + 1;
         let end = begin + self.entry().property_count;
-        Properties::new(&self.blob.entries()[begin..end])
+        Properties::new(&entries[begin..end])
     }
 
     /// The name and value of property `index`, from 0, in the order of the file. None exactly where there is no such

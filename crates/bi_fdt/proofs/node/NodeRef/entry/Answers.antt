@@ -1,6 +1,6 @@
 use Rattle.bi_blob.specs.Events.{file_events_of}
 use Rattle.bi_fdt.specs.Content.{root_of}
-use Rattle.bi_fdt.proofs.NodeEntries.{IsNodeOf, no_property, node_within, node_of_table}
+use Rattle.bi_fdt.proofs.NodeEntries.{no_property, node_within, node_of_table}
 use Rattle.bi_fdt.proofs.node.NodeRef.entry.Goals as goal
 
 pub unreachable-requires : goal.unreachable-requires
@@ -12,7 +12,5 @@ unreachable-requires c =
 pub returns : goal.returns
 returns c =
     let table = c.args.self.blob.now.table in
-    let n : IsNodeOf table c.args.self.index c.in-Node.node =
     node_of_table c.entries.result.now table (file_events_of (root_of c.args.self.blob.now)) c.args.self.index c.in-Node.node _
-    c.entries.ensures.items c.entries.ensures.is_table.items c.entries.ensures.is_table.linked c.args.self.is_node c.in-Node.is in
-    record { later = n.later; is_at = n.is_at; linked = n.linked; below = n.below }
+    c.entries.ensures.items c.entries.ensures.is_table.items c.entries.ensures.is_table.linked c.args.self.is_node c.in-Node.is
