@@ -1,4 +1,4 @@
-use Rattle.std.proofs.Common.{◌≡◌, ◌⊎◌, ℕ, zero, suc, ◌+◌, ◌-◌, ◌<◌, ◌≤◌, Bool, true, false, List, [], ◌∷◌, ◌++◌, length, map, drop, take, Option, Some, None, slice_get, refl, sym, ap, subst, ◌∙◌, inl, inr, arith}
+use Rattle.std.proofs.Common.{◌≡◌, ◌⊎◌, ℕ, zero, suc, ◌+◌, ◌-◌, ◌<◌, ◌≤◌, Bool, true, false, List, [], ◌∷◌, ◌++◌, length, map, drop, take, get_or, Option, Some, None, slice_get, refl, sym, ap, subst, ◌∙◌, inl, inr, arith}
 use Rattle.std.specs.Prelude.{IsTrue}
 use Rattle.std.proofs.lemmas.Bool.{cases_lt, cases_order}
 use Rattle.std.proofs.lemmas.List.{drop-map, length-map, take-map}
@@ -6,14 +6,16 @@ use Rattle.bi_blob.specs.Tree.{Nodes, none, node, Root, Property, FileProperty, 
 use Rattle.bi_blob.specs.Events.{FileEvent, file_events_of}
 use Rattle.bi_blob.specs.Lookups.{Sibling, siblings, root_node, node_at}
 use Rattle.bi_fdt.specs.declared.table.Entry.{Entry}
+use Rattle.bi_fdt.specs.declared.table.Entry.TheVariants as entry
 use Rattle.bi_fdt.specs.declared.table.NodeEntry.{NodeEntry}
-use Rattle.bi_fdt.specs.Table.{Item, NodeItem, PropertyItem, first_properties, nodes_of, items_of, count_inside, item_of, IsLinked, AreLinked}
+use Rattle.bi_fdt.specs.declared.table.Property.{Property as PropertyEntry}
+use Rattle.bi_fdt.specs.Table.{Item, NodeItem, PropertyItem, first_properties, nodes_of, items_of, count_inside, item_of, file_property_of, IsLinked, AreLinked}
 use Rattle.bi_fdt.specs.Content.{begins_with_node, first_sibling, root_in, table_of}
 use Rattle.bi_fdt.specs.Views.{IsNodeOf}
 use Rattle.bi_fdt.proofs.Parsing.{nodes-same, nodes-above, nodes-deeper, nodes-table}
 use Rattle.bi_fdt.proofs.Items.{inside-deeper, inside-stops}
 use Rattle.bi_fdt.proofs.GrowingTables.{drop-within}
-use Rattle.bi_fdt.proofs.NodeEntries.{drop-next, first_most, first_take, first_depth, first_rest, nodes-past_properties, inside-past_properties, nodes-past_inside, after_inside}
+use Rattle.bi_fdt.proofs.NodeEntries.{IsFirstAt, first_at, items_here, drop-next, first_most, first_take, first_depth, first_rest, nodes-past_properties, inside-past_properties, nodes-past_inside, after_inside}
 
 -- What the getters of a node give.
 
@@ -198,3 +200,37 @@ no_child_past none (suc index) (suc more) gone past = refl
 no_child_past (node name own children later) zero more gone past = absurd cc
 no_child_past (node name own children later) (suc index) zero gone past = absurd (omega arith)
 no_child_past (node name own children later) (suc index) (suc more) gone past = no_child_past later index more gone (omega arith)
+
+-- A property of a node by its index.
+module _ (entries : List Entry) (table : List Item) (index : ℕ) (n : NodeEntry) (same : map item_of entries ≡ table) (there : IsNodeOf table index n) (i : ℕ) (within : i < length (first_sibling (drop index table)).own.properties) where
+  few : i < length (first_properties there.later)
+  few = subst (λ items. i < length (first_sibling items).own.properties) there.is_at within
+
+  pub property_within : index + 1 + i < length entries
+  property_within =
+      let long : length table ≡ length entries = sym (ap length same) ∙ simp length-map in
+      let count : n.property_count ≡ length (first_properties there.later) = there.linked.count in
+      let most : index + 1 + n.property_count ≤ length table = properties_within table index n there in
+      let some : i < length (first_properties there.later) = few in
+      omega arith
+
+  -- The items from it on.
+  property_item : (e d : Entry) → get_or entries (index + 1 + i) d ≡ e → item_of e ∷ map item_of (drop (suc (index + 1 + i)) entries) ≡ PropertyItem (first_at there.later i few).property ∷ (first_at there.later i few).rest
+  property_item e d is =
+      sym (items_here entries (index + 1 + i) e d property_within is) ∙ ap (drop (index + 1 + i)) same ∙ after_node table index n there i ∙ (first_at there.later i few).is_at
+
+  pub no_node_there : (m : NodeEntry) (d : Entry) → get_or entries (index + 1 + i) d ≡ entry.Node m → ⊥
+  no_node_there m d is = let e = property_item (entry.Node m) d is in cc
+
+  pub property_there : (p : PropertyEntry) (d : Entry) → get_or entries (index + 1 + i) d ≡ entry.Property p → slice_get (first_sibling (drop index table)).own.properties i ≡ Some (file_property_of p)
+  property_there p d is =
+      let f : IsFirstAt there.later i = first_at there.later i few in
+      let e : PropertyItem (file_property_of p) ∷ map item_of (drop (suc (index + 1 + i)) entries) ≡ PropertyItem f.property ∷ f.rest = property_item (entry.Property p) d is in
+      let same_property : file_property_of p ≡ f.property = first_item e in
+      ap (λ items. slice_get (first_sibling items).own.properties i) there.is_at ∙ f.is_got ∙ ap (λ q. Some q) (sym same_property) where
+        first_item : {a b : FileProperty} {u v : List Item} → PropertyItem a ∷ u ≡ PropertyItem b ∷ v → a ≡ b
+        first_item e = cc
+
+-- A node has as many properties as its entry says.
+pub count_is : (table : List Item) (index : ℕ) (n : NodeEntry) → IsNodeOf table index n → n.property_count ≡ length (first_sibling (drop index table)).own.properties
+count_is table index n there = there.linked.count ∙ ap (λ items. length (first_sibling items).own.properties) (sym there.is_at)

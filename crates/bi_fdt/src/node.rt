@@ -78,7 +78,8 @@ impl<'a, 'b> NodeRef<'a, 'b> {
     pub fn property_at(self, index: usize) -> Option<(&'a [u8], &'a [u8])>
         ensures { option_map (λ property. (property.0.now, property.1.now)) result ≡ slice_get (properties_of (node_of self.entry).own) index }
     {
-        if index >= self.property_count() {
+        let node = self.entry();
+        if index >= node.property_count {
             return None;
         }
         let entry = self.blob.entries()[self.index + 1 + index];
@@ -134,12 +135,18 @@ impl<'a, 'b> NodeRef<'a, 'b> {
         ensures { option_map node_of result ≡ node_at (node_of self.entry).later 0 }
     {
         let node = self.entry();
-        match self.blob.entries().get(node.after)? {
-            Entry::Node(next) if next.depth == node.depth => Some(NodeRef {
-                blob: self.blob,
-                index: node.after,
-            }),
-            _ => None,
+        let entry = *self.blob.entries().get(node.after)?;
+        match entry {
+            Entry::Node(next) => {
+                if next.depth != node.depth {
+                    return None;
+                }
+                Some(NodeRef {
+                    blob: self.blob,
+                    index: node.after,
+                })
+            }
+            Entry::Property(_) => None,
         }
     }
 
