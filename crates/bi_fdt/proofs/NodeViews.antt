@@ -1,5 +1,6 @@
 use Rattle.std.proofs.Common.{◌≡◌, ◌⊎◌, ℕ, zero, suc, ◌+◌, ◌-◌, ◌<◌, ◌≤◌, Bool, true, false, List, [], ◌∷◌, ◌++◌, length, map, drop, take, get_or, Option, Some, None, slice_get, refl, sym, ap, subst, ◌∙◌, inl, inr, arith}
-use Rattle.std.specs.Prelude.{IsTrue}
+use Rattle.std.specs.Prelude.{IsTrue, bytes_eq, cond}
+use Rattle.std.specs.Map.{lookup}
 use Rattle.std.proofs.lemmas.Bool.{cases_lt, cases_order}
 use Rattle.std.proofs.lemmas.List.{drop-map, length-map, take-map}
 use Rattle.bi_blob.specs.Tree.{Nodes, none, node, Root, Property, FileProperty, FileNode, property_of, as_nodes}
@@ -234,3 +235,17 @@ module _ (entries : List Entry) (table : List Item) (index : ℕ) (n : NodeEntry
 -- A node has as many properties as its entry says.
 pub count_is : (table : List Item) (index : ℕ) (n : NodeEntry) → IsNodeOf table index n → n.property_count ≡ length (first_sibling (drop index table)).own.properties
 count_is table index n there = there.linked.count ∙ ap (λ items. length (first_sibling items).own.properties) (sym there.is_at)
+
+-- Siblings from one on are it and those from the next on.
+pub from_next : (next after : Option (Sibling FileNode)) (child : Sibling FileNode) → next ≡ Some child → after ≡ node_at child.later 0 → from_sibling next ≡ child ∷ from_sibling after
+from_next next after child is after_is = ap from_sibling is ∙ ap (λ l. child ∷ l) (sym (ap from_sibling after_is ∙ from_first child.later))
+
+-- A look-up passes over a node of another name.
+pub lookup_passes : (name : List ℕ) (child : Sibling FileNode) (later : List (Sibling FileNode)) → bytes_eq child.name name ≡ false → lookup (λ other. bytes_eq other name) (map (λ sibling. (sibling.name, sibling)) (child ∷ later)) ≡ lookup (λ other. bytes_eq other name) (map (λ sibling. (sibling.name, sibling)) later)
+lookup_passes name child later other =
+    ap (λ b. cond b (Some child) (lookup (λ o. bytes_eq o name) (map (λ (sibling : Sibling FileNode). (sibling.name, sibling)) later))) other
+
+-- It finds one of the name.
+pub lookup_finds : (name : List ℕ) (child : Sibling FileNode) (later : List (Sibling FileNode)) → bytes_eq child.name name ≡ true → lookup (λ other. bytes_eq other name) (map (λ sibling. (sibling.name, sibling)) (child ∷ later)) ≡ Some child
+lookup_finds name child later same =
+    ap (λ b. cond b (Some child) (lookup (λ o. bytes_eq o name) (map (λ (sibling : Sibling FileNode). (sibling.name, sibling)) later))) same

@@ -1,6 +1,6 @@
 //! The properties of a node, one after the other.
 
-ghost use Rattle.std.specs.Prelude.{◌≡◌, length, map, List};
+ghost use Rattle.std.specs.Prelude.{◌≡◌, drop, length, map, List};
 ghost use Rattle.std.specs.Iterator.{at_most};
 ghost use Rattle.bi_blob.specs.Tree.{FileProperty};
 ghost use Rattle.bi_fdt.specs.Table.{item_of, first_properties};
@@ -13,12 +13,13 @@ use std::marker::Model;
 #[derive(Drop)]
 pub struct Properties<'a, 'b> {
     entries: &'b [Entry<'a>],
+    index: usize,
 }
 
 impl<'a, 'b> Model for Properties<'a, 'b> {
     ghost Value = { List FileProperty };
 
-    ghost view = { λ properties. first_properties (map item_of properties.entries.now) };
+    ghost view = { λ properties. first_properties (map item_of (drop properties.index properties.entries.now)) };
 }
 
 impl<'a, 'b> Properties<'a, 'b> {
@@ -26,7 +27,7 @@ impl<'a, 'b> Properties<'a, 'b> {
     pub(crate) fn new(entries: &'b [Entry<'a>]) -> Properties<'a, 'b>
         ensures { result ≡ first_properties (map item_of entries.entry.now) }
     {
-        Properties { entries }
+        Properties { entries, index: 0 }
     }
 }
 
@@ -38,12 +39,13 @@ impl<'a, 'b> Iterator for Properties<'a, 'b> {
     ghost remaining = { λ properties. at_most (length properties) };
 
     fn next(&mut self) -> Option<Property<'a>> {
-        match self.entries {
-            [Entry::Property(property), rest @ ..] => {
-                self.entries = rest;
-                Some(*property)
+        let entry = *self.entries.get(self.index)?;
+        match entry {
+            Entry::Property(property) => {
+                self.index += 1;
+                Some(property)
             }
-            _ => None,
+            Entry::Node(_) => None,
         }
     }
 }
