@@ -114,7 +114,7 @@ growing_begun growing grown o outer name place new parent is entries item deep n
 -- A property of the innermost open node, which has no child.
 pub growing_property : (growing grown : Growing) (o : PartialNode) (outer : List PartialNode) (p : Property) → IsGrowing growing o outer → names o.children ≡ []
     → ((n : NodeEntry) → slice_get (growing.entries.items ++ entry.Property p ∷ []) growing.innermost.entry ≡ Some (entry.Node n)
-      → grown.entries.items ≡ set (growing.entries.items ++ entry.Property p ∷ []) growing.innermost.entry (entry.Node (record n { property_count = length (growing.entries.items ++ entry.Property p ∷ []) - growing.innermost.entry - 1 })))
+    → grown.entries.items ≡ set (growing.entries.items ++ entry.Property p ∷ []) growing.innermost.entry (entry.Node (record n { property_count = length (growing.entries.items ++ entry.Property p ∷ []) - growing.innermost.entry - 1 })))
     → grown.innermost ≡ growing.innermost → grown.outer ≡ growing.outer
     → Updates name_cmp growing.properties grown.properties p.name true
     → IsGrowing grown (with_one_property o (file_property_of p)) outer
@@ -151,7 +151,7 @@ growing_property growing grown o outer p is childless entries same same_outer up
 -- The innermost open node ends.
 pub growing_ended : (growing grown : Growing) (o : PartialNode) (outer : List PartialNode) (parent : OpenNode) → IsGrowing growing o outer
     → ((n : NodeEntry) → slice_get growing.entries.items growing.innermost.entry ≡ Some (entry.Node n)
-      → grown.entries.items ≡ set growing.entries.items growing.innermost.entry (entry.Node (record n { after = length growing.entries.items })))
+    → grown.entries.items ≡ set growing.entries.items growing.innermost.entry (entry.Node (record n { after = length growing.entries.items })))
     → growing.outer.items ≡ grown.outer.items ++ parent ∷ [] → grown.innermost ≡ parent
     → EndsInside grown o outer
 growing_ended growing grown o [] parent is entries outers same =
@@ -181,8 +181,10 @@ growing_ended growing grown o (up ∷ outer) parent is entries outers same =
     } where
       item_depth : {a b : ℕ} {x y : ℕ} {k l : List ℕ} → NodeItem a x k ≡ NodeItem b y l → a ≡ b
       item_depth e = cc
+
       fewer : (n : ℕ) → suc n ≡ n + 1
       fewer n = omega arith
+
       some : (ns : List (List ℕ)) (n : List ℕ) → ns ++ n ∷ [] ≡ [] → ⊥
       some [] n e = cc
       some (m ∷ ns) n e = cc
@@ -190,7 +192,7 @@ growing_ended growing grown o (up ∷ outer) parent is entries outers same =
 -- The root ends.
 pub growing_finished : (growing : Growing) (entries : List Entry) (o : PartialNode) (outer : List PartialNode) → IsGrowing growing o outer
     → ((n : NodeEntry) → slice_get growing.entries.items growing.innermost.entry ≡ Some (entry.Node n)
-      → entries ≡ set growing.entries.items growing.innermost.entry (entry.Node (record n { after = length growing.entries.items })))
+    → entries ≡ set growing.entries.items growing.innermost.entry (entry.Node (record n { after = length growing.entries.items })))
     → growing.outer.items ≡ []
     → (outer ≡ []) × IsFinished entries o
 growing_finished growing entries o (up ∷ outer) is written none =

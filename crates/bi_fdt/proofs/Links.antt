@@ -238,9 +238,9 @@ lower depth at (entry.Property p ∷ entries) all linked = lower depth (at + 1) 
 lower depth at (entry.Node n ∷ entries) all linked =
     elim (cases_lt depth n.depth) [
       | inl deeper ↦ (let e : count_inside depth (NodeItem n.depth n.place n.name.now ∷ map item_of entries) ≡ count_inside depth (map item_of entries) + 1 = inside-deeper depth n.depth n.place n.name.now (map item_of entries) deeper in (
-          record { count = linked.0.count; before_end = linked.0.before_end; at_end = λ _. linked.0.at_end (omega arith) },
-          lower depth (at + 1) entries (omega arith) linked.1,
-        ))
+        record { count = linked.0.count; before_end = linked.0.before_end; at_end = λ _. linked.0.at_end (omega arith) },
+        lower depth (at + 1) entries (omega arith) linked.1,
+      ))
       | inr stops ↦ (let e : count_inside depth (NodeItem n.depth n.place n.name.now ∷ map item_of entries) ≡ 0 = inside-stops depth n.depth n.place n.name.now (map item_of entries) stops in absurd (omega arith))
     ]
 

@@ -73,6 +73,7 @@ Holds-empty set held holds = (to held holds.each, from set.keys holds.each) wher
       let has : (bytes_eq n n || list_any (λ other. bytes_eq other n) ns) ≡ true =
       ap (λ b. b || list_any (λ other. bytes_eq other n) ns) ((bytes_decides n n).1 refl) in
       absurd (false≢true (sym (ap (list_any (λ k. is_eq (name_cmp name k))) empty) ∙ each name ∙ has))
+
   from : (ks : List (Bor (List ℕ))) → ((name : Bor (List ℕ)) → list_any (λ k. is_eq (name_cmp name k)) ks ≡ list_any (λ other. bytes_eq other name.now) held) → held ≡ [] → length ks ≡ 0
   from [] each none = refl
   from (k ∷ ks) each none =

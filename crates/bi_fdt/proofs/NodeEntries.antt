@@ -56,6 +56,7 @@ items_below first (FileNodeStart other_place other_name ∷ es) zero depth place
     record { events = es; is = sym rest ∙ ap (λ d. items_of (d + 1) es) same } where
       node_depth : {a b x y : ℕ} {k l : List ℕ} {u v : List Item} → NodeItem a x k ∷ u ≡ NodeItem b y l ∷ v → a ≡ b
       node_depth e = cc
+
       node_rest : {a b x y : ℕ} {k l : List ℕ} {u v : List Item} → NodeItem a x k ∷ u ≡ NodeItem b y l ∷ v → u ≡ v
       node_rest e = cc
 items_below first (FileNodeStart other_place other_name ∷ es) (suc index) depth place name later at = items_below (first + 1) es index depth place name later at
@@ -113,11 +114,12 @@ after_inside depth (PropertyItem p ∷ items) rest item at =
       one_more n = omega arith
 after_inside depth (NodeItem own place name ∷ items) rest item at = elim (cases_lt depth own) [
   | inl deeper ↦ after_inside depth items rest item
-    (ap (λ n. drop n (NodeItem own place name ∷ items)) (one_more (count_inside depth items) ∙ sym (inside-deeper depth own place name items deeper)) ∙ at)
+      (ap (λ n. drop n (NodeItem own place name ∷ items)) (one_more (count_inside depth items) ∙ sym (inside-deeper depth own place name items deeper)) ∙ at)
   | inr stops ↦ (own, place, name, first (ap (λ n. drop n (NodeItem own place name ∷ items)) (sym (inside-stops depth own place name items stops)) ∙ at), stops)
 ] where
   one_more : (n : ℕ) → suc n ≡ n + 1
   one_more n = omega arith
+
   first : {a b : Item} {u v : List Item} → a ∷ u ≡ b ∷ v → b ≡ a
   first e = cc
 

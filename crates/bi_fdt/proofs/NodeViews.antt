@@ -5,7 +5,8 @@ use Rattle.std.proofs.lemmas.Bool.{cases_lt, cases_order}
 use Rattle.std.proofs.lemmas.List.{drop-map, length-map, take-map}
 use Rattle.bi_blob.specs.Tree.{Nodes, none, node, Root, Property, FileProperty, FileNode, property_of, as_nodes}
 use Rattle.bi_blob.specs.Events.{FileEvent, file_events_of}
-use Rattle.bi_blob.specs.Lookups.{Sibling, siblings, root_node, node_at}
+use Rattle.std.specs.Option.{option_map}
+use Rattle.bi_blob.specs.Lookups.{Sibling, siblings, root_node, node_at, value_named, property_named}
 use Rattle.bi_fdt.specs.declared.table.Entry.{Entry}
 use Rattle.bi_fdt.specs.declared.table.Entry.TheVariants as entry
 use Rattle.bi_fdt.specs.declared.table.NodeEntry.{NodeEntry}
@@ -66,6 +67,7 @@ module _ (table : List Item) (index : ℕ) (n : NodeEntry) (there : IsNodeOf tab
     nothing = let a : n.after ≡ index + 1 + count_inside n.depth there.later = after_is in
         let b : count_inside n.depth there.later ≡ n.property_count + count_inside n.depth rest = inside_is in
         omega arith
+
     by_rest : (items : List Item) → ((p : FileProperty) (more : List Item) → items ≡ PropertyItem p ∷ more → ⊥) → count_inside n.depth items ≡ 0 → nodes_of (n.depth + 1) items ≡ none
     by_rest [] no_property empty = refl
     by_rest (PropertyItem p ∷ items) no_property empty = absurd (no_property p items refl)
@@ -78,18 +80,21 @@ module _ (table : List Item) (index : ℕ) (n : NodeEntry) (there : IsNodeOf tab
   pub first_child_there : ¬ (index + 1 + n.property_count ≡ n.after) → IsTrue (begins_with_node (drop (index + 1 + n.property_count) table)) × (Some (first_sibling (drop (index + 1 + n.property_count) table)) ≡ node_at (first_sibling (drop index table)).children 0)
   first_child_there more =
       let found : IsTrue (begins_with_node rest) × (Some (first_sibling rest) ≡ node_at (nodes_of (n.depth + 1) rest) 0) =
-      by_rest rest (first_rest there.later) least something in
-      (subst (λ items. IsTrue (begins_with_node items)) (sym rest_there) found.0,
-      ap (λ items. Some (first_sibling items)) rest_there ∙ found.1 ∙ ap (λ nodes. node_at nodes 0) (sym children_are)) where
+      by_rest rest (first_rest there.later) least something in (
+        subst (λ items. IsTrue (begins_with_node items)) (sym rest_there) found.0,
+        ap (λ items. Some (first_sibling items)) rest_there ∙ found.1 ∙ ap (λ nodes. node_at nodes 0) (sym children_are),
+      ) where
         something : ¬ (count_inside n.depth rest ≡ 0)
         something empty =
             let a : n.after ≡ index + 1 + count_inside n.depth there.later = after_is in
             let b : count_inside n.depth there.later ≡ n.property_count + count_inside n.depth rest = inside_is in
             more (omega arith)
+
         least : (own place : ℕ) (name : List ℕ) (items : List Item) → rest ≡ NodeItem own place name ∷ items → own ≤ n.depth + 1
         least own place name items at =
             first_depth (n.depth + 1) there.below.0 own place name items
             (ap (λ l. drop (length (first_properties l)) l) (sym there.below.1) ∙ at)
+
         by_rest : (items : List Item) → ((p : FileProperty) (more : List Item) → items ≡ PropertyItem p ∷ more → ⊥)
             → ((own place : ℕ) (name : List ℕ) (later : List Item) → items ≡ NodeItem own place name ∷ later → own ≤ n.depth + 1)
             → ¬ (count_inside n.depth items ≡ 0) → IsTrue (begins_with_node items) × (Some (first_sibling items) ≡ node_at (nodes_of (n.depth + 1) items) 0)
@@ -131,16 +136,17 @@ module _ (table : List Item) (index : ℕ) (n : NodeEntry) (there : IsNodeOf tab
         no_deeper : ((o : ℕ) × (p : ℕ) × (l : List ℕ) × (NodeItem own place name ≡ NodeItem o p l) × (o ≤ n.depth)) → own ≤ n.depth
         no_deeper found = (let e : NodeItem own place name ≡ NodeItem found.0 found.1 found.2 = found.3 in
             let same : own ≡ found.0 = item_depth e in let most : found.0 ≤ n.depth = found.4 in omega arith) where
-          item_depth : {a b x y : ℕ} {k l : List ℕ} → NodeItem a x k ≡ NodeItem b y l → a ≡ b
-          item_depth e = cc
+              item_depth : {a b x y : ℕ} {k l : List ℕ} → NodeItem a x k ≡ NodeItem b y l → a ≡ b
+              item_depth e = cc
 
   -- A node of its depth is the next sibling.
   pub next_later : (own place : ℕ) (name : List ℕ) (items : List Item) → drop n.after table ≡ NodeItem own place name ∷ items → own ≡ n.depth → IsTrue (begins_with_node (drop n.after table)) × (Some (first_sibling (drop n.after table)) ≡ node_at (first_sibling (drop index table)).later 0)
-  next_later own place name items at same =
-      (ap begins_with_node at,
-      ap (λ l. Some (first_sibling l)) at
-      ∙ sym (ap (λ nodes. node_at nodes 0) (later_are ∙ ap (nodes_of n.depth) (sym beyond_there ∙ at) ∙ nodes-same n.depth own place name items same
-      ∙ ap (λ d. node name (record { place = place; properties = first_properties items }) (nodes_of (d + 1) items) (nodes_of d items)) (sym same))))
+  next_later own place name items at same = (
+    ap begins_with_node at,
+    ap (λ l. Some (first_sibling l)) at
+        ∙ sym (ap (λ nodes. node_at nodes 0) (later_are ∙ ap (nodes_of n.depth) (sym beyond_there ∙ at) ∙ nodes-same n.depth own place name items same
+        ∙ ap (λ d. node name (record { place = place; properties = first_properties items }) (nodes_of (d + 1) items) (nodes_of d items)) (sym same))),
+  )
 
 -- The first node of a tree's table is the root.
 pub root_there : (root : Root FileNode) → first_sibling (table_of root) ≡ root_node root
@@ -249,3 +255,12 @@ lookup_passes name child later other =
 pub lookup_finds : (name : List ℕ) (child : Sibling FileNode) (later : List (Sibling FileNode)) → bytes_eq child.name name ≡ true → lookup (λ other. bytes_eq other name) (map (λ sibling. (sibling.name, sibling)) (child ∷ later)) ≡ Some child
 lookup_finds name child later same =
     ap (λ b. cond b (Some child) (lookup (λ o. bytes_eq o name) (map (λ (sibling : Sibling FileNode). (sibling.name, sibling)) later))) same
+
+-- The value of a property of a name.
+pub value_found : (properties : List FileProperty) (name : List ℕ) → value_named (map property_of properties) name ≡ option_map (λ property. property.value) (property_named properties name)
+value_found [] name = refl
+value_found (p ∷ properties) name = by_test (bytes_eq p.name name) (value_found properties name) where
+  by_test : (b : Bool) → value_named (map property_of properties) name ≡ option_map (λ (property : FileProperty). property.value) (property_named properties name)
+      → cond b (Some p.value) (value_named (map property_of properties) name) ≡ option_map (λ (property : FileProperty). property.value) (cond b (Some p) (property_named properties name))
+  by_test true later = refl
+  by_test false later = later

@@ -25,7 +25,7 @@ nodes_of depth [] = none
 nodes_of depth (PropertyItem property ∷ later) = nodes_of depth later
 nodes_of depth (NodeItem own_depth place name ∷ later) =
     if own_depth == depth then
-        node name (record { place = place; properties = first_properties later }) (nodes_of (depth + 1) later) (nodes_of depth later)
+    node name (record { place = place; properties = first_properties later }) (nodes_of (depth + 1) later) (nodes_of depth later)
     else if nat_lt depth own_depth then nodes_of depth later else none
 
 -- The items of what a tree says, where nodes that begin first have this depth.

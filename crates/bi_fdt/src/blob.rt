@@ -136,11 +136,7 @@ fn check_before_tree(file: &[u8], limits: Limits) -> Result<usize, Fault>
     ensures fault { IfErr result (IsFaultBeforeTree limits file.now) }
 {
     check_header(file, limits)?;
-    count_reservations(
-        file,
-        cell_at(file, 16) as usize,
-        cell_at(file, 4) as usize,
-    )
+    count_reservations(file, cell_at(file, 16) as usize, cell_at(file, 4) as usize)
 }
 
 /// Where a file whose header was checked has its tree.

@@ -39,7 +39,11 @@ pub(crate) fn number_at(blocks: Blocks, place: usize) -> Result<u32, Fault>
 }
 
 /// The name of the root, whose token is at `place`.
-pub(crate) fn root_name<'a>(blocks: Blocks<'a>, place: usize, depth_limit: usize) -> Result<&'a [u8], Fault>
+pub(crate) fn root_name<'a>(
+    blocks: Blocks<'a>,
+    place: usize,
+    depth_limit: usize,
+) -> Result<&'a [u8], Fault>
     requires blocks { AreBlocks (blocks_of blocks) }
     requires within { place + 4 ≤ blocks.end }
     requires depth { 1 ≤ depth_limit }
@@ -84,7 +88,11 @@ pub(crate) fn child_name<'a>(
 }
 
 /// The property whose token is at `place`.
-pub(crate) fn property_at<'a>(blocks: Blocks<'a>, place: usize, is_childless: bool) -> Result<Property<'a>, Fault>
+pub(crate) fn property_at<'a>(
+    blocks: Blocks<'a>,
+    place: usize,
+    is_childless: bool,
+) -> Result<Property<'a>, Fault>
     requires blocks { AreBlocks (blocks_of blocks) }
     requires within { place + 4 ≤ blocks.end }
     ensures name { IfOk result (λ property. property.name.now ≡ name_from blocks.entry.strings.now (u32_at blocks.entry.file.now (place + 8))) }

@@ -82,7 +82,12 @@ impl<'a> Growing<'a> {
 
     /// The tree after a child of the innermost open node has begun at `place`. DuplicateNode where a child has the name
     /// already.
-    pub(crate) fn begin_node(self, alloc: Global, name: &'a [u8], place: u32) -> Result<Growing<'a>, Error>
+    pub(crate) fn begin_node(
+        self,
+        alloc: Global,
+        name: &'a [u8],
+        place: u32,
+    ) -> Result<Growing<'a>, Error>
         ensures new { OnOk result ((innermost : PartialNode) (outer : List PartialNode) → IsGrowing self.entry innermost outer
             → IsNew name.entry.now (names innermost.children)) }
         ensures grown { IfOk result (λ grown. (innermost : PartialNode) (outer : List PartialNode) → IsGrowing self.entry innermost outer
@@ -98,7 +103,10 @@ impl<'a> Growing<'a> {
             mut properties,
         } = self;
         if !innermost.children.insert(name)? {
-            return Err(Error::Refused(Fault { cause: Cause::DuplicateNode, offset: place }));
+            return Err(Error::Refused(Fault {
+                cause: Cause::DuplicateNode,
+                offset: place,
+            }));
         }
         let entry = entries.len();
         entries.push(Entry::Node(NodeEntry {
@@ -140,7 +148,10 @@ impl<'a> Growing<'a> {
             mut properties,
         } = self;
         if !properties.insert(property.name)? {
-            return Err(Error::Refused(Fault { cause: Cause::DuplicateProperty, offset: property.place }));
+            return Err(Error::Refused(Fault {
+                cause: Cause::DuplicateProperty,
+                offset: property.place,
+            }));
         }
         entries.push(Entry::Property(property))?;
         let property_count = entries.len() - innermost.entry - 1;

@@ -70,7 +70,11 @@ fn check_places(file: &[u8], limits: Limits) -> Result<(), Fault>
     }
     let structure = cell_at(file, 8) as usize;
     let structure_end = structure_end(file);
-    if structure < length || structure % 4 != 0 || structure > structure_end || structure_end > total {
+    if structure < length
+        || structure % 4 != 0
+        || structure > structure_end
+        || structure_end > total
+    {
         return refuse(Cause::BadOffset, 8);
     }
     let strings = cell_at(file, 12) as usize;

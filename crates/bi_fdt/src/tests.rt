@@ -24,7 +24,9 @@ fn widest(rt: &impl Abort) -> Limits {
 fn with_cell(alloc: Global, file: &[u8], at: usize, number: u32) -> Result<Vec<u8>, Fail> {
     let mut all = Vec::new(alloc);
     for (index, byte) in file.iter().enumerate() {
-        let there = index.checked_sub(at).and_then(|of_cell| number.to_be_bytes().get(of_cell).copied());
+        let there = index
+            .checked_sub(at)
+            .and_then(|of_cell| number.to_be_bytes().get(of_cell).copied());
         all.push(there.unwrap_or(*byte))?;
     }
     Ok(all)
@@ -36,7 +38,19 @@ fn blob_of(alloc: Global, structure: &[u32], strings: &[u8]) -> Result<Vec<u8>, 
     let strings_size = u32::try_from(strings.len())?;
     let strings_place = 56 + structure_size;
     let mut sink = VecSink::new(alloc);
-    put_cells(&mut sink, &[0xd00d_feed, strings_place + strings_size, 56, strings_place, 40, 17, 16, 0])?;
+    put_cells(
+        &mut sink,
+        &[
+            0xd00d_feed,
+            strings_place + strings_size,
+            56,
+            strings_place,
+            40,
+            17,
+            16,
+            0,
+        ],
+    )?;
     put_cells(&mut sink, &[strings_size, structure_size, 0, 0, 0, 0])?;
     put_cells(&mut sink, structure)?;
     let mut file = sink.into_vec();
@@ -45,11 +59,20 @@ fn blob_of(alloc: Global, structure: &[u32], strings: &[u8]) -> Result<Vec<u8>, 
 }
 
 /// The fault of a file, or OutOfMemory.
-fn expect_fault(rt: &impl Abort, alloc: Global, file: &[u8], limits: Limits, cause: Cause, offset: u32) {
+fn expect_fault(
+    rt: &impl Abort,
+    alloc: Global,
+    file: &[u8],
+    limits: Limits,
+    cause: Cause,
+    offset: u32,
+) {
     match Blob::read(alloc, file, limits) {
         Ok(_) => assert!(rt; false, "accepted, not {cause:?} at {offset}"),
-        Err(error) => assert!(rt; error == Error::Refused(Fault { cause, offset }) || error == Error::OutOfMemory,
-            "{error:?}, not {cause:?} at {offset}"),
+        Err(error) => assert!(rt;
+            error == Error::Refused(Fault { cause, offset }) || error == Error::OutOfMemory,
+            "{error:?}, not {cause:?} at {offset}"
+        ),
     }
 }
 
@@ -105,9 +128,23 @@ fn headers_at_fault(rt: HostRuntime) -> Result<(), Fail> {
 fn files_without_a_whole_header(rt: HostRuntime) {
     let alloc = rt.alloc();
     for length in [0, 3, 39] {
-        expect_fault(&rt, alloc, &SMALLEST[..length], widest(&rt), Cause::Truncated, 0);
+        expect_fault(
+            &rt,
+            alloc,
+            &SMALLEST[..length],
+            widest(&rt),
+            Cause::Truncated,
+            0,
+        );
     }
-    expect_fault(&rt, alloc, b"\x01\x02\x03\x04", widest(&rt), Cause::BadMagic, 0);
+    expect_fault(
+        &rt,
+        alloc,
+        b"\x01\x02\x03\x04",
+        widest(&rt),
+        Cause::BadMagic,
+        0,
+    );
 }
 
 #[test]
@@ -130,7 +167,12 @@ fn blocks_may_overlap(rt: HostRuntime) -> Result<(), Fail> {
 
 /// The smallest blob with this version, and with `ff` in the cell of the size of its structure block.
 fn of_version_16(alloc: Global) -> Result<Vec<u8>, Fail> {
-    with_cell(alloc, &with_cell(alloc, &SMALLEST, 20, 16)?, 36, 0xffff_ffff)
+    with_cell(
+        alloc,
+        &with_cell(alloc, &SMALLEST, 20, 16)?,
+        36,
+        0xffff_ffff,
+    )
 }
 
 #[test]
@@ -149,7 +191,14 @@ fn version_16_has_no_size_of_the_structure(rt: HostRuntime) -> Result<(), Fail> 
         (12, 35, Cause::BadOffset, 12),
         (16, 32, Cause::BadOffset, 16),
     ] {
-        expect_fault(&rt, alloc, &with_cell(alloc, &file, at, number)?, widest(&rt), cause, offset);
+        expect_fault(
+            &rt,
+            alloc,
+            &with_cell(alloc, &file, at, number)?,
+            widest(&rt),
+            cause,
+            offset,
+        );
     }
     Ok(())
 }
@@ -159,7 +208,24 @@ fn names_may_be_there_once(rt: HostRuntime) -> Result<(), Fail> {
     let alloc = rt.alloc();
     let file = blob_of(alloc, &[1, 0, 3, 0, 0, 3, 0, 2, 2, 9], b"x\0x\0")?;
     expect_fault(&rt, alloc, &file, widest(&rt), Cause::DuplicateProperty, 76);
-    let file = blob_of(alloc, &[1, 0, 1, 0x696d_6167, 0x6573_0000, 2, 1, 0x696d_6167, 0x6573_0000, 2, 2, 9], b"")?;
+    let file = blob_of(
+        alloc,
+        &[
+            1,
+            0,
+            1,
+            0x696d_6167,
+            0x6573_0000,
+            2,
+            1,
+            0x696d_6167,
+            0x6573_0000,
+            2,
+            2,
+            9,
+        ],
+        b"",
+    )?;
     expect_fault(&rt, alloc, &file, widest(&rt), Cause::DuplicateNode, 80);
     Ok(())
 }
@@ -167,8 +233,19 @@ fn names_may_be_there_once(rt: HostRuntime) -> Result<(), Fail> {
 #[test]
 fn tokens_at_fault(rt: HostRuntime) -> Result<(), Fail> {
     let alloc = rt.alloc();
-    let file = blob_of(alloc, &[1, 0, 1, 0x696d_6167, 0x6573_0000, 2, 3, 0, 0, 2, 9], b"x\0")?;
-    expect_fault(&rt, alloc, &file, widest(&rt), Cause::PropertyAfterChild, 80);
+    let file = blob_of(
+        alloc,
+        &[1, 0, 1, 0x696d_6167, 0x6573_0000, 2, 3, 0, 0, 2, 9],
+        b"x\0",
+    )?;
+    expect_fault(
+        &rt,
+        alloc,
+        &file,
+        widest(&rt),
+        Cause::PropertyAfterChild,
+        80,
+    );
     let file = blob_of(alloc, &[1, 0, 9], b"")?;
     expect_fault(&rt, alloc, &file, widest(&rt), Cause::BadToken, 64);
     let file = blob_of(alloc, &[1, 0, 3, 9, 0, 2, 9], b"x\0")?;
@@ -212,7 +289,14 @@ fn at_most_64_nodes_are_open(rt: HostRuntime) -> Result<(), Fail> {
         }
     }
     assert_eq!(rt; (depth, node.place()), (64, 56 + 8 * 63));
-    expect_fault(&rt, alloc, &nested(alloc, 64)?, widest(&rt), Cause::TooDeep, 568);
+    expect_fault(
+        &rt,
+        alloc,
+        &nested(alloc, 64)?,
+        widest(&rt),
+        Cause::TooDeep,
+        568,
+    );
     Ok(())
 }
 
@@ -220,10 +304,19 @@ fn at_most_64_nodes_are_open(rt: HostRuntime) -> Result<(), Fail> {
 /// each token. The strings block is before the structure block, and 16 free bytes follow.
 fn with_nops(alloc: Global) -> Result<Vec<u8>, Fail> {
     let mut sink = VecSink::new(alloc);
-    put_cells(&mut sink, &[0xd00d_feed, 176, 68, 56, 40, 17, 16, 0, 9, 92, 0, 0, 0, 0])?;
+    put_cells(
+        &mut sink,
+        &[0xd00d_feed, 176, 68, 56, 40, 17, 16, 0, 9, 92, 0, 0, 0, 0],
+    )?;
     sink.put(b"filename\0\0\0\0")?;
-    put_cells(&mut sink, &[4, 1, 0, 4, 3, 1, 4, 0x0200_0000, 4, 3, 1, 0, 0x0100_0000])?;
-    put_cells(&mut sink, &[4, 1, 0x696d_6167, 0x6573_0000, 4, 2, 4, 2, 4, 9])?;
+    put_cells(
+        &mut sink,
+        &[4, 1, 0, 4, 3, 1, 4, 0x0200_0000, 4, 3, 1, 0, 0x0100_0000],
+    )?;
+    put_cells(
+        &mut sink,
+        &[4, 1, 0x696d_6167, 0x6573_0000, 4, 2, 4, 2, 4, 9],
+    )?;
     sink.put(&[0xff; 16])?;
     Ok(sink.into_vec())
 }
@@ -236,8 +329,14 @@ fn properties_are_in_the_order_of_the_file(rt: HostRuntime) -> Result<(), Fail> 
     let root = blob.root();
     assert_eq!(rt; root.place(), 72);
     assert_eq!(rt; root.property_count(), 2);
-    assert_eq!(rt; root.property_at(0), Some((b"name".as_slice(), b"\x02".as_slice())));
-    assert_eq!(rt; root.property_at(1), Some((b"filename".as_slice(), b"\x01".as_slice())));
+    assert_eq!(rt;
+        root.property_at(0),
+        Some((b"name".as_slice(), b"\x02".as_slice()))
+    );
+    assert_eq!(rt;
+        root.property_at(1),
+        Some((b"filename".as_slice(), b"\x01".as_slice()))
+    );
     assert_eq!(rt; root.property_at(2), None);
     assert_eq!(rt; root.property(b"name"), Some(b"\x02".as_slice()));
     assert_eq!(rt; root.property(b"filename"), Some(b"\x01".as_slice()));
@@ -255,7 +354,24 @@ fn properties_are_in_the_order_of_the_file(rt: HostRuntime) -> Result<(), Fail> 
 #[test]
 fn siblings_are_not_children(rt: HostRuntime) -> Result<(), Fail> {
     // The root has the children `a`, which has the child `b`, and `c`, which has the property `x`.
-    let structure = [1, 0, 1, 0x6100_0000, 1, 0x6200_0000, 2, 2, 1, 0x6300_0000, 3, 0, 0, 2, 2, 9];
+    let structure = [
+        1,
+        0,
+        1,
+        0x6100_0000,
+        1,
+        0x6200_0000,
+        2,
+        2,
+        1,
+        0x6300_0000,
+        3,
+        0,
+        0,
+        2,
+        2,
+        9,
+    ];
     let file = blob_of(rt.alloc(), &structure, b"x\0")?;
     let blob = Blob::read(rt.alloc(), &file, widest(&rt))?;
     let root = blob.root();
@@ -263,7 +379,10 @@ fn siblings_are_not_children(rt: HostRuntime) -> Result<(), Fail> {
     let a = root.first_child().expect(&rt, "a");
     let b = a.first_child().expect(&rt, "b");
     let c = a.next_sibling().expect(&rt, "c");
-    assert_eq!(rt; (a.name(), b.name(), c.name()), (b"a".as_slice(), b"b".as_slice(), b"c".as_slice()));
+    assert_eq!(rt;
+        (a.name(), b.name(), c.name()),
+        (b"a".as_slice(), b"b".as_slice(), b"c".as_slice())
+    );
     assert_eq!(rt; b.next_sibling().is_none(), true);
     assert_eq!(rt; c.next_sibling().is_none(), true);
     assert_eq!(rt; c.first_child().is_none(), true);
@@ -276,7 +395,10 @@ fn siblings_are_not_children(rt: HostRuntime) -> Result<(), Fail> {
 #[test]
 fn reservations_of_size_zero_count(rt: HostRuntime) -> Result<(), Fail> {
     let mut sink = VecSink::new(rt.alloc());
-    put_cells(&mut sink, &[0xd00d_feed, 104, 88, 104, 40, 17, 16, 7, 0, 16])?;
+    put_cells(
+        &mut sink,
+        &[0xd00d_feed, 104, 88, 104, 40, 17, 16, 7, 0, 16],
+    )?;
     put_cells(&mut sink, &[0, 0x1000, 0, 0, 1, 2, 3, 4, 0, 0, 0, 0])?;
     put_cells(&mut sink, &[1, 0, 2, 9])?;
     let file = sink.into_vec();

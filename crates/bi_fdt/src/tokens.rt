@@ -15,9 +15,13 @@ use bi_base::{Cause, Error, Fault};
 use std::alloc::Global;
 
 pub(crate) const BEGIN_NODE: u32 = 1;
+
 pub(crate) const END_NODE: u32 = 2;
+
 pub(crate) const PROP: u32 = 3;
+
 pub(crate) const NOP: u32 = 4;
+
 pub(crate) const END: u32 = 9;
 
 /// A reader inside the root: the offset of its next token, and the tree so far.

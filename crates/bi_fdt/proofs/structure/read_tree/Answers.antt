@@ -1,6 +1,5 @@
 use Rattle.bi_fdt.specs.Blocks.{blocks_of}
 use Rattle.bi_fdt.proofs.Refusals.{refused_by}
-
 use Rattle.bi_fdt.proofs.structure.read_tree.Goals as goal
 
 pub returns-in_err-check_after_root-clause-fault : goal.returns-in_err-check_after_root-clause-fault

@@ -9,14 +9,16 @@ use Rattle.bi_fdt.proofs.tokens.step.Goals.{in-Inside, in-Root}
 pub returns-then-number-eq-NOP-clause-ok : goal.returns-then-number-eq-NOP-clause-ok
 returns-then-number-eq-NOP-clause-ok c =
     let r = c.requires.reading in
-    let within : c.args.reading.place + 4 ≤ c.args.blocks.end = c.in_ok-number.ensures.within in
-    (record {
-      innermost = r.innermost;
-      outer = r.outer;
-      standing = after_nop (blocks_of c.args.blocks) c.args.depth_limit c.args.reading.place r.innermost r.outer r.standing (record { within = within; is_number = sym c.in_ok-number.ensures.number ∙ c.if-number-eq-NOP.true });
-      growing = r.growing;
-      within = omega arith;
-    }, omega arith)
+    let within : c.args.reading.place + 4 ≤ c.args.blocks.end = c.in_ok-number.ensures.within in (
+      record {
+        innermost = r.innermost;
+        outer = r.outer;
+        standing = after_nop (blocks_of c.args.blocks) c.args.depth_limit c.args.reading.place r.innermost r.outer r.standing (record { within = within; is_number = sym c.in_ok-number.ensures.number ∙ c.if-number-eq-NOP.true });
+        growing = r.growing;
+        within = omega arith;
+      },
+      omega arith,
+    )
 
 pub returns-clause-ok : goal.returns-clause-ok
 returns-clause-ok c =
@@ -25,9 +27,9 @@ returns-clause-ok c =
     record { within = c.in_ok-number.ensures.within; is_number = sym c.in_ok-number.ensures.number ∙ c.if-number-ne-END_NODE.false } in
     elim c.match-end_node.branch [
       | in-Inside w ↦ subst (IsAhead blocks c.args.depth_limit c.args.reading.place) (sym w.result-is) (
-          after_end_inside blocks c.args.depth_limit c.args.reading w.in-Inside.growing c.requires.reading number w.in-Inside.ensures,
-          omega arith,
-        )
+        after_end_inside blocks c.args.depth_limit c.args.reading w.in-Inside.growing c.requires.reading number w.in-Inside.ensures,
+        omega arith,
+      )
       | in-Root w ↦ subst (IsAhead blocks c.args.depth_limit c.args.reading.place) (sym w.result-is)
-        (after_end_root blocks c.args.depth_limit c.args.reading w.in-Root.entries.items c.requires.reading number w.in-Root.ensures)
+          (after_end_root blocks c.args.depth_limit c.args.reading w.in-Root.entries.items c.requires.reading number w.in-Root.ensures)
     ]
