@@ -1,5 +1,5 @@
-use Rattle.std.proofs.Common.{◌≡◌, ◌≢◌, ℕ, ◌+◌, Bool, true, false, cond, not, List, [], ◌∷◌, ◌++◌, map, flat_map, filter, Option, Some, None, bytes_eq, codes, refl, sym, ap, subst, ◌∙◌, nat_cmp, option_and_then, append-nil}
-use Rattle.std.specs.Prelude.{nat_eq, ◌&&◌}
+use Rattle.std.proofs.Common.{◌≡◌, ℕ, ◌+◌, Bool, true, false, not, List, [], ◌∷◌, ◌++◌, map, flat_map, filter, Option, Some, None, bytes_eq, codes, refl, sym, ap, ◌∙◌, nat_cmp, option_and_then, append-nil}
+use Rattle.std.specs.Prelude.{nat_eq}
 use Rattle.std.specs.List.{AllByRecursion, list_all, ends_with}
 use Rattle.std.specs.Cmp.Lexicographic.{slice_cmp}
 use Rattle.std.specs.FinMap.{get, from_entries, find, get-from_entries}
@@ -15,10 +15,9 @@ use Rattle.bi_hash.specs.Verdicts.{text_of}
 use Rattle.bi_fit.specs.declared.key.Key.{Key}
 use Rattle.bi_fit.specs.declared.key.Key.TheVariants.{Kernel, Fdt, Ramdisk, Firmware, Loadables, Script}
 use Rattle.bi_fit.specs.Names.{key_name, all_keys, default_name}
-use Rattle.bi_fit.specs.Judgement.{Image, images_with, listed_names, Listed, NoKey, ListedImages, image_named, list_images, listed_at}
-use Rattle.bi_fit.specs.Building.{FitHead, ImageSpecification, text_value, image_properties, hash_properties, hash_node_name, built_images, is_under, names_under, list_property, configuration_name, configuration_properties, IsSpecification, CanBeBuilt}
+use Rattle.bi_fit.specs.Judgement.{Image, images_with, ListedImages, image_named, list_images, listed_at}
+use Rattle.bi_fit.specs.Building.{FitHead, ImageSpecification, text_value, image_properties, hash_properties, hash_node_name, built_images, is_under, names_under, list_property, configuration_name, configuration_properties, IsSpecification}
 use Rattle.bi_fit.specs.Laws.{list_of, BuiltHasConfiguration}
-use Rattle.bi_fit.proofs.BuiltTrees.{tested_apart}
 use Rattle.bi_fit.proofs.NameLists.{ends_later, names_listed}
 
 -- What the configuration of a built tree lists.

@@ -8,7 +8,7 @@ ghost use Rattle.bi_fit.specs.Laws.{TextKeepsJudgement, SameTextSameJudgement};
 ghost use Rattle.bi_fit.specs.Laws.{EachExternalTextHasItsLength, PayloadsEndLater};
 ghost use Rattle.bi_fit.specs.Laws.{ExternalPayloadsArePlaced, PayloadsAreAtPlaces};
 ghost use Rattle.bi_fit.specs.Laws.{BuiltIsAccepted, BuiltHasGoodPayloads, ReadsNames};
-ghost use Rattle.bi_fit.specs.Laws.{BuiltHasConfiguration};
+ghost use Rattle.bi_fit.specs.Laws.{BuiltHasConfiguration, ConvertedHasItsParts};
 
 /// A file is a flattened image tree of at most one meaning.
 pub fn one_meaning()
@@ -119,13 +119,20 @@ pub fn built_has_good_payloads()
     ensures { BuiltHasGoodPayloads }
 {}
 
-/// The value of a key lists names, each followed by a zero: names without zeros are listed as they are, and all of a value
-/// whose last byte is a zero is names.
+/// The value of a key lists names, each followed by a zero: names without zeros are listed as they
+/// are, and all of a value whose last byte is a zero is names.
 pub fn reads_names()
     ensures names { ReadsNames }
 {}
 
-/// The configuration of a built tree lists, under each key, the images of that key in their order. It is the default.
+/// The configuration of a built tree lists, under each key, the images of that key in their order.
+/// It is the default.
 pub fn built_has_configuration()
     ensures { BuiltHasConfiguration }
+{}
+
+/// The tree of a legacy image with one part at least, and no more than its type has images for,
+/// can be built, and its payloads are the parts in their order.
+pub fn converted_has_its_parts()
+    ensures { ConvertedHasItsParts }
 {}
