@@ -1,7 +1,6 @@
 use Rattle.std.specs.Prelude.{◌≡◌, ◌⊎◌, ◌↔◌, ℕ, ◌+◌, ◌%◌, ◌≤◌, List, ◌++◌, Option, Some, length}
-use Rattle.std.specs.Prelude.{map}
+use Rattle.std.specs.Prelude.{map, [], ◌∷◌, nat_eq, IsTrue, filter}
 use Rattle.std.specs.List.{AllByRecursion, AllZip, ends_with}
-use Rattle.std.specs.Prelude.{[], ◌∷◌, nat_eq, IsTrue, filter}
 use Rattle.bi_base.specs.declared.fault.Fault.{Fault}
 use Rattle.bi_base.specs.Cells.{AreBytes}
 use Rattle.bi_base.specs.Limits.{Bounds}
@@ -21,8 +20,7 @@ use Rattle.bi_fit.specs.File.{IsFitFile, FitMeans}
 use Rattle.bi_fit.specs.Faults.{IsFitFault}
 use Rattle.bi_fit.specs.Text.{blob_of, payloads_end, payload_places, fit_text}
 use Rattle.bi_fit.specs.Judgement.{judgement, CheckedHash, verdicts_of, Listed, NoKey}
-use Rattle.bi_fit.specs.Judgement.{ListedImages}
-use Rattle.bi_fit.specs.Judgement.{listed_names, listed_of, default_of}
+use Rattle.bi_fit.specs.Judgement.{ListedImages, listed_names, listed_of, default_of}
 use Rattle.bi_fit.specs.Building.{FitHead, ImageSpecification, CanBeBuilt, hash_node_name, built}
 use Rattle.bi_fit.specs.Building.{configuration_name, is_under}
 use Rattle.bi_fit.specs.Converting.{NamedLegacy, head_of, images_of_parts, converted}
@@ -102,7 +100,8 @@ NormalTextIsAccepted =
     → length (fit_text form tree) ≤ bounds.file → bounds.file ≤ longest_text
     → IsAcceptedAs bounds (fit_text form tree) tree
 
--- Texts in one form, one of which is not too long, are the same exactly where the image trees are.
+-- Two image trees have the same text in one form exactly where they are the same, if one of the
+-- texts is not too long.
 abbrev pub SameTextSameTree : Type 0
 SameTextSameTree =
     (form : Form) (one other : ImageTree) → IsImageTree one → IsImageTree other
@@ -116,8 +115,7 @@ TextKeepsJudgement =
     → length (fit_text form tree) ≤ longest_text → IsFitFile (fit_text form tree) other
     → judgement other ≡ judgement tree
 
--- Files that mean the same have the same verdicts, configurations, default and signatures, and so
--- have files with the same normal text.
+-- Files with the same normal text have the same verdicts, configurations, default and signatures.
 abbrev pub SameTextSameJudgement : Type 0
 SameTextSameJudgement =
     (form : Form) (file other_file : List ℕ) (tree other : ImageTree) → IsFitFile file tree
