@@ -24,7 +24,7 @@ pub record Image : Type 0 where
   pub entry : Sibling PropertyMap
   pub payload : Option (List ℕ)
 
--- Nodes and their payloads as a list of images.
+-- Nodes and their payloads, of which there are as many, as a list of images.
 abbrev pub images_with : List (Sibling PropertyMap) → List (Option (List ℕ)) → List Image
 images_with [] payloads = []
 images_with entries [] = []
