@@ -54,7 +54,7 @@ token_test blocks depth_limit place stage MayNameProperty = is_property_name (na
 token_test blocks depth_limit place stage IsNewProperty =
     is_new (name_from blocks.strings (u32_at blocks.file (place + 8))) (property_names stage)
 
-token_decides : (blocks : TreeBlocks) (depth_limit place : ℕ) (stage : Stage) (check : TokenCheck) → Decides (token_test blocks depth_limit place stage check) (TokenPasses blocks depth_limit place stage check)
+pub token_decides : (blocks : TreeBlocks) (depth_limit place : ℕ) (stage : Stage) (check : TokenCheck) → Decides (token_test blocks depth_limit place stage check) (TokenPasses blocks depth_limit place stage check)
 unfolding token_test
 token_decides blocks depth_limit place stage HasTokenNumber = le_decides (place + 4) blocks.end
 token_decides blocks depth_limit place stage IsExpected = ((λ e. e), (λ e. e))
@@ -142,14 +142,14 @@ module _ (blocks : TreeBlocks) (depth_limit : ℕ) where
         are_passed_sound before rest.1,
       )
 
--- Whether a file has a good header and no memory reservations.
+-- Whether the header of a file has no fault, and the file has no memory reservations.
 unfoldable pub has_no_reservations : Bounds → List ℕ → Bool
 has_no_reservations bounds file =
     list_all (test bounds file) header_checks
     && ((u64_at file (off_mem_rsvmap file + 16 * 0) == 0 && u64_at file (off_mem_rsvmap file + 16 * 0 + 8) == 0)
     && nat_le (off_mem_rsvmap file + 16 * 0 + 16) (totalsize file))
 
--- A file with a good header and no memory reservations, whose structure block begins with tokens that pass, and of the
+-- A file whose header has no fault, which has no memory reservations, and whose structure block begins with tokens that pass. Of the
 -- checks of the token after them this is the first that fails.
 pub in_structure : (bounds : Bounds) (file : List ℕ) (before : List Token) (check : TokenCheck) → has_no_reservations bounds file ≡ true → are_passed (tree_blocks file) bounds.depth before ≡ true → first_failing (token_test (tree_blocks file) bounds.depth (place_after (tree_blocks file) before) (stage_after (tree_blocks file).strings before)) (token_checks (u32_at file (place_after (tree_blocks file) before))) ≡ Some check → IsBlobFault bounds file (token_fault (place_after (tree_blocks file) before) check)
 unfolding has_no_reservations

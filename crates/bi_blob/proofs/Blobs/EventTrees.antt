@@ -9,8 +9,8 @@ use Rattle.bi_blob.proofs.Blobs.Trees.{trees_agree}
 use Rattle.bi_blob.proofs.Blobs.PartialNodes.{Growth, NotBegun, Growing, Grown, begun, with_one_property, with_one_child, root_of, opens_of, stage_of, said_so_far, IsGrowth, IsWholeTree}
 use Rattle.bi_blob.proofs.Blobs.Growing.{AreProperties-push, open_of-property, open_of-child, said_by-property, said_by-child, said_by-root}
 use Rattle.bi_blob.proofs.Blobs.Steps.{AreOpenNodes-property, AreOpenNodes-child, innermost_properties, length-opens_of}
-use Rattle.bi_blob.proofs.Blobs.Passing.{plain_mark}
-use Rattle.bi_blob.proofs.Blobs.Complete.{plain_marks_of, depth-properties_of}
+use Rattle.bi_blob.proofs.Blobs.Passing.{event_without_place}
+use Rattle.bi_blob.proofs.Blobs.Complete.{tree_events_without_places, depth-properties_of}
 use Rattle.bi_blob.proofs.Blobs.Following.{FollowToEnd, to_end, follow_to_end, closed_at_end, tree_follows}
 
 -- Events that may follow one another and close are those of one tree. The lemmas on trees of files are used for trees
@@ -31,14 +31,14 @@ event_at_0 (NodeProperty property) = FileNodeProperty (property_at_0 property)
 event_at_0 NodeEnd = FileNodeEnd
 
 -- An event at place 0 is the event.
-plain_mark-event_at_0 : (event : Event) → plain_mark (event_at_0 event) ≡ event
-plain_mark-event_at_0 (NodeStart name) = refl
-plain_mark-event_at_0 (NodeProperty property) = refl
-plain_mark-event_at_0 NodeEnd = refl
+event_without_place-at_0 : (event : Event) → event_without_place (event_at_0 event) ≡ event
+event_without_place-at_0 (NodeStart name) = refl
+event_without_place-at_0 (NodeProperty property) = refl
+event_without_place-at_0 NodeEnd = refl
 
-plain_marks-events_at_0 : (events : List Event) → map plain_mark (map event_at_0 events) ≡ events
-plain_marks-events_at_0 [] = refl
-plain_marks-events_at_0 (event ∷ later) = ap₂ (λ e l. e ∷ l) (plain_mark-event_at_0 event) (plain_marks-events_at_0 later)
+events_without_places-at_0 : (events : List Event) → map event_without_place (map event_at_0 events) ≡ events
+events_without_places-at_0 [] = refl
+events_without_places-at_0 (event ∷ later) = ap₂ (λ e l. e ∷ l) (event_without_place-at_0 event) (events_without_places-at_0 later)
 
 -- Properties at place 0 are the properties.
 properties-at_0 : (properties : List Property) → map property_of (map property_at_0 properties) ≡ properties
@@ -161,7 +161,7 @@ module _ (depth_limit : ℕ) where
   one_tree events closed =
       let done = grow_to_end NotBegun events tt (to_end (MayFollow depth_limit) BeforeRoot events closed.follow closed.closed) in
       let same : events_of (tree_without_places done.0) ≡ events =
-      sym (plain_marks_of done.0) ∙ ap (map plain_mark) done.1 ∙ plain_marks-events_at_0 events in
+      sym (tree_events_without_places done.0) ∙ ap (map event_without_place) done.1 ∙ events_without_places-at_0 events in
       record {
         root = tree_without_places done.0;
         same = same;
@@ -170,7 +170,7 @@ module _ (depth_limit : ℕ) where
         shallow = subst (λ n. n ≤ depth_limit) (depth-properties_of done.0) done.2.shallow;
       }
 
-  -- The events of one tree are closed.
+  -- The events of one tree may follow one another, and end its root.
   tree_closes : (events : List Event) → HasOneTree depth_limit events → AreClosedEvents (MayFollow depth_limit) events
   tree_closes events tree =
       let follow : FollowToEnd (MayFollow depth_limit) BeforeRoot events =

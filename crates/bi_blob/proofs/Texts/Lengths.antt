@@ -48,7 +48,7 @@ length-strings_of (name ∷ later) =
     length-append (name ++ 0 ∷ []) (strings_of later)
     ∙ omega (arith, length_push name 0, length-strings_of later, sum_by-cons (λ name. length name + 1) name later)
 
--- The length of each text is what the layout says.
+-- The length of each text is that of the layout.
 pub text_of_events_has_length : TextOfEventsHasItsLength
 unfolding text_of_events
 text_of_events_has_length cpu reservations events = record {

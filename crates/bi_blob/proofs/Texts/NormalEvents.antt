@@ -145,7 +145,7 @@ below_more name other (property ∷ later) before below =
     (subst (λ o. T (is_lt o)) (sym (nat_list_cmp_total.trans name other property.0 before (is_Less (slice_cmp nat_cmp other property.0) both.0))) tt)
     (below_more name other later before both.1)
 
--- Properties in a chain stand in byte order, after the name before the chain.
+-- Properties in a chain are in byte order, after the name before the chain.
 chain_sorted_after : (name : List ℕ) (properties : List Property) → AreChained (Some name) properties → T (below_all (slice_cmp nat_cmp) name properties) × T (is_sorted (slice_cmp nat_cmp) properties)
 chain_sorted_after name [] chained = (tt, tt)
 chain_sorted_after name (property ∷ later) chained =
@@ -175,7 +175,7 @@ sorted_chain (property ∷ later) sorted =
     let both = both_pass (below_all (slice_cmp nat_cmp) property.0 later) (is_sorted (slice_cmp nat_cmp) later) sorted in
     (tt, sorted_chain_after property.0 later both.0 both.1)
 
--- The properties of each of these nodes stand in byte order.
+-- The properties of each of these nodes are in byte order.
 abbrev pub AreSorted : Nodes (List Property) → Type 0
 AreSorted nodes = EachOwn (λ properties. T (is_sorted (slice_cmp nat_cmp) properties)) nodes
 
@@ -259,7 +259,7 @@ one_normal_tree events closed =
       is_normal = tree_sorted tree.root (subst (AllFollow IsInOrder BeforeRoot) (sym tree.same) (follow_in_order BeforeRoot events tt closed.follow));
     }
 
--- The events of a normal tree are closed.
+-- The events of a normal tree may follow one another, and end its root.
 normal_tree_closes : (events : List Event) → HasOneNormalTree events → AreClosedEvents MayFollowInText events
 normal_tree_closes events normal =
     let closed : AreClosedEvents (MayFollow most_open_nodes) events = (closed_events_have_one_tree most_open_nodes events).1 normal.tree in
