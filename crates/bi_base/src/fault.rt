@@ -116,6 +116,13 @@ pub struct Fault {
     pub offset: u32,
 }
 
+/// Returns the fault of this cause at this offset as an error.
+pub fn refuse<T>(cause: Cause, offset: u32) -> Result<T, Fault>
+    ensures { result ≡ Err (record { cause = cause; offset = offset }) }
+{
+    Err(Fault { cause, offset })
+}
+
 /// What a call that reads, writes or takes memory can answer in place of its value.
 #[derive(Clone, Copy, Debug, PartialEq, Eq, thiserror::Error)]
 pub enum Error {

@@ -5,9 +5,9 @@ use Rattle.bi_blob.specs.Tree.{PropertyMap}
 use Rattle.bi_blob.specs.Lookups.{siblings}
 use Rattle.bi_hash.specs.declared.algo.Algo.TheVariants.{Sha256}
 use Rattle.bi_hash.specs.declared.verdicts.Verdict.TheVariants.{Good}
-use Rattle.bi_hash.specs.Algos.{name_of}
+use Rattle.bi_hash.specs.Algos.{algorithm_name}
 use Rattle.bi_hash.specs.Digests.{digest_of}
-use Rattle.bi_hash.specs.Verdicts.{verdict_of, text_of}
+use Rattle.bi_hash.specs.Verdicts.{verdict_of, text_before_nul}
 use Rattle.bi_hash.proofs.GoodValues.{good-from_digest}
 use Rattle.bi_fit.specs.Names.{algo_name, value_name}
 use Rattle.bi_fit.specs.Judgement.{images_with, checked_hash, hash_nodes}
@@ -27,21 +27,21 @@ built_is_accepted bounds form head images can deep fits short =
 abbrev hash_by_name : List ℕ → PropertyMap
 hash_by_name payload = from_entries (hash_properties payload)
 
-algo_is : (payload : List ℕ) → get (hash_by_name payload) algo_name ≡ Some (text_value (name_of Sha256))
+algo_is : (payload : List ℕ) → get (hash_by_name payload) algo_name ≡ Some (text_value (algorithm_name Sha256))
 algo_is payload = get-from_entries nat_list_cmp_total (hash_properties payload) algo_name
 
 value_is : (payload : List ℕ) → get (hash_by_name payload) value_name ≡ Some (digest_of Sha256 payload)
 value_is payload = get-from_entries nat_list_cmp_total (hash_properties payload) value_name
 
 -- The verdict on it is Good.
-verdict_is : (payload : List ℕ) → verdict_of (Some (text_value (name_of Sha256))) (Some (digest_of Sha256 payload)) (Some payload) ≡ Good
+verdict_is : (payload : List ℕ) → verdict_of (Some (text_value (algorithm_name Sha256))) (Some (digest_of Sha256 payload)) (Some payload) ≡ Good
 verdict_is payload =
     good-from_digest _ _ _
     (record { algorithm = Sha256; rest = []; bytes = payload; algo_is = refl; value_is = refl; payload_is = refl })
 
 -- The hash nodes of images, with their verdicts.
 hashes : (head : FitHead) (images : List ImageSpecification) → flat_map (λ image. map (checked_hash image) (hash_nodes image)) (images_with (siblings (built_images head images)) (map (λ image. Some image.payload) images)) ≡ map good_hash images
-unfolding text_of
+unfolding text_before_nul
 hashes head [] = refl
 hashes head (image ∷ later) =
     rw (algo_is image.payload, value_is image.payload, verdict_is image.payload) (ap (λ l. good_hash image ∷ l) (hashes head later))

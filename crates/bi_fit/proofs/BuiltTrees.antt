@@ -13,7 +13,7 @@ use Rattle.bi_blob.specs.Tree.{Property, names, depth, depth_of, IsChildName, Is
 use Rattle.bi_blob.specs.Layout.{strings_of}
 use Rattle.bi_blob.proofs.Texts.Members.{each-append}
 use Rattle.bi_hash.specs.declared.algo.Algo.TheVariants.{Sha256}
-use Rattle.bi_hash.specs.Algos.{name_of}
+use Rattle.bi_hash.specs.Algos.{algorithm_name}
 use Rattle.bi_hash.specs.Digests.{digest_of}
 use Rattle.bi_hash.proofs.DigestBytes.{AreBytes-digest_of}
 use Rattle.bi_fit.specs.declared.key.Key.{Key}
@@ -100,7 +100,7 @@ good_image head image description is = (
 -- The properties of a hash node are good.
 good_hash_properties : (payload : List ℕ) → AreGood (hash_properties payload)
 good_hash_properties payload = (
-  tested_property _ _ (text_value (name_of Sha256)) refl (bytes-text_value (name_of Sha256) (tested_bytes _ refl)),
+  tested_property _ _ (text_value (algorithm_name Sha256)) refl (bytes-text_value (algorithm_name Sha256) (tested_bytes _ refl)),
   (tested_property _ _ (digest_of Sha256 payload) refl (AreBytes-digest_of Sha256 payload), tt),
 )
 

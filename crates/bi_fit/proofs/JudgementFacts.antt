@@ -5,9 +5,9 @@ use Rattle.std.proofs.lemmas.Cmp.{nat_list_cmp_total}
 use Rattle.bi_base.specs.Cells.{cell}
 use Rattle.bi_base.specs.Crc.{crc32, crc_after, low_bits}
 use Rattle.bi_blob.specs.Tree.{Property}
-use Rattle.bi_hash.specs.Algos.{algo_named}
+use Rattle.bi_hash.specs.Algos.{find_algorithm}
 use Rattle.bi_hash.specs.Digests.{digest_of}
-use Rattle.bi_hash.specs.Verdicts.{text_of, verdict_of}
+use Rattle.bi_hash.specs.Verdicts.{text_before_nul, verdict_of}
 use Rattle.bi_fit.specs.declared.key.Key.TheVariants.{Kernel, Fdt, Ramdisk, Firmware, Loadables, Script}
 use Rattle.bi_fit.specs.Names.{key_name, default_name, algo_name, value_name}
 use Rattle.bi_fit.specs.Judgement.{images_of, listed_at}
@@ -20,7 +20,7 @@ found : (properties : List Property) (name : List ℕ) → get (from_entries {R 
 found properties name = get-from_entries nat_list_cmp_total properties name
 
 pub lists_are_read : ListsAreRead
-unfolding text_of
+unfolding text_before_nul
 lists_are_read = record {
   listed = ap (listed_at (images_of configured_tree)) (found configuration_lists (key_name Kernel));
   missing = ap (listed_at (images_of configured_tree)) (found configuration_lists (key_name Fdt));
@@ -30,12 +30,12 @@ lists_are_read = record {
   no_key = ap (listed_at (images_of configured_tree)) (found configuration_lists (key_name Script));
   empty_value = ap (listed_at (images_of configured_tree)) (found other_lists (key_name Kernel));
   no_configuration = refl;
-  default = ap (option_and_then text_of) (found default_list default_name);
+  default = ap (option_and_then text_before_nul) (found default_list default_name);
   signatures = refl;
 }
 
 pub hashes_are_judged : HashesAreJudged
-unfolding text_of verdict_of algo_named digest_of cell crc32 crc_after low_bits
+unfolding text_before_nul verdict_of find_algorithm digest_of cell crc32 crc_after low_bits
 hashes_are_judged =
     rw (found good_crc algo_name, found good_crc value_name, found short_crc algo_name, found short_crc value_name, found other_crc algo_name, found other_crc value_name, found no_value algo_name, found no_value value_name)
     refl

@@ -7,7 +7,7 @@ use Rattle.bi_blob.specs.Tree.{Nodes, none, node, Property, PropertyMap, HasNoZe
 use Rattle.bi_blob.specs.Tree.{AreDistinct}
 use Rattle.bi_blob.specs.Layout.{strings_of}
 use Rattle.bi_hash.specs.declared.algo.Algo.TheVariants.{Sha256}
-use Rattle.bi_hash.specs.Algos.{name_of}
+use Rattle.bi_hash.specs.Algos.{algorithm_name}
 use Rattle.bi_hash.specs.Digests.{digest_of}
 use Rattle.bi_fit.specs.declared.key.Key.{Key}
 use Rattle.bi_fit.specs.declared.key.Key.TheVariants.{Kernel, Fdt, Ramdisk, Firmware, Loadables}
@@ -78,7 +78,7 @@ image_properties head image =
 -- The properties of the hash node of a payload: its SHA-256.
 abbrev pub hash_properties : List ℕ → List Property
 hash_properties payload =
-    (algo_name, text_value (name_of Sha256)) ∷ (value_name, digest_of Sha256 payload) ∷ []
+    (algo_name, text_value (algorithm_name Sha256)) ∷ (value_name, digest_of Sha256 payload) ∷ []
 
 -- The name of the hash node of each image.
 abbrev pub hash_node_name : List ℕ

@@ -6,7 +6,7 @@ use Rattle.std.specs.FinMap.{get}
 use Rattle.bi_blob.specs.Tree.{Nodes, none, PropertyMap, names}
 use Rattle.bi_blob.specs.Lookups.{Sibling, siblings, node_named}
 use Rattle.bi_hash.specs.declared.verdicts.Verdict.{Verdict}
-use Rattle.bi_hash.specs.Verdicts.{verdict_of, text_of}
+use Rattle.bi_hash.specs.Verdicts.{verdict_of, text_before_nul}
 use Rattle.bi_fit.specs.declared.key.Key.{Key}
 use Rattle.bi_fit.specs.Names.{configurations_name, algo_name, value_name, default_name}
 use Rattle.bi_fit.specs.Names.{is_hash_name, is_signature_name, key_name}
@@ -54,7 +54,7 @@ abbrev pub checked_hash : Image → Sibling PropertyMap → CheckedHash
 checked_hash image hash = record {
   image = image.entry.name;
   node_name = hash.name;
-  algo = option_and_then text_of (get hash.own algo_name);
+  algo = option_and_then text_before_nul (get hash.own algo_name);
   value = get hash.own value_name;
   verdict = verdict_of
       (get hash.own algo_name)
@@ -79,7 +79,7 @@ configuration_nodes tree = nodes_or_none (children_of configurations_name tree.r
 abbrev pub default_of : ImageTree → Option (List ℕ)
 default_of tree =
     option_and_then
-    (λ configurations. option_and_then text_of (get configurations.own default_name))
+    (λ configurations. option_and_then text_before_nul (get configurations.own default_name))
     (node_named tree.root.children configurations_name)
 
 -- One more byte at the front of the first name of a list. What no zero follows is no name.

@@ -6,7 +6,7 @@ use Rattle.bi_base.specs.Cells.{AreBytes}
 use Rattle.bi_base.specs.Limits.{Bounds}
 use Rattle.bi_hash.specs.declared.algo.Algo.TheVariants.{Sha256}
 use Rattle.bi_hash.specs.declared.verdicts.Verdict.TheVariants.{Good}
-use Rattle.bi_hash.specs.Algos.{name_of}
+use Rattle.bi_hash.specs.Algos.{algorithm_name}
 use Rattle.bi_hash.specs.Digests.{digest_of}
 use Rattle.bi_blob.specs.Tree.{HasNoZero, depth_of}
 use Rattle.bi_blob.specs.Blob.{magic, blob_magic}
@@ -164,7 +164,7 @@ abbrev pub good_hash : ImageSpecification → CheckedHash
 good_hash image = record {
   image = image.name;
   node_name = hash_node_name;
-  algo = Some (name_of Sha256);
+  algo = Some (algorithm_name Sha256);
   value = Some (digest_of Sha256 image.payload);
   verdict = Good;
 }

@@ -67,11 +67,11 @@ filled_digits upper (suc places) (suc fuel) n later enough fits =
       | inr more ↦
           let written : digits_onto (suc (suc fuel)) 16 upper n later ≡ digits_onto (suc fuel) 16 upper (n / 16) glyph =
           digits_onto-suc upper (suc fuel) n later false more.0 in
-          let filled = filled_digits upper places fuel (n / 16) glyph (omega arith) fits in
+          let padded = filled_digits upper places fuel (n / 16) glyph (omega arith) fits in
           record {
-            count = filled.count;
-            counted = omega (arith, ap length written, filled.counted);
-            spelled = ap (λ xs. replicate filled.count 48 ++ xs) written ∙ filled.spelled;
+            count = padded.count;
+            counted = omega (arith, ap length written, padded.counted);
+            spelled = ap (λ xs. replicate padded.count 48 ++ xs) written ∙ padded.spelled;
           }
     ]
 
@@ -104,13 +104,13 @@ digits-onto n = refl
 -- Digits of a number that eight places have room for, as `{:08}` fills them with zeros.
 padded_digits : (n : ℕ) (written : List ℕ) → Filled false 8 n [] written →
     padded_integral (format_spec 32 0 4 8 (2 ^ 64 - 1)) false [] written ≡ glyphs false 8 n []
-padded_digits n written filled =
-    let zeros : 8 - length written ≡ filled.count = omega (arith, filled.counted) in
-    padded_to_eight written ∙ ap (λ count. replicate count 48 ++ written) zeros ∙ filled.spelled
+padded_digits n written padded =
+    let zeros : 8 - length written ≡ padded.count = omega (arith, padded.counted) in
+    padded_to_eight written ∙ ap (λ count. replicate count 48 ++ written) zeros ∙ padded.spelled
 
 -- What `{:08x}` writes of a number of 32 bits: the two digits of each byte of its cell.
 pub hex_cell : (n : ℕ) → n < 2 ^ 32 →
     padded_integral (format_spec 32 0 4 8 (2 ^ 64 - 1)) false [] (digits 16 false n) ≡ flat_map (digits_of_byte false) (cell n)
 hex_cell n small =
-    let filled = subst (Filled false 8 n []) (sym (digits-onto n)) (filled_digits false 7 63 n [] (omega arith) (omega arith)) in
-    padded_digits n (digits 16 false n) filled ∙ glyphs-cell n small
+    let padded = subst (Filled false 8 n []) (sym (digits-onto n)) (filled_digits false 7 63 n [] (omega arith) (omega arith)) in
+    padded_digits n (digits 16 false n) padded ∙ glyphs-cell n small

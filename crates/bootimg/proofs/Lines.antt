@@ -2,7 +2,7 @@ use Rattle.std.proofs.Common.{◌≡◌, ℕ, List, [], ◌∷◌, ◌++◌, ◌
 use Rattle.std.specs.Fmt.{AppendsText, ◌++?◌, decimal, digits, digits_output, styled_digits_output, format_spec}
 use Rattle.std.specs.List.{flat_map}
 use Rattle.bi_base.specs.Cells.{cell}
-use Rattle.bi_legacy.specs.Codes.{Named, name_in}
+use Rattle.bi_legacy.specs.Codes.{CodeName, name_of_code}
 use Rattle.bootimg.specs.Listing.{code_word}
 use Rattle.bootimg.specs.Shown.{line, hexadecimal, digits_of_byte}
 use Rattle.bootimg.proofs.Hexadecimal.{hex_cell}
@@ -16,7 +16,7 @@ four_appended start a b c d one two three four first second third fourth =
     ∙ simp append_assoc refl
 
 -- The line of a code, whose name was looked up.
-pub code_line_of : (label old new : List ℕ) (names : List Named) (code : ℕ) (name : Option (List ℕ)) → name ≡ name_in names code →
+pub code_line_of : (label old new : List ℕ) (names : List CodeName) (code : ℕ) (name : Option (List ℕ)) → name ≡ name_of_code names code →
     new ≡ old ++ line (label ∷ unwrap_or name (decimal code) ∷ []) → new ≡ old ++ line (label ∷ code_word names code ∷ [])
 code_line_of label old new names code name named appended =
     subst (λ found. new ≡ old ++ line (label ∷ unwrap_or found (decimal code) ∷ [])) named appended

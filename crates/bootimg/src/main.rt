@@ -6,11 +6,10 @@ mod extract;
 mod failure;
 #[cfg(test)]
 mod images;
-mod kind;
 mod listing;
-mod normalise;
+#[cfg(test)]
+mod normal_forms;
 mod numbers;
-mod open;
 #[cfg(test)]
 mod refused_growths;
 mod run;
@@ -30,7 +29,7 @@ fn main(rt: HostRuntime) -> ExitCode {
     }
 }
 
-/// Runs the program over the standard streams. An error where the words cannot be had.
+/// Runs the program over the standard streams. Fails where the arguments cannot be read.
 fn run_streams(rt: &HostRuntime) -> io::Result<u8> {
     let alloc = rt.alloc();
     let args: Vec<String> = std::env::args(rt)?.skip(1).collect(alloc)?;

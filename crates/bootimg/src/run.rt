@@ -6,8 +6,8 @@ use crate::command_line::{Answer, Request, Task, read_words};
 use crate::extract::extract_to;
 use crate::failure::Failure;
 use crate::listing::list_to;
-use crate::normalise::{Form, normalise_to};
-use bi_base::{Error, WriterTarget, write_text};
+use bi_base::{Error, TracedWriter, write_and_flush};
+use bi_norm::{Form, normalise_to};
 use std::alloc::Global;
 use std::io::{Read, Write};
 
@@ -73,8 +73,8 @@ fn perform<R: Read, W: Write>(
 /// Writes help or the version.
 fn show<W: Write>(alloc: Global, text: &clap::Error, writer: &mut W) -> Result<(), Failure> {
     let text = format!(in alloc; "{text}").map_err(Error::from)?;
-    let mut target = WriterTarget::new(writer);
-    write_text(&mut target, text.as_bytes())?;
+    let mut target = TracedWriter::new(writer);
+    write_and_flush(&mut target, text.as_bytes())?;
     Ok(())
 }
 

@@ -1,6 +1,6 @@
 use super::*;
 use crate::images::{KERNEL, PADDED_KERNEL, PADDED_PARTS, TREE};
-use bi_base::Cause;
+use bi_base::{Cause, Fault};
 use scripted_io::{Script, ScriptedReader, ScriptedWriter, Turn};
 use std::test::Fail;
 

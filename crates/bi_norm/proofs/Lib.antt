@@ -1,0 +1,6 @@
+pub mod LegacyForm
+pub mod Opening
+pub mod NormalForms
+pub mod Writing
+pub mod KindLaws
+pub mod Converting
