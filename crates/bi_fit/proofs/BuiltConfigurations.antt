@@ -11,7 +11,7 @@ use Rattle.bi_blob.specs.Tree.{none, node, HasNoZero, IsNew, AreDistinct, Proper
 use Rattle.bi_blob.specs.Layout.{strings_of}
 use Rattle.bi_blob.specs.Lookups.{siblings}
 use Rattle.bi_blob.proofs.Texts.Members.{each-filter, each-weaker, each-map}
-use Rattle.bi_hash.specs.Verdicts.{text_of}
+use Rattle.bi_hash.specs.Verdicts.{text_before_nul}
 use Rattle.bi_fit.specs.declared.key.Key.{Key}
 use Rattle.bi_fit.specs.declared.key.Key.TheVariants.{Kernel, Fdt, Ramdisk, Firmware, Loadables, Script}
 use Rattle.bi_fit.specs.Names.{key_name, all_keys, default_name}
@@ -181,7 +181,7 @@ value_lists images (image ∷ some) found no_zero =
     (images_listed images 0 (image ∷ some) found)
 
 pub built_has_configuration : BuiltHasConfiguration
-unfolding text_of
+unfolding text_before_nul
 built_has_configuration head images can = record {
   listed = λ key.
       ap (listed_at (images_in head images)) (has_under head images key)
@@ -190,7 +190,7 @@ built_has_configuration head images can = record {
       (each-map HasNoZero (λ image. image.name) (filter (λ image. is_under key image.key) images)
       (each-filter (λ image. HasNoZero image.name) (λ image. is_under key image.key) images
       (each-weaker IsSpecification (λ image. HasNoZero image.name) (λ image is. is.is_name.no_zero) images can.each)));
-  default = ap (option_and_then text_of) (default_is);
+  default = ap (option_and_then text_before_nul) (default_is);
 }
   where
     default_by_name : PropertyMap

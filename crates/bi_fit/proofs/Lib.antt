@@ -20,4 +20,3 @@ pub mod JudgementFacts
 pub mod BuildFacts
 pub mod NameLists
 pub mod BuiltConfigurations
-pub mod Conversions

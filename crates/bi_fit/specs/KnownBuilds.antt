@@ -8,7 +8,6 @@ use Rattle.bi_fit.specs.declared.form.Form.TheVariants.{Embedded}
 use Rattle.bi_fit.specs.declared.key.Key.TheVariants.{Kernel, Ramdisk}
 use Rattle.bi_fit.specs.Text.{normal_tree, fit_text}
 use Rattle.bi_fit.specs.Building.{FitHead, ImageSpecification, text_value, built}
-use Rattle.bi_fit.specs.Converting.{NamedLegacy, Multi, converted}
 
 -- A small built tree with its nodes and properties, by which a reader can judge the definitions.
 
@@ -103,21 +102,3 @@ pub record BuiltIsKnown : Type 0 where
   pub structure_size : size_dt_struct known_text ≡ 656
   pub strings_begin : off_dt_strings known_text ≡ 712
   pub strings_size : size_dt_strings known_text ≡ 112
-
--- A multi-file image of a kernel and a ramdisk.
-abbrev pub known_legacy : NamedLegacy
-known_legacy = record {
-  name = codes "k";
-  time = 0;
-  load = 0x8000;
-  entry = 0x8000;
-  legacy_type = Multi;
-  arch = codes "arm";
-  os = codes "linux";
-  compression = codes "none";
-  parts = codes "hello" ∷ codes "abc" ∷ [];
-}
-
--- Its tree is the same.
-abbrev pub ConvertedIsKnown : Type 0
-ConvertedIsKnown = converted known_legacy ≡ built known_head (known_kernel ∷ known_ramdisk ∷ [])

@@ -23,8 +23,6 @@ use Rattle.bi_fit.specs.Judgement.{judgement, CheckedHash, verdicts_of, Listed, 
 use Rattle.bi_fit.specs.Judgement.{ListedImages, listed_names, listed_of, default_of}
 use Rattle.bi_fit.specs.Building.{FitHead, ImageSpecification, CanBeBuilt, hash_node_name, built}
 use Rattle.bi_fit.specs.Building.{configuration_name, is_under}
-use Rattle.bi_fit.specs.Converting.{NamedLegacy, head_of, images_of_parts, converted}
-use Rattle.bi_fit.specs.Converting.{CanBeConverted}
 
 -- Laws of what a flattened image tree is (Flattened Image Tree Specification), and of its faults
 -- and texts (profile of this project). Each is the contract of a function in `laws`.
@@ -208,13 +206,3 @@ abbrev pub BuiltHasConfiguration : Type 0
 BuiltHasConfiguration =
     (head : FitHead) (images : List ImageSpecification) → CanBeBuilt head images
     → HasConfiguration head images
-
--- The tree of a legacy image can be built, and its payloads are the parts in their order. So its
--- text is accepted and its verdicts are Good, as those of each built tree.
-pub record HasItsParts (legacy : NamedLegacy) : Type 0 where
-  pub can_be_built : CanBeBuilt (head_of legacy) (images_of_parts legacy)
-  pub payloads : (converted legacy).payloads ≡ map Some legacy.parts
-
--- Each legacy image that can be converted has.
-abbrev pub ConvertedHasItsParts : Type 0
-ConvertedHasItsParts = (legacy : NamedLegacy) → CanBeConverted legacy → HasItsParts legacy

@@ -6,7 +6,6 @@ pub mod Faults
 pub mod Text
 pub mod Judgement
 pub mod Building
-pub mod Converting
 pub mod Laws
 pub mod KnownFiles
 pub mod KnownFaults

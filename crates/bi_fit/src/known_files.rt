@@ -8,7 +8,7 @@ ghost use Rattle.bi_fit.specs.KnownFiles.{ChildrenKeepOrder, OnlyImagesHavePaylo
 ghost use Rattle.bi_fit.specs.KnownFiles.{UnusedHaveNoMeaning};
 ghost use Rattle.bi_fit.specs.KnownFaults.{WithoutImages, RegionsHaveFaults, FirstFaultCounts};
 ghost use Rattle.bi_fit.specs.KnownJudgements.{ListsAreRead, HashesAreJudged};
-ghost use Rattle.bi_fit.specs.KnownBuilds.{BuiltIsKnown, ConvertedIsKnown};
+ghost use Rattle.bi_fit.specs.KnownBuilds.{BuiltIsKnown};
 
 /// A file of 88 bytes with a root and its child `images` is a flattened image tree, and is its own
 /// text in both forms.
@@ -91,9 +91,4 @@ pub fn hashes_are_judged()
 /// and a text of 824 bytes.
 pub fn built_is_known()
     ensures built { BuiltIsKnown }
-{}
-
-/// The tree of a multi-file image of that kernel and that ramdisk is the same.
-pub fn converted_is_known()
-    ensures converted { ConvertedIsKnown }
 {}

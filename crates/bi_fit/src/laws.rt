@@ -8,7 +8,7 @@ ghost use Rattle.bi_fit.specs.Laws.{TextKeepsJudgement, SameTextSameJudgement};
 ghost use Rattle.bi_fit.specs.Laws.{EachExternalTextHasItsLength, PayloadsEndLater};
 ghost use Rattle.bi_fit.specs.Laws.{ExternalPayloadsArePlaced, PayloadsAreAtPlaces};
 ghost use Rattle.bi_fit.specs.Laws.{BuiltIsAccepted, BuiltHasGoodPayloads, ReadsNames};
-ghost use Rattle.bi_fit.specs.Laws.{BuiltHasConfiguration, ConvertedHasItsParts};
+ghost use Rattle.bi_fit.specs.Laws.{BuiltHasConfiguration};
 
 /// A file is a flattened image tree of at most one meaning.
 pub fn one_meaning()
@@ -129,10 +129,4 @@ pub fn reads_names()
 /// It is the default.
 pub fn built_has_configuration()
     ensures { BuiltHasConfiguration }
-{}
-
-/// The tree of a legacy image with one part at least, and no more than its type has images for,
-/// can be built, and its payloads are the parts in their order.
-pub fn converted_has_its_parts()
-    ensures { ConvertedHasItsParts }
 {}
