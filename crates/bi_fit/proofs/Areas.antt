@@ -13,7 +13,7 @@ use Rattle.bi_fit.specs.declared.form.Form.TheVariants.{Embedded, External}
 use Rattle.bi_fit.specs.ImageTree.{each_own, IsApart}
 use Rattle.bi_fit.specs.Payloads.{external_base, HasPayload}
 use Rattle.bi_fit.specs.Text.{with_payload, with_payloads, end_after, payloads_end, payload_area}
-use Rattle.bi_fit.proofs.Sources.{IsThere, tells_payload}
+use Rattle.bi_fit.proofs.Sources.{IsThere, has_payload}
 
 -- The payloads that follow the blob of a text.
 
@@ -28,14 +28,14 @@ pub embedded_are_there : (file : List ℕ) (end : ℕ) (payloads : List (Option 
 embedded_are_there file end [] = tt
 embedded_are_there file end (payload ∷ later) = (tt, embedded_are_there file (end_after end payload) later)
 
--- The image nodes of a text tell their payloads.
-pub tell_payloads : (form : Form) (file : List ℕ) (at end : ℕ) (payloads : List (Option (List ℕ))) (nodes : Nodes PropertyMap) → AllZip IsApart (each_own nodes) payloads → AreThere form file end payloads → AllZip (HasPayload file) (each_own (with_places at (with_each entries (with_payloads form end payloads nodes)))) payloads
-tell_payloads form file at end [] none apart there = tt
-tell_payloads form file at end [] (node name own children later) apart there = absurd apart
-tell_payloads form file at end (payload ∷ payloads) none apart there = absurd apart
-tell_payloads form file at end (payload ∷ payloads) (node name own children later) apart there = (
-  tells_payload file at (at + event_width (NodeStart name)) (up4 end) form own payload apart.0 there.0,
-  tell_payloads form file
+-- The image nodes of a text have their payloads.
+pub have_payloads : (form : Form) (file : List ℕ) (at end : ℕ) (payloads : List (Option (List ℕ))) (nodes : Nodes PropertyMap) → AllZip IsApart (each_own nodes) payloads → AreThere form file end payloads → AllZip (HasPayload file) (each_own (with_places at (with_each entries (with_payloads form end payloads nodes)))) payloads
+have_payloads form file at end [] none apart there = tt
+have_payloads form file at end [] (node name own children later) apart there = absurd apart
+have_payloads form file at end (payload ∷ payloads) none apart there = absurd apart
+have_payloads form file at end (payload ∷ payloads) (node name own children later) apart there = (
+  has_payload file at (at + event_width (NodeStart name)) (up4 end) form own payload apart.0 there.0,
+  have_payloads form file
       (place_after_events at (events (node name (entries (with_payload form (up4 end) payload own)) (with_each entries children) none)))
       (end_after end payload) payloads later apart.1 there.1,
 )

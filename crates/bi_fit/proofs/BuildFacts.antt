@@ -1,9 +1,9 @@
-use Rattle.std.proofs.Common.{◌≡◌, ℕ, zero, suc, List, [], ◌∷◌, ◌++◌, length, get_or, codes, Option, Some, None, refl, sym, ap, ap₂, ◌∙◌, nat_cmp, arith}
+use Rattle.std.proofs.Common.{◌≡◌, ℕ, zero, suc, List, [], ◌∷◌, ◌++◌, length, get_or, codes, refl, sym, ap, ap₂, ◌∙◌, nat_cmp, arith}
 use Rattle.std.specs.Cmp.Lexicographic.{slice_cmp}
-use Rattle.std.specs.FinMap.{insert, empty, entries, from_entries, put, entries-insert}
+use Rattle.std.specs.FinMap.{entries, from_entries, put, entries-insert}
 use Rattle.std.proofs.lemmas.Cmp.{nat_list_cmp_total}
 use Rattle.bi_base.specs.Cells.{cell, cell8, u32_at}
-use Rattle.bi_blob.specs.Tree.{Nodes, none, node, Root, Property, PropertyMap}
+use Rattle.bi_blob.specs.Tree.{none, node, Property}
 use Rattle.bi_blob.specs.Blob.{off_dt_strings, size_dt_struct, size_dt_strings}
 use Rattle.bi_blob.specs.Layout.{text_of_tree, text_of_events, text_of_blocks}
 use Rattle.bi_hash.specs.Digests.{digest_of}
@@ -11,7 +11,7 @@ use Rattle.bi_hash.specs.declared.algo.Algo.TheVariants.{Sha256}
 use Rattle.bi_hash.proofs.DigestBytes.{length-digest_of}
 use Rattle.bi_fit.specs.declared.form.Form.TheVariants.{Embedded}
 use Rattle.bi_fit.specs.Names.{data_name, default_name}
-use Rattle.bi_fit.specs.Text.{normal_tree, fit_text}
+use Rattle.bi_fit.specs.Text.{normal_tree}
 use Rattle.bi_fit.specs.Building.{text_value, root_properties, image_properties, hash_properties, configuration_name, configuration_properties, built}
 use Rattle.bi_fit.specs.KnownBuilds.{known_head, known_kernel, known_ramdisk, known_tree, known_text, BuiltIsKnown}
 use Rattle.bi_fit.proofs.FileFacts.{no_entries}

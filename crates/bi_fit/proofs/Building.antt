@@ -39,7 +39,7 @@ verdict_is payload =
     good-from_digest _ _ _
     (record { algorithm = Sha256; rest = []; bytes = payload; algo_is = refl; value_is = refl; payload_is = refl })
 
--- What is told of the hash nodes of images.
+-- The hash nodes of images, with their verdicts.
 hashes : (head : FitHead) (images : List ImageSpecification) → flat_map (λ image. map (checked_hash image) (hash_nodes image)) (images_with (siblings (built_images head images)) (map (λ image. Some image.payload) images)) ≡ map good_hash images
 unfolding text_before_nul
 hashes head [] = refl

@@ -25,7 +25,7 @@ use Rattle.bi_fit.proofs.Contents.{may_be_in_name, tested_name, tested_property,
 
 -- A built tree is an image tree.
 
--- Bytes that a test tells from a slash are other bytes.
+-- Bytes that pass the test for other bytes than a slash are other bytes.
 no_slash : (name : List ℕ) → list_all (λ byte. not (byte == 47)) name ≡ true → AllByRecursion (λ byte. byte ≢ 47) name
 no_slash [] passes = tt
 no_slash (byte ∷ later) passes =
@@ -37,7 +37,7 @@ pub tested_child : (byte : ℕ) (later : List ℕ) → list_all may_be_in_name (
 tested_child byte later passes slash =
     record { some = λ e. absurd cc; no_zero = (tested_name (byte ∷ later) passes).1; no_slash = no_slash (byte ∷ later) slash }
 
--- Names that a test tells apart are not the same.
+-- Names that fail the test of being equal are not the same.
 pub tested_apart : (name other : List ℕ) → bytes_eq name other ≡ false → name ≢ other
 tested_apart name other differ same = true≢false (sym ((bytes_eq-Decides name other).1 same) ∙ differ)
 

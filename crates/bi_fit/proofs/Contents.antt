@@ -62,7 +62,7 @@ properties-put properties name value are is other found there = by_name (bytes_e
         subst (λ name. IsProperty name found) (sym same_name) (subst (IsProperty name) (same_in_some value found same_value) is)
     by_name false differ = are other found (sym (get-put_other properties name value other differ) ∙ there)
 
--- Properties that tell a payload.
+-- Properties that give a payload.
 pub properties-with_payload : (form : Form) (begin : ℕ) (payload : Option (List ℕ)) (properties : PropertyMap) → IfSome payload AreBytes → ArePropertiesByName properties → ArePropertiesByName (with_payload form begin payload properties)
 properties-with_payload form begin None properties bytes are = are
 properties-with_payload Embedded begin (Some payload) properties bytes are =
@@ -72,7 +72,7 @@ properties-with_payload External begin (Some payload) properties bytes are =
     (properties-put properties data_offset_name (cell begin) are (tested_property _ _ (cell begin) refl (AreBytes-cell begin)))
     (tested_property _ _ (cell (length payload)) refl (AreBytes-cell (length payload)))
 
--- Properties without those that tell a payload.
+-- Properties without those that give a payload.
 pub properties-without_payload : (properties : PropertyMap) → ArePropertiesByName properties → ArePropertiesByName (without_payload properties)
 properties-without_payload properties are name value there =
     by_name (is_payload_name name) (sym (get-without properties name) ∙ there)
@@ -101,7 +101,7 @@ properties-entries properties are = record {
   distinct = ordered_distinct (entries properties) (entries_sorted properties);
 }
 
--- Nodes with good properties are said in bytes.
+-- The events of nodes with good properties are bytes.
 good-events : (nodes : Nodes (List Property)) → HaveByteNames nodes → AreNodes AreGood nodes → AllByRecursion AreEventBytes (events nodes)
 good-events none bytes are = tt
 good-events (node name properties children later) bytes are = (
@@ -131,7 +131,7 @@ content-in_byte_order cpu reservations root fits are is bytes = record {
   );
 }
 
--- Image nodes that tell payloads are nodes.
+-- Image nodes that give payloads are nodes.
 nodes-with_payloads : (form : Form) (end : ℕ) (payloads : List (Option (List ℕ))) (nodes : Nodes PropertyMap) → AllZip IsApart (each_own nodes) payloads → AreNodes ArePropertiesByName nodes → AreNodes ArePropertiesByName (with_payloads form end payloads nodes)
 nodes-with_payloads form end [] nodes apart are = are
 nodes-with_payloads form end (payload ∷ payloads) none apart are = tt
@@ -145,7 +145,7 @@ nodes-with_payloads form end (payload ∷ payloads) (node name own children late
   nodes-with_payloads form (end_after end payload) payloads later apart.1 are.2,
 )
 
--- Image nodes without what tells their payloads are nodes.
+-- Image nodes without what gives their payloads are nodes.
 pub nodes-without_payloads : (nodes : Nodes PropertyMap) → AreNodes ArePropertiesByName nodes → AreNodes ArePropertiesByName (without_payloads nodes)
 nodes-without_payloads none are = tt
 nodes-without_payloads (node name own children later) are = (

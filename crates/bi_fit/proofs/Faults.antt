@@ -36,12 +36,12 @@ decided file (HasSizeCell size) = cases_eq (length size.value) 4
 decided file (IsInFile end begin_place) = le_decided end (length file)
 
 module _ (file : List ℕ) where
-  -- The checks of a region that tells a payload pass.
+  -- The checks of a region that is a payload pass.
   region_passes : (base : ℕ) (begin : FileProperty) (size : Option FileProperty) (payload : Option (List ℕ)) → IsSizedRegion file base begin size payload → HasNoFault (FitPasses file) (region_checks base begin size)
   region_passes base begin None payload is = absurd is
   region_passes base begin (Some size) payload is = (is.begin_cell, (refl, (is.size_cell, (is.in_file, tt))))
 
-  -- The checks of a source that tells a payload pass.
+  -- The checks of a source that has a payload pass.
   source_passes : (source : PayloadSource) (payload : Option (List ℕ)) → IsPayload file source payload → HasNoFault (FitPasses file) (source_checks file source)
   source_passes NoSource payload is = tt
   source_passes (Data value) payload is = tt
@@ -56,27 +56,27 @@ module _ (file : List ℕ) where
       each-append (FitPasses file) (source_checks file (source_of own)) (image_checks file later)
       (source_passes (source_of own) payload have.0) (images_pass later payloads have.1)
 
-  -- A region whose checks pass tells a payload.
-  region_tells : (base : ℕ) (begin : FileProperty) (size : Option FileProperty) → HasNoFault (FitPasses file) (region_checks base begin size) → (payload : Option (List ℕ)) × IsSizedRegion file base begin size payload
-  region_tells base begin None fine = absurd (false≢true fine.1.0)
-  region_tells base begin (Some size) fine = (
+  -- A region whose checks pass is a payload.
+  region_has_payload : (base : ℕ) (begin : FileProperty) (size : Option FileProperty) → HasNoFault (FitPasses file) (region_checks base begin size) → (payload : Option (List ℕ)) × IsSizedRegion file base begin size payload
+  region_has_payload base begin None fine = absurd (false≢true fine.1.0)
+  region_has_payload base begin (Some size) fine = (
     Some (slice file (base + number_of begin) (number_of size)),
     record { begin_cell = fine.0; size_cell = fine.1.1.0; in_file = fine.1.1.1.0; is_slice = refl },
   )
 
-  -- A source whose checks pass tells a payload.
-  source_tells : (source : PayloadSource) → HasNoFault (FitPasses file) (source_checks file source) → (payload : Option (List ℕ)) × IsPayload file source payload
-  source_tells NoSource fine = (None, refl)
-  source_tells (Data value) fine = (Some value.value, refl)
-  source_tells (DataOffset offset size) fine = region_tells (external_base file) offset size fine
-  source_tells (DataPosition position size) fine = region_tells 0 position size fine
+  -- A source whose checks pass has a payload, or none.
+  source_has_payload : (source : PayloadSource) → HasNoFault (FitPasses file) (source_checks file source) → (payload : Option (List ℕ)) × IsPayload file source payload
+  source_has_payload NoSource fine = (None, refl)
+  source_has_payload (Data value) fine = (Some value.value, refl)
+  source_has_payload (DataOffset offset size) fine = region_has_payload (external_base file) offset size fine
+  source_has_payload (DataPosition position size) fine = region_has_payload 0 position size fine
 
   -- Image nodes whose checks pass have payloads.
-  images_tell : (nodes : Nodes FileNode) → HasNoFault (FitPasses file) (image_checks file nodes) → (payloads : List (Option (List ℕ))) × AllZip (HasPayload file) (each_own nodes) payloads
-  images_tell none fine = ([], tt)
-  images_tell (node name own children later) fine =
-      let first_payload = source_tells (source_of own) (each-front (FitPasses file) (source_checks file (source_of own)) (image_checks file later) fine) in
-      let rest = images_tell later (each-back (FitPasses file) (source_checks file (source_of own)) (image_checks file later) fine) in
+  images_have_payloads : (nodes : Nodes FileNode) → HasNoFault (FitPasses file) (image_checks file nodes) → (payloads : List (Option (List ℕ))) × AllZip (HasPayload file) (each_own nodes) payloads
+  images_have_payloads none fine = ([], tt)
+  images_have_payloads (node name own children later) fine =
+      let first_payload = source_has_payload (source_of own) (each-front (FitPasses file) (source_checks file (source_of own)) (image_checks file later) fine) in
+      let rest = images_have_payloads later (each-back (FitPasses file) (source_checks file (source_of own)) (image_checks file later) fine) in
       (first_payload.0 ∷ rest.0, (first_payload.1, rest.1))
 
   -- The checks of the tree of a file with a meaning pass.
@@ -85,10 +85,10 @@ module _ (file : List ℕ) where
       (rw is.has_images refl, rw is.has_images (images_pass is.images tree.payloads is.payloads))
 
   -- A blob whose checks pass has a meaning.
-  tree_tells : (cpu : ℕ) (reservations : List Reservation) (root : Root FileNode) → IsBlob file cpu reservations root → (images : Option (Nodes FileNode)) → image_nodes root ≡ images → IsSome images → HasNoFault (FitPasses file) (images_checks file images) → (tree : ImageTree) × (is : IsFitFile file tree) × (is.root ≡ root)
-  tree_tells cpu reservations root blob None has some fine = absurd cc
-  tree_tells cpu reservations root blob (Some images) has some fine =
-      let payloads = images_tell images fine in (
+  tree_has_meaning : (cpu : ℕ) (reservations : List Reservation) (root : Root FileNode) → IsBlob file cpu reservations root → (images : Option (Nodes FileNode)) → image_nodes root ≡ images → IsSome images → HasNoFault (FitPasses file) (images_checks file images) → (tree : ImageTree) × (is : IsFitFile file tree) × (is.root ≡ root)
+  tree_has_meaning cpu reservations root blob None has some fine = absurd cc
+  tree_has_meaning cpu reservations root blob (Some images) has some fine =
+      let payloads = images_have_payloads images fine in (
         record {
           cpu = cpu;
           reservations = reservations;
@@ -136,7 +136,7 @@ in_blob bounds file is = by_checks (first.fault_or_none (FitPasses file) fit_fau
 
     by_checks : HasNoFault (FitPasses file) (fit_checks file is.root) ⊎ ((fault : Fault) × IsFirstFault (FitPasses file) fit_fault (fit_checks file is.root) fault) → Outcome
     by_checks (inl fine) =
-        let found = tree_tells file is.cpu is.reservations is.root is.blob (image_nodes is.root) refl fine.0 fine.1 in
+        let found = tree_has_meaning file is.cpu is.reservations is.root is.blob (image_nodes is.root) refl fine.0 fine.1 in
         inl (found.0, record { is_file = found.1; within = subst (λ root. IsWithin bounds file root) (sym found.2) is.within })
     by_checks (inr faulty) = inr (faulty.0, InTree is.cpu is.reservations is.root is.blob is.within faulty.1)
 

@@ -51,7 +51,7 @@ all_taken_out properties are =
     by_name : PropertyMap
     by_name = from_entries properties
 
--- The properties that tell a payload, in byte order.
+-- The properties that give a payload, in byte order.
 abbrev listed_properties : Form → ℕ → Option (List ℕ) → List Property
 listed_properties form begin None = []
 listed_properties Embedded begin (Some payload) = (data_name, payload) ∷ []
@@ -144,7 +144,7 @@ root_of_images images = record { own = empty; children = node images_name empty 
 abbrev three_nodes : (List Property) → (List Property) → (List Property) → Nodes (List Property)
 three_nodes a b c = node (codes "a") a none (node (codes "b") b none (node (codes "c") c none none))
 
--- Three image nodes without the properties that tell their payloads are plain ones.
+-- Three image nodes without the properties that give their payloads are plain ones.
 three_plain : (a b c : List Property) → AllByRecursion (λ property. not (is_payload_name property.0) ≡ false) a → AllByRecursion (λ property. not (is_payload_name property.0) ≡ false) b → AllByRecursion (λ property. not (is_payload_name property.0) ≡ false) c → root_of_images (plain_images (codes "a" ∷ codes "b" ∷ codes "c" ∷ [])) ≡ root_of_images (without_payloads (with_each from_entries (three_nodes a b c)))
 three_plain a b c are_a are_b are_c =
     λ i. root_of_images
@@ -185,13 +185,13 @@ three_images_have_texts = record {
   places = refl;
 }
 
--- Two image nodes without the properties that tell their payloads are plain ones.
+-- Two image nodes without the properties that give their payloads are plain ones.
 two_plain : (first second : List ℕ) (a b : List Property) → AllByRecursion (λ property. not (is_payload_name property.0) ≡ false) a → AllByRecursion (λ property. not (is_payload_name property.0) ≡ false) b → root_of_images (plain_images (first ∷ second ∷ [])) ≡ root_of_images (without_payloads (with_each from_entries (node first a none (node second b none none))))
 two_plain first second a b are_a are_b =
     λ i. root_of_images
     (node first (sym (all_taken_out a are_a) i) none (node second (sym (all_taken_out b are_b) i) none none))
 
--- One image node without the properties that tell its payload is a plain one.
+-- One image node without the properties that give its payload is a plain one.
 one_plain : (name : List ℕ) (a : List Property) → AllByRecursion (λ property. not (is_payload_name property.0) ≡ false) a → root_of_images (plain_images (name ∷ [])) ≡ root_of_images (without_payloads (with_each from_entries (node name a none none)))
 one_plain name a are = λ i. root_of_images (node name (sym (all_taken_out a are) i) none none)
 
@@ -308,7 +308,7 @@ shared_region_is_repeated = record {
   };
 }
 
--- The nodes below the root in what the file with a deeper `images` says, where its image node has these properties.
+-- The nodes below the root in the meaning of the file with a deeper `images`, where its image node has these properties.
 abbrev nested_nodes : PropertyMap → Nodes PropertyMap
 nested_nodes own =
     node (codes "other") empty (node images_name empty (node (codes "n") (only_data (codes "o")) none none) none)

@@ -22,7 +22,7 @@ use Rattle.bi_fit.proofs.Trees.{children_of-with_each, children_of-with_children
 use Rattle.bi_fit.proofs.Shapes.{AreNodes-with_each, bytes-with_each, AreNodes-children_of, AreNodes-with_children_of, bytes-with_children_of, bytes-without_payloads, depth-with_children_of, depth-without_payloads}
 use Rattle.bi_fit.proofs.Contents.{AreGood, properties-from_entries, nodes-without_payloads}
 
--- What a file says as a flattened image tree is an image tree.
+-- What a file means as a flattened image tree is an image tree.
 
 -- Properties with names and bytes are good.
 good_properties : (properties : List Property) → AllByRecursion (λ property. IsPropertyName property.0) properties → AllByRecursion AreEventBytes (map NodeProperty properties) → AreGood properties
@@ -32,7 +32,7 @@ good_properties (property ∷ later) named bytes = (
   good_properties later named.1 bytes.1,
 )
 
--- So are those of nodes that are said in bytes.
+-- So are those of nodes whose events are bytes.
 good_nodes : (nodes : Nodes (List Property)) → AreNodes AreProperties nodes → AllByRecursion AreEventBytes (events nodes) → AreNodes AreGood nodes × HaveByteNames nodes
 good_nodes none are bytes = (tt, tt)
 good_nodes (node name properties children later) are bytes =
@@ -66,7 +66,7 @@ region_bytes file base begin None payload bytes is = absurd is
 region_bytes file base begin (Some size) payload bytes is =
     subst (λ payload. IfSome payload AreBytes) (sym is.is_slice) (AreBytes-slice file (base + number_of begin) (number_of size) bytes)
 
--- The payload that a source tells is bytes, where the value of `data` is.
+-- The payload of a source is bytes, where the value of `data` is.
 source_bytes : (file : List ℕ) (source : PayloadSource) (payload : Option (List ℕ)) → AreBytes file → ((property : FileProperty) → source ≡ Data property → AreBytes property.value) → IsPayload file source payload → IfSome payload AreBytes
 source_bytes file NoSource payload bytes data_bytes is = subst (λ payload. IfSome payload AreBytes) (sym is) tt
 source_bytes file (Data property) payload bytes data_bytes is =
@@ -104,7 +104,7 @@ nodes_apart file (node name own children later) [] bytes good have = absurd have
 nodes_apart file (node name own children later) (payload ∷ payloads) bytes good have =
     (node_apart file own payload bytes good.0.is_own have.0, nodes_apart file later payloads bytes good.2 have.1)
 
--- What a file says is an image tree.
+-- What a file means is an image tree.
 pub is_image_tree : (file : List ℕ) (tree : ImageTree) → IsFitFile file tree → IsImageTree tree
 is_image_tree file tree is = record {
   cpu_fits = content.cpu_fits;

@@ -18,3 +18,5 @@ pub mod FileFacts
 pub mod FaultFacts
 pub mod JudgementFacts
 pub mod BuildFacts
+pub mod NameLists
+pub mod BuiltConfigurations

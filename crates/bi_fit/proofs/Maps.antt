@@ -59,7 +59,7 @@ pub get-put_payload : (properties : PropertyMap) (payload_name value name : List
 get-put_payload properties payload_name value name is is_other =
     get-put_other properties payload_name value name (tests_differ is_payload_name payload_name name is is_other)
 
--- The properties that tell a payload change no other.
+-- The properties that give a payload change no other.
 pub get-with_payload : (form : Form) (begin : ℕ) (payload : Option (List ℕ)) (properties : PropertyMap) (name : List ℕ) → is_payload_name name ≡ false → get (with_payload form begin payload properties) name ≡ get properties name
 get-with_payload form begin None properties name is = refl
 get-with_payload Embedded begin (Some payload) properties name is = get-put_payload properties data_name payload name refl is

@@ -18,7 +18,7 @@ one_region : (file : List ℕ) (base : ℕ) (begin : FileProperty) (size : Optio
 one_region file base begin None one other a b = absurd a
 one_region file base begin (Some size) one other a b = a.is_slice ∙ sym b.is_slice
 
--- A source tells one payload.
+-- A source has one payload.
 pub one_payload : (file : List ℕ) (source : PayloadSource) (one other : Option (List ℕ)) → IsPayload file source one → IsPayload file source other → one ≡ other
 one_payload file NoSource one other a b = a ∙ sym b
 one_payload file (Data value) one other a b = a ∙ sym b

@@ -21,7 +21,7 @@ use Rattle.bi_fit.specs.Payloads.{source_of, number_of, external_base, payload_p
 use Rattle.bi_fit.specs.Text.{with_payload}
 use Rattle.bi_fit.proofs.Maps.{get-put, get-put_other}
 
--- The payload that an image node of a text tells.
+-- The payload that an image node of a text has.
 
 -- The properties of a text at their places.
 abbrev pub placed : ℕ → PropertyMap → List FileProperty
@@ -116,11 +116,11 @@ module _ (file : List ℕ) (place at begin : ℕ) where
         is_slice = ap Some (sym (ap₂ (λ m n. slice file (external_base file + m) n) begin_is size_is ∙ there.is_slice));
       })
 
-  -- An image node of a text tells its payload.
-  pub tells_payload : (form : Form) (properties : PropertyMap) (payload : Option (List ℕ)) → IsApart properties payload → IsThere form file begin payload → HasPayload file (node_with (with_payload form begin payload properties)) payload
-  tells_payload form properties None apart there = no_payload properties apart
-  tells_payload Embedded properties (Some payload) apart there = embedded_payload properties payload apart
-  tells_payload External properties (Some payload) apart there = external_payload properties payload apart there
+  -- An image node of a text has its payload.
+  pub has_payload : (form : Form) (properties : PropertyMap) (payload : Option (List ℕ)) → IsApart properties payload → IsThere form file begin payload → HasPayload file (node_with (with_payload form begin payload properties)) payload
+  has_payload form properties None apart there = no_payload properties apart
+  has_payload Embedded properties (Some payload) apart there = embedded_payload properties payload apart
+  has_payload External properties (Some payload) apart there = external_payload properties payload apart there
 
   -- An image node of an external text places its payload.
   pub external_place : (properties : PropertyMap) (payload : Option (List ℕ)) → IsApart properties payload → IsThere External file begin payload → payload_place file (source_of (node_with (with_payload External begin payload properties))) ≡ option_map (λ payload. external_base file + begin) payload

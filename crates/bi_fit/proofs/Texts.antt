@@ -19,7 +19,7 @@ use Rattle.bi_fit.specs.File.{IsFitFile}
 use Rattle.bi_fit.specs.Text.{with_payloads, end_after, normal_tree, blob_of, payload_area, after_blob, fit_text}
 use Rattle.bi_fit.proofs.Maps.{without-with_payload}
 use Rattle.bi_fit.proofs.Trees.{children_of-with_each, children_of-with_places, children_of-with_children_of, with_children_of-back}
-use Rattle.bi_fit.proofs.Areas.{AreThere, embedded_are_there, external_are_there, tell_payloads}
+use Rattle.bi_fit.proofs.Areas.{AreThere, embedded_are_there, external_are_there, have_payloads}
 use Rattle.bi_fit.proofs.Shapes.{depth-with_children_of, depth-with_payloads}
 use Rattle.bi_fit.proofs.Contents.{content-normal_tree}
 
@@ -39,7 +39,7 @@ pub bytes-after_blob : (form : Form) (tree : ImageTree) → IsImageTree tree →
 bytes-after_blob Embedded tree is = AreBytes-none
 bytes-after_blob External tree is = bytes-payload_area 0 (each_own is.images) tree.payloads is.apart
 
--- Image nodes without what tells their payloads are what they were.
+-- Image nodes without what gives their payloads are what they were.
 without-with_payloads : (form : Form) (end : ℕ) (payloads : List (Option (List ℕ))) (nodes : Nodes PropertyMap) → AllZip IsApart (each_own nodes) payloads → without_payloads (with_payloads form end payloads nodes) ≡ nodes
 without-with_payloads form end [] none apart = refl
 without-with_payloads form end [] (node name own children later) apart = absurd apart
@@ -61,7 +61,7 @@ pub text_base : (form : Form) (tree : ImageTree) → IsImageTree tree → length
 text_base form tree is short =
     omega (arith, (blob_of_text form tree is short).is_total, (has_text_length tree.cpu tree.reservations (normal_tree form tree)).is_whole)
 
--- The external payloads are where a text says.
+-- The external payloads of a text are where they begin.
 pub text_has_payloads : (form : Form) (tree : ImageTree) → IsImageTree tree → length (fit_text form tree) ≤ longest_text → AreThere form (fit_text form tree) 0 tree.payloads
 text_has_payloads Embedded tree is short = embedded_are_there (fit_text Embedded tree) 0 tree.payloads
 text_has_payloads External tree is short =
@@ -80,7 +80,7 @@ pub text_images : (form : Form) (tree : ImageTree) (is : IsImageTree tree) → (
 text_images form tree is =
     children_of-with_places _ images_name (normal_tree form tree).children (with_each entries (with_payloads form 0 tree.payloads is.images)) (normal_images form tree is)
 
--- The tree of a text is the tree, with the properties that tell payloads.
+-- The tree of a text is the tree, with the properties that give payloads.
 normal_root : (form : Form) (tree : ImageTree) → IsImageTree tree → tree_without_payloads (tree_without_order (normal_tree form tree)) ≡ tree.root
 normal_root form tree is =
     ap tree_without_payloads (has_one_order (with_image_nodes (with_payloads form 0 tree.payloads) tree.root)).is_same
@@ -98,7 +98,7 @@ text_means form tree is short =
         blob = blob.blob;
         images = with_places found.0 (with_each entries (with_payloads form 0 tree.payloads is.images));
         has_images = found.1;
-        payloads = tell_payloads form (fit_text form tree) found.0 0 tree.payloads is.images is.apart (text_has_payloads form tree is short);
+        payloads = have_payloads form (fit_text form tree) found.0 0 tree.payloads is.images is.apart (text_has_payloads form tree is short);
         is_root = sym (ap (λ root. tree_without_payloads (tree_without_order root)) blob.same_tree ∙ normal_root form tree is);
       },
       refl,

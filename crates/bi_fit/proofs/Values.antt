@@ -25,7 +25,7 @@ use Rattle.bi_fit.proofs.FileTrees.{source_is_data}
 abbrev pub HasValue : List ℕ → FileProperty → Type 0
 HasValue file property = IsAt file (property.place + 12) property.value
 
--- The same for what a tree says, where it is a property.
+-- The same for an event of a tree, where it is a property.
 abbrev pub HasEventValue : List ℕ → FileEvent → Type 0
 HasEventValue file (FileNodeProperty property) = HasValue file property
 HasEventValue file event = ⊤
@@ -46,7 +46,7 @@ token_value file at offset value is = record {
     long : length (token_bytes (Prop offset value)) ≡ 12 + length value
     long = omega (arith, length-append (cell 3) (cell (length value) ++ (cell offset ++ value)), length-append (cell (length value)) (cell offset ++ value), length-append (cell offset) value, length-cell 3, length-cell (length value), length-cell offset)
 
--- The values of what tokens of a file say.
+-- The values of the events that tokens of a file encode.
 tokens_values : (file strings : List ℕ) (at : ℕ) (tokens : List Token) (events : List FileEvent) → AllStand file at (tokens ++ End ∷ []) → EncodeEvents strings at tokens events → AllByRecursion (HasEventValue file) events
 tokens_values file strings at [] [] are encodes = tt
 tokens_values file strings at (Nop ∷ tokens) events are encodes =
@@ -68,7 +68,7 @@ HaveValues file none = ⊤
 HaveValues file (node name own children later) =
     AllByRecursion (HasValue file) own.properties × HaveValues file children × HaveValues file later
 
--- Nodes whose properties are said have the values.
+-- Nodes have the values of their events.
 nodes_values : (file : List ℕ) (nodes : Nodes FileNode) → AllByRecursion (HasEventValue file) (file_events nodes) → HaveValues file nodes
 nodes_values file none each = tt
 nodes_values file (node name own children later) each =
@@ -103,7 +103,7 @@ named_value file name (first ∷ later) property have found =
         subst (HasValue file) same have.0
     where_first false is found rest = rest (rw is at found)
 
--- A region is where its properties tell.
+-- A region is where its properties name it.
 region_place : (file : List ℕ) (base : ℕ) (begin : FileProperty) (size : Option FileProperty) (payload : Option (List ℕ)) → IsSizedRegion file base begin size payload → IsAtPlace file (Some (base + number_of begin)) payload
 region_place file base begin None payload is = absurd is
 region_place file base begin (Some size) payload is =
@@ -115,7 +115,7 @@ region_place file base begin (Some size) payload is =
     long : length (slice file (base + number_of begin) (number_of size)) ≡ number_of size
     long = length-slice file (base + number_of begin) (number_of size) is.in_file
 
--- The payload that a source tells is at its place.
+-- The payload of a source is at its place.
 source_place : (file : List ℕ) (source : PayloadSource) (payload : Option (List ℕ)) → ((property : FileProperty) → source ≡ Data property → HasValue file property) → IsPayload file source payload → IsAtPlace file (payload_place file source) payload
 source_place file NoSource payload has_value is = subst (IsAtPlace file None) (sym is) tt
 source_place file (Data property) payload has_value is =
@@ -129,17 +129,17 @@ source_place file (DataPosition position size) payload has_value is =
 
 -- So are those of image nodes.
 images_places : (file : List ℕ) (nodes : Nodes FileNode) (payloads : List (Option (List ℕ))) → HaveValues file nodes → AllZip (HasPayload file) (each_own nodes) payloads → AllZip (λ own payload. IsAtPlace file (payload_place file (source_of own)) payload) (each_own nodes) payloads
-images_places file none [] have told = tt
-images_places file none (payload ∷ payloads) have told = absurd told
-images_places file (node name own children later) [] have told = absurd told
-images_places file (node name own children later) (payload ∷ payloads) have told = (
+images_places file none [] have has = tt
+images_places file none (payload ∷ payloads) have has = absurd has
+images_places file (node name own children later) [] have has = absurd has
+images_places file (node name own children later) (payload ∷ payloads) have has = (
   source_place file (source_of own) payload
-      (λ property is. named_value file data_name own.properties property have.0 (source_is_data _ _ _ _ property is)) told.0,
-  images_places file later payloads have.2 told.1,
+      (λ property is. named_value file data_name own.properties property have.0 (source_is_data _ _ _ _ property is)) has.0,
+  images_places file later payloads have.2 has.1,
 )
 
 pub payloads_are_at_places : PayloadsAreAtPlaces
 payloads_are_at_places file tree is =
-    let said = tokens_values file (tree_blocks file).strings (tree_blocks file).begin is.blob.holds.tokens (file_events_of is.root) (HoldsTree-stand (tree_blocks file) is.root is.blob.holds) is.blob.holds.encodes in
-    let have = nodes_values file (as_nodes is.root) said in
+    let values = tokens_values file (tree_blocks file).strings (tree_blocks file).begin is.blob.holds.tokens (file_events_of is.root) (HoldsTree-stand (tree_blocks file) is.root is.blob.holds) is.blob.holds.encodes in
+    let have = nodes_values file (as_nodes is.root) values in
     images_places file is.images tree.payloads (found_values file images_name is.root.children is.images is.has_images have.1) is.payloads

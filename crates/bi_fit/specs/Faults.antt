@@ -15,7 +15,7 @@ use Rattle.bi_fit.specs.Payloads.{source_of, number_of, external_base}
 -- fails. The order of the checks, and that a file with a fault is refused, is profile of this
 -- project.
 
--- A check, with what it looks at and the place of the token that it speaks of.
+-- A check, with what it examines and the place of the token at which its fault is.
 pub data FitCheck : Type 0 where
   HasImages : (images : Option (Nodes FileNode)) → (root_place : ℕ) → FitCheck
   HasBeginCell : (begin : FileProperty) → FitCheck

@@ -15,8 +15,8 @@ use Rattle.bi_fit.specs.ImageTree.{ImageTree, image_nodes, children_of}
 -- What follows from a flattened image tree about its images and configurations: the verdicts on
 -- its hash nodes, the images that each configuration lists, the default configuration, and how
 -- many signatures there are (Flattened Image Tree Specification; which keys there are, and the
--- order of refusals, is profile of this project). All of it is a function of the image tree, so
--- files that mean the same agree in it.
+-- order of refusals, is profile of this project). All of it is a function of the image tree, so it
+-- is the same for files that mean the same.
 
 -- An image: its node and its payload, if it has one. No definition here reads the nodes after the
 -- node.
@@ -24,7 +24,7 @@ pub record Image : Type 0 where
   pub entry : Sibling PropertyMap
   pub payload : Option (List ℕ)
 
--- Nodes and their payloads as a list of images.
+-- Nodes and their payloads, of which there are as many, as a list of images.
 abbrev pub images_with : List (Sibling PropertyMap) → List (Option (List ℕ)) → List Image
 images_with [] payloads = []
 images_with entries [] = []

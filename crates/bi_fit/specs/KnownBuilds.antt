@@ -1,10 +1,10 @@
-use Rattle.std.specs.Prelude.{◌≡◌, ℕ, List, [], ◌∷◌, ◌++◌, length, codes, Option, Some, None}
+use Rattle.std.specs.Prelude.{◌≡◌, ℕ, List, [], ◌∷◌, length, codes, Some, None}
 use Rattle.bi_base.specs.Cells.{cell}
 use Rattle.bi_blob.specs.Tree.{Nodes, none, node, Root, Property}
 use Rattle.bi_blob.specs.Blob.{off_dt_strings, size_dt_struct, size_dt_strings}
 use Rattle.bi_hash.specs.declared.algo.Algo.TheVariants.{Sha256}
 use Rattle.bi_hash.specs.Digests.{digest_of}
-use Rattle.bi_fit.specs.declared.form.Form.TheVariants.{Embedded, External}
+use Rattle.bi_fit.specs.declared.form.Form.TheVariants.{Embedded}
 use Rattle.bi_fit.specs.declared.key.Key.TheVariants.{Kernel, Ramdisk}
 use Rattle.bi_fit.specs.Text.{normal_tree, fit_text}
 use Rattle.bi_fit.specs.Building.{FitHead, ImageSpecification, text_value, built}
@@ -93,8 +93,8 @@ known_tree kernel_digest ramdisk_digest = record {
 abbrev pub known_text : List ℕ
 known_text = fit_text Embedded (built known_head (known_kernel ∷ known_ramdisk ∷ []))
 
--- The built tree is this one with the SHA-256 of each payload, and its text has 824 bytes: the structure block has 656, and the
--- strings block (at 712) has 112.
+-- The built tree is this one with the SHA-256 of each payload, and its text has 824 bytes: the
+-- structure block has 656, and the strings block (at 712) has 112.
 pub record BuiltIsKnown : Type 0 where
   pub is_tree : normal_tree Embedded (built known_head (known_kernel ∷ known_ramdisk ∷ []))
       ≡ known_tree (digest_of Sha256 (codes "hello")) (digest_of Sha256 (codes "abc"))

@@ -101,7 +101,7 @@ pub record NoneIsNotEmpty : Type 0 where
   pub bare_length : length bare_file ≡ 100
   pub empty_length : length empty_file ≡ 120
 
--- Three images with the payloads `hello`, none of whose bytes, and `x`, in the form Embedded.
+-- Three images, with the payload `hello`, an empty one, and `x`, in the form Embedded.
 abbrev pub three_embedded : List ℕ
 three_embedded =
     file_of_images

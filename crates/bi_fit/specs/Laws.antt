@@ -1,6 +1,6 @@
 use Rattle.std.specs.Prelude.{◌≡◌, ◌⊎◌, ◌↔◌, ℕ, ◌+◌, ◌%◌, ◌≤◌, List, ◌++◌, Option, Some, length}
-use Rattle.std.specs.Prelude.{map}
-use Rattle.std.specs.List.{AllZip}
+use Rattle.std.specs.Prelude.{map, [], ◌∷◌, nat_eq, IsTrue, filter}
+use Rattle.std.specs.List.{AllByRecursion, AllZip, ends_with}
 use Rattle.bi_base.specs.declared.fault.Fault.{Fault}
 use Rattle.bi_base.specs.Cells.{AreBytes}
 use Rattle.bi_base.specs.Limits.{Bounds}
@@ -8,9 +8,10 @@ use Rattle.bi_hash.specs.declared.algo.Algo.TheVariants.{Sha256}
 use Rattle.bi_hash.specs.declared.verdicts.Verdict.TheVariants.{Good}
 use Rattle.bi_hash.specs.Algos.{algorithm_name}
 use Rattle.bi_hash.specs.Digests.{digest_of}
-use Rattle.bi_blob.specs.Tree.{depth_of}
+use Rattle.bi_blob.specs.Tree.{HasNoZero, depth_of}
 use Rattle.bi_blob.specs.Blob.{magic, blob_magic}
-use Rattle.bi_blob.specs.Layout.{longest_text}
+use Rattle.bi_blob.specs.Layout.{strings_of, longest_text}
+use Rattle.bi_fit.specs.declared.key.Key.{Key}
 use Rattle.bi_fit.specs.declared.form.Form.{Form}
 use Rattle.bi_fit.specs.declared.form.Form.TheVariants.{External}
 use Rattle.bi_fit.specs.ImageTree.{ImageTree, IsImageTree, each_own}
@@ -18,8 +19,10 @@ use Rattle.bi_fit.specs.Payloads.{source_of, payload_place, IsAtPlace}
 use Rattle.bi_fit.specs.File.{IsFitFile, FitMeans}
 use Rattle.bi_fit.specs.Faults.{IsFitFault}
 use Rattle.bi_fit.specs.Text.{blob_of, payloads_end, payload_places, fit_text}
-use Rattle.bi_fit.specs.Judgement.{judgement, CheckedHash, verdicts_of}
+use Rattle.bi_fit.specs.Judgement.{judgement, CheckedHash, verdicts_of, Listed, NoKey}
+use Rattle.bi_fit.specs.Judgement.{ListedImages, listed_names, listed_of, default_of}
 use Rattle.bi_fit.specs.Building.{FitHead, ImageSpecification, CanBeBuilt, hash_node_name, built}
+use Rattle.bi_fit.specs.Building.{configuration_name, is_under}
 
 -- Laws of what a flattened image tree is (Flattened Image Tree Specification), and of its faults
 -- and texts (profile of this project). Each is the contract of a function in `laws`.
@@ -95,7 +98,8 @@ NormalTextIsAccepted =
     → length (fit_text form tree) ≤ bounds.file → bounds.file ≤ longest_text
     → IsAcceptedAs bounds (fit_text form tree) tree
 
--- Texts in one form, one of which is not too long, are the same exactly where the image trees are.
+-- Two image trees have the same text in one form exactly where they are the same, if one of the
+-- texts is not too long.
 abbrev pub SameTextSameTree : Type 0
 SameTextSameTree =
     (form : Form) (one other : ImageTree) → IsImageTree one → IsImageTree other
@@ -109,8 +113,7 @@ TextKeepsJudgement =
     → length (fit_text form tree) ≤ longest_text → IsFitFile (fit_text form tree) other
     → judgement other ≡ judgement tree
 
--- Files that mean the same have the same verdicts, configurations, default and signatures, and so
--- have files with the same normal text.
+-- Files with the same normal text have the same verdicts, configurations, default and signatures.
 abbrev pub SameTextSameJudgement : Type 0
 SameTextSameJudgement =
     (form : Form) (file other_file : List ℕ) (tree other : ImageTree) → IsFitFile file tree
@@ -174,3 +177,32 @@ pub record HasGoodPayloads (head : FitHead) (images : List ImageSpecification) :
 abbrev pub BuiltHasGoodPayloads : Type 0
 BuiltHasGoodPayloads = (head : FitHead) (images : List ImageSpecification)
     → HasGoodPayloads head images
+
+-- How a value lists names: each name is followed by a zero. Where the last byte of a value is a
+-- zero, all of it is names.
+pub record ReadsNames : Type 0 where
+  pub listed : (names : List (List ℕ)) → AllByRecursion HasNoZero names
+      → listed_names (strings_of names) ≡ names
+  pub whole : (value : List ℕ) → IsTrue (ends_with nat_eq value (0 ∷ []))
+      → strings_of (listed_names value) ≡ value
+  pub no_zero : (value : List ℕ) → AllByRecursion HasNoZero (listed_names value)
+
+-- What a list of these images is: none where there is no image.
+abbrev pub list_of : List ImageSpecification → Listed
+list_of [] = NoKey
+list_of (image ∷ later) =
+    ListedImages
+    (map (λ image. record { name = image.name; payload = Some image.payload }) (image ∷ later))
+
+-- The configuration of a built tree lists the images of each key in their order, and it is the
+-- default.
+pub record HasConfiguration (head : FitHead) (images : List ImageSpecification) : Type 0 where
+  pub listed : (key : Key) → listed_of (built head images) configuration_name key
+      ≡ list_of (filter (λ image. is_under key image.key) images)
+  pub default : default_of (built head images) ≡ Some configuration_name
+
+-- Each tree that can be built has.
+abbrev pub BuiltHasConfiguration : Type 0
+BuiltHasConfiguration =
+    (head : FitHead) (images : List ImageSpecification) → CanBeBuilt head images
+    → HasConfiguration head images

@@ -43,7 +43,7 @@ payload_places base end (Some payload ∷ later) =
     Some (base + up4 end) ∷ payload_places base (end_after end (Some payload)) later
 
 -- Image nodes with the properties that give their payloads, if the external payloads before theirs
--- end at `end`.
+-- end at `end`. There are as many entries of payloads as nodes.
 abbrev pub with_payloads : Form → (end : ℕ) → List (Option (List ℕ)) → Nodes PropertyMap
     → Nodes PropertyMap
 with_payloads form end [] nodes = nodes

@@ -8,6 +8,7 @@ ghost use Rattle.bi_fit.specs.KnownFiles.{ChildrenKeepOrder, OnlyImagesHavePaylo
 ghost use Rattle.bi_fit.specs.KnownFiles.{UnusedHaveNoMeaning};
 ghost use Rattle.bi_fit.specs.KnownFaults.{WithoutImages, RegionsHaveFaults, FirstFaultCounts};
 ghost use Rattle.bi_fit.specs.KnownJudgements.{ListsAreRead, HashesAreJudged};
+ghost use Rattle.bi_fit.specs.KnownBuilds.{BuiltIsKnown};
 
 /// A file of 88 bytes with a root and its child `images` is a flattened image tree, and is its own
 /// text in both forms.
@@ -84,4 +85,10 @@ pub fn lists_are_read()
 /// Hash nodes of small images have known verdicts.
 pub fn hashes_are_judged()
     ensures hashes { HashesAreJudged }
+{}
+
+/// The tree that is built of a small kernel and a small ramdisk has known nodes and properties,
+/// and a text of 824 bytes.
+pub fn built_is_known()
+    ensures built { BuiltIsKnown }
 {}

@@ -7,7 +7,8 @@ ghost use Rattle.bi_fit.specs.Laws.{TextIsAccepted, NormalTextIsAccepted, SameTe
 ghost use Rattle.bi_fit.specs.Laws.{TextKeepsJudgement, SameTextSameJudgement};
 ghost use Rattle.bi_fit.specs.Laws.{EachExternalTextHasItsLength, PayloadsEndLater};
 ghost use Rattle.bi_fit.specs.Laws.{ExternalPayloadsArePlaced, PayloadsAreAtPlaces};
-ghost use Rattle.bi_fit.specs.Laws.{BuiltIsAccepted, BuiltHasGoodPayloads};
+ghost use Rattle.bi_fit.specs.Laws.{BuiltIsAccepted, BuiltHasGoodPayloads, ReadsNames};
+ghost use Rattle.bi_fit.specs.Laws.{BuiltHasConfiguration};
 
 /// A file is a flattened image tree of at most one meaning.
 pub fn one_meaning()
@@ -116,4 +117,16 @@ pub fn built_is_accepted()
 /// node, with the SHA-256 of its payload, and the verdict on it is Good.
 pub fn built_has_good_payloads()
     ensures { BuiltHasGoodPayloads }
+{}
+
+/// The value of a key lists names, each followed by a zero: names without zeros are listed as they
+/// are, and all of a value whose last byte is a zero is names.
+pub fn reads_names()
+    ensures names { ReadsNames }
+{}
+
+/// The configuration of a built tree lists, under each key, the images of that key in their order.
+/// It is the default.
+pub fn built_has_configuration()
+    ensures { BuiltHasConfiguration }
 {}
