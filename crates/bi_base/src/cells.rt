@@ -1,5 +1,5 @@
 //! Cells: big-endian numbers, read at an offset and appended to a sink.
-#![tactic(auto, unfolding(crate::specs::Cells::cell, crate::specs::Cells::u32_at, crate::specs::Cells::u64_at))]
+#![tactic(auto, unfolding(crate::specs::Cells::cell, crate::specs::Cells::u32_at))]
 
 ghost use Rattle.std.specs.Prelude.{◌≡◌, ◌+◌, ◌^◌, ◌<◌, ◌≤◌, ◌↔◌, length, IsSome, IfSome};
 ghost use Rattle.std.specs.List.{flat_map};
@@ -9,8 +9,8 @@ ghost use Rattle.bi_base.specs.Sinks.{Wrote};
 use crate::fault::Error;
 use crate::sinks::Sink;
 
-/// The number whose cell, its four big-endian bytes (Devicetree Specification, 2.2.4.2: u32), stands at offset `at`. None
-/// exactly where the bytes end before the cell does.
+/// The number whose cell, its four big-endian bytes (Devicetree Specification, 2.2.4.2: u32),
+/// stands at offset `at`. None exactly where the bytes end before the cell does.
 pub fn be32_at(bytes: &[u8], at: usize) -> Option<u32>
     ensures within { IsSome result ↔ (at + 4 ≤ length bytes.now) }
     ensures value { IfSome result (λ number. number ≡ u32_at bytes.now at) }
@@ -28,8 +28,9 @@ pub fn up4(n: usize) -> usize
     (n + 3) / 4 * 4
 }
 
-/// The number whose two cells, its eight big-endian bytes (Devicetree Specification, 2.2.4.2: u64), are at offset `at`.
-/// None exactly where the bytes end before the two cells do.
+/// The number whose two cells, its eight big-endian bytes (Devicetree Specification, 2.2.4.2: u64),
+/// are at offset `at`. None exactly where the bytes end before the two cells do.
+#[tactic(auto, unfolding(crate::specs::Cells::u64_at))]
 pub fn be64_at(bytes: &[u8], at: usize) -> Option<u64>
     ensures within { IsSome result ↔ (at + 8 ≤ length bytes.now) }
     ensures value { IfSome result (λ number. number ≡ u64_at bytes.now at) }
@@ -39,8 +40,8 @@ pub fn be64_at(bytes: &[u8], at: usize) -> Option<u64>
     Some(u64::from_be_bytes(*cells))
 }
 
-/// Appends the cell of this number: its four bytes, the highest first (Devicetree Specification, 2.2.4.2: u32). Fails as
-/// the sink does.
+/// Appends the cell of this number: its four bytes, the highest first (Devicetree Specification,
+/// 2.2.4.2: u32). Fails as the sink does.
 pub fn put_cell<S: Sink>(sink: &mut S, number: u32) -> Result<(), Error>
     ensures { Wrote S.appends S.fails sink.old (cell number) result sink.new }
 {

@@ -1,5 +1,5 @@
-//! What every layer of bootimg stands on: cells, CRC-32, limits, causes and faults, reading a whole input, and sinks
-//! that bytes are written to.
+//! What every layer of bootimg stands on: cells, CRC-32, limits, causes and faults, reading a whole
+//! input, and sinks that bytes are written to.
 #![tactic(auto)]
 
 mod buffered_sink;

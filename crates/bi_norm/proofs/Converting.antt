@@ -158,8 +158,7 @@ keys_distinct_in (conversion ∷ later) image_type each =
 
 keys_distinct : (image_type : ℕ) → AreDistinct (map image_name (keys_of_type image_type))
 keys_distinct image_type =
-    keys_distinct_in conversions image_type
-    (
+    keys_distinct_in conversions image_type (
       (tt, tt),
       (
         (tt, tt),

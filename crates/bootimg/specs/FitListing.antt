@@ -1,4 +1,5 @@
-use Rattle.std.specs.Prelude.{◌≡◌, ℕ, List, [], ◌∷◌, ◌++◌, Option, None, Some, length, map, flat_map}
+use Rattle.std.specs.Prelude.{◌≡◌, ℕ, List, [], ◌∷◌, ◌++◌, Option, None, Some, length, map}
+use Rattle.std.specs.Prelude.{flat_map}
 use Rattle.std.specs.Prelude.{codes, unwrap_or, false}
 use Rattle.std.specs.Fmt.{decimal}
 use Rattle.bi_base.specs.Cells.{cell8}
@@ -25,7 +26,8 @@ hexadecimal_64 number =
 -- The line of a memory reservation.
 abbrev pub reservation_line : Reservation → List ℕ
 reservation_line reservation =
-    line (codes "reservation" ∷ hexadecimal_64 reservation.address ∷ hexadecimal_64 reservation.size ∷ [])
+    line (codes "reservation" ∷ hexadecimal_64 reservation.address ∷ hexadecimal_64 reservation.size
+    ∷ [])
 
 -- The property that gives a payload, by its name.
 abbrev pub source_word : PayloadSource → List ℕ

@@ -1,11 +1,11 @@
 //! Tests of normal forms, from files and from readers to writers.
 
-use bi_base::{Cause, Error, Fault, Limits, TracedReader, TracedWriter};
-use bi_norm::{Form, normalise, normalise_to, normalise_traced};
 use crate::images::{
     EMPTY_KERNEL, FIRST_PART_TOO_LONG, KERNEL, LESS_THAN_A_SIZE, NO_END_OF_SIZES, NO_PARTS,
     PADDED_KERNEL, PADDED_PARTS, PARTS, SCRIPT, SECOND_PART_TOO_LONG, TREE,
 };
+use bi_base::{Cause, Error, Fault, Limits, TracedReader, TracedWriter};
+use bi_norm::{Form, normalise, normalise_to, normalise_traced};
 use scripted_io::{Script, ScriptedReader, ScriptedWriter, Turn};
 use std::test::Fail;
 

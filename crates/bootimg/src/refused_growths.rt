@@ -4,9 +4,9 @@
 use crate::extract::{ExtractError, Select, extract_to};
 use crate::images::{PADDED_PARTS, PARTS, PARTS_LISTING};
 use crate::listing::list_to;
-use bi_norm::{Form, normalise, normalise_to};
 use crate::run::run;
 use bi_base::{Error, Limits, Sink, VecSink, read_all};
+use bi_norm::{Form, normalise, normalise_to};
 use scripted_io::{Script, ScriptedReader, Turn};
 use std::alloc::Global;
 use std::process::Abort;
