@@ -1,7 +1,8 @@
-//! Writes devicetree blobs from what standard input says of them, one after the other. Of each blob it has `D` and the
-//! number of the boot processor; `R`, an address and a size for each reservation; `B` and a name where a node begins, `P`, a
-//! name and a value for a property, and `E` where a node ends; and `F` at the end. A number has four bytes, or eight in a
-//! reservation, the highest first. Before a name or a value comes its length as a number.
+//! Writes devicetree blobs from what standard input says of them, one after the other. Of each
+//! blob it has `D` and the number of the boot processor; `R`, an address and a size for each
+//! reservation; `B` and a name where a node begins, `P`, a name and a value for a property, and
+//! `E` where a node ends; and `F` at the end. A number has four bytes, or eight in a reservation,
+//! the highest first. Before a name or a value comes its length as a number.
 #![tactic(auto)]
 
 use bi_base::{Error, VecSink};
