@@ -2,7 +2,7 @@
 # Blobs that Debian's dtc makes, laid out again: tests/layout/events.py has fdtget and fdtdump say what each blob has, a
 # program builds documents from that and writes their texts, and dtc and fdtdump print of each text what they print of the
 # blob that it comes from, but for the order of properties and nodes. It needs Debian's device-tree-compiler and python3, and
-# installs them where one is missing and it runs as root. The program, tests/layout/main.rt, is built in a copy of the sources.
+# installs them where one is missing and it runs as root. The program, tests/layout/main.rt.source, is built in a copy of the sources.
 set -u
 
 export LC_ALL=C
@@ -155,7 +155,7 @@ check "fdtget and fdtdump say what the blobs have" sh -c \
 sed -i '/^bi_lay:\|^bi_blob:\|^bi_base:\|^scripted_io:/!d' "$work/copy/crates.txt"
 echo "layout_of_events: bi_lay bi_base" >> "$work/copy/crates.txt"
 mkdir -p "$work/copy/crates/layout_of_events/src"
-cp "$root/tests/layout/main.rt" "$work/copy/crates/layout_of_events/src/main.rt"
+cp "$root/tests/layout/main.rt.source" "$work/copy/crates/layout_of_events/src/main.rt"
 (cd "$work/copy/crates/layout_of_events" && rt try < "$work/blobs/events" > "$work/blobs/texts" 2> "$work/blobs/errors")
 check "the program writes texts" test -s texts
 [ "$failed" = 0 ] || { tail -n 20 errors; finish; }

@@ -22,7 +22,7 @@ mod write_sink;
 mod writing;
 
 pub use buffered_sink::BufferedSink;
-pub use cells::{be32_at, put_cell, put_cells, up4};
+pub use cells::{be32_at, be64_at, put_cell, put_cells, up4};
 pub use checksum::crc32;
 pub use count_sink::CountSink;
 pub use crc::Crc32;

@@ -3,7 +3,7 @@ use Rattle.bi_base.specs.Limits.{Bounds}
 use Rattle.bi_legacy.specs.File.{LegacyMeans}
 use Rattle.bi_legacy.specs.Meaning.{LegacyImage}
 use Rattle.bi_legacy.specs.Text.{legacy_text}
-use Rattle.bi_norm.specs.declared.form.Form.{Form}
+use Rattle.bi_fit.specs.declared.form.Form.{Form}
 
 -- What a boot image of any kind means.
 

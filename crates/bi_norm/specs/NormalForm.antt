@@ -4,7 +4,7 @@ use Rattle.bi_base.specs.declared.fault.Error.{Error}
 use Rattle.bi_base.specs.declared.fault.Error.TheVariants.{Refused, OutOfMemory, ReadFailed, WriteFailed}
 use Rattle.bi_base.specs.Limits.{Bounds}
 use Rattle.bi_base.specs.Reading.{too_large}
-use Rattle.bi_norm.specs.declared.form.Form.{Form}
+use Rattle.bi_fit.specs.declared.form.Form.{Form}
 use Rattle.bi_norm.specs.Faults.{IsFileFault}
 use Rattle.bi_norm.specs.Meaning.{Meaning, Means, MeansSomething, MeansNothing, normal_text, signature_count}
 

@@ -6,17 +6,17 @@ ghost use Rattle.bi_base.specs.Reading.{TakesAtMost};
 ghost use Rattle.bi_base.specs.Traces.{ReadsWell, WritesWell};
 ghost use Rattle.bi_base.specs.Writing.{WroteAndFlushed, WriteOrFlushStopped};
 ghost use Rattle.bi_base.specs.Transfers.{Moved, MoveFailed, Transferred, TransferFailed, SameStreams};
-ghost use Rattle.bi_norm.specs.declared.form.Form.{Form};
+ghost use Rattle.bi_fit.specs.declared.form.Form.{Form};
 ghost use Rattle.bi_legacy.specs.Reading.{IsParsedImage};
 ghost use Rattle.bi_norm.specs.NormalForm.{Appended, FailedInto, IsNormalForm, IsNormaliseError, IsStreamError, Normalised};
 
-use crate::form::Form;
+use bi_fit::Form;
 use crate::image::BootImage;
 use bi_base::{
     BufferedSink, Error, Limits, Sink, TracedRead, TracedReader, TracedWrite, TracedWriter, VecSink,
     read_all_traced,
 };
-use bi_legacy::{Legacy, emit};
+use bi_legacy::{Legacy, emit_image};
 use std::alloc::Global;
 use std::io::{Read, Write};
 
@@ -69,7 +69,7 @@ fn emit_legacy<S: Sink>(
         IfErr result (FailedInto S.fails limits form file sink.old sink.new) }
 {
     let parts = parts_of(alloc, image)?;
-    emit(image.fields(), &parts, limits, sink)?;
+    emit_image(image, &parts, limits, sink)?;
     Ok(0)
 }
 
