@@ -1,7 +1,7 @@
-use Rattle.std.proofs.Common.{◌≡◌, ℕ, List, [], ◌∷◌, ◌++◌, map, fold, refl, sym, ap, ◌∙◌, append_assoc, append-nil}
+use Rattle.std.proofs.Common.{List, [], ◌∷◌, ◌++◌, map, fold, sym, ap, ◌∙◌, append_assoc, append-nil}
 use Rattle.std.proofs.lemmas.List.Sums.{fold-append}
-use Rattle.bi_blob.specs.Tree.{Nodes, none, node, Property, names}
-use Rattle.bi_blob.specs.Events.{Event, NodeStart, NodeProperty, NodeEnd, events}
+use Rattle.bi_blob.specs.Tree.{none, node, names}
+use Rattle.bi_blob.specs.Events.{Event, NodeProperty, NodeEnd, events}
 use Rattle.bi_blob.specs.Stages.{Stage, BeforeRoot, Inside, OpenNode, empty_node, with_child, next_stage}
 use Rattle.bi_blob.specs.Following.{AllFollow, MayFollowInText}
 use Rattle.bi_lay.specs.Laws.{PropertiesAddTheirNames, NodesAddTheirNames, EachMayFollow}

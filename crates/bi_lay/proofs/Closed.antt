@@ -1,4 +1,4 @@
-use Rattle.std.proofs.Common.{◌≡◌, ℕ, ◌<◌, ◌-◌, List, [], ◌∷◌, length, Option, Some, refl, ap, subst, arith, get_or, vec_len}
+use Rattle.std.proofs.Common.{◌≡◌, ◌<◌, ◌-◌, List, [], ◌∷◌, length, Some, refl, ap, subst, arith, get_or, vec_len}
 use Rattle.std.proofs.lemmas.Option.{slice_get-get_or}
 use Rattle.bi_blob.specs.Stages.{Stage, BeforeRoot, Inside, AfterRoot, open_nodes}
 use Rattle.bi_blob.specs.TextLaws.{HasOneNormalTree}
@@ -7,7 +7,7 @@ use Rattle.bi_lay.specs.declared.document.Doc.TheInside.{Inside as Fields}
 use Rattle.bi_lay.specs.declared.items.Item.{Item}
 use Rattle.bi_lay.specs.declared.items.Item.TheVariants.{Begin, Property, End}
 use Rattle.bi_lay.specs.Items.{events_of_items}
-use Rattle.bi_lay.specs.Documents.{IsConsistent, IsNewest, last, stage_of}
+use Rattle.bi_lay.specs.Documents.{IsConsistent, IsNewest, stage_of}
 
 -- A document without open nodes in which a node was begun holds one tree.
 

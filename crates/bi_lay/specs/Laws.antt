@@ -1,4 +1,4 @@
-use Rattle.std.specs.Prelude.{◌≡◌, ℕ, List, ◌∷◌, ◌++◌, map, fold}
+use Rattle.std.specs.Prelude.{◌≡◌, List, ◌∷◌, ◌++◌, map, fold}
 use Rattle.bi_blob.specs.Tree.{Nodes, Property, names}
 use Rattle.bi_blob.specs.Events.{Event, NodeProperty, events}
 use Rattle.bi_blob.specs.Stages.{BeforeRoot, Inside, OpenNode, next_stage}

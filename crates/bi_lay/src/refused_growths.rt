@@ -103,17 +103,22 @@ fn text_of(rt: &(impl Abort + AllocGlobal), doc: &Doc<'_>) -> Result<Vec<u8>, Er
 }
 
 /// Builds a document, and of the allocations for it has the one of this number, from 1, refused.
-/// It is the one call that is refused memory, is made again, and the text is that of a document
-/// that was built without a refusal. True where there was a refusal.
-fn builds(rt: &(impl Abort + AllocGlobal), growth: u64) -> Result<bool, Fail> {
+/// It is the one call that is refused memory. Returns the text, and whether there was a refusal.
+fn text_with(rt: &(impl Abort + AllocGlobal), growth: u64) -> Result<(Vec<u8>, bool), Error> {
     let is_over = is_refused(rt.alloc(), REFUSED.saturating_sub(growth));
     let mut doc = Doc::new(rt.alloc(), 7)?;
     let refusals = build(rt, &mut doc)?;
     let is_met = growth != 0 && !is_over && !is_refused(rt.alloc(), growth);
     assert_eq!(rt; refusals, u64::from(is_met));
-    let mut ample = Doc::new(rt.alloc(), 7)?;
-    assert_eq!(rt; build(rt, &mut ample)?, 0);
-    assert!(rt; text_of(rt, &doc)?.as_slice() == text_of(rt, &ample)?.as_slice());
+    Ok((text_of(rt, &doc)?, is_met))
+}
+
+/// A document that is refused memory once has the text of one that is not. True where there was a
+/// refusal.
+fn builds(rt: &(impl Abort + AllocGlobal), growth: u64) -> Result<bool, Fail> {
+    let (text, is_met) = text_with(rt, growth)?;
+    let (ample, _) = text_with(rt, 0)?;
+    assert!(rt; text.as_slice() == ample.as_slice());
     Ok(is_met)
 }
 

@@ -181,32 +181,33 @@ fn nothing_may_follow_the_root(rt: HostRuntime) -> Result<(), Fail> {
     Ok(())
 }
 
+/// The size of a document whose root has a property with this value for each name that the names
+/// begin with.
+fn size_with<'a>(
+    rt: &(impl Abort + AllocGlobal),
+    names: &'a [u8],
+    value: &'a [u8],
+) -> Result<Option<u32>, Error> {
+    let mut doc = Doc::new(rt.alloc(), 0)?;
+    begin(rt, &mut doc, b"")?;
+    for (index, _) in names.iter().enumerate() {
+        property(rt, &mut doc, &names[..index + 1], Value::Slice(value))?;
+    }
+    end(rt, &mut doc);
+    Ok(size(rt, &doc))
+}
+
 // One slice of 16 MiB as the value of each of some properties.
 #[test]
 fn a_text_of_two_gibibytes_has_no_size(rt: HostRuntime) -> Result<(), Fail> {
     let mut value = Vec::new(rt.alloc());
     value.resize(16_777_216, 0u8)?;
     let names = [b'a'; 128];
-    let mut doc = Doc::new(rt.alloc(), 0)?;
-    begin(&rt, &mut doc, b"")?;
-    for length in 1..128 {
-        property(&rt, &mut doc, &names[..length], Value::Slice(&value))?;
-    }
-    let mut shorter = Doc::new(rt.alloc(), 0)?;
-    begin(&rt, &mut shorter, b"")?;
-    for length in 1..128 {
-        property(&rt, &mut shorter, &names[..length], Value::Slice(&value))?;
-    }
-    property(&rt, &mut doc, &names, Value::Slice(&value))?;
-    end(&rt, &mut doc);
-    assert_eq!(rt; size(&rt, &doc), None);
+    assert_eq!(rt; size_with(&rt, &names, &value)?, None);
     // The header and the end pair, the root, the properties, FDT_END, and names of 1 to 127 bytes.
     let blocks: u32 = 56 + 12 + 127 * (12 + 16_777_216) + 4;
-    end(&rt, &mut shorter);
-    assert_eq!(rt;
-        size(&rt, &shorter),
-        Some((blocks + 127 * 65).div_ceil(4) * 4)
-    );
+    let size = size_with(&rt, &names[..127], &value)?;
+    assert_eq!(rt; size, Some((blocks + 127 * 65).div_ceil(4) * 4));
     Ok(())
 }
 
