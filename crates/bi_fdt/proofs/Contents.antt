@@ -1,4 +1,4 @@
-use Rattle.std.proofs.Common.{◌≡◌, ℕ, zero, suc, ◌+◌, ◌*◌, ◌<◌, ◌≤◌, List, [], ◌∷◌, length, map, Some, None, slice_get, refl, sym, ap, subst, ◌∙◌, inl, inr, arith}
+use Rattle.std.proofs.Common.{◌≡◌, ℕ, zero, suc, ◌+◌, ◌*◌, ◌<◌, ◌≤◌, List, length, map, Some, None, slice_get, refl, sym, ap, subst, ◌∙◌, inl, inr, arith}
 use Rattle.std.specs.Prelude.{if◌then◌else◌}
 use Rattle.std.proofs.lemmas.Bool.{cases_Bool}
 use Rattle.bi_base.specs.declared.fault.Error.{Error}
@@ -8,7 +8,7 @@ use Rattle.bi_base.specs.Cells.{AreBytes, u64_at}
 use Rattle.bi_base.specs.Limits.{Bounds}
 use Rattle.bi_blob.specs.Tree.{Root, FileNode}
 use Rattle.bi_blob.specs.Blob.{Reservation, boot_cpuid_phys, header_length, lacks_structure_size, totalsize, off_mem_rsvmap, tree_blocks, Header, IsBlob, IsBlobWithin}
-use Rattle.bi_blob.specs.BlobFaults.{HasNoHeaderFault, HasReservations, HasNoFaultBeforeTree, IsFaultBeforeTree, IsStructureFault, IsBlobFault, InHeader, InReservations, InStructure}
+use Rattle.bi_blob.specs.BlobFaults.{HasNoHeaderFault, HasReservations, IsFaultBeforeTree, IsStructureFault, IsBlobFault, InHeader, InReservations, InStructure}
 use Rattle.bi_blob.proofs.Blobs.Headers.{HasNoHeaderFault-Header}
 use Rattle.bi_blob.proofs.Blobs.ReservationFaults.{reservations_at, HasReservations-BeginsWithReservations}
 use Rattle.bi_blob.proofs.Blobs.Faults.{blob_has_no_fault, one_blob_fault, blob_of_parts}

@@ -1,9 +1,8 @@
-use Rattle.std.proofs.Common.{◌≡◌, ℕ, zero, suc, ◌+◌, ◌-◌, ◌<◌, ◌≤◌, true, Some, slice_get, List, [], ◌∷◌, ◌++◌, length, map, drop, reverse, refl, sym, ap, subst, ◌∙◌, arith}
+use Rattle.std.proofs.Common.{◌≡◌, ℕ, zero, suc, ◌+◌, ◌-◌, ◌<◌, true, Some, slice_get, List, [], ◌∷◌, ◌++◌, length, map, drop, reverse, refl, sym, ap, subst, ◌∙◌, arith}
 use Rattle.std.proofs.Math.ListN.{set}
 use Rattle.std.proofs.Math.Seq.{drop-append_seam}
 use Rattle.std.proofs.lemmas.List.{length-append, length-map, map-append, drop-map, append-nil, reverse-append, map_push}
-use Rattle.std.specs.BTreeSet.{BTreeSet, Updates, IsEmpty}
-use denote.Ref.{Bor}
+use Rattle.std.specs.BTreeSet.{Updates}
 use Rattle.bi_blob.specs.Tree.{FileProperty, names}
 use Rattle.bi_blob.specs.Events.{FileNodeProperty, FileNodeEnd}
 use Rattle.bi_blob.proofs.Blobs.PartialNodes.{PartialNode, begun, said_by, said_of, with_one_property, with_one_child, located_of}
@@ -14,10 +13,10 @@ use Rattle.bi_fdt.specs.declared.table.Entry.{Entry}
 use Rattle.bi_fdt.specs.declared.table.Entry.TheVariants as entry
 use Rattle.bi_fdt.specs.declared.table.NodeEntry.{NodeEntry}
 use Rattle.bi_fdt.specs.declared.table.Property.{Property}
-use Rattle.bi_fdt.specs.Table.{Item, NodeItem, PropertyItem, first_properties, count_inside, item_of, items_of, file_property_of, AreLinked}
+use Rattle.bi_fdt.specs.Table.{Item, NodeItem, PropertyItem, count_inside, item_of, items_of, file_property_of, AreLinked}
 use Rattle.bi_fdt.specs.Growth.{AreOpen, Holds, IsGrowing, IsFinished, EndsInside}
-use Rattle.bi_fdt.proofs.NameSets.{name_cmp, Holds-none, Holds-insert}
-use Rattle.bi_fdt.proofs.Items.{items_of-append, depth_after-said, depth_after, open_items, node_items, items_of-said, items_of-open, inside-open, childless_items}
+use Rattle.bi_fdt.proofs.NameSets.{name_cmp, Holds-insert}
+use Rattle.bi_fdt.proofs.Items.{items_of-append, open_items, node_items, items_of-said, items_of-open, inside-open, childless_items}
 use Rattle.bi_fdt.proofs.Links.{AreLinked-node, AreLinked-property, AreLinked-end, items-set, drop-push, properties_alone, AreProperties}
 
 -- What one token does to a growing table.

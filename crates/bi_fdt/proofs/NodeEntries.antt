@@ -1,21 +1,19 @@
-use Rattle.std.proofs.Common.{◌≡◌, ◌⊎◌, ℕ, zero, suc, ◌+◌, ◌-◌, ◌*◌, ◌<◌, ◌≤◌, ◌^◌, Bool, true, false, List, [], ◌∷◌, ◌++◌, length, map, drop, take, get_or, Some, None, slice_get, refl, sym, ap, subst, ◌∙◌, inl, inr, arith}
+use Rattle.std.proofs.Common.{◌≡◌, ℕ, zero, suc, ◌+◌, ◌-◌, ◌<◌, ◌≤◌, List, [], ◌∷◌, length, map, drop, take, get_or, Some, None, slice_get, refl, sym, ap, subst, ◌∙◌, inl, inr, arith}
 use Rattle.std.specs.Prelude.{IsTrue}
 use Rattle.std.proofs.Math.Seq.{drop-cons}
-use Rattle.std.proofs.lemmas.Bool.{false≢true, cases_lt, cases_eq}
-use Rattle.std.proofs.lemmas.List.{drop-map, length-map, drop-drop}
-use Rattle.bi_blob.specs.Tree.{Nodes, none, node, Root, FileProperty, FileNode, property_of, as_nodes}
-use Rattle.bi_blob.specs.Events.{FileEvent, FileNodeStart, FileNodeProperty, FileNodeEnd, file_events_of}
-use Rattle.bi_blob.specs.Lookups.{Sibling, siblings, root_node, node_at}
+use Rattle.std.proofs.lemmas.Bool.{false≢true, cases_lt}
+use Rattle.std.proofs.lemmas.List.{drop-map, drop-drop}
+use Rattle.bi_blob.specs.Tree.{FileProperty}
+use Rattle.bi_blob.specs.Events.{FileEvent, FileNodeStart, FileNodeProperty, FileNodeEnd}
 use Rattle.bi_fdt.specs.declared.table.Entry.{Entry}
 use Rattle.bi_fdt.specs.declared.table.Entry.TheVariants as entry
 use Rattle.bi_fdt.specs.declared.table.NodeEntry.{NodeEntry}
 use Rattle.bi_fdt.specs.declared.table.Property.{Property}
-use Rattle.bi_fdt.specs.Table.{Item, NodeItem, PropertyItem, first_properties, nodes_of, items_of, count_inside, item_of, file_property_of, IsLinked, AreLinked}
-use Rattle.bi_fdt.specs.Content.{begins_with_node, first_sibling, root_in, table_of}
+use Rattle.bi_fdt.specs.Table.{Item, NodeItem, PropertyItem, first_properties, nodes_of, items_of, count_inside, item_of, IsLinked, AreLinked}
+use Rattle.bi_fdt.specs.Content.{begins_with_node}
 use Rattle.bi_fdt.specs.Views.{IsNodeOf}
-use Rattle.bi_fdt.proofs.Parsing.{nodes-same, nodes-deeper, nodes-above, nodes-table}
+use Rattle.bi_fdt.proofs.Parsing.{nodes-deeper}
 use Rattle.bi_fdt.proofs.Items.{inside-deeper, inside-stops}
-use Rattle.bi_fdt.proofs.Links.{inside-most}
 
 -- The entries of nodes in a table.
 

@@ -1,18 +1,17 @@
-use Rattle.std.proofs.Common.{◌≡◌, ◌⊎◌, ℕ, zero, suc, ◌+◌, ◌-◌, ◌<◌, ◌≤◌, Bool, true, false, List, [], ◌∷◌, ◌++◌, length, map, drop, take, get_or, Option, Some, None, slice_get, refl, sym, ap, subst, ◌∙◌, inl, inr, arith}
+use Rattle.std.proofs.Common.{◌≡◌, ℕ, zero, suc, ◌+◌, ◌<◌, ◌≤◌, Bool, true, false, List, [], ◌∷◌, length, map, drop, take, get_or, Option, Some, None, slice_get, refl, sym, ap, subst, ◌∙◌, inl, inr, arith}
 use Rattle.std.specs.Prelude.{IsTrue, bytes_eq, cond}
 use Rattle.std.specs.Map.{lookup}
 use Rattle.std.proofs.lemmas.Bool.{cases_lt, cases_order}
 use Rattle.std.proofs.lemmas.List.{drop-map, length-map, take-map}
-use Rattle.bi_blob.specs.Tree.{Nodes, none, node, Root, Property, FileProperty, FileNode, property_of, as_nodes}
-use Rattle.bi_blob.specs.Events.{FileEvent, file_events_of}
+use Rattle.bi_blob.specs.Tree.{Nodes, none, node, Root, FileProperty, FileNode, property_of}
 use Rattle.std.specs.Option.{option_map}
 use Rattle.bi_blob.specs.Lookups.{Sibling, siblings, root_node, node_at, value_named, property_named}
 use Rattle.bi_fdt.specs.declared.table.Entry.{Entry}
 use Rattle.bi_fdt.specs.declared.table.Entry.TheVariants as entry
 use Rattle.bi_fdt.specs.declared.table.NodeEntry.{NodeEntry}
 use Rattle.bi_fdt.specs.declared.table.Property.{Property as PropertyEntry}
-use Rattle.bi_fdt.specs.Table.{Item, NodeItem, PropertyItem, first_properties, nodes_of, items_of, count_inside, item_of, file_property_of, IsLinked, AreLinked}
-use Rattle.bi_fdt.specs.Content.{begins_with_node, first_sibling, root_in, table_of}
+use Rattle.bi_fdt.specs.Table.{Item, NodeItem, PropertyItem, first_properties, nodes_of, count_inside, item_of, file_property_of}
+use Rattle.bi_fdt.specs.Content.{begins_with_node, first_sibling, table_of}
 use Rattle.bi_fdt.specs.Views.{IsNodeOf}
 use Rattle.bi_fdt.proofs.Parsing.{nodes-same, nodes-above, nodes-deeper, nodes-table}
 use Rattle.bi_fdt.proofs.Items.{inside-deeper, inside-stops}

@@ -1,11 +1,8 @@
-use Rattle.std.proofs.Common.{◌≡◌, ℕ, ◌+◌, ◌<◌, List, [], ◌∷◌, ◌++◌, length, map, refl, sym, ap, ◌∙◌, arith}
-use Rattle.std.proofs.lemmas.List.{length-append}
+use Rattle.std.proofs.Common.{◌≡◌, ℕ, ◌+◌, List, [], ◌∷◌, ◌++◌, length, arith}
 use Rattle.bi_blob.specs.Tree.{names}
-use Rattle.bi_blob.proofs.Blobs.PartialNodes.{PartialNode, said_by}
+use Rattle.bi_blob.proofs.Blobs.PartialNodes.{PartialNode}
 use Rattle.bi_fdt.specs.declared.growing.OpenNode.{OpenNode}
-use Rattle.bi_fdt.specs.Table.{Item, items_of}
 use Rattle.bi_fdt.specs.Growth.{AreOpen, Holds}
-use Rattle.bi_fdt.proofs.Items.{open_items, items_of-said, items_of-open}
 
 -- The open nodes of a growing table.
 

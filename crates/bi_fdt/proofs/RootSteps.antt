@@ -1,10 +1,10 @@
-use Rattle.std.proofs.Common.{◌≡◌, ◌≢◌, ap, ◌∙◌, Bool, false, ℕ, ◌+◌, ◌<◌, ◌≤◌, List, [], length, refl, sym, subst, inl, inr, arith}
+use Rattle.std.proofs.Common.{◌≡◌, ◌≢◌, ap, ◌∙◌, Bool, false, ℕ, ◌+◌, ◌≤◌, List, [], length, refl, sym, subst, inl, inr, arith}
 use Rattle.std.specs.Prelude.{IsTrue, ◌||◌}
 use Rattle.std.proofs.lemmas.Bool.{ne_eqb, false≢true}
 use Rattle.bi_base.specs.declared.fault.Fault.{Fault}
-use Rattle.bi_base.specs.Cells.{u32_at, up4}
+use Rattle.bi_base.specs.Cells.{up4}
 use Rattle.bi_base.specs.Checks.{IsFirstFault, HasNoFault}
-use Rattle.bi_blob.specs.Tokens.{BeginNode, Nop, width, name_from, begin_node_number, nop_number, end_number}
+use Rattle.bi_blob.specs.Tokens.{BeginNode, width, name_from, begin_node_number, nop_number, end_number}
 use Rattle.bi_blob.specs.Tree.{Root, FileNode, depth_of}
 use Rattle.bi_blob.specs.Stages.{BeforeRoot, AfterRoot, is_expected}
 use Rattle.bi_blob.specs.Blob.{TreeBlocks, HoldsTree}

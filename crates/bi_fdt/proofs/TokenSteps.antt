@@ -1,29 +1,28 @@
-use Rattle.std.proofs.Common.{◌≡◌, ℕ, suc, ◌+◌, ◌*◌, ◌/◌, ◌<◌, ◌≤◌, List, [], ◌∷◌, ◌++◌, length, map, refl, sym, ap, subst, ◌∙◌, inl, inr, arith}
+use Rattle.std.proofs.Common.{◌≡◌, ℕ, suc, ◌+◌, ◌≤◌, List, [], ◌∷◌, length, map, refl, sym, ap, subst, ◌∙◌, inl, inr, arith}
 use Rattle.std.specs.Prelude.{IsTrue}
 use Rattle.std.proofs.lemmas.List.{append-nil, length-append}
 use Rattle.bi_base.specs.declared.fault.Fault.{Fault}
-use Rattle.bi_base.specs.Cells.{u32_at, slice, up4}
+use Rattle.bi_base.specs.Cells.{u32_at, up4}
 use Rattle.bi_base.specs.Checks.{IsFirstFault, HasNoFault}
-use Rattle.bi_base.proofs.CellLaws.{length-cell, length-slice}
-use Rattle.bi_blob.specs.Tokens.{BeginNode, EndNode, Prop, Nop, End, token_bytes, width, name_from, begin_node_number, end_node_number, prop_number, nop_number, end_number}
+use Rattle.bi_base.proofs.CellLaws.{length-cell}
+use Rattle.bi_blob.specs.Tokens.{BeginNode, EndNode, Prop, Nop, width, name_from, begin_node_number, end_node_number, prop_number, nop_number}
 use Rattle.bi_blob.specs.Tree.{FileProperty, IsNew, names}
-use Rattle.bi_blob.specs.Events.{FileNodeEnd, file_events_of}
-use Rattle.bi_blob.specs.Stages.{Stage, OpenNode, Inside, is_expected}
+use Rattle.bi_blob.specs.Events.{FileNodeEnd}
+use Rattle.bi_blob.specs.Stages.{is_expected}
 use Rattle.bi_blob.specs.Blob.{TreeBlocks}
 use Rattle.bi_blob.specs.BlobFaults.{TokenPasses, IsNewNode, IsNewProperty, token_checks, token_fault, begin_checks, property_checks, IsStructureFault}
-use Rattle.bi_blob.proofs.Blobs.PartialNodes.{PartialNode, Standing, NotBegun, Growing, Grown, begun, with_one_property, with_one_child, root_of, open_of, opens_of, stage_of, said_of}
+use Rattle.bi_blob.proofs.Blobs.PartialNodes.{PartialNode, Standing, Growing, Grown, begun, with_one_property, with_one_child, root_of, opens_of, stage_of, said_of}
 use Rattle.bi_blob.proofs.Blobs.Growing.{said_by-root}
 use Rattle.bi_blob.proofs.Blobs.Tokens.{length-token_bytes}
 use Rattle.bi_blob.proofs.Blobs.Passing.{length-Prop}
-use Rattle.bi_blob.proofs.Blobs.Steps.{IsNext, next_nop, next_child, next_property, next_end, next_last, property_at, property_token}
+use Rattle.bi_blob.proofs.Blobs.Steps.{IsNext, next_nop, next_child, next_property, next_end, next_last, property_at}
 use Rattle.bi_blob.proofs.Blobs.Whole.{fault_there}
 use Rattle.bi_fdt.specs.declared.growing.Growing as table
 use Rattle.bi_fdt.specs.declared.growing.Ending.TheVariants as ending
 use Rattle.bi_fdt.specs.declared.table.Entry.{Entry}
-use Rattle.bi_fdt.specs.declared.table.Property.{Property}
 use Rattle.bi_fdt.specs.declared.tokens.Reading.{Reading}
-use Rattle.bi_fdt.specs.Blocks.{AreBlocks, IsNumberAt, node_name_checks, property_token_checks}
-use Rattle.bi_fdt.specs.Table.{item_of, items_of, file_property_of, AreLinked}
+use Rattle.bi_fdt.specs.Blocks.{IsNumberAt, node_name_checks, property_token_checks}
+use Rattle.bi_fdt.specs.Table.{items_of}
 use Rattle.bi_fdt.specs.Growth.{IsGrowing, IsFinished, EndsInside, IsEnding}
 use Rattle.bi_fdt.specs.Reading.{IsReading, IsTable, IsAfter}
 use Rattle.bi_fdt.proofs.Items.{items_of-append}

@@ -1,5 +1,5 @@
-use Rattle.std.specs.Prelude.{◌≡◌, ℕ, ◌+◌, ◌<◌, ◌≤◌, List, [], ◌∷◌, length, map, drop, Bool, true, false}
-use Rattle.bi_blob.specs.Tree.{Nodes, none, node, Root, FileProperty, FileNode}
+use Rattle.std.specs.Prelude.{ℕ, ◌+◌, ◌≤◌, List, [], ◌∷◌, length, map, Bool, true, false}
+use Rattle.bi_blob.specs.Tree.{Nodes, none, node, Root, FileNode}
 use Rattle.bi_blob.specs.Events.{file_events_of}
 use Rattle.bi_blob.specs.Lookups.{Sibling}
 use Rattle.bi_blob.specs.Blob.{Reservation, totalsize, off_mem_rsvmap}

@@ -1,4 +1,4 @@
-use Rattle.std.specs.Prelude.{◌≡◌, ℕ, ◌+◌, List, [], ◌∷◌, drop, map, Option, MatchOption}
+use Rattle.std.specs.Prelude.{◌≡◌, ℕ, ◌+◌, List, [], ◌∷◌, drop, Option, MatchOption}
 use Rattle.bi_blob.specs.Tree.{FileProperty, FileNode}
 use Rattle.bi_blob.specs.Events.{FileEvent}
 use Rattle.bi_blob.specs.Lookups.{Sibling}

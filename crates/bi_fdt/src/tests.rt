@@ -34,22 +34,16 @@ fn with_cell(alloc: Global, file: &[u8], at: usize, number: u32) -> Result<Vec<u
 
 /// A blob in the normal layout with no reservation, of this structure block and this strings block.
 fn blob_of(alloc: Global, structure: &[u32], strings: &[u8]) -> Result<Vec<u8>, Fail> {
-    let structure_size = u32::try_from(4 * structure.len())?;
+    let structure_size = u32::try_from(structure.len())?
+        .checked_mul(4)
+        .ok_or("size")?;
     let strings_size = u32::try_from(strings.len())?;
-    let strings_place = 56 + structure_size;
+    let strings_place = structure_size.checked_add(56).ok_or("offset")?;
+    let total = strings_place.checked_add(strings_size).ok_or("total")?;
     let mut sink = VecSink::new(alloc);
     put_cells(
         &mut sink,
-        &[
-            0xd00d_feed,
-            strings_place + strings_size,
-            56,
-            strings_place,
-            40,
-            17,
-            16,
-            0,
-        ],
+        &[0xd00d_feed, total, 56, strings_place, 40, 17, 16, 0],
     )?;
     put_cells(&mut sink, &[strings_size, structure_size, 0, 0, 0, 0])?;
     put_cells(&mut sink, structure)?;
@@ -181,8 +175,10 @@ fn version_16_has_no_size_of_the_structure(rt: HostRuntime) -> Result<(), Fail> 
     let file = of_version_16(alloc)?;
     let blob = Blob::read(alloc, &file, widest(&rt))?;
     assert_eq!(rt; blob.root().child(b"images").is_some(), true);
-    expect_fault(&rt, alloc, &file[..36], widest(&rt), Cause::Truncated, 4);
-    expect_fault(&rt, alloc, &file[..35], widest(&rt), Cause::Truncated, 0);
+    let short = file.get(..36).expect(&rt, "36 bytes");
+    expect_fault(&rt, alloc, short, widest(&rt), Cause::Truncated, 4);
+    let shorter = file.get(..35).expect(&rt, "35 bytes");
+    expect_fault(&rt, alloc, shorter, widest(&rt), Cause::Truncated, 0);
     for (at, number, cause, offset) in [
         (4, 35, Cause::BadTotalSize, 4),
         (8, 88, Cause::Truncated, 88),
@@ -200,6 +196,46 @@ fn version_16_has_no_size_of_the_structure(rt: HostRuntime) -> Result<(), Fail> 
             offset,
         );
     }
+    Ok(())
+}
+
+#[test]
+fn structure_of_version_16_ends_with_the_blob(rt: HostRuntime) -> Result<(), Fail> {
+    let alloc = rt.alloc();
+    let file = with_cell(
+        alloc,
+        &with_cell(alloc, &of_version_16(alloc)?, 4, 84)?,
+        12,
+        84,
+    )?;
+    expect_fault(&rt, alloc, &file, widest(&rt), Cause::Truncated, 84);
+    Ok(())
+}
+
+/// A blob of this version whose structure block is at 36, where the header of version 16 ends.
+fn after_36_bytes(alloc: Global, version: u32) -> Result<Vec<u8>, Fail> {
+    let mut sink = VecSink::new(alloc);
+    put_cells(&mut sink, &[0xd00d_feed, 88, 36, 68, 72, version, 16, 0, 0])?;
+    put_cells(&mut sink, &[1, 0, 1, 0x696d_6167, 0x6573_0000, 2, 2, 9])?;
+    put_cells(&mut sink, &[0xffff_ffff, 0, 0, 0, 0])?;
+    Ok(sink.into_vec())
+}
+
+#[test]
+fn header_of_version_16_has_36_bytes(rt: HostRuntime) -> Result<(), Fail> {
+    let alloc = rt.alloc();
+    let file = after_36_bytes(alloc, 16)?;
+    let blob = Blob::read(alloc, &file, widest(&rt))?;
+    let images = blob.root().child(b"images").expect(&rt, "images");
+    assert_eq!(rt; images.place(), 44);
+    expect_fault(
+        &rt,
+        alloc,
+        &after_36_bytes(alloc, 17)?,
+        widest(&rt),
+        Cause::BadOffset,
+        8,
+    );
     Ok(())
 }
 
@@ -281,14 +317,11 @@ fn at_most_64_nodes_are_open(rt: HostRuntime) -> Result<(), Fail> {
     let file = nested(alloc, 63)?;
     let blob = Blob::read(alloc, &file, widest(&rt))?;
     let mut node = blob.root();
-    let mut depth = 1;
-    for _ in 0..64 {
-        if let Some(child) = node.child(b"n") {
-            node = child;
-            depth += 1;
-        }
+    for _ in 0..63 {
+        node = node.child(b"n").expect(&rt, "n");
     }
-    assert_eq!(rt; (depth, node.place()), (64, 56 + 8 * 63));
+    assert_eq!(rt; node.place(), 56 + 8 * 63);
+    assert_eq!(rt; node.child_count(), 0);
     expect_fault(
         &rt,
         alloc,

@@ -1,4 +1,4 @@
-use Rattle.std.proofs.Common.{rules, ◌≡◌, ◌≢◌, tests, subst, ◌∙◌}
+use Rattle.std.proofs.Common.{rules, ◌≡◌, ◌≢◌, tests, subst}
 use Rattle.std.proofs.lemmas.Iterator.{IsFirst-from_position, YieldsList-from_slice}
 use Rattle.bi_fdt.proofs.FirstZero.{IsFirstZero, name_found, no_name_found, no_zero_in_name}
 use Rattle.bi_fdt.proofs.names.name_at.Goals as goal

@@ -1,4 +1,4 @@
-use Rattle.std.proofs.Common.{◌≡◌, ◌+◌, ◌<◌, ◌≤◌, [], length, refl, sym, ap, subst, ◌∙◌, arith}
+use Rattle.std.proofs.Common.{◌≡◌, ◌+◌, ◌<◌, ◌≤◌, [], length, sym, ap, subst, arith}
 use Rattle.bi_base.specs.Cells.{up4}
 use Rattle.bi_blob.specs.Tokens.{name_from}
 use Rattle.bi_blob.proofs.Blobs.PartialNodes.{Standing, Growing, begun}

@@ -1,6 +1,6 @@
-use Rattle.std.proofs.Common.{◌≡◌, ◌+◌, ◌≤◌, refl, sym, ap, ◌∙◌, arith}
+use Rattle.std.proofs.Common.{◌+◌, ◌≤◌, refl, sym, ◌∙◌, arith}
 use Rattle.bi_blob.proofs.Blobs.PartialNodes.{Grown}
-use Rattle.bi_fdt.specs.Blocks.{blocks_of, IsNumberAt}
+use Rattle.bi_fdt.specs.Blocks.{blocks_of}
 use Rattle.bi_fdt.proofs.Refusals.{fault_passed_on, refused_with}
 use Rattle.bi_fdt.proofs.RootSteps.{past_nop, past_end, no_number, bad_token, unexpected_after}
 use Rattle.bi_fdt.proofs.structure.check_after_root.Goals as goal

@@ -1,4 +1,3 @@
-use Rattle.bi_fdt.specs.Blocks.{blocks_of}
 use Rattle.bi_fdt.proofs.Refusals.{refused_by}
 use Rattle.bi_fdt.proofs.structure.read_tree.Goals as goal
 

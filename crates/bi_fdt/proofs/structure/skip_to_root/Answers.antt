@@ -1,7 +1,6 @@
-use Rattle.std.proofs.Common.{◌≡◌, ◌+◌, ◌≤◌, refl, sym, ap, ◌∙◌, arith}
-use Rattle.bi_blob.specs.Tokens.{nop_number}
+use Rattle.std.proofs.Common.{◌+◌, ◌≤◌, refl, sym, ◌∙◌, arith}
 use Rattle.bi_blob.proofs.Blobs.PartialNodes.{NotBegun}
-use Rattle.bi_fdt.specs.Blocks.{blocks_of, IsNumberAt}
+use Rattle.bi_fdt.specs.Blocks.{blocks_of}
 use Rattle.bi_fdt.proofs.Refusals.{fault_passed_on, refused_with}
 use Rattle.bi_fdt.proofs.RootSteps.{past_nop, no_number, bad_token, unexpected_before}
 use Rattle.bi_fdt.proofs.structure.skip_to_root.Goals as goal

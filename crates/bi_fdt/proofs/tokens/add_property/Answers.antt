@@ -1,5 +1,5 @@
-use Rattle.std.proofs.Common.{◌≡◌, ℕ, ◌+◌, ◌<◌, ◌≤◌, length, refl, sym, ap, subst, ◌∙◌, arith, rules}
-use Rattle.bi_base.specs.Cells.{up4, u32_at, slice}
+use Rattle.std.proofs.Common.{◌≡◌, ℕ, ◌+◌, ◌≤◌, length, sym, ap, subst, ◌∙◌, arith}
+use Rattle.bi_base.specs.Cells.{up4, u32_at}
 use Rattle.bi_base.proofs.CellLaws.{length-slice}
 use Rattle.bi_blob.specs.Tree.{FileProperty}
 use Rattle.bi_blob.specs.BlobFaults.{token_fault, IsNewProperty}
@@ -8,7 +8,7 @@ use Rattle.bi_blob.proofs.Blobs.Steps.{property_at}
 use Rattle.bi_fdt.specs.Blocks.{blocks_of}
 use Rattle.bi_fdt.specs.Table.{file_property_of}
 use Rattle.bi_fdt.proofs.Refusals.{refused_by, passed_on}
-use Rattle.bi_fdt.proofs.TokenSteps.{length-opens, up4-within, property_fault, duplicate_property, after_property}
+use Rattle.bi_fdt.proofs.TokenSteps.{up4-within, property_fault, duplicate_property, after_property}
 use Rattle.bi_fdt.proofs.tokens.add_property.Goals as goal
 
 pub returns-in_err-property-clause-fault : goal.returns-in_err-property-clause-fault

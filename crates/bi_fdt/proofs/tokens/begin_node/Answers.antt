@@ -1,6 +1,5 @@
-use Rattle.std.proofs.Common.{◌≡◌, ℕ, ◌+◌, ◌<◌, ◌≤◌, ◌∷◌, length, refl, sym, ap, subst, ◌∙◌, arith, rules}
+use Rattle.std.proofs.Common.{◌≡◌, ◌+◌, ◌<◌, ◌≤◌, ◌∷◌, length, sym, ap, subst, arith}
 use Rattle.bi_base.specs.Cells.{up4}
-use Rattle.bi_blob.specs.BlobFaults.{IsStructureFault}
 use Rattle.bi_blob.specs.Tokens.{name_from}
 use Rattle.bi_blob.proofs.Blobs.PartialNodes.{Standing, Growing, open_of, opens_of, begun}
 use Rattle.bi_fdt.specs.Blocks.{blocks_of}

@@ -1,4 +1,4 @@
-use Rattle.std.proofs.Common.{◌≡◌, ℕ, ◌+◌, ◌<◌, ◌≤◌, length, refl, sym, ap, subst, ◌∙◌, arith, rules}
+use Rattle.std.proofs.Common.{◌+◌, ◌≤◌, sym, subst, ◌∙◌, arith}
 use Rattle.bi_blob.specs.Tokens.{end_node_number}
 use Rattle.bi_fdt.specs.Blocks.{blocks_of, IsNumberAt}
 use Rattle.bi_fdt.specs.Reading.{IsAhead}

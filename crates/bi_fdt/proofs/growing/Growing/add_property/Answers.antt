@@ -1,12 +1,10 @@
-use Rattle.std.proofs.Common.{◌≡◌, ℕ, List, slice_get, suc, ◌+◌, ◌-◌, ◌<◌, [], ◌∷◌, ◌++◌, length, reverse, true, false, refl, sym, ap, ◌∙◌, arith, rules, vec_len}
+use Rattle.std.proofs.Common.{◌≡◌, ℕ, List, slice_get, ◌+◌, ◌-◌, ◌<◌, [], ◌∷◌, ◌++◌, length, refl, sym, ap, ◌∙◌, arith, rules}
 use Rattle.std.proofs.lemmas.Bool.{not-true, not-false}
 use Rattle.std.proofs.lemmas.List.{length-append, with_items_is}
 use Rattle.std.proofs.Math.ListN.{set}
-use Rattle.bi_blob.specs.Tree.{names}
 use Rattle.bi_fdt.specs.declared.table.Entry.{Entry}
 use Rattle.bi_fdt.specs.declared.table.Entry.TheVariants as entry
-use Rattle.bi_fdt.specs.Growth.{Holds}
-use Rattle.bi_fdt.proofs.NameSets.{name_cmp, Holds-none, Holds-insert, Holds-new, Holds-held}
+use Rattle.bi_fdt.proofs.NameSets.{Holds-new, Holds-held}
 use Rattle.bi_fdt.proofs.GrowingTables.{growing_property, innermost_within}
 use Rattle.bi_fdt.proofs.growing.Growing.add_property.Goals as goal
 

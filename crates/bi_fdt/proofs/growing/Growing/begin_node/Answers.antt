@@ -1,11 +1,10 @@
-use Rattle.std.proofs.Common.{◌≡◌, suc, ◌+◌, [], ◌∷◌, ◌++◌, length, reverse, true, false, refl, sym, ap, ◌∙◌, arith, rules, vec_len}
+use Rattle.std.proofs.Common.{◌≡◌, suc, ◌+◌, ◌∷◌, length, reverse, refl, sym, ap, ◌∙◌, arith, rules}
 use Rattle.std.proofs.lemmas.Bool.{not-true, not-false}
 use Rattle.std.proofs.lemmas.List.{length-reverse}
 use Rattle.bi_blob.specs.Tree.{names}
-use Rattle.bi_fdt.specs.declared.table.Entry.TheVariants as entry
 use Rattle.bi_fdt.specs.Table.{NodeItem}
 use Rattle.bi_fdt.specs.Growth.{Holds}
-use Rattle.bi_fdt.proofs.NameSets.{name_cmp, Holds-none, Holds-insert, Holds-new, Holds-held}
+use Rattle.bi_fdt.proofs.NameSets.{Holds-none, Holds-insert, Holds-new, Holds-held}
 use Rattle.bi_fdt.proofs.OpenEntries.{AreOpen-held, AreOpen-length}
 use Rattle.bi_fdt.proofs.GrowingTables.{growing_begun}
 use Rattle.bi_fdt.proofs.growing.Growing.begin_node.Goals as goal

@@ -1,4 +1,4 @@
-use Rattle.std.proofs.Common.{◌≡◌, suc, ◌+◌, ◌∷◌, length, reverse, vec_len, arith}
+use Rattle.std.proofs.Common.{◌≡◌, suc, ◌+◌, ◌∷◌, length, reverse, arith}
 use Rattle.std.proofs.lemmas.List.{length-reverse}
 use Rattle.bi_blob.specs.Tree.{names}
 use Rattle.bi_fdt.proofs.OpenEntries.{AreOpen-length}

@@ -1,10 +1,9 @@
-use Rattle.std.proofs.Common.{◌≡◌, false, ◌+◌, ◌<◌, ◌∷◌, suc, length, map, sym, ap, ◌∙◌, arith}
+use Rattle.std.proofs.Common.{◌≡◌, false, suc, length, map, sym, ap, ◌∙◌, arith}
 use Rattle.std.specs.Prelude.{bytes_eq}
 use Rattle.std.specs.Map.{lookup}
 use Rattle.std.specs.Option.{option_map}
-use Rattle.bi_blob.specs.Lookups.{siblings}
 use Rattle.bi_fdt.specs.Views.{node_of}
-use Rattle.bi_fdt.proofs.NodeViews.{from_sibling, from_first, from_next, lookup_passes, lookup_finds}
+use Rattle.bi_fdt.proofs.NodeViews.{from_sibling, from_first, from_next, lookup_passes}
 use Rattle.bi_fdt.proofs.node.NodeRef.child.Goals as goal
 
 pub loop-next-init : goal.loop-next-init

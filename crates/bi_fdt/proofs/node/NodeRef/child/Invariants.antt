@@ -1,8 +1,8 @@
-use Rattle.std.proofs.Common.{◌≡◌, ◌+◌, length, map}
+use Rattle.std.proofs.Common.{◌≡◌, length, map}
 use Rattle.std.specs.Prelude.{bytes_eq}
 use Rattle.std.specs.Map.{lookup}
 use Rattle.std.specs.Option.{option_map}
-use Rattle.bi_blob.specs.Lookups.{siblings, node_named}
+use Rattle.bi_blob.specs.Lookups.{node_named}
 use Rattle.bi_fdt.specs.Views.{node_of}
 use Rattle.bi_fdt.proofs.NodeViews.{from_sibling}
 use Rattle.bi_fdt.proofs.node.NodeRef.child.Given as goal

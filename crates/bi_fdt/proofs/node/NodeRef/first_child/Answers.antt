@@ -1,4 +1,4 @@
-use Rattle.std.proofs.Common.{◌≡◌, ◌+◌, ◌<◌, ◌≤◌, ◌^◌, length, sym, ap, ◌∙◌, arith}
+use Rattle.std.proofs.Common.{◌+◌, ◌<◌, ◌≤◌, ◌^◌, length, sym, ap, arith}
 use Rattle.bi_blob.specs.Lookups.{node_at}
 use Rattle.bi_fdt.proofs.NodeViews.{properties_within, no_child, first_child_there}
 use Rattle.bi_fdt.proofs.node.NodeRef.first_child.Goals as goal

@@ -1,6 +1,5 @@
 use Rattle.std.proofs.Common.{sym, ap, ◌∙◌}
 use Rattle.std.specs.Option.{option_map}
-use Rattle.bi_blob.specs.Lookups.{value_named}
 use Rattle.bi_fdt.specs.Views.{node_of}
 use Rattle.bi_fdt.proofs.NodeViews.{value_found}
 use Rattle.bi_fdt.proofs.node.NodeRef.property.Goals as goal

@@ -1,4 +1,4 @@
-use Rattle.std.proofs.Common.{◌≡◌, ◌+◌, ◌-◌, ◌<◌, ◌≤◌, ◌^◌, length, map, take, drop, Some, slice_get, sym, ap, subst, ◌∙◌, arith, rules}
+use Rattle.std.proofs.Common.{◌≡◌, ◌+◌, ◌<◌, length, map, drop, sym, arith}
 use Rattle.std.proofs.lemmas.List.{length-map}
 use Rattle.bi_blob.specs.Tree.{property_of}
 use Rattle.bi_fdt.specs.Content.{first_sibling}
