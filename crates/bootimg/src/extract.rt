@@ -104,8 +104,8 @@ pub fn extract_traced<S: TracedRead, T: TracedWrite>(
         (T.trace target.old) (T.trace target.new) (IsChosen select.entry limits)
         (λ file. IsStreamExtractError select.entry limits file error)
         (error ≡ Failed ReadFailed) (error ≡ Failed WriteFailed)) }
-    ensures takes_at_most_one_byte_more { TakesAtMost (S.trace source.old).remaining (S.trace source.new).remaining
-        (limits.file + 1) }
+    ensures takes_at_most_one_byte_more { let old = S.trace source.old in
+        TakesAtMost old.remaining (S.trace source.new).remaining (limits.file + 1) }
     ensures no_failed_read_ignored { ReadsWell (S.trace source.old) →
         (IsErrOf result (Failed ReadFailed) → ⊥) → ReadsWell (S.trace source.new) }
     ensures no_failed_write_ignored { WritesWell (T.trace target.old) →

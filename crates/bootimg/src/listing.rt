@@ -74,8 +74,8 @@ pub fn list_traced<S: TracedRead, T: TracedWrite>(
         (T.trace target.old) (T.trace target.new) (IsListing limits)
         (λ file. IsStreamError (IsOpenError limits) file error)
         (error ≡ Error.ReadFailed) (error ≡ Error.WriteFailed)) }
-    ensures takes_at_most_one_byte_more { TakesAtMost (S.trace source.old).remaining (S.trace source.new).remaining
-        (limits.file + 1) }
+    ensures takes_at_most_one_byte_more { let old = S.trace source.old in
+        TakesAtMost old.remaining (S.trace source.new).remaining (limits.file + 1) }
     ensures no_failed_read_ignored { ReadsWell (S.trace source.old) →
         (IsErrOf result Error.ReadFailed → ⊥) → ReadsWell (S.trace source.new) }
     ensures no_failed_write_ignored { WritesWell (T.trace target.old) →
