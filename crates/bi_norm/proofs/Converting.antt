@@ -1,4 +1,4 @@
-use Rattle.std.proofs.Common.{◌≡◌, ◌≢◌, ℕ, ◌≤◌, Bool, true, false, List, [], ◌∷◌, length, map, Option, Some, None, refl, sym, ap, ◌∙◌, subst, arith, if◌then◌else◌}
+use Rattle.std.proofs.Common.{◌≡◌, ℕ, ◌≤◌, Bool, true, false, List, [], ◌∷◌, length, map, Option, Some, refl, sym, ap, ◌∙◌, subst, arith, if◌then◌else◌}
 use Rattle.std.specs.Prelude.{◌==◌, unwrap_or}
 use Rattle.std.specs.List.{AllByRecursion}
 use Rattle.bi_base.specs.Cells.{AreBytes}
@@ -6,8 +6,8 @@ use Rattle.bi_base.proofs.ByteLists.{AreBytes-none}
 use Rattle.bi_blob.specs.Tree.{IsNew, AreDistinct, IsChildName, HasNoZero}
 use Rattle.bi_fit.specs.declared.key.Key.{Key}
 use Rattle.bi_fit.specs.declared.key.Key.TheVariants.{Kernel, Fdt, Ramdisk, Firmware, Loadables, Script}
-use Rattle.bi_fit.specs.Building.{ImageSpecification, FitHead, IsText, IsSpecification, CanBeBuilt, built}
-use Rattle.bi_fit.specs.Judgement.{CheckedHash, verdicts_of}
+use Rattle.bi_fit.specs.Building.{ImageSpecification, FitHead, IsText, IsSpecification, CanBeBuilt}
+use Rattle.bi_fit.specs.Judgement.{CheckedHash}
 use Rattle.bi_fit.specs.Laws.{good_hash}
 use Rattle.bi_fit.proofs.Building.{built_is_accepted, built_has_good_payloads}
 use Rattle.bi_fit.proofs.BuiltTrees.{tested_child, tested_apart}
@@ -15,8 +15,7 @@ use Rattle.bi_fit.proofs.Contents.{tested_name}
 use Rattle.bi_hash.specs.declared.verdicts.Verdict.TheVariants.{Good}
 use Rattle.bi_legacy.specs.Codes.{CodeName, os_names, arch_names, compression_names, name_of_code}
 use Rattle.bi_legacy.specs.Meaning.{LegacyImage}
-use Rattle.bi_legacy.specs.Text.{IsLegacyImage}
-use Rattle.bi_norm.specs.Converting.{Conversion, conversions, keys_in, keys_of_type, image_name, code_name, first_image, later_image, later_images, images_of_parts, converted_images, fit_of, CanBeConverted, ConvertedIsAccepted}
+use Rattle.bi_norm.specs.Converting.{Conversion, conversions, keys_in, keys_of_type, image_name, code_name, later_images, images_of_parts, converted_images, ConvertedIsAccepted}
 
 -- The tree that a legacy image is converted to.
 

@@ -1,4 +1,4 @@
-use Rattle.std.proofs.Common.{◌≡◌, ◌<◌, ◌↔◌, ◌⊎◌, ℕ, List, length, Option, refl, ap, inl, inr}
+use Rattle.std.proofs.Common.{◌≡◌, ◌<◌, ◌↔◌, ℕ, List, length, Option, refl, ap, inl}
 use Rattle.bi_base.specs.Limits.{Bounds}
 use Rattle.bi_base.specs.Reading.{IsReadError, too_large}
 use Rattle.bi_base.proofs.TransferLaws.{IsErrorOfReading, error_of_reading}
@@ -8,7 +8,7 @@ use Rattle.bi_legacy.specs.Reading.{ParsedImage, IsParsedImage}
 use Rattle.bi_legacy.specs.Text.{legacy_text}
 use Rattle.bi_fit.specs.declared.form.Form.{Form}
 use Rattle.bi_norm.specs.Meaning.{Meaning, OfLegacy, Means, normal_text}
-use Rattle.bi_norm.specs.NormalForm.{IsNormalForm, IsNormaliseError, IsOpenError, IsStreamError, Normalised}
+use Rattle.bi_norm.specs.NormalForm.{IsNormalForm, IsNormaliseError, IsStreamError, Normalised}
 use Rattle.bi_norm.proofs.Opening.{too_long_is_file_fault, too_long_means_nothing}
 
 -- Normal forms of files that were read.

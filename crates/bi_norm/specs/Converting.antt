@@ -10,7 +10,7 @@ use Rattle.bi_fit.specs.declared.form.Form.{Form}
 use Rattle.bi_fit.specs.declared.key.Key.{Key}
 use Rattle.bi_fit.specs.declared.key.Key.TheVariants.{Kernel, Fdt, Ramdisk, Firmware, Loadables}
 use Rattle.bi_fit.specs.declared.key.Key.TheVariants.{Script}
-use Rattle.bi_fit.specs.Building.{FitHead, ImageSpecification, built}
+use Rattle.bi_fit.specs.Building.{ImageSpecification, built}
 use Rattle.bi_fit.specs.ImageTree.{ImageTree}
 use Rattle.bi_fit.specs.Judgement.{verdicts_of}
 use Rattle.bi_fit.specs.Laws.{IsAcceptedAs}

@@ -1,7 +1,6 @@
 use Rattle.std.proofs.Common.{map, ap, ◌∙◌, ℕ, List, Bor, refl, subst, sym}
 use Rattle.std.proofs.lemmas.Result.{err_from_is_err_and}
 use Rattle.bi_legacy.specs.Text.{legacy_text}
-use Rattle.bi_fit.specs.declared.form.Form.{Form}
 use Rattle.bi_norm.specs.Meaning.{OfLegacy}
 use Rattle.bi_norm.specs.NormalForm.{IsNormaliseError, WasRefused, SinkFailed}
 use Rattle.bi_norm.proofs.NormalForms.{legacy_normal_form, legacy_normalised}
