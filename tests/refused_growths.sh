@@ -1,7 +1,8 @@
 #!/bin/sh
-# Has each growth of each call that takes memory refused, one in each run, until a run has none to refuse: the call's answer
-# has to be that of ample memory, or OutOfMemory with nothing written. What a call is, and how its answer is judged, stands in
-# crates/bootimg/src/refused_growths.rt. Here a copy of the sources gets a test for each growth, so that all are built at once.
+# Runs each call that allocates with one allocation refused, for each of its allocations: the call has to succeed as it does
+# with no allocation refused, or fail with OutOfMemory and nothing written. The calls and how their results are checked are in
+# crates/bootimg/src/refused_growths.rt. This script adds a test for each allocation to a copy of the sources, so that all are
+# built at once.
 set -eu
 
 root=$(cd "$(dirname "$0")/.." && pwd)
@@ -11,36 +12,38 @@ trap 'exit 1' HUP INT TERM
 
 (cd "$root" && tar cf - --exclude=out crates.txt HANDLES crates) | (cd "$copy" && tar xf -)
 
-# The other tests take more memory than the allocation that is refused.
+# The other tests make more allocations than the number of the one that is refused.
 for file in $(grep -rl '^mod tests;$' "$copy/crates/bootimg/src"); do
     sed -i '/^#\[cfg(test)\]$/{N;/\nmod tests;$/d}' "$file"
 done
-find "$copy/crates/bootimg/src" -name tests.rt -delete
+sed -i '/^#\[cfg(test)\]$/{N;/\nmod normal_forms;$/d}' "$copy/crates/bootimg/src/main.rt"
+find "$copy/crates/bootimg/src" \( -name tests.rt -o -name normal_forms.rt \) -delete
 
-# tests_of CALL MOST: a test for each growth of a call, which makes one at least and at most so many.
+# tests_of CALL MOST: a test for each allocation of a call, which makes at least one and at most MOST.
 tests_of() {
     echo "#[test] fn $1_first(rt: HostRuntime) -> Result<(), Fail> { assert!(rt; $1(&rt, 1)?); Ok(()) }"
-    growth=2
-    while [ "$growth" -le "$2" ]; do
-        echo "#[test] fn $1_$growth(rt: HostRuntime) -> Result<(), Fail> { $1(&rt, $growth)?; Ok(()) }"
-        growth=$((growth + 1))
+    number=2
+    while [ "$number" -le "$2" ]; do
+        echo "#[test] fn $1_$number(rt: HostRuntime) -> Result<(), Fail> { $1(&rt, $number)?; Ok(()) }"
+        number=$((number + 1))
     done
-    echo "#[test] fn $1_none(rt: HostRuntime) -> Result<(), Fail> { assert!(rt; !$1(&rt, $growth)?); Ok(()) }"
+    echo "#[test] fn $1_none(rt: HostRuntime) -> Result<(), Fail> { assert!(rt; !$1(&rt, $number)?); Ok(()) }"
 }
 
 {
     tests_of reads 20
-    tests_of puts 5
+    tests_of appends 5
     tests_of normalises 20
-    tests_of normalises_through 20
-    tests_of lists 30
-    tests_of extracts 20
+    tests_of normalises_into 20
+    tests_of normalises_to 20
+    tests_of lists_to 30
+    tests_of extracts_to 20
     tests_of runs_normalise 100
     tests_of runs_list 100
     tests_of runs_extract 100
     tests_of runs_help 100
     tests_of runs_version 100
-    tests_of runs_unknown_word 100
+    tests_of runs_unknown_argument 100
     tests_of runs_no_selection 100
 } > "$copy/tests"
 cat "$copy/tests" >> "$copy/crates/bootimg/src/refused_growths.rt"

@@ -101,8 +101,14 @@ fn no_write_follows_a_failed_one(rt: HostRuntime) -> Result<(), Fail> {
 #[test]
 fn a_write_of_none_of_the_bytes_is_a_failure(rt: HostRuntime) -> Result<(), Fail> {
     let bytes = bytes_of(rt.alloc(), 25_000)?;
-    let mut held = writer(rt.alloc(), Script::first(2, Turn::Takes(700), Turn::Takes(0)));
-    assert_eq!(rt; write_in_pieces(&mut held, &bytes, 100), Err(Error::WriteFailed));
+    let mut held = writer(
+        rt.alloc(),
+        Script::first(2, Turn::Takes(700), Turn::Takes(0)),
+    );
+    assert_eq!(rt;
+        write_in_pieces(&mut held, &bytes, 100),
+        Err(Error::WriteFailed)
+    );
     assert_eq!(rt; held.writes, 3);
     assert_eq!(rt; held.held.as_slice(), &bytes[..1400]);
     Ok(())
