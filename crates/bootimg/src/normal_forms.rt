@@ -100,7 +100,7 @@ fn a_changed_bit_is_refused(rt: HostRuntime) -> Result<(), Fail> {
 }
 
 #[test]
-fn a_failed_write_leaves_the_first_bytes(rt: HostRuntime) -> Result<(), Fail> {
+fn a_failed_write_leaves_a_prefix(rt: HostRuntime) -> Result<(), Fail> {
     let alloc = rt.alloc();
     for whole in 0..KERNEL.len() {
         let script = Script::failing_among(whole as u64, Turn::Takes(1));

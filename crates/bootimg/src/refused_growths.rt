@@ -1,5 +1,6 @@
-//! Calls with one of their allocations refused. `rt test` runs each call with none refused. The script
-//! tests/refused_growths.sh adds a test for each allocation of each call, which has this one refused.
+//! Calls with one of their allocations refused. `rt test` runs each call with none refused. The
+//! script tests/refused_growths.sh adds a test for each allocation of each call, which has this
+//! one refused.
 
 use crate::extract::{ExtractError, Select, extract_to};
 use crate::images::{PADDED_PARTS, PARTS, PARTS_LISTING};
@@ -33,7 +34,8 @@ struct Trial {
 }
 
 impl Trial {
-    /// Made before the call. The allocation of this number, from 1, is refused of those that follow. None is where it is 0.
+    /// Made before the call. The allocation of this number, from 1, is refused of those that
+    /// follow. None is where it is 0.
     fn new(alloc: Global, number: u64) -> Trial {
         let is_over = is_refused(alloc, REFUSED.saturating_sub(number));
         Trial {
@@ -61,7 +63,8 @@ fn written(buffer: &[u8; 1024], left: usize) -> &[u8] {
     &buffer[..1024usize.saturating_sub(left)]
 }
 
-/// Checks that the call succeeded, or failed as it may after a refused allocation. Returns whether one was refused.
+/// Checks that the call succeeded, or failed as it may after a refused allocation. Returns whether
+/// one was refused.
 fn check(rt: &impl Abort, was_refused: bool, succeeded: bool, failed: bool) -> bool {
     assert!(rt; succeeded || (was_refused && failed));
     was_refused
@@ -165,8 +168,8 @@ fn extracts_to(rt: &(impl Abort + AllocGlobal), number: u64) -> Result<bool, Fai
     Ok(check(rt, was_refused, succeeded, failed))
 }
 
-/// What a run of the program did: its exit status, and what it wrote to standard output and standard error, each with
-/// how many bytes of the buffer are left.
+/// What a run of the program did: its exit status, and what it wrote to standard output and
+/// standard error, each with how many bytes of the buffer are left.
 #[derive(Clone, Copy, PartialEq, Eq)]
 struct Outcome {
     status: u8,
@@ -195,7 +198,8 @@ fn run_with<'a>(alloc: Global, args: &'a [&'a str]) -> Outcome {
     }
 }
 
-/// Runs the program with these arguments, which ends with this status where no allocation is refused.
+/// Runs the program with these arguments, which ends with this status where no allocation is
+/// refused.
 fn runs<'a>(rt: &(impl Abort + AllocGlobal), number: u64, args: &'a [&'a str], status: u8) -> bool {
     let trial = Trial::new(rt.alloc(), number);
     let outcome = run_with(rt.alloc(), args);

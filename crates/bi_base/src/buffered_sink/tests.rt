@@ -18,7 +18,8 @@ fn bytes_of(alloc: Global, length: usize) -> Result<Vec<u8>, Fail> {
     Ok(bytes)
 }
 
-/// Appends these bytes to a buffered sink of the writer, in pieces of this size, and finishes the sink.
+/// Appends these bytes to a buffered sink of the writer, in pieces of this size, and finishes the
+/// sink.
 fn write_in_pieces(writer: &mut ScriptedWriter, bytes: &[u8], size: usize) -> Result<(), Error> {
     let mut target = TracedWriter::new(writer);
     let mut sink = BufferedSink::new(&mut target);

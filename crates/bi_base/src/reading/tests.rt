@@ -71,8 +71,8 @@ fn no_read_follows_a_failed_one(rt: HostRuntime) -> Result<(), Fail> {
     for number in 0..6 {
         let script = Script::failing_among(number, Turn::Takes(1));
         let mut reader = ScriptedReader::new(b"abcde", script);
-        let answer = read_all(rt.alloc(), &mut reader, small());
-        assert_eq!(rt; answer.err(), Some(Error::ReadFailed), "at read {number}");
+        let result = read_all(rt.alloc(), &mut reader, small());
+        assert_eq!(rt; result.err(), Some(Error::ReadFailed), "at read {number}");
         assert_eq!(rt; reader.taken, number);
     }
     let mut reader = ScriptedReader::new(b"abcde", Script::failing_among(6, Turn::Takes(1)));

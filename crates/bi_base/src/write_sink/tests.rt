@@ -69,7 +69,7 @@ fn too_many_interruptions_in_a_row_are_a_failure(rt: HostRuntime) {
 
 #[test]
 fn a_flush_may_be_interrupted_and_may_fail(rt: HostRuntime) {
-    for (flushing, answer, flushes) in [
+    for (flushing, result, flushes) in [
         (Script::always(Turn::TakesAll), Ok(()), 1),
         (
             Script::first(1023, Turn::IsInterrupted, Turn::TakesAll),
@@ -86,7 +86,7 @@ fn a_flush_may_be_interrupted_and_may_fail(rt: HostRuntime) {
         let mut held = flusher(rt.alloc(), flushing);
         let mut sink = WriteSink::new(&mut held);
         assert_eq!(rt; sink.put(b"abc"), Ok(()));
-        assert_eq!(rt; sink.finish(), answer);
+        assert_eq!(rt; sink.finish(), result);
         assert_eq!(rt; held.held.as_slice(), b"abc".as_slice());
         assert_eq!(rt; held.flushes, flushes);
     }
