@@ -1,8 +1,8 @@
 #!/bin/sh
 # Runs each call that allocates with one allocation refused, for each of its allocations: the call has to succeed as it does
-# with no allocation refused, or fail with OutOfMemory and nothing written. The calls and how their results are checked are in
-# crates/bootimg/src/refused_growths.rt. This script adds a test for each allocation to a copy of the sources, so that all are
-# built at once.
+# with no allocation refused, or fail with OutOfMemory and nothing written. A call on a document that ran out of memory is made
+# again. The calls and how their results are checked are in src/refused_growths.rt of each crate. This script adds a test for
+# each allocation to a copy of the sources, so that all tests of a crate are built at once.
 set -eu
 
 root=$(cd "$(dirname "$0")/.." && pwd)
@@ -11,13 +11,6 @@ trap 'rm -rf "$copy"' EXIT
 trap 'exit 1' HUP INT TERM
 
 (cd "$root" && tar cf - --exclude=out crates.txt HANDLES crates) | (cd "$copy" && tar xf -)
-
-# The other tests make more allocations than the number of the one that is refused.
-for file in $(grep -rl '^mod tests;$' "$copy/crates/bootimg/src"); do
-    sed -i '/^#\[cfg(test)\]$/{N;/\nmod tests;$/d}' "$file"
-done
-sed -i '/^#\[cfg(test)\]$/{N;/\nmod normal_forms;$/d}' "$copy/crates/bootimg/src/main.rt"
-find "$copy/crates/bootimg/src" \( -name tests.rt -o -name normal_forms.rt \) -delete
 
 # tests_of CALL MOST: a test for each allocation of a call, which makes at least one and at most MOST.
 tests_of() {
@@ -29,6 +22,38 @@ tests_of() {
     done
     echo "#[test] fn $1_none(rt: HostRuntime) -> Result<(), Fail> { assert!(rt; !$1(&rt, $number)?); Ok(()) }"
 }
+
+all_passed=0
+all_failed=0
+
+# run_tests CRATE: runs the tests of the file "tests" in a crate.
+run_tests() {
+    source=$copy/crates/$1/src
+    # The other tests make more allocations than the number of the one that is refused.
+    for file in $(grep -rl '^mod tests;$' "$source"); do
+        sed -i '/^#\[cfg(test)\]$/{N;/\nmod tests;$/d}' "$file"
+    done
+    find "$source" -name tests.rt -delete
+    if [ -f "$source/normal_forms.rt" ]; then
+        sed -i '/^#\[cfg(test)\]$/{N;/\nmod normal_forms;$/d}' "$source/main.rt"
+        rm "$source/normal_forms.rt"
+    fi
+    cat "$copy/tests" >> "$source/refused_growths.rt"
+    (cd "$copy/crates/$1" && rt try --test --fail-alloc 1000 > "$copy/log" 2>&1) || true
+    sed -n '/^test .* FAILED$/,/^test /p' "$copy/log"
+    passed=$(sed -n 's/^test result: .* \([0-9]*\) passed; .*/\1/p' "$copy/log")
+    failed=$(sed -n 's/^test result: .* \([0-9]*\) failed; .*/\1/p' "$copy/log")
+    if [ "$((${passed:-0} + ${failed:-0}))" -lt "$(wc -l < "$copy/tests")" ]; then
+        cat "$copy/log"
+        echo "not every test of $1 was run"
+        failed=$((${failed:-0} + 1))
+    fi
+    all_passed=$((all_passed + ${passed:-0}))
+    all_failed=$((all_failed + failed))
+}
+
+tests_of builds 40 > "$copy/tests"
+run_tests bi_lay
 
 {
     tests_of reads 20
@@ -46,17 +71,7 @@ tests_of() {
     tests_of runs_unknown_argument 100
     tests_of runs_no_selection 100
 } > "$copy/tests"
-cat "$copy/tests" >> "$copy/crates/bootimg/src/refused_growths.rt"
+run_tests bootimg
 
-cd "$copy/crates/bootimg"
-rt try --test --fail-alloc 1000 > "$copy/log" 2>&1 || true
-sed -n '/^test .* FAILED$/,/^test /p' "$copy/log"
-passed=$(sed -n 's/^test result: .* \([0-9]*\) passed; .*/\1/p' "$copy/log")
-failed=$(sed -n 's/^test result: .* \([0-9]*\) failed; .*/\1/p' "$copy/log")
-if [ "$((${passed:-0} + ${failed:-0}))" -lt "$(wc -l < "$copy/tests")" ]; then
-    cat "$copy/log"
-    echo "not every test was run"
-    failed=$((${failed:-0} + 1))
-fi
-echo "${passed:-0} passed, $failed failed"
-[ "$failed" = 0 ]
+echo "$all_passed passed, $all_failed failed"
+[ "$all_failed" = 0 ]

@@ -4,21 +4,21 @@ use Rattle.std.proofs.lemmas.List.FromFn.{length-map-range_with_len, get_or-map-
 use Rattle.bi_base.specs.CrcTables.{AreCrcTables, after_zeros, table_entry}
 use Rattle.bi_base.specs.declared.crc_tables.TheConstants.{TABLES}
 
--- A table as its entries in order.
+-- The entries of table `k` in order.
 abbrev table_of : ℕ → List ℕ
 table_of k = map (table_entry k) (range_with_len 0 256)
 
--- The tables, computed.
+-- The tables of the program are those of the definition, by computation.
 tables_computed : TABLES ≡ map table_of (range_with_len 0 4)
 unfolding after_zeros table_entry
 tables_computed = refl
 
--- Table `k` of them.
+-- Table `k` of the program.
 table_at : (k : ℕ) → k < 4 → get_or TABLES k [] ≡ table_of k
 table_at k small =
     ap (λ (tables : List (List ℕ)). get_or tables k []) tables_computed ∙ get_or-map-range_with_len table_of 0 4 k k [] small (omega arith)
 
--- Every entry of the four tables is the one that it has to be.
+-- Every entry of the four tables is the defined one.
 pub crc_tables : AreCrcTables TABLES
 crc_tables = record {
   four = refl;

@@ -9,18 +9,18 @@ use Rattle.bi_base.specs.Crc.{crc_bit, crc_after, low_bits}
 use Rattle.bi_base.specs.CrcTables.{after_zeros, table_entry}
 use Rattle.bi_base.proofs.CrcLaws.{crc_after-append}
 
--- Two sums of two, added one by one.
+-- The xor of two pairs is the xor of their first numbers with the xor of their second numbers.
 xor_swap : (a b c d : ℕ) → bit_xor (bit_xor a b) (bit_xor c d) ≡ bit_xor (bit_xor a c) (bit_xor b d)
 xor_swap a b c d =
     xor_assoc a b (bit_xor c d)
     ∙ ap (bit_xor a) (sym (xor_assoc b c d) ∙ ap (λ (x : ℕ). bit_xor x d) (xor_comm b c) ∙ xor_assoc c b d)
     ∙ sym (xor_assoc a c (bit_xor b d))
 
--- What the register's lowest bit brings back into it.
+-- The feedback of the register's lowest bit.
 abbrev feedback : ℕ → ℕ
 feedback bit = if bit == 0 then 0 else 0xEDB88320
 
--- The step of a message bit of zero as a sum.
+-- The step of a message bit 0: half of the register, xored with the feedback of its lowest bit.
 chosen : (b : Bool) (n : ℕ) → cond b n (bit_xor n 0xEDB88320) ≡ bit_xor n (cond b 0 0xEDB88320)
 chosen true n = sym (xor_zero_r n)
 chosen false n = refl
@@ -37,7 +37,7 @@ feedback-xor zero (suc (suc b)) p q = omega arith
 feedback-xor (suc zero) (suc (suc b)) p q = omega arith
 feedback-xor (suc (suc a)) b p q = omega arith
 
--- A message bit of zero leads from the sum of two registers to the sum of what it makes of each.
+-- The step of a message bit 0 is linear.
 crc_bit-xor : (a b : ℕ) → crc_bit (bit_xor a b) 0 ≡ bit_xor (crc_bit a 0) (crc_bit b 0)
 crc_bit-xor a b =
     crc_bit-sum (bit_xor a b)
@@ -47,7 +47,7 @@ crc_bit-xor a b =
     ∙ ap (λ (n : ℕ). bit_xor n (bit_xor (b / 2) (feedback (b % 2)))) (sym (crc_bit-sum a))
     ∙ ap (bit_xor (crc_bit a 0)) (sym (crc_bit-sum b))
 
--- Whether a message bit is the register's lowest can be seen by their sum.
+-- A message bit equals the register's lowest bit exactly where their xor is 0.
 bit_matches : (low bit : ℕ) → low < 2 → bit < 2 → (low == bit) ≡ (bit_xor low bit == 0)
 bit_matches zero zero p q = refl
 bit_matches zero (suc zero) p q = refl
@@ -57,7 +57,7 @@ bit_matches zero (suc (suc b)) p q = let no : ⊥ = omega arith in absurd no
 bit_matches (suc zero) (suc (suc b)) p q = let no : ⊥ = omega arith in absurd no
 bit_matches (suc (suc a)) b p q = let no : ⊥ = omega arith in absurd no
 
--- A message bit may as well be added to the register before.
+-- The step of a message bit is that of a message bit 0, after the bit is xored into the register.
 crc_bit-added : (register bit : ℕ) → bit < 2 → crc_bit register bit ≡ crc_bit (bit_xor register bit) 0
 crc_bit-added register bit small =
     let none : bit / 2 ≡ 0 = omega arith in
@@ -70,34 +70,25 @@ crc_bit-added register bit small =
     bit_matches (register % 2) bit (omega arith) small ∙ ap (λ (n : ℕ). n == 0) (sym low) in
     λ i. cond (test i) (sym high i) (bit_xor (sym high i) 0xEDB88320)
 
--- The register after no message bits, and after one more.
-zeros-none : (register : ℕ) → after_zeros 0 register ≡ register
-unfolding after_zeros
-zeros-none register = refl
-
-zeros-more : (n register : ℕ) → after_zeros (suc n) register ≡ after_zeros n (crc_bit register 0)
-unfolding after_zeros
-zeros-more n register = refl
-
--- Message bits of zero lead from the sum of two registers to the sum of what they make of each.
+-- The steps of several message bits 0 are linear.
 zeros-xor : (n a b : ℕ) → after_zeros n (bit_xor a b) ≡ bit_xor (after_zeros n a) (after_zeros n b)
 unfolding after_zeros
 zeros-xor zero a b = refl
 zeros-xor (suc n) a b = ap (after_zeros n) (crc_bit-xor a b) ∙ zeros-xor n (crc_bit a 0) (crc_bit b 0)
 
--- A message bit of zero halves an even register.
+-- The step of a message bit 0 halves an even register.
 crc_bit-even : (n k : ℕ) → crc_bit (n * 2 ^ suc k) 0 ≡ n * 2 ^ k
 crc_bit-even n k =
     let test : (n * 2 ^ suc k % 2 == 0) ≡ true = ap (λ (low : ℕ). low == 0) (shifted_even n k) in
     ap (λ (b : Bool). cond b (n * 2 ^ suc k / 2) (bit_xor (n * 2 ^ suc k / 2) 0xEDB88320)) test ∙ shifted_half n k
 
--- Where so many lowest bits of the register are zero, as many message bits of zero shift it by them.
+-- Where the `k` lowest bits of the register are 0, the steps of `k` message bits 0 shift it right.
 zeros-shift : (n k : ℕ) → after_zeros k (n * 2 ^ k) ≡ n
 unfolding after_zeros
 zeros-shift n zero = omega arith
 zeros-shift n (suc k) = ap (after_zeros k) (crc_bit-even n k) ∙ zeros-shift n k
 
--- Message bits may as well be added to the register before.
+-- The steps of message bits are those of message bits 0, after the bits are xored into the register.
 low_bits-added : (n register number : ℕ) → number < 2 ^ n
     → fold crc_bit register (low_bits n number) ≡ after_zeros n (bit_xor register number)
 unfolding after_zeros low_bits
@@ -114,7 +105,7 @@ low_bits-added (suc n) register number small =
     ∙ sym (crc_bit-xor (bit_xor register low) (high * 2 ^ 1)) ∙ ap (λ (r : ℕ). crc_bit r 0) parts in
     low_bits-added n (crc_bit register low) high (omega (arith, pow-suc 2 n)) ∙ ap (after_zeros n) first
 
--- The register after a byte, and after a byte and others.
+-- The register after one byte, and after one byte and others.
 crc_after-byte : (register byte : ℕ) → byte < 2 ^ 8 → crc_after register (byte ∷ []) ≡ after_zeros 8 (bit_xor register byte)
 unfolding crc_after
 crc_after-byte register byte small =
@@ -125,7 +116,7 @@ crc_after-cons : (register byte : ℕ) (bytes : List ℕ) → byte < 2 ^ 8
 crc_after-cons register byte bytes small =
     crc_after-append register (byte ∷ []) bytes ∙ ap (λ (r : ℕ). crc_after r bytes) (crc_after-byte register byte small)
 
--- The register after eight message bits of zero: it is shifted by them, and its lowest byte comes back in.
+-- The steps of eight message bits 0, by those from the lowest byte alone.
 zeros-byte : (register : ℕ) → after_zeros 8 register ≡ bit_xor (register / 256) (after_zeros 8 (register % 256))
 zeros-byte register =
     let parts : register ≡ bit_xor (register / 256 * 2 ^ 8) (register % 256) =
@@ -134,14 +125,14 @@ zeros-byte register =
     ∙ zeros-xor 8 (register / 256 * 2 ^ 8) (register % 256)
     ∙ ap (λ (n : ℕ). bit_xor n (after_zeros 8 (register % 256))) (zeros-shift (register / 256) 8)
 
--- Message bits of zero in two runs.
+-- The steps of `m` and then `n` message bits 0.
 zeros-add : (m n register : ℕ) → after_zeros n (after_zeros m register) ≡ after_zeros (m + n) register
 unfolding after_zeros
 zeros-add m n register =
     sym (fold-append crc_bit register (replicate m 0) (replicate n 0))
     ∙ ap (fold crc_bit register) (replicate-append-replicate m n 0)
 
--- Entry `i` of table `k` is the register `i` after so many message bits of zero.
+-- Entry `i` of table `k` is the register `i` after `8 * (k + 1)` message bits 0.
 table_entry-next : (k i : ℕ) → table_entry (suc k) i ≡ after_zeros 8 (table_entry k i)
 unfolding table_entry
 table_entry-next k i = sym (zeros-byte (table_entry k i))
@@ -159,19 +150,19 @@ table_entry-third i = table_entry-next 1 i ∙ ap (after_zeros 8) (table_entry-s
 table_entry-fourth : (i : ℕ) → table_entry 3 i ≡ after_zeros 32 i
 table_entry-fourth i = table_entry-next 2 i ∙ ap (after_zeros 8) (table_entry-third i) ∙ zeros-add 24 8 i
 
--- Message bits that follow may as well be added to the register before, shifted.
+-- A number that is xored into the register after `n` steps can be xored in before them, shifted left.
 zeros-added : (n register number : ℕ) → bit_xor (after_zeros n register) number ≡ after_zeros n (bit_xor register (number * 2 ^ n))
 zeros-added n register number =
     ap (bit_xor (after_zeros n register)) (sym (zeros-shift number n)) ∙ sym (zeros-xor n register (number * 2 ^ n))
 
--- Four bytes as one number, the first the lowest.
+-- Four bytes as a little-endian number.
 abbrev number_of : ℕ → ℕ → ℕ → ℕ → ℕ
 number_of a b c d = bit_xor (d * 2 ^ 24) (bit_xor (c * 2 ^ 16) (bit_xor (b * 2 ^ 8) a))
 
 xor_last : (r n m : ℕ) → bit_xor (bit_xor r n) m ≡ bit_xor r (bit_xor m n)
 xor_last r n m = xor_assoc r n m ∙ ap (bit_xor r) (xor_comm n m)
 
--- The register after four bytes is that after 32 message bits of zero, from the sum of the register and the bytes.
+-- The register after four bytes: they are xored into the register, and 32 message bits 0 follow.
 crc_after-four : (register a b c d : ℕ) → a < 2 ^ 8 → b < 2 ^ 8 → c < 2 ^ 8 → d < 2 ^ 8
     → crc_after register (a ∷ b ∷ c ∷ d ∷ []) ≡ after_zeros 32 (bit_xor register (number_of a b c d))
 crc_after-four register a b c d ga gb gc gd =
@@ -194,7 +185,7 @@ crc_after-four register a b c d ga gb gc gd =
     ∙ crc_after-byte (after_zeros 24 r3) d gd
     ∙ ap (after_zeros 8) (zeros-added 24 r3 d) ∙ zeros-add 24 8 (bit_xor r3 (d * 2 ^ 24)) ∙ ap (after_zeros 32) sum
 
--- Four bytes, each by its table, make the register after 32 message bits of zero.
+-- The register after 32 message bits 0, by the tables: each of its bytes selects an entry.
 after_zeros-tables : (a b c d : ℕ)
     → after_zeros 32 (number_of a b c d)
     ≡ bit_xor (bit_xor (bit_xor (table_entry 3 a) (table_entry 2 b)) (table_entry 1 c)) (table_entry 0 d)
@@ -215,7 +206,7 @@ after_zeros-tables a b c d =
     zeros-xor 32 (d * 2 ^ 24) (bit_xor (c * 2 ^ 16) (bit_xor (b * 2 ^ 8) a)) ∙ (λ i. bit_xor (fourth i) (three i))
     ∙ xor_comm (table_entry 0 d) (bit_xor (bit_xor (table_entry 3 a) (table_entry 2 b)) (table_entry 1 c))
 
--- The number of four bytes is their sum.
+-- A little-endian number is the sum of its shifted bytes.
 number_of-sum : (a b c d : ℕ) → a < 2 ^ 8 → b < 2 ^ 8 → c < 2 ^ 8
     → number_of a b c d ≡ a + b * 2 ^ 8 + c * 2 ^ 16 + d * 2 ^ 24
 number_of-sum a b c d ga gb gc =
@@ -226,13 +217,13 @@ number_of-sum a b c d ga gb gc =
     xor_shifted d 24 (c * 2 ^ 16 + (b * 2 ^ 8 + a)) (omega arith) in
     ap (λ (n : ℕ). bit_xor (d * 2 ^ 24) (bit_xor (c * 2 ^ 16) n)) two ∙ ap (bit_xor (d * 2 ^ 24)) three ∙ four ∙ omega arith
 
--- A number of 32 bits is that of its four bytes.
+-- A number of 32 bits has these four bytes.
 number_of-bytes : (x : ℕ) → x < 2 ^ 32
     → x ≡ number_of (x % 256) (x / 256 % 256) (x / 65536 % 256) (x / 16777216 % 256)
 number_of-bytes x small =
     omega (arith, number_of-sum (x % 256) (x / 256 % 256) (x / 65536 % 256) (x / 16777216 % 256) (omega arith) (omega arith) (omega arith))
 
--- The register after four bytes, by the four tables: `x` is the sum of the register and the bytes as a number.
+-- The register after four bytes, by the four tables. `x` is the register xored with the bytes as a number.
 pub four_by_tables : (register a b c d x : ℕ) → register < 2 ^ 32 → a < 2 ^ 8 → b < 2 ^ 8 → c < 2 ^ 8 → d < 2 ^ 8
     → x ≡ bit_xor register (a + b * 256 + c * 65536 + d * 16777216)
     → bit_xor (bit_xor (bit_xor (table_entry 3 (x % 256)) (table_entry 2 (x / 256 % 256))) (table_entry 1 (x / 65536 % 256)))
@@ -269,7 +260,7 @@ byte_by_table register byte small =
     ∙ (λ i. bit_xor (sym high i) (after_zeros 8 (sym low i)))
     ∙ sym (crc_after-byte register byte small ∙ zeros-byte (bit_xor register byte))
 
--- The register after groups of four bytes is that after the bytes.
+-- The register after groups of four bytes is the register after their bytes.
 crc_after-chunks : (k register : ℕ) (bytes : List ℕ)
     → fold crc_after register (first_chunks 4 k bytes) ≡ crc_after register (take (k * 4) bytes)
 unfolding crc_after
@@ -279,7 +270,7 @@ crc_after-chunks (suc k) register bytes =
     ∙ sym (crc_after-append register (take 4 bytes) (take (k * 4) (drop 4 bytes)))
     ∙ ap (crc_after register) (sym (take-add 4 (k * 4) bytes) ∙ ap (λ (n : ℕ). take n bytes) (omega arith))
 
--- The register after groups of four bytes and then the rest is that after all.
+-- The register after groups of four bytes and then the rest is the register after all bytes.
 pub crc_after-groups : (k register : ℕ) (bytes : List ℕ)
     → crc_after (fold crc_after register (first_chunks 4 k bytes)) (drop (k * 4) bytes) ≡ crc_after register bytes
 crc_after-groups k register bytes =

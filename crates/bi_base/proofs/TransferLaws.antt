@@ -15,7 +15,6 @@ use Rattle.bi_base.specs.Writing.{Writes, WriteStopped, WroteAndFlushed, WriteOr
 
 -- Calls that read a whole input and write an output.
 
-
 -- There is an input that a reader may have.
 pub some_input : (remaining : Option (List ℕ)) → (input : List ℕ) × IsInput remaining input
 some_input None = ([], tt)

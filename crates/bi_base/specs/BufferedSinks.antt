@@ -5,14 +5,16 @@ use Rattle.std.proofs.KnownBytes.{Appends-nil, Appends-trans}
 use Rattle.std.proofs.lemmas.List.{append-nil, append_assoc}
 use Rattle.bi_base.specs.declared.fault.Error.{Error}
 use Rattle.bi_base.specs.declared.buffered_sink.BufferedSink.{BufferedSink}
-use Rattle.bi_base.specs.Sinks.{AppendsPrefix, AppendsNothing, AppendsInTurn, FailsAfter, FailsBefore}
+use Rattle.bi_base.specs.Sinks.{AppendsPrefix, AppendsNothing, AppendsInTurn, FailsAfter}
+use Rattle.bi_base.specs.Sinks.{FailsBefore}
 use Rattle.bi_base.specs.SinkLaws.{prefix_more, prefix_after}
 use Rattle.bi_base.specs.Traces.{WriteTrace}
 use Rattle.bi_base.specs.Writing.{Writes, WroteAll, WriteStopped}
 
 -- A sink that holds bytes back before it writes them, as contracts see it.
 
--- Which borrow of a writer the sink has, the writer after the calls so far, and the bytes that are held back.
+-- Which borrow of a writer the sink has, the writer after the calls so far, and the bytes that are
+-- held back.
 pub record Buffered : Type 0 where
   pub borrow : GName
   pub trace : WriteTrace
@@ -26,7 +28,8 @@ buffered trace sink = record {
   held = sink.held.items;
 }
 
--- Some bytes were written, and the others are held back: together they are those held back before, and these.
+-- Some bytes were written, and the others are held back: together they are those held back before,
+-- and these.
 pub record Holds (old : Buffered) (bytes : List ℕ) (new : Buffered) : Type 0 where
   pub written : List ℕ
   pub wrote : WroteAll old.trace written new.trace
@@ -39,10 +42,12 @@ pub record Stops (old : Buffered) (bytes : List ℕ) (new : Buffered) (error : E
   pub same_borrow : new.borrow ≡ old.borrow
 
 -- The same of a sink.
-abbrev pub BufferAppends : {T : Type 0} → (T → WriteTrace) → BufferedSink T → List ℕ → BufferedSink T → Type 0
+abbrev pub BufferAppends : {T : Type 0} → (T → WriteTrace) → BufferedSink T → List ℕ
+    → BufferedSink T → Type 0
 BufferAppends trace old bytes new = Holds (buffered trace old) bytes (buffered trace new)
 
-abbrev pub BufferFails : {T : Type 0} → (T → WriteTrace) → BufferedSink T → List ℕ → BufferedSink T → Error → Type 0
+abbrev pub BufferFails : {T : Type 0} → (T → WriteTrace) → BufferedSink T → List ℕ → BufferedSink T
+    → Error → Type 0
 BufferFails trace old bytes new error = Stops (buffered trace old) bytes (buffered trace new) error
 
 -- Writing nothing leaves a writer as it is.
@@ -55,7 +60,8 @@ wrote_nothing trace = record {
 
 -- Writing two lists in turn is writing both together.
 pub writes_in_turn : AppendsInTurn Writes
-writes_in_turn a b c xs ys first second = Appends-trans a.contents b.contents c.contents xs ys first second
+writes_in_turn a b c xs ys first second = Appends-trans a.contents b.contents c.contents xs ys first
+    second
 
 pub wrote_in_turn : AppendsInTurn WroteAll
 wrote_in_turn a b c xs ys first second = record {
@@ -84,7 +90,8 @@ stopped_before a b xs ys error failed = record {
   same_writer = failed.same_writer;
 }
 
-pub buffer_appends_nothing : {T : Type 0} (trace : T → WriteTrace) → AppendsNothing (BufferAppends trace)
+pub buffer_appends_nothing : {T : Type 0} (trace : T → WriteTrace)
+    → AppendsNothing (BufferAppends trace)
 buffer_appends_nothing trace a = record {
   written = [];
   wrote = wrote_nothing (trace a.target.now);
@@ -92,10 +99,12 @@ buffer_appends_nothing trace a = record {
   same_borrow = refl;
 }
 
-pub buffer_appends_in_turn : {T : Type 0} (trace : T → WriteTrace) → AppendsInTurn (BufferAppends trace)
+pub buffer_appends_in_turn : {T : Type 0} (trace : T → WriteTrace)
+    → AppendsInTurn (BufferAppends trace)
 buffer_appends_in_turn trace a b c xs ys first second = record {
   written = first.written ++ second.written;
-  wrote = wrote_in_turn (trace a.target.now) (trace b.target.now) (trace c.target.now) first.written second.written
+  wrote = wrote_in_turn (trace a.target.now) (trace b.target.now) (trace c.target.now) first.written
+      second.written
       first.wrote second.wrote;
   all = sym (append_assoc a.held.items xs ys) ∙ ap (λ l. l ++ ys) first.all
       ∙ append_assoc first.written b.held.items ys ∙ ap (λ l. first.written ++ l) second.all
@@ -103,12 +112,14 @@ buffer_appends_in_turn trace a b c xs ys first second = record {
   same_borrow = second.same_borrow ∙ first.same_borrow;
 }
 
-pub buffer_fails_after : {T : Type 0} (trace : T → WriteTrace) → FailsAfter (BufferAppends trace) (BufferFails trace)
+pub buffer_fails_after : {T : Type 0} (trace : T → WriteTrace)
+    → FailsAfter (BufferAppends trace) (BufferFails trace)
 buffer_fails_after trace a b c xs ys error first failed = record {
   stopped = subst (λ l. WriteStopped (trace a.target.now) l (trace c.target.now) error)
       (sym (append_assoc first.written b.held.items ys) ∙ ap (λ l. l ++ ys) (sym first.all)
       ∙ append_assoc a.held.items xs ys)
-      (stopped_after (trace a.target.now) (trace b.target.now) (trace c.target.now) first.written (b.held.items ++ ys)
+      (stopped_after (trace a.target.now) (trace b.target.now) (trace c.target.now) first.written
+      (b.held.items ++ ys)
       error first.wrote failed.stopped);
   same_borrow = failed.same_borrow ∙ first.same_borrow;
 }
@@ -117,6 +128,7 @@ pub buffer_fails_before : {T : Type 0} (trace : T → WriteTrace) → FailsBefor
 buffer_fails_before trace a b xs ys error failed = record {
   stopped = subst (λ l. WriteStopped (trace a.target.now) l (trace b.target.now) error)
       (append_assoc a.held.items xs ys)
-      (stopped_before (trace a.target.now) (trace b.target.now) (a.held.items ++ xs) ys error failed.stopped);
+      (stopped_before (trace a.target.now) (trace b.target.now) (a.held.items ++ xs) ys error
+      failed.stopped);
   same_borrow = failed.same_borrow;
 }

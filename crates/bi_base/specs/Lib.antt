@@ -8,6 +8,7 @@ pub mod Writing
 pub mod Transfers
 pub mod Sinks
 pub mod SinkLaws
+pub mod CountSinks
 pub mod CrcSink
 pub mod VecSinks
 pub mod WriteSinks

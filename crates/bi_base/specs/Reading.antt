@@ -1,7 +1,8 @@
 use Rattle.std.specs.Prelude.{◌≡◌, ℕ, ◌<◌, ◌≤◌, ⊤, List, length, take, Option, None, Some}
 use Rattle.std.specs.Io.KnownBytes.{Consumes, IsAtEnd, Keeps}
 use Rattle.bi_base.specs.declared.fault.Error.{Error}
-use Rattle.bi_base.specs.declared.fault.Error.TheVariants.{Refused, OutOfMemory, ReadFailed, WriteFailed}
+use Rattle.bi_base.specs.declared.fault.Error.TheVariants.{Refused, OutOfMemory, ReadFailed}
+use Rattle.bi_base.specs.declared.fault.Error.TheVariants.{WriteFailed}
 use Rattle.bi_base.specs.declared.fault.Cause.TheVariants.{TooLarge}
 use Rattle.bi_base.specs.declared.fault.Fault.{Fault}
 use Rattle.bi_base.specs.Traces.{ReadTrace, ReadsWell, MustStopReading}
@@ -21,7 +22,8 @@ abbrev pub IsInput : Option (List ℕ) → List ℕ → Type 0
 IsInput None input = ⊤
 IsInput (Some bytes) input = bytes ≡ input
 
--- One call read these first bytes of a buffer: none only at the end of the input, or where the buffer is empty.
+-- One call read these first bytes of a buffer: none only at the end of the input, or where the
+-- buffer is empty.
 pub record ReadSome (old new : ReadTrace) (buffer : List ℕ) (count : ℕ) : Type 0 where
   pub consumed : Consumes old.remaining new.remaining (take count buffer)
   pub ended : count ≡ 0 → 0 < length buffer → IsAtEnd new.remaining
@@ -41,8 +43,8 @@ pub record ReadWhole (old new : Option (List ℕ)) (input : List ℕ) : Type 0 w
   pub consumed : Consumes old new input
   pub ended : IsAtEnd new
 
--- Why reading an input of at most so many bytes fails: it is longer, or memory was short, or the last read was a reason
--- to stop.
+-- Why reading an input of at most so many bytes fails: it is longer, or memory was short, or the
+-- last read was a reason to stop.
 abbrev pub IsReadError : Option (List ℕ) → (most : ℕ) → (MustStop : Type 0) → Error → Type 0
 IsReadError old most MustStop (Refused fault) =
     (input : List ℕ) × IsInput old input × (most < length input) × (fault ≡ too_large most)

@@ -1,4 +1,5 @@
-use Rattle.std.specs.Prelude.{◌≡◌, ◌≢◌, ◌⊎◌, ◌+◌, ◌-◌, ◌^◌, ◌<◌, ◌≤◌, ◌↔◌, ℕ, Bool, List, Option, length, min, Result, IsTrue, IsFalse, IsOkAnd, IsErrAnd, MatchResult}
+use Rattle.std.specs.Prelude.{◌≡◌, ◌≢◌, ◌⊎◌, ◌+◌, ◌-◌, ◌^◌, ◌<◌, ◌≤◌, ◌↔◌, ℕ, Bool, List, Option}
+use Rattle.std.specs.Prelude.{length, min, Result, IsTrue, IsFalse, IsOkAnd, IsErrAnd, MatchResult}
 use Rattle.std.specs.Borrow.{GName}
 use Rattle.std.specs.IoError.{error_kind}
 use Rattle.std.specs.Io.KnownBytes.{Keeps, ReadConsumes, WriteAppends}
@@ -39,11 +40,13 @@ pub record WriteTrace : Type 0 where
 
 -- The flag says whether the call failed, by another error than an interruption.
 abbrev pub RecordsFailure : {T : Type 0} → Bool → Result T Error → Type 0
-RecordsFailure failed result = IsTrue failed ↔ IsErrAnd result (λ error. error_kind error ≢ Interrupted)
+RecordsFailure failed result = IsTrue failed
+    ↔ IsErrAnd result (λ error. error_kind error ≢ Interrupted)
 
 -- The flag says whether the write of these bytes stalled: there were some, and it took none.
 abbrev pub RecordsStall : Bool → Result ℕ Error → List ℕ → Type 0
-RecordsStall stalled result bytes = IsTrue stalled ↔ IsOkAnd result (λ count. (count ≡ 0) × (0 < length bytes))
+RecordsStall stalled result bytes = IsTrue stalled
+    ↔ IsOkAnd result (λ count. (count ≡ 0) × (0 < length bytes))
 
 -- The count of interrupted calls in a row, before and after the call.
 abbrev pub CountsInterruptions : {T : Type 0} → ℕ → ℕ → Result T Error → Type 0
@@ -82,22 +85,24 @@ pub record IsFlushed (trace : WriteTrace) : Type 0 where
   pub not_interrupted : trace.interruptions ≡ 0
 
 -- One read into a buffer, which now holds these bytes.
-pub record IsReadCall (old new : ReadTrace) (result : Result ℕ Error) (buffer : List ℕ) : Type 0 where
-  pub bytes : ReadConsumes old.remaining new.remaining result buffer
-  pub failed : RecordsFailure new.failed result
-  pub interruptions : CountsInterruptions old.interruptions new.interruptions result
-  pub stopped : IsTrue new.stopped ↔ (IsTrue old.stopped ⊎ MustStopReading new)
-  pub same_reader : new.reader ≡ old.reader
+pub record IsReadCall (old new : ReadTrace) (result : Result ℕ Error) (buffer : List ℕ) : Type 0
+  where
+    pub bytes : ReadConsumes old.remaining new.remaining result buffer
+    pub failed : RecordsFailure new.failed result
+    pub interruptions : CountsInterruptions old.interruptions new.interruptions result
+    pub stopped : IsTrue new.stopped ↔ (IsTrue old.stopped ⊎ MustStopReading new)
+    pub same_reader : new.reader ≡ old.reader
 
 -- One write of these bytes.
-pub record IsWriteCall (old new : WriteTrace) (result : Result ℕ Error) (bytes : List ℕ) : Type 0 where
-  pub bytes_taken : WriteAppends old.contents new.contents result bytes
-  pub failed : RecordsFailure new.failed result
-  pub stalled : RecordsStall new.stalled result bytes
-  pub not_flushing : IsFalse new.flushing
-  pub interruptions : CountsInterruptions old.interruptions new.interruptions result
-  pub stopped : IsTrue new.stopped ↔ (IsTrue old.stopped ⊎ MustStopWriting new)
-  pub same_writer : new.writer ≡ old.writer
+pub record IsWriteCall (old new : WriteTrace) (result : Result ℕ Error) (bytes : List ℕ) : Type 0
+  where
+    pub bytes_taken : WriteAppends old.contents new.contents result bytes
+    pub failed : RecordsFailure new.failed result
+    pub stalled : RecordsStall new.stalled result bytes
+    pub not_flushing : IsFalse new.flushing
+    pub interruptions : CountsInterruptions old.interruptions new.interruptions result
+    pub stopped : IsTrue new.stopped ↔ (IsTrue old.stopped ⊎ MustStopWriting new)
+    pub same_writer : new.writer ≡ old.writer
 
 -- One flush.
 pub record IsFlushCall (old new : WriteTrace) (result : Result (Unit {0}) Error) : Type 0 where

@@ -5,7 +5,8 @@ use Rattle.bi_base.specs.declared.fault.Error.{Error}
 use Rattle.bi_base.specs.declared.fault.Error.TheVariants.{OutOfMemory}
 use Rattle.bi_base.specs.Sinks.{AppendsNothing, AppendsInTurn}
 
--- A sink that keeps the bytes in memory, as contracts see it: the list of all bytes that were appended.
+-- A sink that keeps the bytes in memory, as contracts see it: the list of all bytes that were
+-- appended.
 
 -- The list grows by these bytes.
 abbrev pub Grows : List ℕ → List ℕ → List ℕ → Type 0

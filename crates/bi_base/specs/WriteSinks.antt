@@ -15,7 +15,8 @@ abbrev pub writer_of : {W : Type 0} → WriteSink W → MutBor W
 writer_of sink = sink.writer
 
 -- The writer stays the same one, and its bytes grow by these.
-abbrev pub WriterGrows : {W : Type 0} → (W → Option (List ℕ)) → WriteSink W → List ℕ → WriteSink W → Type 0
+abbrev pub WriterGrows : {W : Type 0} → (W → Option (List ℕ)) → WriteSink W → List ℕ → WriteSink W
+    → Type 0
 WriterGrows contents old bytes new =
     ((writer_of new).ghost_name ≡ (writer_of old).ghost_name)
     × Appends (contents (writer_of old).now) (contents (writer_of new).now) bytes
@@ -25,13 +26,16 @@ abbrev pub IsWriteFailed : {W : Type 0} → WriteSink W → Error → Type 0
 IsWriteFailed new error = error ≡ WriteFailed
 
 -- Growing by nothing changes nothing.
-pub writer_grows_nothing : {W : Type 0} (contents : W → Option (List ℕ)) → AppendsNothing (WriterGrows contents)
+pub writer_grows_nothing : {W : Type 0} (contents : W → Option (List ℕ))
+    → AppendsNothing (WriterGrows contents)
 writer_grows_nothing contents a = (refl, Appends-nil (contents (writer_of a).now))
 
 -- Growing by two lists in turn is growing by both together.
-pub writer_grows_in_turn : {W : Type 0} (contents : W → Option (List ℕ)) → AppendsInTurn (WriterGrows contents)
+pub writer_grows_in_turn : {W : Type 0} (contents : W → Option (List ℕ))
+    → AppendsInTurn (WriterGrows contents)
 writer_grows_in_turn contents a b c xs ys first second = (
   second.0 ∙ first.0,
-  Appends-trans (contents (writer_of a).now) (contents (writer_of b).now) (contents (writer_of c).now) xs ys
+  Appends-trans (contents (writer_of a).now) (contents (writer_of b).now)
+      (contents (writer_of c).now) xs ys
       first.1 second.1,
 )

@@ -25,8 +25,10 @@ pub record NothingWritten (old new : WriteTrace) (error : Error) : Type 0 where
   pub not_flushing : IsFalse new.flushing
   pub same_writer : new.writer ≡ old.writer
 
--- Writing these bytes stopped with an error: a prefix of them was written, and the last write was a reason to stop.
-pub record WriteStopped (old : WriteTrace) (bytes : List ℕ) (new : WriteTrace) (error : Error) : Type 0 where
+-- Writing these bytes stopped with an error: a prefix of them was written, and the last write was a
+-- reason to stop.
+pub record WriteStopped (old : WriteTrace) (bytes : List ℕ) (new : WriteTrace) (error : Error) :
+    Type 0 where
   pub is : error ≡ WriteFailed
   pub prefix : AppendsPrefix Writes old bytes new
   pub cause : MustStopWriting new
@@ -55,9 +57,10 @@ pub record WroteAndFlushed (old : WriteTrace) (bytes : List ℕ) (new : WriteTra
   pub no_failure_ignored : WritesWell old → WritesWell new
   pub same_writer : new.writer ≡ old.writer
 
--- Writing these bytes and flushing stopped with an error: a prefix of them was written, all of them where the last call
--- was a flush, and the last call was a reason to stop.
-pub record WriteOrFlushStopped (old : WriteTrace) (bytes : List ℕ) (new : WriteTrace) (error : Error) : Type 0 where
+-- Writing these bytes and flushing stopped with an error: a prefix of them was written, all of them
+-- where the last call was a flush, and the last call was a reason to stop.
+pub record WriteOrFlushStopped (old : WriteTrace) (bytes : List ℕ) (new : WriteTrace)
+    (error : Error) : Type 0 where
   pub is : error ≡ WriteFailed
   pub count : ℕ
   pub within : count ≤ length bytes

@@ -13,9 +13,10 @@ use arrayvec::ArrayVec;
 /// How many bytes a `BufferedSink` holds back at most.
 const BUFFER_SIZE: usize = 8192;
 
-/// A sink that writes the bytes to a writer whose calls are traced, and which it borrows. It holds up to 8 KiB of them back,
-/// so that small pieces are not a write each; a piece that is longer than that is written without a copy. On average a write
-/// has 4 KiB at least. What is held back is written by `finish`, and lost where the sink is dropped before.
+/// A sink that writes the bytes to a writer whose calls are traced, and which it borrows. It holds
+/// up to 8 KiB of them back, so that small pieces are not a write each; a piece that is longer than
+/// that is written without a copy. On average a write has 4 KiB at least. What is held back is
+/// written by `finish`, and lost where the sink is dropped before.
 #[derive(Drop)]
 pub struct BufferedSink<'a, T> {
     target: &'a mut T,
@@ -39,13 +40,16 @@ impl<'a, T: TracedWrite> BufferedSink<'a, T> {
 
     /// Writes what is held back, and flushes the writer.
     ///
-    /// The only error is `WriteFailed`, and a prefix of what is held back was written then, all of it where the flush
-    /// failed. It comes after a write or flush that failed by another error than an interruption, after a write that wrote
-    /// none of some bytes, or after 1,024 interruptions in a row. No failure is ignored.
+    /// The only error is `WriteFailed`, and a prefix of what is held back was written then, all of
+    /// it where the flush failed. It comes after a write or flush that failed by another error than
+    /// an interruption, after a write that wrote none of some bytes, or after 1,024 interruptions
+    /// in a row. No failure is ignored.
     pub fn finish(&mut self) -> Result<(), Error>
-        ensures finished { let old = buffered T.trace self.old in let new = buffered T.trace self.new in
+        ensures finished { let old = buffered T.trace self.old in
+            let new = buffered T.trace self.new in
             Wrote WroteAndFlushed WriteOrFlushStopped old.trace old.held result new.trace }
-        ensures same_borrow { (buffered T.trace self.new).borrow ≡ (buffered T.trace self.old).borrow }
+        ensures same_borrow { (buffered T.trace self.new).borrow
+            ≡ (buffered T.trace self.old).borrow }
     {
         write_all(self.target, self.held.as_slice())?;
         self.held.clear();
@@ -54,14 +58,16 @@ impl<'a, T: TracedWrite> BufferedSink<'a, T> {
 }
 
 impl<'a, T: TracedWrite> Sink for BufferedSink<'a, T> {
-    ghost use Rattle.bi_base.specs.BufferedSinks.{BufferAppends, BufferFails, buffer_appends_nothing, buffer_appends_in_turn, buffer_fails_after, buffer_fails_before};
+    ghost use Rattle.bi_base.specs.BufferedSinks.{BufferAppends, BufferFails};
+    ghost use Rattle.bi_base.specs.BufferedSinks.{buffer_appends_nothing, buffer_appends_in_turn};
+    ghost use Rattle.bi_base.specs.BufferedSinks.{buffer_fails_after, buffer_fails_before};
 
     ghost appends = { BufferAppends T.trace };
 
     ghost fails = { BufferFails T.trace };
 
-    /// Appends these bytes: some are written, and up to 8 KiB are held back. The only error is `WriteFailed`, and a prefix
-    /// of what was held back and these bytes was written then.
+    /// Appends these bytes: some are written, and up to 8 KiB are held back. The only error is
+    /// `WriteFailed`, and a prefix of what was held back and these bytes was written then.
     fn put(&mut self, bytes: &[u8]) -> Result<(), Error> {
         if self.held.try_extend_from_slice(bytes).is_ok() {
             return Ok(());

@@ -3,14 +3,14 @@
 
 ghost use Rattle.std.specs.Prelude.{◌≡◌, ◌+◌, ◌^◌, ◌<◌, ◌≤◌, ◌↔◌, length, IsSome, IfSome};
 ghost use Rattle.std.specs.List.{flat_map};
-ghost use Rattle.bi_base.specs.Cells.{cell, slice, u32_at, up4 as up4_of};
+ghost use Rattle.bi_base.specs.Cells.{cell, cell8, slice, u32_at, u64_at, up4 as up4_of};
 ghost use Rattle.bi_base.specs.Sinks.{Wrote};
 
 use crate::fault::Error;
 use crate::sinks::Sink;
 
-/// The number whose cell, its four big-endian bytes (Devicetree Specification, 2.2.4.2: u32), stands at offset `at`. None
-/// exactly where the bytes end before the cell does.
+/// The number whose cell, its four big-endian bytes (Devicetree Specification, 2.2.4.2: u32),
+/// stands at offset `at`. None exactly where the bytes end before the cell does.
 pub fn be32_at(bytes: &[u8], at: usize) -> Option<u32>
     ensures within { IsSome result ↔ (at + 4 ≤ length bytes.now) }
     ensures value { IfSome result (λ number. number ≡ u32_at bytes.now at) }
@@ -28,8 +28,20 @@ pub fn up4(n: usize) -> usize
     (n + 3) / 4 * 4
 }
 
-/// Appends the cell of this number: its four bytes, the highest first (Devicetree Specification, 2.2.4.2: u32). Fails as
-/// the sink does.
+/// The number whose two cells, its eight big-endian bytes (Devicetree Specification, 2.2.4.2: u64),
+/// are at offset `at`. None exactly where the bytes end before the two cells do.
+#[tactic(auto, unfolding(crate::specs::Cells::u64_at))]
+pub fn be64_at(bytes: &[u8], at: usize) -> Option<u64>
+    ensures within { IsSome result ↔ (at + 8 ≤ length bytes.now) }
+    ensures value { IfSome result (λ number. number ≡ u64_at bytes.now at) }
+    ensures inverse { IfSome result (λ number. cell8 number ≡ slice bytes.now at 8) }
+{
+    let cells = bytes.get(at..)?.first_chunk::<8>()?;
+    Some(u64::from_be_bytes(*cells))
+}
+
+/// Appends the cell of this number: its four bytes, the highest first (Devicetree Specification,
+/// 2.2.4.2: u32). Fails as the sink does.
 pub fn put_cell<S: Sink>(sink: &mut S, number: u32) -> Result<(), Error>
     ensures { Wrote S.appends S.fails sink.old (cell number) result sink.new }
 {
@@ -73,6 +85,15 @@ mod tests {
         ] {
             assert_eq!(rt; up4(n), rounded);
         }
+    }
+
+    #[test]
+    fn two_cells_are_eight_bytes_the_highest_first(rt: HostRuntime) {
+        let bytes = [0xd0, 0x0d, 0xfe, 0xed, 7, 8, 9, 10, 11];
+        assert_eq!(rt; be64_at(&bytes, 0), Some(0xd00d_feed_0708_090a));
+        assert_eq!(rt; be64_at(&bytes, 1), Some(0x0dfe_ed07_0809_0a0b));
+        assert_eq!(rt; be64_at(&bytes, 2), None);
+        assert_eq!(rt; be64_at(&bytes, usize::MAX), None);
     }
 
     #[test]

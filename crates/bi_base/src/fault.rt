@@ -112,7 +112,8 @@ impl Cause {
 pub struct Fault {
     /// Why.
     pub cause: Cause,
-    /// Where, in bytes from the beginning of the file, or of the image to be written. For TooLarge it is the limit.
+    /// Where, in bytes from the beginning of the file, or of the image to be written. For TooLarge
+    /// it is the limit.
     pub offset: u32,
 }
 

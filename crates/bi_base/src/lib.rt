@@ -1,10 +1,11 @@
-//! What every layer of bootimg stands on: cells, CRC-32, limits, causes and faults, reading a whole input, and sinks
-//! that bytes are written to.
+//! What every layer of bootimg stands on: cells, CRC-32, limits, causes and faults, reading a whole
+//! input, and sinks that bytes are written to.
 #![tactic(auto)]
 
 mod buffered_sink;
 mod cells;
 mod checksum;
+mod count_sink;
 mod crc;
 pub mod crc_laws;
 mod crc_tables;
@@ -21,8 +22,9 @@ mod write_sink;
 mod writing;
 
 pub use buffered_sink::BufferedSink;
-pub use cells::{be32_at, put_cell, put_cells, up4};
+pub use cells::{be32_at, be64_at, put_cell, put_cells, up4};
 pub use checksum::crc32;
+pub use count_sink::CountSink;
 pub use crc::Crc32;
 pub use fault::{Cause, Error, Fault, refuse};
 pub use limits::Limits;

@@ -8,8 +8,8 @@ use std::io::{self, ErrorKind};
 /// How many interrupted calls in a row are a reason to stop. After fewer the call is made again.
 pub const MOST_INTERRUPTIONS: u32 = 1024;
 
-/// The outcome of the calls so far: whether the last one failed, by another error than an interruption, and how many in a
-/// row were interrupted, up to the last one.
+/// The outcome of the calls so far: whether the last one failed, by another error than an
+/// interruption, and how many in a row were interrupted, up to the last one.
 #[derive(Clone, Copy)]
 pub struct Outcome {
     pub failed: bool,
@@ -31,7 +31,8 @@ impl Outcome {
     /// The outcome after one more call with this result.
     pub fn after<T>(self, call: &io::Result<T>) -> Outcome
         ensures failed { RecordsFailure result.failed call.now }
-        ensures interruptions { CountsInterruptions self.interruptions result.interruptions call.now }
+        ensures interruptions { CountsInterruptions self.interruptions result.interruptions
+            call.now }
     {
         match call {
             Ok(_) => Outcome::new(),

@@ -15,8 +15,8 @@ use std::io::{ErrorKind, Read};
 /// How many bytes are read at once, at most.
 const CHUNK: usize = 0x1_0000;
 
-/// Reads once, and again after each interruption. Fails with `ReadFailed` where a read fails, or where 1,024 reads in a
-/// row are interrupted.
+/// Reads once, and again after each interruption. Fails with `ReadFailed` where a read fails, or
+/// where 1,024 reads in a row are interrupted.
 fn read_some<S: TracedRead>(source: &mut S, buffer: &mut [u8]) -> Result<usize, Error>
     ensures bound { ReadsAtMost result buffer.new }
     ensures ok { IfOk result (ReadSome (S.trace source.old) (S.trace source.new) buffer.new) }
@@ -34,10 +34,11 @@ fn read_some<S: TracedRead>(source: &mut S, buffer: &mut [u8]) -> Result<usize, 
 
 /// Reads a whole input up to its end, from a reader that records the outcome of its calls.
 ///
-/// Errors: `Refused` with `TooLarge` at the limit for files, where the input is longer than that; `ReadFailed` after a read
-/// that failed by another error than an interruption, or after 1,024 interrupted reads in a row; `OutOfMemory` where the
-/// buffer cannot grow. After an error the bytes that were read are lost. At most one byte more than the limit is read, also
-/// where the call fails. No failed read is ignored: after one the call returns `ReadFailed`.
+/// Errors: `Refused` with `TooLarge` at the limit for files, where the input is longer than that;
+/// `ReadFailed` after a read that failed by another error than an interruption, or after 1,024
+/// interrupted reads in a row; `OutOfMemory` where the buffer cannot grow. After an error the bytes
+/// that were read are lost. At most one byte more than the limit is read, also where the call
+/// fails. No failed read is ignored: after one the call returns `ReadFailed`.
 pub fn read_all_traced<S: TracedRead>(
     alloc: Global,
     source: &mut S,
@@ -47,8 +48,10 @@ pub fn read_all_traced<S: TracedRead>(
         ReadWhole (S.trace source.old).remaining (S.trace source.new).remaining bytes.items) }
     ensures within { IfOk result (λ bytes. vec_len bytes ≤ limits.file) }
     ensures failed { IfErr result
-        (IsReadError (S.trace source.old).remaining limits.file (MustStopReading (S.trace source.new))) }
-    ensures takes_at_most_one_byte_more { TakesAtMost (S.trace source.old).remaining (S.trace source.new).remaining (limits.file + 1) }
+        (IsReadError (S.trace source.old).remaining limits.file
+        (MustStopReading (S.trace source.new))) }
+    ensures takes_at_most_one_byte_more { TakesAtMost (S.trace source.old).remaining
+        (S.trace source.new).remaining (limits.file + 1) }
     ensures no_failure_ignored { ReadsWell (S.trace source.old) →
         (IsErrOf result Error.ReadFailed → ⊥) → ReadsWell (S.trace source.new) }
     ensures same_reader { (S.trace source.new).reader ≡ (S.trace source.old).reader }
@@ -74,14 +77,15 @@ pub fn read_all_traced<S: TracedRead>(
 
 /// Reads a whole input up to its end: `read_all_traced` over a plain reader, with the same errors.
 ///
-/// A plain reader does not record a failed call, so no clause here says why `ReadFailed` comes, nor that no failure is
-/// ignored. `read_all_traced` promises both.
+/// A plain reader does not record a failed call, so no clause here says why `ReadFailed` comes, nor
+/// that no failure is ignored. `read_all_traced` promises both.
 pub fn read_all<R: Read>(alloc: Global, reader: &mut R, limits: Limits) -> Result<Vec<u8>, Error>
     ensures whole { IfOk result (λ bytes.
         ReadWhole (R.remaining reader.old) (R.remaining reader.new) bytes.items) }
     ensures within { IfOk result (λ bytes. vec_len bytes ≤ limits.file) }
     ensures failed { IfErr result (IsReadError (R.remaining reader.old) limits.file ⊤) }
-    ensures takes_at_most_one_byte_more { TakesAtMost (R.remaining reader.old) (R.remaining reader.new) (limits.file + 1) }
+    ensures takes_at_most_one_byte_more { TakesAtMost (R.remaining reader.old)
+        (R.remaining reader.new) (limits.file + 1) }
 {
     let mut source = TracedReader::new(reader);
     read_all_traced(alloc, &mut source, limits)

@@ -1,17 +1,20 @@
 //! Sinks: what bytes are appended to.
 
 ghost use Rattle.std.specs.Prelude.{◌≡◌, ◌++◌, ℕ, List, []};
-ghost use Rattle.bi_base.specs.Sinks.{Wrote, AppendsNothing, AppendsInTurn, FailsAfter, FailsBefore};
+ghost use Rattle.bi_base.specs.Sinks.{Wrote, AppendsNothing, AppendsInTurn, FailsAfter};
+ghost use Rattle.bi_base.specs.Sinks.{FailsBefore};
 ghost use Rattle.bi_base.specs.declared.fault.Error.{Error};
 
 use crate::fault::Error;
 
 /// Something that bytes are appended to.
 pub trait Sink {
-    // A call that succeeds: the sink before it, the bytes that were appended, and the sink after it.
+    // A call that succeeds: the sink before it, the bytes that were appended, and the sink after
+    // it.
     ghost appends: { Self → List ℕ → Self → Type 0 };
 
-    // A call that fails: the sink before it, the bytes that were to be appended, the sink after it, and the error.
+    // A call that fails: the sink before it, the bytes that were to be appended, the sink after it,
+    // and the error.
     ghost fails: { Self → List ℕ → Self → Error → Type 0 };
 
     /// Appends these bytes, or fails as the sink does.

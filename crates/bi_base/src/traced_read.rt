@@ -12,8 +12,9 @@ pub trait TracedRead {
     // The reader after the calls so far.
     ghost trace: { Self → ReadTrace };
 
-    /// Reads once into the first bytes of `buffer`, and returns how many: 0 only at the end of the input, or where
-    /// `buffer` is empty. An error is that of the reader, an interruption too, and no byte is lost then.
+    /// Reads once into the first bytes of `buffer`, and returns how many: 0 only at the end of the
+    /// input, or where `buffer` is empty. An error is that of the reader, an interruption too, and
+    /// no byte is lost then.
     fn read_once(&mut self, buffer: &mut [u8]) -> io::Result<usize>
         ensures bound { ReadsAtMost result buffer.new }
         ensures call { IsReadCall (trace self.old) (trace self.new) result buffer.new };
@@ -30,8 +31,10 @@ pub struct TracedReader<'a, R> {
 impl<'a, R: Read> TracedReader<'a, R> {
     /// Traces this reader, with no call so far.
     pub fn new(reader: &'a mut R) -> TracedReader<'a, R>
-        ensures same_reader { (⟦<TracedReader<'a, R> as TracedRead>⟧.trace result).reader ≡ reader.entry.ghost_name }
-        ensures remaining { (⟦<TracedReader<'a, R> as TracedRead>⟧.trace result).remaining ≡ R.remaining reader.old }
+        ensures same_reader { (⟦<TracedReader<'a, R> as TracedRead>⟧.trace result).reader
+            ≡ reader.entry.ghost_name }
+        ensures remaining { (⟦<TracedReader<'a, R> as TracedRead>⟧.trace result).remaining
+            ≡ R.remaining reader.old }
         ensures not_failed { IsFalse (⟦<TracedReader<'a, R> as TracedRead>⟧.trace result).failed }
         ensures well { ReadsWell (⟦<TracedReader<'a, R> as TracedRead>⟧.trace result) }
     {

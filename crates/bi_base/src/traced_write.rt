@@ -12,13 +12,14 @@ pub trait TracedWrite {
     // The writer after the calls so far.
     ghost trace: { Self → WriteTrace };
 
-    /// Writes once, and returns how many of the first bytes were written. An error is that of the writer, an interruption
-    /// too, and no byte was written then.
+    /// Writes once, and returns how many of the first bytes were written. An error is that of the
+    /// writer, an interruption too, and no byte was written then.
     fn write_once(&mut self, bytes: &[u8]) -> io::Result<usize>
         ensures bound { WritesAtMost result bytes.now }
         ensures call { IsWriteCall (trace self.old) (trace self.new) result bytes.now };
 
-    /// Flushes once. No byte is written or lost. An error is that of the writer, an interruption too.
+    /// Flushes once. No byte is written or lost. An error is that of the writer, an interruption
+    /// too.
     fn flush_once(&mut self) -> io::Result<()>
         ensures call { IsFlushCall (trace self.old) (trace self.new) result };
 }
@@ -36,11 +37,15 @@ pub struct TracedWriter<'a, W> {
 impl<'a, W: Write> TracedWriter<'a, W> {
     /// Traces this writer, with no call so far.
     pub fn new(writer: &'a mut W) -> TracedWriter<'a, W>
-        ensures same_writer { (⟦<TracedWriter<'a, W> as TracedWrite>⟧.trace result).writer ≡ writer.entry.ghost_name }
-        ensures contents { (⟦<TracedWriter<'a, W> as TracedWrite>⟧.trace result).contents ≡ W.contents writer.old }
+        ensures same_writer { (⟦<TracedWriter<'a, W> as TracedWrite>⟧.trace result).writer
+            ≡ writer.entry.ghost_name }
+        ensures contents { (⟦<TracedWriter<'a, W> as TracedWrite>⟧.trace result).contents
+            ≡ W.contents writer.old }
         ensures not_failed { IsFalse (⟦<TracedWriter<'a, W> as TracedWrite>⟧.trace result).failed }
-        ensures not_stalled { IsFalse (⟦<TracedWriter<'a, W> as TracedWrite>⟧.trace result).stalled }
-        ensures not_flushing { IsFalse (⟦<TracedWriter<'a, W> as TracedWrite>⟧.trace result).flushing }
+        ensures not_stalled { IsFalse
+            (⟦<TracedWriter<'a, W> as TracedWrite>⟧.trace result).stalled }
+        ensures not_flushing { IsFalse
+            (⟦<TracedWriter<'a, W> as TracedWrite>⟧.trace result).flushing }
         ensures well { WritesWell (⟦<TracedWriter<'a, W> as TracedWrite>⟧.trace result) }
     {
         TracedWriter {

@@ -10,7 +10,8 @@ use crate::sinks::Sink;
 use std::alloc::Global;
 use std::marker::Model;
 
-/// A sink that keeps the bytes in memory. Contracts see it as the list of all bytes that were appended.
+/// A sink that keeps the bytes in memory. Contracts see it as the list of all bytes that were
+/// appended.
 #[derive(Drop)]
 pub struct VecSink {
     bytes: Vec<u8>,

@@ -30,9 +30,10 @@ impl<'a, W: Write> WriteSink<'a, W> {
 
     /// Flushes the writer, and appends nothing.
     ///
-    /// The only error is `WriteFailed`. It comes after a flush that failed by another error than an interruption, or after
-    /// 1,024 interrupted flushes in a row. A plain writer does not record a failed call, so no clause here says why the error
-    /// comes, nor that no failure is ignored. `BufferedSink::finish` promises both.
+    /// The only error is `WriteFailed`. It comes after a flush that failed by another error than an
+    /// interruption, or after 1,024 interrupted flushes in a row. A plain writer does not record a
+    /// failed call, so no clause here says why the error comes, nor that no failure is ignored.
+    /// `BufferedSink::finish` promises both.
     pub fn finish(&mut self) -> Result<(), Error>
         ensures nothing { ⟦<WriteSink<'a, W> as Sink>⟧.appends self.old [] self.new }
         ensures error { IfErr result (λ error. error ≡ WriteFailed) }
@@ -43,14 +44,15 @@ impl<'a, W: Write> WriteSink<'a, W> {
 }
 
 impl<'a, W: Write> Sink for WriteSink<'a, W> {
-    ghost use Rattle.bi_base.specs.WriteSinks.{WriterGrows, IsWriteFailed, writer_grows_nothing, writer_grows_in_turn};
+    ghost use Rattle.bi_base.specs.WriteSinks.{WriterGrows, IsWriteFailed, writer_grows_nothing};
+    ghost use Rattle.bi_base.specs.WriteSinks.{writer_grows_in_turn};
 
     ghost appends = { WriterGrows W.contents };
 
     ghost fails = { FailsWithin (WriterGrows W.contents) IsWriteFailed };
 
-    /// Writes these bytes, in as many calls as it takes. The only error is `WriteFailed`, and a prefix of the bytes was
-    /// written then.
+    /// Writes these bytes, in as many calls as it takes. The only error is `WriteFailed`, and a
+    /// prefix of the bytes was written then.
     fn put(&mut self, bytes: &[u8]) -> Result<(), Error> {
         let mut target = TracedWriter::new(self.writer);
         write_all(&mut target, bytes)
@@ -60,7 +62,8 @@ impl<'a, W: Write> Sink for WriteSink<'a, W> {
 
     ghost appends_in_turn = { writer_grows_in_turn W.contents };
 
-    ghost fails_after = { fails_after (WriterGrows W.contents) IsWriteFailed (writer_grows_in_turn W.contents) };
+    ghost fails_after = { fails_after (WriterGrows W.contents) IsWriteFailed
+        (writer_grows_in_turn W.contents) };
 
     ghost fails_before = { fails_before (WriterGrows W.contents) IsWriteFailed };
 }

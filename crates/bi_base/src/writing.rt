@@ -3,18 +3,20 @@
 ghost use Rattle.std.specs.Prelude.{◌<◌, length, take, IfOk, OnOk, IfErr};
 ghost use Rattle.std.specs.Io.{WritesAtMost};
 ghost use Rattle.bi_base.specs.Sinks.{Wrote};
-ghost use Rattle.bi_base.specs.Writing.{NothingWritten, WroteAll, WriteStopped, Flushed, FlushStopped, WroteAndFlushed, WriteOrFlushStopped};
+ghost use Rattle.bi_base.specs.Writing.{NothingWritten, WroteAll, WriteStopped, Flushed};
+ghost use Rattle.bi_base.specs.Writing.{FlushStopped, WroteAndFlushed, WriteOrFlushStopped};
 
 use crate::fault::Error;
 use crate::outcomes::MOST_INTERRUPTIONS;
 use crate::traced_write::TracedWrite;
 use std::io::ErrorKind;
 
-/// Writes once, and again after each interruption. Fails with `WriteFailed` where a write fails or writes none of some
-/// bytes, or where 1,024 writes in a row are interrupted.
+/// Writes once, and again after each interruption. Fails with `WriteFailed` where a write fails or
+/// writes none of some bytes, or where 1,024 writes in a row are interrupted.
 fn write_some<T: TracedWrite>(target: &mut T, bytes: &[u8]) -> Result<usize, Error>
     ensures bound { WritesAtMost result bytes.now }
-    ensures ok { IfOk result (λ count. WroteAll (T.trace target.old) (take count bytes.now) (T.trace target.new)) }
+    ensures ok { IfOk result (λ count. WroteAll (T.trace target.old) (take count bytes.now)
+        (T.trace target.new)) }
     ensures some { IfOk result (λ count. 0 < length bytes.now → 0 < count) }
     ensures failed { IfErr result (NothingWritten (T.trace target.old) (T.trace target.new)) }
 {
@@ -31,11 +33,13 @@ fn write_some<T: TracedWrite>(target: &mut T, bytes: &[u8]) -> Result<usize, Err
 
 /// Writes all of these bytes, in as many calls as it takes.
 ///
-/// The only error is `WriteFailed`, and a prefix of the bytes was written then. It comes after a write that failed by
-/// another error than an interruption, after one that wrote none of the remaining bytes, or after 1,024 interrupted
-/// writes in a row. No failed write is ignored: after one the call does not return `Ok`.
+/// The only error is `WriteFailed`, and a prefix of the bytes was written then. It comes after a
+/// write that failed by another error than an interruption, after one that wrote none of the
+/// remaining bytes, or after 1,024 interrupted writes in a row. No failed write is ignored: after
+/// one the call does not return `Ok`.
 pub fn write_all<T: TracedWrite>(target: &mut T, bytes: &[u8]) -> Result<(), Error>
-    ensures { Wrote WroteAll WriteStopped (T.trace target.old) bytes.now result (T.trace target.new) }
+    ensures { Wrote WroteAll WriteStopped (T.trace target.old) bytes.now result
+        (T.trace target.new) }
 {
     let mut done = 0;
     while done < bytes.len() {
@@ -46,8 +50,8 @@ pub fn write_all<T: TracedWrite>(target: &mut T, bytes: &[u8]) -> Result<(), Err
 
 /// Flushes, and again after each interruption. No byte is written or lost.
 ///
-/// The only error is `WriteFailed`. It comes after a flush that failed by another error than an interruption, or after
-/// 1,024 interrupted flushes in a row. No failed flush is ignored.
+/// The only error is `WriteFailed`. It comes after a flush that failed by another error than an
+/// interruption, or after 1,024 interrupted flushes in a row. No failed flush is ignored.
 pub fn flush<T: TracedWrite>(target: &mut T) -> Result<(), Error>
     ensures flushed { OnOk result (Flushed (T.trace target.old) (T.trace target.new)) }
     ensures failed { IfErr result (FlushStopped (T.trace target.old) (T.trace target.new)) }
@@ -64,8 +68,8 @@ pub fn flush<T: TracedWrite>(target: &mut T) -> Result<(), Error>
 
 /// Writes all of these bytes, and flushes.
 ///
-/// The only error is `WriteFailed`: that of `write_all`, and a prefix of the bytes was written then, or that of `flush`, and
-/// all of them were.
+/// The only error is `WriteFailed`: that of `write_all`, and a prefix of the bytes was written
+/// then, or that of `flush`, and all of them were.
 pub fn write_and_flush<T: TracedWrite>(target: &mut T, bytes: &[u8]) -> Result<(), Error>
     ensures { Wrote WroteAndFlushed WriteOrFlushStopped
         (T.trace target.old) bytes.now result (T.trace target.new) }

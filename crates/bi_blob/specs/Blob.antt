@@ -55,7 +55,8 @@ least_version = 16
 abbrev pub reader_version : ℕ
 reader_version = 17
 
--- The version whose header ends before `size_dt_struct`: this cell joined with version 17 (5.2).
+-- The version whose header ends before `size_dt_struct`: in libfdt's `fdt.h` this cell is one of
+-- version 17. The Devicetree Specification describes version 17 alone (5.1, 5.2).
 abbrev pub version_without_structure_size : ℕ
 version_without_structure_size = 16
 
@@ -63,13 +64,13 @@ version_without_structure_size = 16
 abbrev pub lacks_structure_size : List ℕ → Bool
 lacks_structure_size file = version file == version_without_structure_size
 
--- How many bytes the header has: ten cells, or nine in version 16 (5.2). In a file too short for
--- the cell of its version what is read there makes no difference: neither length fits.
+-- The number of bytes of the header: ten cells (5.2), or nine in version 16. In a file too short
+-- for the cell of its version what is read there makes no difference: neither length fits.
 abbrev pub header_length : List ℕ → ℕ
 header_length file = if lacks_structure_size file then 36 else 40
 
 -- The offset of the structure block's end (5.2). Where the header has no size of the block, it may
--- extend to `totalsize`.
+-- extend to `totalsize` (profile of this project).
 abbrev pub structure_end : List ℕ → ℕ
 structure_end file =
     if lacks_structure_size file then totalsize file else off_dt_struct file + size_dt_struct file

@@ -44,8 +44,8 @@ pub data HeaderCheck : Type 0 where
 abbrev pub header_checks : List HeaderCheck
 header_checks =
     IsWithinLimit ∷ HasMagicCell ∷ HasMagic ∷ HasHeader ∷ HasVersion ∷ HasCompatibleVersion
-    ∷ TotalHoldsHeader
-    ∷ FileHoldsTotal ∷ PlacesReservations ∷ PlacesStructure ∷ PlacesStrings ∷ []
+    ∷ TotalHoldsHeader ∷ FileHoldsTotal ∷ PlacesReservations ∷ PlacesStructure ∷ PlacesStrings
+    ∷ []
 
 -- What each of them requires. A check may read cells that a short file lacks; an earlier check
 -- fails there.

@@ -36,7 +36,7 @@ pub fn a_file_is_a_blob_where_it_has_no_fault()
 
 /// Tokens of a structure block that pass their checks are encoded in the file. The padding of the
 /// last of them may end in any three bytes after the file.
-pub fn passed_tokens_are_spelled()
+pub fn passed_tokens_are_encoded()
     ensures { PassedWhereEncoded }
 {}
 
@@ -64,14 +64,10 @@ pub fn names_find_nodes_and_properties()
 /// Small files are blobs of known boot processors, memory reservations and trees. Among them are
 /// files with FDT_NOP, names that share bytes, properties in any order, blocks that are in any
 /// order, overlap or have free bytes around them, and bytes after the blob; and files of versions
-/// 16 to 18.
+/// 16 to 18. The first tokens of one of them pass their checks, and lead to a known offset and to
+/// known open nodes.
 pub fn files_are_these_blobs()
     ensures blobs { FilesAreBlobs }
-{}
-
-/// The first tokens of a small file's structure block pass their checks. The offset and the open
-/// nodes after them are known.
-pub fn tokens_are_newest_first()
     ensures tokens { TokensAreNewestFirst }
 {}
 

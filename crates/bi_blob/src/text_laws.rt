@@ -45,18 +45,14 @@ pub fn text_encodes_its_tree()
     ensures { TextEncodesItsTree }
 {}
 
-/// A text is as long as its header, reservation block, structure block and strings block together,
-/// padded to a multiple of four (profile of this project).
+/// A text of a tree, and a text of any events, is as long as its header, reservation block,
+/// structure block and strings block together, padded to a multiple of four. The token of a node's
+/// start has five bytes and the name, that of a property twelve bytes and the value, each padded to
+/// a multiple of four, and that of a node's end four bytes (profile of this project; Devicetree
+/// Specification, 5.4.1).
 pub fn each_text_has_its_length()
-    ensures { EachTextHasItsLength }
-{}
-
-/// A text of any events, whether or not they are those of a tree, is as long as its header and its
-/// three blocks together, padded to a multiple of four. The token of a node's start has five bytes
-/// and the name, that of a property twelve bytes and the value, each padded to a multiple of four,
-/// and that of a node's end four bytes (profile of this project; Devicetree Specification, 5.4.1).
-pub fn text_of_events_has_its_length()
-    ensures length { TextOfEventsHasItsLength }
+    ensures trees { EachTextHasItsLength }
+    ensures events { TextOfEventsHasItsLength }
     ensures widths { HasEventWidths }
 {}
 
@@ -89,9 +85,12 @@ pub fn blob_has_content()
 {}
 
 /// Boot processors, memory reservations and trees that differ have texts that differ, if one of
-/// the texts has at most 0x7fffffff bytes.
+/// the texts has at most 0x7fffffff bytes. Two equal files that each begin with a text of at most
+/// 0x7fffffff bytes have texts of the same boot processor, memory reservations and tree, and the
+/// same bytes after the texts.
 pub fn text_has_one_content()
-    ensures { TextHasOneContent }
+    ensures text { TextHasOneContent }
+    ensures rest { TextWithRestHasOneContent }
 {}
 
 /// A tree of properties by name has one normal order of them: byte order of their names (profile
@@ -107,22 +106,11 @@ pub fn content_may_be_ordered()
 
 /// Two normal texts, one of which has at most 0x7fffffff bytes, are the same exactly where they
 /// are of one boot processor, the same memory reservations and one tree, with nodes in order and
-/// properties by name.
+/// properties by name. Two files that each begin with a normal text of at most 0x7fffffff bytes are
+/// equal exactly where this holds of the texts and the bytes after the texts are equal.
 pub fn normal_text_tells_content()
-    ensures { NormalTextTellsContent }
-{}
-
-/// Two equal files that each begin with a text of at most 0x7fffffff bytes have texts of the same
-/// boot processor, memory reservations and tree, and the same bytes after the texts.
-pub fn text_with_rest_has_one_content()
-    ensures { TextWithRestHasOneContent }
-{}
-
-/// Two files that each begin with a normal text of at most 0x7fffffff bytes are equal exactly
-/// where the texts are of one boot processor, the same memory reservations and one tree, with
-/// nodes in order and properties by name, and the bytes after the texts are equal.
-pub fn normal_text_with_rest_tells_content()
-    ensures { NormalTextWithRestTellsContent }
+    ensures text { NormalTextTellsContent }
+    ensures rest { NormalTextWithRestTellsContent }
 {}
 
 /// Events are those of exactly one tree that a blob can hold, of depth 64 at most and with the

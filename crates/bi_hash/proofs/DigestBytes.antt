@@ -41,7 +41,7 @@ unfolding sha512_bytes
 AreBytes-sha512 h zero = AreBytes-none
 AreBytes-sha512 h (suc n) = AreBytes-append (sha512_bytes h n) _ (AreBytes-sha512 h n) (AreBytes-be_long (slice_index h n))
 
--- A SHA-1 hash value is written as four bytes for each word.
+-- A SHA-1 hash value has four bytes for each word.
 length-sha1 : (h : List ℕ) (n : ℕ) → length (sha1_bytes h n) ≡ n * 4
 unfolding sha1_bytes
 length-sha1 h zero = refl
@@ -49,7 +49,7 @@ length-sha1 h (suc n) =
     let last : length (to_be_bytes w32 (slice_index h n)) ≡ 4 = refl in
     omega (arith, length-sha1 h n, last, length-append (sha1_bytes h n) (to_be_bytes w32 (slice_index h n)))
 
--- A digest is bytes.
+-- A digest is a list of bytes.
 pub AreBytes-digest_of : (algo : Algo) (payload : List ℕ) → AreBytes (digest_of algo payload)
 unfolding digest_of cell md5 sha1 sha256 sha384 sha512
 AreBytes-digest_of Crc32 payload = AreBytes-be_word (crc32 payload)
@@ -59,7 +59,7 @@ AreBytes-digest_of Sha256 payload = AreBytes-sha256 _ 8
 AreBytes-digest_of Sha384 payload = AreBytes-take 48 _ (AreBytes-sha512 _ 8)
 AreBytes-digest_of Sha512 payload = AreBytes-sha512 _ 8
 
--- A digest is as long as its algorithm says.
+-- A digest has the length that its algorithm gives.
 pub length-digest_of : (algo : Algo) (payload : List ℕ) → length (digest_of algo payload) ≡ digest_size algo
 unfolding digest_of sha1
 length-digest_of Crc32 payload = length-cell (crc32 payload)

@@ -9,7 +9,7 @@ use Rattle.bi_hash.specs.Verdicts.{HasItsDigest, text_before_nul, verdict_of, ve
 use Rattle.bi_hash.proofs.Names.{find_algorithm-algorithm_name, algorithm_name-find_algorithm}
 use Rattle.bi_hash.proofs.Texts.{text_then_zero}
 
--- The name of an algorithm with a zero behind it is a text, whatever follows.
+-- The text of an algorithm's name, a NUL and any bytes is the name.
 text_before_nul-name : (algo : Algo) (rest : List ℕ) → text_before_nul (algorithm_name algo ++ 0 ∷ rest) ≡ Some (algorithm_name algo)
 unfolding text_before_nul
 text_before_nul-name Crc32 rest = refl
@@ -19,7 +19,7 @@ text_before_nul-name Sha256 rest = refl
 text_before_nul-name Sha384 rest = refl
 text_before_nul-name Sha512 rest = refl
 
--- A value that is the digest of its payload is good.
+-- The verdict on a value that is the digest of its payload is Good.
 pub good-from_digest : (algo value payload : Option (List ℕ)) → HasItsDigest algo value payload
     → verdict_of algo value payload ≡ Good
 unfolding verdict_of
@@ -28,12 +28,12 @@ good-from_digest algo value payload has =
     rw (has.algo_is, has.value_is, has.payload_is, text_before_nul-name has.algorithm has.rest, find_algorithm-algorithm_name has.algorithm, same)
     refl
 
--- What a choice between good and bad says of its test.
+-- Where a choice between Good and Bad is Good, its test holds.
 test_of_good : (b : Bool) → cond b Good Bad ≡ Good → b ≡ true
 test_of_good true e = refl
 test_of_good false e = cc
 
--- A good value is the digest of a payload under a known algorithm.
+-- A value with the verdict Good is the digest of a payload by a known algorithm.
 digest_under : (found : Option Algo) (value : List ℕ) (payload : Option (List ℕ)) → verdict_by_algorithm found value payload ≡ Good
     → (algorithm : Algo) × (bytes : List ℕ) × (found ≡ Some algorithm) × (payload ≡ Some bytes) × (value ≡ digest_of algorithm bytes)
 digest_under None value payload e = cc
@@ -41,7 +41,7 @@ digest_under (Some algorithm) value None e = cc
 digest_under (Some algorithm) value (Some bytes) e =
     (algorithm, bytes, refl, refl, (bytes_eq-Decides value (digest_of algorithm bytes)).0 (test_of_good _ e))
 
--- Where a value is good, there are a name and a value.
+-- Where the verdict is Good, there are a name and a value.
 value_named : (found value payload : Option (List ℕ)) → verdict_by_name found value payload ≡ Good
     → (name : List ℕ) × (given : List ℕ) × (found ≡ Some name) × (value ≡ Some given)
     × (verdict_by_algorithm (find_algorithm name) given payload ≡ Good)
@@ -49,7 +49,7 @@ value_named None value payload e = cc
 value_named (Some name) None payload e = cc
 value_named (Some name) (Some given) payload e = (name, given, refl, refl, e)
 
--- Only a value that is the digest of its payload is good.
+-- The verdict is Good only on a value that is the digest of its payload.
 pub digest-from_good : (algo value payload : Option (List ℕ)) → verdict_of algo value payload ≡ Good
     → HasItsDigest algo value payload
 unfolding verdict_of

@@ -6,18 +6,18 @@ use Rattle.bi_hash.specs.declared.algo.Algo.{Algo}
 use Rattle.bi_hash.specs.declared.algo.Algo.TheVariants.{Crc32, Md5, Sha1, Sha256, Sha384, Sha512}
 use Rattle.bi_hash.specs.Algos.{algorithm_name, all_algorithms, find_algorithm}
 
--- A choice between the first, where it passes, and the rest passes, if what the rest gives passes.
+-- The choice of the first element, where it passes, or else one of the rest that passes, passes.
 chosen_passes : (b : Bool) (p : Algo → Bool) (first : Algo) (rest : Option Algo) (x : Algo) → b ≡ p first
     → (rest ≡ Some x → p x ≡ true) → cond b (Some first) rest ≡ Some x → p x ≡ true
 chosen_passes true p first rest x is later e = let same : first ≡ x = cc in cc
 chosen_passes false p first rest x is later e = later e
 
--- What `find` finds passes its test.
+-- The element that `find` returns passes its test.
 find_passes : (p : Algo → Bool) (xs : List Algo) (x : Algo) → find p xs ≡ Some x → p x ≡ true
 find_passes p [] x e = cc
 find_passes p (y ∷ ys) x e = chosen_passes (p y) p y (find p ys) x refl (find_passes p ys x) e
 
--- The algorithm found by a name has that name.
+-- The algorithm that is found by a name has that name.
 pub algorithm_name-find_algorithm : (name : List ℕ) (algo : Algo) → find_algorithm name ≡ Some algo → name ≡ algorithm_name algo
 unfolding find_algorithm
 algorithm_name-find_algorithm name algo e =

@@ -1,6 +1,7 @@
 use Rattle.std.specs.Prelude.{◌≡◌, ◌↔◌, ℕ, ◌==◌, List, ◌∷◌, ◌++◌, if◌then◌else◌}
 use Rattle.std.specs.Prelude.{Option, Some, None, option_and_then}
-use Rattle.std.specs.List.{list_any, before_first}
+use Rattle.std.specs.List.{list_any}
+use Rattle.bi_base.specs.Strings.{before_nul}
 use Rattle.std.specs.Str.{bytes_eq}
 use Rattle.bi_hash.specs.Algos.{algorithm_name, find_algorithm}
 use Rattle.bi_hash.specs.Digests.{digest_of}
@@ -14,7 +15,7 @@ use Rattle.bi_hash.specs.declared.verdicts.Verdict.TheVariants.{NoPayload, Good,
 unfoldable pub text_before_nul : List ℕ → Option (List ℕ)
 text_before_nul value =
     if list_any (λ byte. byte == 0) value
-    then Some (before_first (λ byte. byte == 0) value)
+    then Some (before_nul value)
     else None
 
 -- The verdict on a value, by the algorithm, if it is known, and the payload, if there is one.

@@ -4,7 +4,7 @@ use Rattle.std.proofs.lemmas.List.{drop_more, drop-map, get_or-map, length-map}
 use Rattle.bi_base.specs.Cells.{up4}
 use Rattle.bi_base.specs.Checks.{IsFirstFault, HasNoFault}
 use Rattle.bi_base.specs.declared.fault.Fault.{Fault}
-use Rattle.bi_legacy.specs.Emitting.{PartPasses, part_fault, part_checks, bytes_of}
+use Rattle.bi_legacy.specs.Emitting.{EmitPartPasses, emit_part_fault, emit_part_checks, bytes_of}
 use Rattle.bi_legacy.specs.Parts.{parts_end_from}
 
 -- One step of a loop over the parts of an image to be written.
@@ -29,16 +29,16 @@ drop-sizes_of slices i d within =
     ∙ ap (λ later. length (get_or slices i d).now ∷ later) (sym (drop-map length (i + 1) (bytes_of slices)))
 
 -- An empty part is the first fault of those that are left.
-pub empty_here : (index : ℕ) (part : List ℕ) (parts later : List (List ℕ)) → parts ≡ part ∷ later → length part ≡ 0 → IsFirstFault PartPasses part_fault (part_checks index parts) (part_fault record { index = index; part = part })
+pub empty_here : (index : ℕ) (part : List ℕ) (parts later : List (List ℕ)) → parts ≡ part ∷ later → length part ≡ 0 → IsFirstFault EmitPartPasses emit_part_fault (emit_part_checks index parts) (emit_part_fault record { index = index; part = part })
 empty_here index part parts later e empty =
-    subst (λ (left : List (List ℕ)). IsFirstFault PartPasses part_fault (part_checks index left) (part_fault record { index = index; part = part })) (sym e) (inl (λ some. omega arith, refl))
+    subst (λ (left : List (List ℕ)). IsFirstFault EmitPartPasses emit_part_fault (emit_part_checks index left) (emit_part_fault record { index = index; part = part })) (sym e) (inl (λ some. omega arith, refl))
 
 -- After a part that is not empty, the first fault is that of the others.
-pub empty_later : (index : ℕ) (part : List ℕ) (parts later : List (List ℕ)) (fault : Fault) → parts ≡ part ∷ later → 0 < length part → IsFirstFault PartPasses part_fault (part_checks (index + 1) later) fault → IsFirstFault PartPasses part_fault (part_checks index parts) fault
+pub empty_later : (index : ℕ) (part : List ℕ) (parts later : List (List ℕ)) (fault : Fault) → parts ≡ part ∷ later → 0 < length part → IsFirstFault EmitPartPasses emit_part_fault (emit_part_checks (index + 1) later) fault → IsFirstFault EmitPartPasses emit_part_fault (emit_part_checks index parts) fault
 empty_later index part parts later fault e some rest =
-    subst (λ (left : List (List ℕ)). IsFirstFault PartPasses part_fault (part_checks index left) fault) (sym e) (inr (some, rest))
+    subst (λ (left : List (List ℕ)). IsFirstFault EmitPartPasses emit_part_fault (emit_part_checks index left) fault) (sym e) (inr (some, rest))
 
 -- A part that is not empty passes, and then the others.
-pub none_empty : (index : ℕ) (part : List ℕ) (parts later : List (List ℕ)) → parts ≡ part ∷ later → 0 < length part → HasNoFault PartPasses (part_checks (index + 1) later) → HasNoFault PartPasses (part_checks index parts)
+pub none_empty : (index : ℕ) (part : List ℕ) (parts later : List (List ℕ)) → parts ≡ part ∷ later → 0 < length part → HasNoFault EmitPartPasses (emit_part_checks (index + 1) later) → HasNoFault EmitPartPasses (emit_part_checks index parts)
 none_empty index part parts later e some rest =
-    subst (λ (left : List (List ℕ)). HasNoFault PartPasses (part_checks index left)) (sym e) (some, rest)
+    subst (λ (left : List (List ℕ)). HasNoFault EmitPartPasses (emit_part_checks index left)) (sym e) (some, rest)

@@ -1,11 +1,13 @@
-use Rattle.std.specs.Prelude.{ℕ, ◌+◌, ◌*◌, List, [], ◌∷◌, length, slice_index, if◌then◌else◌}
+use Rattle.std.specs.Prelude.{ℕ, ◌≡◌, ◌+◌, ◌*◌, List, [], ◌∷◌, length, slice_index, if◌then◌else◌}
 use Rattle.bi_base.specs.Cells.{slice, u32_at}
+use Rattle.bi_base.specs.Crc.{crc32}
 use Rattle.bi_base.specs.Strings.{before_nul}
 use Rattle.bi_legacy.specs.Meaning.{LegacyImage, has_part_table}
 use Rattle.bi_legacy.specs.Parts.{parts_end_from}
 use Rattle.bi_legacy.specs.Faults.{body_of}
 use Rattle.bi_legacy.specs.PartTables.{table_sizes}
-use Rattle.bi_legacy.specs.PartRanges.{part_sizes, first_part_offset, part_slices}
+use Rattle.bi_legacy.specs.PartRanges.{part_sizes, first_part_offset, part_slices, IsPartTable}
+use Rattle.bi_legacy.specs.declared.part_table.PartTable.{PartTable}
 
 -- What the reader reads from the bytes of a file. No promise about the format is stated in these
 -- words.
@@ -38,3 +40,9 @@ read_end file =
     let has_table = has_part_table (slice_index file 30) in
     let body = body_of file in
     parts_end_from (first_part_offset has_table body) (part_sizes has_table body)
+
+-- The invariant of an image that was read: the part table and the checksum of its data.
+pub record IsReaderState (image_type : ℕ) (body : List ℕ) (table : PartTable) (checksum : ℕ)
+    : Type 0 where
+  pub is_table : IsPartTable (has_part_table image_type) body table
+  pub is_checksum : checksum ≡ crc32 body

@@ -1,20 +1,21 @@
 //! Writing a legacy image.
 
-ghost use Rattle.std.specs.Prelude.{◌≡◌, ◌⊎◌, ◌↔◌, ◌+◌, ◌*◌, ◌^◌, ◌<◌, ◌≤◌, length, map, IsTrue};
-ghost use Rattle.std.specs.Prelude.{OnOk, IfOk, IfErr, MatchOption, MatchBool, ⊤};
+ghost use Rattle.std.specs.Prelude.{◌≡◌, ◌↔◌, ◌+◌, ◌*◌, ◌^◌, ◌<◌, ◌≤◌, length, map, IsTrue};
+ghost use Rattle.std.specs.Prelude.{OnOk, IfOk, IfErr, IfSome, MatchOption, MatchBool, ⊤};
+ghost use Rattle.bi_base.specs.Crc.{crc32};
 ghost use Rattle.bi_base.specs.Checks.{IsFirstFault, HasNoFault};
-ghost use Rattle.bi_base.specs.Sinks.{Wrote};
-ghost use Rattle.bi_base.specs.declared.fault.Fault.{Fault};
 ghost use Rattle.bi_legacy.specs.Meaning.{IsImageName, has_part_table};
 ghost use Rattle.bi_legacy.specs.Parts.{parts_end_from, parts_start};
-ghost use Rattle.bi_legacy.specs.Text.{normal_body, legacy_text};
-ghost use Rattle.bi_legacy.specs.Emitting.{PartPasses, part_fault, part_checks, IsEmitFault};
-ghost use Rattle.bi_legacy.specs.Emitting.{HasNoEmitFault, bytes_of, image_of_parts};
+ghost use Rattle.bi_legacy.specs.Text.{normal_body};
+ghost use Rattle.bi_legacy.specs.Emitting.{EmitPartPasses, emit_part_fault, emit_part_checks};
+ghost use Rattle.bi_legacy.specs.Emitting.{IsEmitFault};
+ghost use Rattle.bi_legacy.specs.Emitting.{HasNoEmitFault, WroteImage, bytes_of, image_of_parts};
 
 use crate::fields::{Fields, has_part_table};
 use crate::header::{HEADER_SIZE, NAME_SIZE};
+use crate::legacy::Legacy;
 use crate::part_table::table_offset;
-use crate::text::put_image;
+use crate::text::{DataSummary, data_checksum, put_image};
 use bi_base::{Cause, Error, Fault, Limits, Sink, refuse, up4};
 
 /// Appends the normal text of a legacy image with these fields and parts (U-Boot, include/image.h).
@@ -40,17 +41,57 @@ pub fn emit<S: Sink>(
     limits: Limits,
     sink: &mut S,
 ) -> Result<(), Error>
-    ensures refused { let image = image_of_parts fields.entry parts.now in
-        (fault : Fault) → IsEmitFault limits image fault →
-        (result ≡ Err (Error.Refused fault)) × (sink.new ≡ sink.old) }
-    ensures written { let image = image_of_parts fields.entry parts.now in
-        HasNoEmitFault limits image →
-        Wrote S.appends S.fails sink.old (legacy_text image) result sink.new }
-    ensures refused_or_written { let image = image_of_parts fields.entry parts.now in
-        HasNoEmitFault limits image ⊎ ((fault : Fault) × IsEmitFault limits image fault) }
+    ensures { let image = image_of_parts fields.entry parts.now in
+        WroteImage S.appends S.fails limits image sink.old result sink.new }
 {
-    let data_size = check_image(fields, parts, limits)?;
-    put_image(fields, parts, data_size, sink)
+    emit_with(fields, parts, None, limits, sink)
+}
+
+/// Appends the normal text of an image that was read, as `emit` does for its fields and parts.
+///
+/// `parts` are the parts of the image. The CRC-32 of the data is not computed again where the data
+/// is the one part: it was checked when the image was read.
+///
+/// Fails with the same faults as `emit`, and then appends nothing. Otherwise it fails only as the
+/// sink does.
+pub fn emit_image<S: Sink>(
+    image: &Legacy<'_>,
+    parts: &[&[u8]],
+    limits: Limits,
+    sink: &mut S,
+) -> Result<(), Error>
+    requires { bytes_of parts.now ≡ image.now.image.parts }
+    ensures { WroteImage S.appends S.fails limits image.now.image sink.old result sink.new }
+{
+    emit_with(
+        image.fields(),
+        parts,
+        image.normal_data_checksum(),
+        limits,
+        sink,
+    )
+}
+
+/// Appends the normal text of an image with these fields and parts, whose normal data may have a
+/// known CRC-32.
+fn emit_with<S: Sink>(
+    fields: Fields<'_>,
+    parts: &[&[u8]],
+    known_checksum: Option<u32>,
+    limits: Limits,
+    sink: &mut S,
+) -> Result<(), Error>
+    requires { IfSome known_checksum (λ checksum.
+        checksum ≡ crc32 (normal_body fields.image_type (bytes_of parts.now))) }
+    ensures { let image = image_of_parts fields.entry parts.now in
+        WroteImage S.appends S.fails limits image sink.old result sink.new }
+{
+    let size = check_image(fields, parts, limits)?;
+    let checksum = match known_checksum {
+        Some(checksum) => checksum,
+        None => data_checksum(fields.image_type, parts),
+    };
+    put_image(fields, parts, DataSummary { size, checksum }, sink)
 }
 
 /// Checks an image to be written, and returns the size of its normal data.
@@ -131,9 +172,9 @@ fn end_within(start: usize, parts: &[&[u8]], most: usize) -> Option<usize>
 /// Fails with EmptyPart at `64 + 4 * index` for the first part that is empty.
 fn check_parts(parts: &[&[u8]]) -> Result<(), Fault>
     requires { 64 + 4 * length parts.now < 2 ^ 32 }
-    ensures ok { OnOk result (HasNoFault PartPasses (part_checks 0 (bytes_of parts.now))) }
-    ensures fault { let checks = part_checks 0 (bytes_of parts.now) in
-        IfErr result (IsFirstFault PartPasses part_fault checks) }
+    ensures ok { OnOk result (HasNoFault EmitPartPasses (emit_part_checks 0 (bytes_of parts.now))) }
+    ensures fault { let checks = emit_part_checks 0 (bytes_of parts.now) in
+        IfErr result (IsFirstFault EmitPartPasses emit_part_fault checks) }
 {
     for (index, part) in parts.iter().enumerate() {
         if part.is_empty() {

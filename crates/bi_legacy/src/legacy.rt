@@ -1,17 +1,18 @@
 //! Reading a legacy image.
 
 ghost use Rattle.std.specs.Prelude.{◌≡◌, ◌+◌, ◌-◌, ◌≤◌, ◌↔◌, length, map, slice_get, IsOk, OnOk};
-ghost use Rattle.std.specs.Prelude.{IfOk, IfErr};
+ghost use Rattle.std.specs.Prelude.{IfOk, IfErr, IfSome};
 ghost use Rattle.std.specs.Option.{option_map};
 ghost use Rattle.bi_base.specs.Cells.{u32_at};
-ghost use Rattle.bi_legacy.specs.Meaning.{LegacyImage, image_of, has_part_table};
+ghost use Rattle.bi_base.specs.Crc.{crc32};
+ghost use Rattle.bi_legacy.specs.Meaning.{LegacyImage, image_of};
 ghost use Rattle.bi_legacy.specs.File.{LegacyMeans};
 ghost use Rattle.bi_legacy.specs.Faults.{IsLegacyFault, IsOnlyLegacyFault, HasNoLegacyFault};
 ghost use Rattle.bi_legacy.specs.Faults.{body_of};
 ghost use Rattle.bi_legacy.specs.PlacedParts.{placed_parts};
+ghost use Rattle.bi_legacy.specs.Text.{normal_body};
 ghost use Rattle.bi_legacy.specs.Reading.{ParsedImage, IsParsedImage, part_places};
-ghost use Rattle.bi_legacy.specs.PartRanges.{IsPartTable};
-ghost use Rattle.bi_legacy.specs.ReadImage.{parts_of_body, read_image, read_end};
+ghost use Rattle.bi_legacy.specs.ReadImage.{IsReaderState, parts_of_body, read_image, read_end};
 
 use crate::cells::cell_at;
 use crate::fields::{Fields, has_part_table};
@@ -27,6 +28,7 @@ pub struct Legacy<'a> {
     fields: Fields<'a>,
     body: &'a [u8],
     table: PartTable,
+    data_checksum: u32,
     unused: u32,
 }
 
@@ -38,8 +40,8 @@ impl<'a> Model for Legacy<'a> {
       unused = legacy.unused;
     } };
 
-    ghost invariant = { λ legacy.
-        IsPartTable (has_part_table legacy.fields.image_type) legacy.body.now legacy.table };
+    ghost invariant = { λ legacy. IsReaderState
+        legacy.fields.image_type legacy.body.now legacy.table legacy.data_checksum };
 }
 
 impl<'a> Legacy<'a> {
@@ -109,6 +111,19 @@ impl<'a> Legacy<'a> {
         Some(self.parts().nth(index)?.place)
     }
 
+    /// The CRC-32 of the normal data, where the data of the file is its own normal data, and the
+    /// header has it.
+    pub(crate) fn normal_data_checksum(&self) -> Option<u32>
+        ensures { let image = self.now.image in IfSome result (λ checksum.
+            checksum ≡ crc32 (normal_body image.image_type image.parts)) }
+    {
+        if has_part_table(self.fields.image_type) {
+            None
+        } else {
+            Some(self.data_checksum)
+        }
+    }
+
     /// The number of bytes of the file after the last part, or after the part table where there are
     /// no parts.
     pub fn unused(&self) -> u32
@@ -135,6 +150,7 @@ fn parse<'a>(file: &'a [u8], limits: Limits) -> Result<Legacy<'a>, Fault>
         fields,
         body,
         table,
+        data_checksum: cell_at(file, 24),
         unused,
     })
 }

@@ -14,7 +14,7 @@ mod part_table;
 mod parts;
 mod text;
 
-pub use emitting::emit;
+pub use emitting::{emit, emit_image};
 pub use fields::Fields;
 pub use header::MAGIC;
 pub use legacy::Legacy;

@@ -1,3 +1,6 @@
+ghost use Rattle.std.specs.Prelude.{◌≡◌, IfOk};
+ghost use Rattle.bi_legacy.specs.Emitting.{bytes_of};
+
 use super::*;
 use bi_base::{Cause, Error, Fault, Limits, VecSink, WriteSink};
 use scripted_io::{Script, ScriptedWriter, Turn};
@@ -88,15 +91,24 @@ fn emitted(
     (sink.into_vec(), result)
 }
 
-/// The normal text of the image in a file.
-fn normal_form(alloc: Global, file: &[u8]) -> Result<Vec<u8>, Fail> {
-    let image = Legacy::read(file, limits(AMPLE)?)?;
-    let mut parts = Vec::new(alloc);
+/// The parts of an image, in their order.
+fn parts_of<'a>(alloc: Global, image: &Legacy<'a>) -> Result<Vec<&'a [u8]>, Fail>
+    ensures { let parts_of_image = image.now.image.parts in
+        IfOk result (λ parts. bytes_of parts.items ≡ parts_of_image) }
+{
+    let mut parts = Vec::with_capacity(alloc, image.part_count())?;
     for part in image.parts() {
         parts.push(part.bytes)?;
     }
+    Ok(parts)
+}
+
+/// The normal text of the image in a file.
+fn normal_form(alloc: Global, file: &[u8]) -> Result<Vec<u8>, Fail> {
+    let image = Legacy::read(file, limits(AMPLE)?)?;
+    let parts = parts_of(alloc, &image)?;
     let mut sink = VecSink::new(alloc);
-    emit(image.fields(), &parts, limits(AMPLE)?, &mut sink)?;
+    emit_image(&image, &parts, limits(AMPLE)?, &mut sink)?;
     Ok(sink.into_vec())
 }
 

@@ -15,34 +15,32 @@ use bi_base::{Crc32, Error, Sink, put_cell, put_cells};
 
 /// The size of the data in bytes, and its CRC-32.
 #[derive(Clone, Copy)]
-struct DataSummary {
-    size: u32,
-    checksum: u32,
+pub(crate) struct DataSummary {
+    pub(crate) size: u32,
+    pub(crate) checksum: u32,
 }
 
-/// Appends the normal text of an image with these fields and parts, whose normal data has this
-/// size.
+/// Appends the normal text of an image with these fields and parts, whose normal data has this size
+/// and checksum.
 pub(crate) fn put_image<S: Sink>(
     fields: Fields<'_>,
     parts: &[&[u8]],
-    data_size: u32,
+    summary: DataSummary,
     sink: &mut S,
 ) -> Result<(), Error>
     requires name { length fields.name.now ≤ 32 }
-    requires size { data_size ≡ length (normal_body fields.image_type (bytes_of parts.now)) }
+    requires size { summary.size ≡ length (normal_body fields.image_type (bytes_of parts.now)) }
+    requires checksum { let body = normal_body fields.image_type (bytes_of parts.now) in
+        summary.checksum ≡ crc32 body }
     ensures { let image = image_of_parts fields.entry parts.now in
         Wrote S.appends S.fails sink.old (legacy_text image) result sink.new }
 {
-    let summary = DataSummary {
-        size: data_size,
-        checksum: data_checksum(fields.image_type, parts),
-    };
     put_header(fields, checksum_to_write(fields, summary), summary, sink)?;
     put_data(fields.image_type, parts, sink)
 }
 
 /// The CRC-32 of the normal data.
-fn data_checksum(image_type: u8, parts: &[&[u8]]) -> u32
+pub(crate) fn data_checksum(image_type: u8, parts: &[&[u8]]) -> u32
     requires { length (normal_body image_type (bytes_of parts.now)) < 2 ^ 32 }
     ensures { result ≡ crc32 (normal_body image_type (bytes_of parts.now)) }
 {

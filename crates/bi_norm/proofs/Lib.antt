@@ -1,4 +1,5 @@
-pub mod LegacyForm
 pub mod Opening
 pub mod NormalForms
 pub mod Writing
+pub mod KindLaws
+pub mod Converting

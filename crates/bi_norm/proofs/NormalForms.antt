@@ -6,7 +6,7 @@ use Rattle.bi_base.specs.declared.fault.Error.{Error}
 use Rattle.bi_base.specs.declared.fault.Error.TheVariants.{Refused, OutOfMemory, ReadFailed, WriteFailed}
 use Rattle.bi_legacy.specs.Reading.{ParsedImage, IsParsedImage}
 use Rattle.bi_legacy.specs.Text.{legacy_text}
-use Rattle.bi_norm.specs.declared.form.Form.{Form}
+use Rattle.bi_fit.specs.declared.form.Form.{Form}
 use Rattle.bi_norm.specs.Meaning.{Meaning, OfLegacy, Means, normal_text}
 use Rattle.bi_norm.specs.NormalForm.{IsNormalForm, IsNormaliseError, IsOpenError, IsStreamError, Normalised}
 use Rattle.bi_norm.proofs.Opening.{too_long_is_file_fault, too_long_means_nothing}

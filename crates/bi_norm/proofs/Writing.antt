@@ -12,7 +12,7 @@ use Rattle.bi_base.specs.Writing.{WriteStopped, WroteAndFlushed, WriteOrFlushSto
 use Rattle.bi_base.specs.declared.buffered_sink.BufferedSink.{BufferedSink}
 use Rattle.bi_base.specs.declared.fault.Error.{Error}
 use Rattle.bi_base.proofs.TransferLaws.{stopped_writing, finished_after, write_stopped, refused_after}
-use Rattle.bi_norm.specs.declared.form.Form.{Form}
+use Rattle.bi_fit.specs.declared.form.Form.{Form}
 use Rattle.bi_norm.specs.NormalForm.{Appended, FailedInto, WasRefused, SinkFailed, IsNormalForm, IsNormaliseError, IsStreamError}
 use Rattle.bi_norm.proofs.NormalForms.{stream_error}
 

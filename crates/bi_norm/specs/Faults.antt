@@ -3,15 +3,16 @@ use Rattle.bi_base.specs.declared.fault.Fault.{Fault}
 use Rattle.bi_base.specs.declared.fault.Cause.TheVariants.{Unsupported}
 use Rattle.bi_base.specs.Checks.{IsFirstFault}
 use Rattle.bi_base.specs.Limits.{Bounds}
-use Rattle.bi_blob.specs.BlobFaults.{HeaderCheck, IsWithinLimit, HasMagicCell, HasMagic, HeaderPasses, header_fault}
+use Rattle.bi_blob.specs.BlobFaults.{HeaderCheck, IsWithinLimit, HasMagicCell, HasMagic}
+use Rattle.bi_blob.specs.BlobFaults.{HeaderPasses, header_fault}
 use Rattle.bi_legacy.specs.Faults.{IsLegacyFault}
 use Rattle.bi_norm.specs.declared.kind.Kind.TheVariants.{Legacy}
 use Rattle.bi_norm.specs.Kinds.{BeginsAs}
 
 -- The fault of a file of any kind (profile of this project).
 
--- The checks of a file that does not begin as a legacy image: the first ones of a blob, and that it is supported, which a
--- flattened image tree is not yet.
+-- The checks of a file that does not begin as a legacy image: the first ones of a blob, and that it
+-- is supported, which a flattened image tree is not yet.
 pub data Check : Type 0 where
   OfHeader : (check : HeaderCheck) → Check
   IsSupported : Check
@@ -30,8 +31,11 @@ fault_of limits IsSupported = record { cause = Unsupported; offset = 0 }
 abbrev pub tree_checks : List Check
 tree_checks = OfHeader IsWithinLimit ∷ OfHeader HasMagicCell ∷ OfHeader HasMagic ∷ IsSupported ∷ []
 
--- The fault of a file: that of a legacy image where it begins as one, else that of a flattened image tree.
+-- The fault of a file: that of a legacy image where it begins as one, else that of a flattened
+-- image tree.
 pub data IsFileFault (limits : Bounds) (file : List ℕ) (fault : Fault) : Type 0 where
-  OfLegacyImage : BeginsAs file Legacy → IsLegacyFault limits file fault → IsFileFault limits file fault
-  OfTree : ¬ (BeginsAs file Legacy) → IsFirstFault (Passes limits file) (fault_of limits) tree_checks fault
+  OfLegacyImage : BeginsAs file Legacy → IsLegacyFault limits file fault
+      → IsFileFault limits file fault
+  OfTree : ¬ (BeginsAs file Legacy) → IsFirstFault (Passes limits file) (fault_of limits)
+      tree_checks fault
       → IsFileFault limits file fault

@@ -3,3 +3,5 @@ pub mod Opening
 pub mod Meaning
 pub mod Faults
 pub mod NormalForm
+pub mod Converting
+pub mod Laws

@@ -3,7 +3,7 @@ use Rattle.bi_base.specs.Limits.{Bounds}
 use Rattle.bi_legacy.specs.File.{LegacyMeans}
 use Rattle.bi_legacy.specs.Meaning.{LegacyImage}
 use Rattle.bi_legacy.specs.Text.{legacy_text}
-use Rattle.bi_norm.specs.declared.form.Form.{Form}
+use Rattle.bi_fit.specs.declared.form.Form.{Form}
 
 -- What a boot image of any kind means.
 
@@ -23,7 +23,8 @@ MeansSomething limits file = (meaning : Meaning) × Means limits file meaning
 abbrev pub MeansNothing : Bounds → List ℕ → Type 0
 MeansNothing limits file = (meaning : Meaning) → ¬ (Means limits file meaning)
 
--- The normal text of a meaning in a form, which has no effect on a legacy image (profile of this project).
+-- The normal text of a meaning in a form, which has no effect on a legacy image (profile of this
+-- project).
 abbrev pub normal_text : Form → Meaning → List ℕ
 normal_text form (OfLegacy image) = legacy_text image
 

@@ -19,8 +19,8 @@ pub enum Kind {
     Fit,
 }
 
-/// Returns the kind of a file by its first four bytes. Fails with Truncated at 0 below four bytes, else with BadMagic at 0
-/// where they are the magic number of no kind.
+/// Returns the kind of a file by its first four bytes. Fails with Truncated at 0 below four bytes,
+/// else with BadMagic at 0 where they are the magic number of no kind.
 pub fn kind_of(file: &[u8]) -> Result<Kind, Fault>
     ensures ok { IfOk result (BeginsAs file.now) }
     ensures exactly { (kind : Kind) → BeginsAs file.now kind → result ≡ Ok kind }

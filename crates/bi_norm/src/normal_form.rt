@@ -5,27 +5,30 @@ ghost use Rattle.bi_base.specs.BufferedSinks.{buffered};
 ghost use Rattle.bi_base.specs.Reading.{TakesAtMost};
 ghost use Rattle.bi_base.specs.Traces.{ReadsWell, WritesWell};
 ghost use Rattle.bi_base.specs.Writing.{WroteAndFlushed, WriteOrFlushStopped};
-ghost use Rattle.bi_base.specs.Transfers.{Moved, MoveFailed, Transferred, TransferFailed, SameStreams};
-ghost use Rattle.bi_norm.specs.declared.form.Form.{Form};
+ghost use Rattle.bi_base.specs.Transfers.{Moved, MoveFailed, Transferred, TransferFailed};
+ghost use Rattle.bi_base.specs.Transfers.{SameStreams};
+ghost use Rattle.bi_fit.specs.declared.form.Form.{Form};
 ghost use Rattle.bi_legacy.specs.Reading.{IsParsedImage};
-ghost use Rattle.bi_norm.specs.NormalForm.{Appended, FailedInto, IsNormalForm, IsNormaliseError, IsStreamError, Normalised};
+ghost use Rattle.bi_norm.specs.NormalForm.{Appended, FailedInto, IsNormalForm, IsNormaliseError};
+ghost use Rattle.bi_norm.specs.NormalForm.{IsStreamError, Normalised};
 
-use crate::form::Form;
 use crate::image::BootImage;
 use bi_base::{
-    BufferedSink, Error, Limits, Sink, TracedRead, TracedReader, TracedWrite, TracedWriter, VecSink,
-    read_all_traced,
+    BufferedSink, Error, Limits, Sink, TracedRead, TracedReader, TracedWrite, TracedWriter,
+    VecSink, read_all_traced,
 };
-use bi_legacy::{Legacy, emit};
+use bi_fit::Form;
+use bi_legacy::{Legacy, emit_image};
 use std::alloc::Global;
 use std::io::{Read, Write};
 
-/// Returns the normal form of a boot image: two accepted files of one kind have the same normal form exactly if they mean
-/// the same.
+/// Returns the normal form of a boot image: two accepted files of one kind have the same normal
+/// form exactly if they mean the same.
 ///
-/// Errors, the first that applies: TooLarge at the limit, where the file is longer; Truncated at 0 below four bytes; BadMagic
-/// at 0; for a legacy image those of `Legacy::read`; Unsupported at 0 for a flattened image tree. A file in memory is refused
-/// without an allocation, so OutOfMemory comes only for a file that means something.
+/// Errors, the first that applies: TooLarge at the limit, where the file is longer; Truncated at 0
+/// below four bytes; BadMagic at 0; for a legacy image those of `Legacy::read`; Unsupported at 0
+/// for a flattened image tree. A file in memory is refused without an allocation, so OutOfMemory
+/// comes only for a file that means something.
 pub fn normalise(alloc: Global, file: &[u8], form: Form, limits: Limits) -> Result<Vec<u8>, Error>
     ensures normal_form { IfOk result (λ text. IsNormalForm limits form file.now text.items) }
     ensures failed { IfErr result (IsNormaliseError limits form file.now) }
@@ -35,12 +38,13 @@ pub fn normalise(alloc: Global, file: &[u8], form: Form, limits: Limits) -> Resu
     Ok(sink.into_vec())
 }
 
-/// Appends the normal form of a boot image to a sink, and returns the number of its signature nodes, which is 0 for a legacy
-/// image.
+/// Appends the normal form of a boot image to a sink, and returns the number of its signature
+/// nodes, which is 0 for a legacy image.
 ///
-/// The errors are those of `normalise`, and those of the sink. After an error of the file, which comes before the first byte
-/// is appended, the sink is unchanged; after an error of the sink it is as a failed `put` of the normal form leaves it. All
-/// allocations but those of the sink are made before the first byte is appended.
+/// The errors are those of `normalise`, and those of the sink. After an error of the file, which
+/// comes before the first byte is appended, the sink is unchanged; after an error of the sink it is
+/// as a failed `put` of the normal form leaves it. All allocations but those of the sink are made
+/// before the first byte is appended.
 pub fn normalise_into<S: Sink>(
     alloc: Global,
     file: &[u8],
@@ -48,7 +52,8 @@ pub fn normalise_into<S: Sink>(
     limits: Limits,
     sink: &mut S,
 ) -> Result<usize, Error>
-    ensures appended { IfOk result (λ count. Appended S.appends limits form count file.now sink.old sink.new) }
+    ensures appended { IfOk result (λ count. Appended S.appends limits form count file.now sink.old
+        sink.new) }
     ensures failed { IfErr result (FailedInto S.fails limits form file.now sink.old sink.new) }
 {
     match BootImage::read(alloc, file, limits)? {
@@ -56,7 +61,8 @@ pub fn normalise_into<S: Sink>(
     }
 }
 
-/// Appends the normal form of a legacy image that was read under the limits, and returns 0, as it has no signature nodes.
+/// Appends the normal form of a legacy image that was read under the limits, and returns 0, as it
+/// has no signature nodes.
 fn emit_legacy<S: Sink>(
     alloc: Global,
     image: &Legacy<'_>,
@@ -69,13 +75,14 @@ fn emit_legacy<S: Sink>(
         IfErr result (FailedInto S.fails limits form file sink.old sink.new) }
 {
     let parts = parts_of(alloc, image)?;
-    emit(image.fields(), &parts, limits, sink)?;
+    emit_image(image, &parts, limits, sink)?;
     Ok(0)
 }
 
 /// Returns the parts of a legacy image, in their order.
 fn parts_of<'a>(alloc: Global, image: &Legacy<'a>) -> Result<Vec<&'a [u8]>, Error>
-    ensures parts { IfOk result (λ parts. map (λ part. part.now) parts.items ≡ image.now.image.parts) }
+    ensures parts { IfOk result (λ parts. map (λ part. part.now) parts.items
+        ≡ image.now.image.parts) }
     ensures error { IfErr result (λ error. error ≡ Error.OutOfMemory) }
 {
     let mut parts = Vec::with_capacity(alloc, image.part_count())?;
@@ -85,8 +92,8 @@ fn parts_of<'a>(alloc: Global, image: &Legacy<'a>) -> Result<Vec<&'a [u8]>, Erro
     Ok(parts)
 }
 
-/// Writes the normal form of a boot image, and flushes: `normalise_into` a sink of a writer that records the outcome of its
-/// calls.
+/// Writes the normal form of a boot image, and flushes: `normalise_into` a sink of a writer that
+/// records the outcome of its calls.
 fn write_normal_form<T: TracedWrite>(
     alloc: Global,
     file: &[u8],
@@ -95,16 +102,19 @@ fn write_normal_form<T: TracedWrite>(
     target: &mut T,
 ) -> Result<usize, Error>
     ensures written { IfOk result (λ count.
-        Appended WroteAndFlushed limits form count file.now (T.trace target.old) (T.trace target.new)) }
+        Appended WroteAndFlushed limits form count file.now (T.trace target.old)
+        (T.trace target.new)) }
     ensures failed { IfErr result
-        (FailedInto WriteOrFlushStopped limits form file.now (T.trace target.old) (T.trace target.new)) }
+        (FailedInto WriteOrFlushStopped limits form file.now (T.trace target.old)
+        (T.trace target.new)) }
 {
     let mut sink = BufferedSink::new(target);
     let outcome = normalise_and_finish(alloc, file, form, limits, &mut sink);
     outcome
 }
 
-/// Appends the normal form of a boot image to a sink that holds nothing back, and finishes the sink.
+/// Appends the normal form of a boot image to a sink that holds nothing back, and finishes the
+/// sink.
 fn normalise_and_finish<T: TracedWrite>(
     alloc: Global,
     file: &[u8],
@@ -124,13 +134,16 @@ fn normalise_and_finish<T: TracedWrite>(
     Ok(count)
 }
 
-/// Reads a boot image to its end, writes its normal form, and flushes: `normalise_into` from a reader to a writer that
-/// record the outcome of their calls. Returns the number of signature nodes, which is 0 for a legacy image.
+/// Reads a boot image to its end, writes its normal form, and flushes: `normalise_into` from a
+/// reader to a writer that record the outcome of their calls. Returns the number of signature
+/// nodes, which is 0 for a legacy image.
 ///
-/// ReadFailed comes after a read that failed by another error than an interruption, or after 1,024 interrupted reads in a row;
-/// WriteFailed after a write or flush that failed so, after a write that wrote none of the remaining bytes, or after 1,024
-/// interruptions in a row. No such failure is ignored. After WriteFailed a prefix of the normal form was written, the whole of
-/// it where the flush failed; after any other error nothing was written. A call that allocates may return OutOfMemory.
+/// ReadFailed comes after a read that failed by another error than an interruption, or after 1,024
+/// interrupted reads in a row; WriteFailed after a write or flush that failed so, after a write
+/// that wrote none of the remaining bytes, or after 1,024 interruptions in a row. No such failure
+/// is ignored. After WriteFailed a prefix of the normal form was written, the whole of it where the
+/// flush failed; after any other error nothing was written. A call that allocates may return
+/// OutOfMemory.
 pub fn normalise_traced<S: TracedRead, T: TracedWrite>(
     alloc: Global,
     source: &mut S,
@@ -144,8 +157,8 @@ pub fn normalise_traced<S: TracedRead, T: TracedWrite>(
         (T.trace target.old) (T.trace target.new) (IsNormalForm limits form)
         (λ file. IsStreamError (IsNormaliseError limits form) file error)
         (error ≡ Error.ReadFailed) (error ≡ Error.WriteFailed)) }
-    ensures takes_at_most_one_byte_more {
-        TakesAtMost (S.trace source.old).remaining (S.trace source.new).remaining (limits.file + 1) }
+    ensures takes_at_most_one_byte_more { TakesAtMost (S.trace source.old).remaining (S.trace source.new).remaining
+        (limits.file + 1) }
     ensures no_failed_read_ignored { ReadsWell (S.trace source.old) →
         (IsErrOf result Error.ReadFailed → ⊥) → ReadsWell (S.trace source.new) }
     ensures no_failed_write_ignored { WritesWell (T.trace target.old) →
@@ -157,12 +170,13 @@ pub fn normalise_traced<S: TracedRead, T: TracedWrite>(
     write_normal_form(alloc, &file, form, limits, target)
 }
 
-/// Reads a boot image to its end, writes its normal form, and flushes: `normalise_traced` over a plain reader and a plain
-/// writer. Returns the number of signature nodes, which is 0 for a legacy image.
+/// Reads a boot image to its end, writes its normal form, and flushes: `normalise_traced` over a
+/// plain reader and a plain writer. Returns the number of signature nodes, which is 0 for a legacy
+/// image.
 ///
-/// The errors are those of `normalise_traced`. A plain reader or writer does not record a failed call, so no clause here says
-/// why ReadFailed and WriteFailed come. After WriteFailed a prefix of the normal form was written; after any other error
-/// nothing was written.
+/// The errors are those of `normalise_traced`. A plain reader or writer does not record a failed
+/// call, so no clause here says why ReadFailed and WriteFailed come. After WriteFailed a prefix of
+/// the normal form was written; after any other error nothing was written.
 pub fn normalise_to<R: Read, W: Write>(
     alloc: Global,
     reader: &mut R,
@@ -172,11 +186,13 @@ pub fn normalise_to<R: Read, W: Write>(
 ) -> Result<usize, Error>
     ensures done { IfOk result (λ count. Moved (R.remaining reader.old) (R.remaining reader.new)
         (W.contents writer.old) (W.contents writer.new) (Normalised limits form count)) }
-    ensures failed { IfErr result (λ error. MoveFailed (R.remaining reader.old) (R.remaining reader.new)
+    ensures failed { IfErr result (λ error. MoveFailed
+        (R.remaining reader.old) (R.remaining reader.new)
         (W.contents writer.old) (W.contents writer.new) ⊥ (IsNormalForm limits form)
-        (λ file. IsStreamError (IsNormaliseError limits form) file error) (error ≡ Error.WriteFailed)) }
-    ensures takes_at_most_one_byte_more {
-        TakesAtMost (R.remaining reader.old) (R.remaining reader.new) (limits.file + 1) }
+        (λ file. IsStreamError (IsNormaliseError limits form) file error)
+        (error ≡ Error.WriteFailed)) }
+    ensures takes_at_most_one_byte_more { TakesAtMost (R.remaining reader.old)
+        (R.remaining reader.new) (limits.file + 1) }
 {
     let mut source = TracedReader::new(reader);
     let mut target = TracedWriter::new(writer);

@@ -44,5 +44,6 @@ IsExtractError select limits file NoPart = MeansSuch limits file (IsPastParts se
 
 -- The same of a file that comes from a reader, with bytes that go to a writer.
 abbrev pub IsStreamExtractError : Select → Bounds → List ℕ → ExtractError → Type 0
-IsStreamExtractError select limits file (Failed error) = IsStreamError (IsOpenError limits) file error
+IsStreamExtractError select limits file (Failed error) = IsStreamError (IsOpenError limits) file
+    error
 IsStreamExtractError select limits file error = IsExtractError select limits file error

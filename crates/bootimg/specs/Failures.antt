@@ -1,12 +1,14 @@
 use Rattle.std.specs.Prelude.{◌++◌, ℕ, List, codes}
 use Rattle.std.specs.Fmt.{decimal}
 use Rattle.bi_base.specs.declared.fault.Error.{Error}
-use Rattle.bi_base.specs.declared.fault.Error.TheVariants.{Refused, OutOfMemory, ReadFailed, WriteFailed}
+use Rattle.bi_base.specs.declared.fault.Error.TheVariants.{Refused, OutOfMemory, ReadFailed}
+use Rattle.bi_base.specs.declared.fault.Error.TheVariants.{WriteFailed}
 use Rattle.bi_base.specs.Causes.{name_of}
 use Rattle.bootimg.specs.declared.extract.ExtractError.{ExtractError}
 use Rattle.bootimg.specs.declared.extract.ExtractError.TheVariants as extract
 use Rattle.bootimg.specs.declared.failure.Failure.{Failure}
-use Rattle.bootimg.specs.declared.failure.Failure.TheVariants.{Call, WrongKind, NoPart, NoSelection, BadValue}
+use Rattle.bootimg.specs.declared.failure.Failure.TheVariants.{Call, WrongKind, NoPart, NoSelection}
+use Rattle.bootimg.specs.declared.failure.Failure.TheVariants.{BadValue}
 
 -- How the program fails, and what it says then (profile of this project).
 

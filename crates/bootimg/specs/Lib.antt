@@ -3,3 +3,6 @@ pub mod Failures
 pub mod Listing
 pub mod Numbers
 pub mod Shown
+pub mod FitListing
+pub mod Reports
+pub mod FitChoices

@@ -1,7 +1,8 @@
 use Rattle.std.specs.Prelude.{ℕ, ◌+◌, ◌≡◌, List, [], ◌∷◌, ◌++◌, length, codes, unwrap_or}
 use Rattle.std.specs.Fmt.{decimal}
 use Rattle.bi_base.specs.Limits.{Bounds}
-use Rattle.bi_legacy.specs.Codes.{CodeName, os_names, arch_names, type_names, compression_names, name_of_code}
+use Rattle.bi_legacy.specs.Codes.{CodeName, os_names, arch_names, type_names, compression_names}
+use Rattle.bi_legacy.specs.Codes.{name_of_code}
 use Rattle.bi_legacy.specs.Meaning.{LegacyImage}
 use Rattle.bi_legacy.specs.PlacedParts.{PlacedPart, placed_parts}
 use Rattle.bi_legacy.specs.Reading.{ParsedImage, IsParsedImage}
@@ -32,14 +33,16 @@ code_lines image =
 -- The line of a part.
 abbrev pub part_line : ℕ → PlacedPart → List ℕ
 part_line index placed =
-    line (codes "part" ∷ decimal index ∷ codes "size" ∷ decimal (length placed.bytes) ∷ codes "at" ∷ decimal placed.place ∷ [])
+    line (codes "part" ∷ decimal index ∷ codes "size" ∷ decimal (length placed.bytes) ∷ codes "at"
+    ∷ decimal placed.place ∷ [])
 
 -- The lines of these parts, the first of which is part `index`.
 abbrev pub part_lines : ℕ → List PlacedPart → List ℕ
 part_lines index [] = []
 part_lines index (placed ∷ later) = part_line index placed ++ part_lines (index + 1) later
 
--- The lines that tell how many parts there are, and each part's size and the offset of its first byte in the file.
+-- The lines that tell how many parts there are, and each part's size and the offset of its first
+-- byte in the file.
 abbrev pub parts_lines : LegacyImage → List ℕ
 parts_lines image =
     line (codes "parts" ∷ decimal (length image.parts) ∷ []) ++ part_lines 0 (placed_parts image)

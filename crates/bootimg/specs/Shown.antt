@@ -1,4 +1,5 @@
-use Rattle.std.specs.Prelude.{ℕ, ◌/◌, ◌%◌, ◌==◌, ◌&&◌, Bool, false, true, not, nat_le, List, [], ◌∷◌, ◌++◌, codes, bytes_eq, if◌then◌else◌}
+use Rattle.std.specs.Prelude.{ℕ, ◌/◌, ◌%◌, ◌==◌, ◌&&◌, Bool, false, true, not, nat_le, List, []}
+use Rattle.std.specs.Prelude.{◌∷◌, ◌++◌, codes, bytes_eq, if◌then◌else◌}
 use Rattle.std.specs.Fmt.{digit_glyph}
 use Rattle.std.specs.List.{join_with_byte, flat_map}
 use Rattle.bi_base.specs.Cells.{cell}
@@ -28,4 +29,5 @@ shown_byte byte = if is_plain byte then byte ∷ [] else 37 ∷ digits_of_byte t
 -- How a name is shown: byte by byte. The empty name is `-`, so the name `-` is `%2D`.
 abbrev pub shown : List ℕ → List ℕ
 shown name =
-    if bytes_eq name [] then codes "-" else if bytes_eq name (codes "-") then codes "%2D" else flat_map shown_byte name
+    if bytes_eq name [] then codes "-" else if bytes_eq name (codes "-") then codes "%2D" else
+    flat_map shown_byte name

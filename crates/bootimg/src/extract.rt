@@ -1,11 +1,13 @@
 //! Extracting a part of a boot image.
 
 ghost use Rattle.std.specs.Prelude.{◌≡◌, ◌+◌, ℕ, List, IfOk, OnOk, IfErr, IsErrOf};
-ghost use Rattle.bi_base.specs.declared.fault.Error.TheVariants.{Refused, OutOfMemory, ReadFailed, WriteFailed};
+ghost use Rattle.bi_base.specs.declared.fault.Error.TheVariants.{Refused, OutOfMemory, ReadFailed};
+ghost use Rattle.bi_base.specs.declared.fault.Error.TheVariants.{WriteFailed};
 ghost use Rattle.bi_base.specs.Limits.{Bounds};
 ghost use Rattle.bi_base.specs.Reading.{TakesAtMost};
 ghost use Rattle.bi_base.specs.Traces.{ReadsWell, WritesWell};
-ghost use Rattle.bi_base.specs.Transfers.{Moved, MoveFailed, Transferred, TransferFailed, SameStreams};
+ghost use Rattle.bi_base.specs.Transfers.{Moved, MoveFailed, Transferred, TransferFailed};
+ghost use Rattle.bi_base.specs.Transfers.{SameStreams};
 ghost use Rattle.bi_legacy.specs.Reading.{IsParsedImage};
 ghost use Rattle.bootimg.specs.declared.extract.ExtractError.TheVariants.{Failed};
 ghost use Rattle.bootimg.specs.Extracting.{IsChosen, IsExtractError, IsStreamExtractError};
@@ -80,14 +82,15 @@ fn extract_part<'a>(image: &Legacy<'a>, select: Select) -> Result<&'a [u8], Extr
     }
 }
 
-/// Reads a boot image to its end, writes the bytes of it that are selected, and flushes: `extract` from a reader to a writer
-/// that record the outcome of their calls.
+/// Reads a boot image to its end, writes the bytes of it that are selected, and flushes: `extract`
+/// from a reader to a writer that record the outcome of their calls.
 ///
-/// Failed with ReadFailed comes after a read that failed by another error than an interruption, or after 1,024 interrupted
-/// reads in a row; Failed with WriteFailed after a write or flush that failed so, after a write that wrote none of the
-/// remaining bytes, or after 1,024 interruptions in a row, and only where no other error applies. No such failure is ignored.
-/// After Failed with WriteFailed a prefix of the bytes was written, all of them where the flush failed; after any other error
-/// nothing was written. A call that allocates may return Failed with OutOfMemory.
+/// Failed with ReadFailed comes after a read that failed by another error than an interruption, or
+/// after 1,024 interrupted reads in a row; Failed with WriteFailed after a write or flush that
+/// failed so, after a write that wrote none of the remaining bytes, or after 1,024 interruptions in
+/// a row, and only where no other error applies. No such failure is ignored. After Failed with
+/// WriteFailed a prefix of the bytes was written, all of them where the flush failed; after any
+/// other error nothing was written. A call that allocates may return Failed with OutOfMemory.
 pub fn extract_traced<S: TracedRead, T: TracedWrite>(
     alloc: Global,
     source: &mut S,
@@ -101,8 +104,8 @@ pub fn extract_traced<S: TracedRead, T: TracedWrite>(
         (T.trace target.old) (T.trace target.new) (IsChosen select.entry limits)
         (λ file. IsStreamExtractError select.entry limits file error)
         (error ≡ Failed ReadFailed) (error ≡ Failed WriteFailed)) }
-    ensures takes_at_most_one_byte_more {
-        TakesAtMost (S.trace source.old).remaining (S.trace source.new).remaining (limits.file + 1) }
+    ensures takes_at_most_one_byte_more { TakesAtMost (S.trace source.old).remaining (S.trace source.new).remaining
+        (limits.file + 1) }
     ensures no_failed_read_ignored { ReadsWell (S.trace source.old) →
         (IsErrOf result (Failed ReadFailed) → ⊥) → ReadsWell (S.trace source.new) }
     ensures no_failed_write_ignored { WritesWell (T.trace target.old) →
@@ -116,12 +119,13 @@ pub fn extract_traced<S: TracedRead, T: TracedWrite>(
     Ok(())
 }
 
-/// Reads a boot image to its end, writes the bytes of it that are selected, and flushes: `extract_traced` over a plain reader
-/// and a plain writer.
+/// Reads a boot image to its end, writes the bytes of it that are selected, and flushes:
+/// `extract_traced` over a plain reader and a plain writer.
 ///
-/// The errors are those of `extract_traced`. A plain reader or writer does not record a failed call, so no clause here says
-/// why Failed with ReadFailed and Failed with WriteFailed come. After Failed with WriteFailed a prefix of the bytes was
-/// written; after any other error nothing was written.
+/// The errors are those of `extract_traced`. A plain reader or writer does not record a failed
+/// call, so no clause here says why Failed with ReadFailed and Failed with WriteFailed come. After
+/// Failed with WriteFailed a prefix of the bytes was written; after any other error nothing was
+/// written.
 pub fn extract_to<R: Read, W: Write>(
     alloc: Global,
     reader: &mut R,
@@ -131,11 +135,13 @@ pub fn extract_to<R: Read, W: Write>(
 ) -> Result<(), ExtractError>
     ensures done { OnOk result (Moved (R.remaining reader.old) (R.remaining reader.new)
         (W.contents writer.old) (W.contents writer.new) (IsChosen select.entry limits)) }
-    ensures failed { IfErr result (λ error. MoveFailed (R.remaining reader.old) (R.remaining reader.new)
+    ensures failed { IfErr result (λ error. MoveFailed
+        (R.remaining reader.old) (R.remaining reader.new)
         (W.contents writer.old) (W.contents writer.new) ⊥ (IsChosen select.entry limits)
-        (λ file. IsStreamExtractError select.entry limits file error) (error ≡ Failed WriteFailed)) }
-    ensures takes_at_most_one_byte_more {
-        TakesAtMost (R.remaining reader.old) (R.remaining reader.new) (limits.file + 1) }
+        (λ file. IsStreamExtractError select.entry limits file error)
+        (error ≡ Failed WriteFailed)) }
+    ensures takes_at_most_one_byte_more { TakesAtMost (R.remaining reader.old)
+        (R.remaining reader.new) (limits.file + 1) }
 {
     let mut source = TracedReader::new(reader);
     let mut target = TracedWriter::new(writer);

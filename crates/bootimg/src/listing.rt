@@ -1,15 +1,18 @@
 //! The listing of a boot image: a text with what the image is and where its parts are.
 
-ghost use Rattle.std.specs.Prelude.{◌≡◌, ◌+◌, ℕ, List, ◌∷◌, [], ◌++◌, IfOk, OnOk, IfErr, IsErrOf, option_map, unwrap_or, string_bytes};
+ghost use Rattle.std.specs.Prelude.{◌≡◌, ◌+◌, ℕ, List, ◌∷◌, [], ◌++◌, IfOk, OnOk, IfErr, IsErrOf};
+ghost use Rattle.std.specs.Prelude.{option_map, unwrap_or, string_bytes};
 ghost use Rattle.std.specs.Fmt.{decimal};
 ghost use Rattle.bi_base.specs.Limits.{Bounds};
 ghost use Rattle.bi_base.specs.Reading.{TakesAtMost};
 ghost use Rattle.bi_base.specs.Traces.{ReadsWell, WritesWell};
-ghost use Rattle.bi_base.specs.Transfers.{Moved, MoveFailed, Transferred, TransferFailed, SameStreams};
+ghost use Rattle.bi_base.specs.Transfers.{Moved, MoveFailed, Transferred, TransferFailed};
+ghost use Rattle.bi_base.specs.Transfers.{SameStreams};
 ghost use Rattle.bi_legacy.specs.PlacedParts.{placed_part_of};
 ghost use Rattle.bi_norm.specs.NormalForm.{IsOpenError, IsStreamError};
 ghost use Rattle.bi_legacy.specs.Reading.{IsParsedImage};
-ghost use Rattle.bootimg.specs.Listing.{IsListing, legacy_listing as listing_of, field_lines, code_lines, parts_lines, part_line};
+ghost use Rattle.bootimg.specs.Listing.{IsListing, legacy_listing as listing_of, field_lines};
+ghost use Rattle.bootimg.specs.Listing.{code_lines, parts_lines, part_line};
 ghost use Rattle.bootimg.specs.Shown.{line, hexadecimal};
 
 use crate::shown::shown_name;
@@ -26,9 +29,10 @@ use std::io::{Read, Write};
 
 /// Returns the listing of a boot image.
 ///
-/// Errors, the first that applies: TooLarge at the limit, where the file is longer; Truncated at 0 below four bytes; BadMagic
-/// at 0; for a legacy image those of `Legacy::read`; Unsupported at 0 for a flattened image tree. A file in memory is refused
-/// without an allocation, so OutOfMemory comes only for a file that means something.
+/// Errors, the first that applies: TooLarge at the limit, where the file is longer; Truncated at 0
+/// below four bytes; BadMagic at 0; for a legacy image those of `Legacy::read`; Unsupported at 0
+/// for a flattened image tree. A file in memory is refused without an allocation, so OutOfMemory
+/// comes only for a file that means something.
 pub fn listing(alloc: Global, file: &[u8], limits: Limits) -> Result<String, Error>
     ensures lists { IfOk result (λ text. IsListing limits file.now (string_bytes text)) }
     ensures failed { IfErr result (IsOpenError limits file.now) }
@@ -49,13 +53,15 @@ fn list_legacy(alloc: Global, image: &Legacy) -> Result<String, Error>
     Ok(text)
 }
 
-/// Reads a boot image to its end, writes its listing, and flushes: `listing` from a reader to a writer that record the outcome
-/// of their calls.
+/// Reads a boot image to its end, writes its listing, and flushes: `listing` from a reader to a
+/// writer that record the outcome of their calls.
 ///
-/// ReadFailed comes after a read that failed by another error than an interruption, or after 1,024 interrupted reads in a row;
-/// WriteFailed after a write or flush that failed so, after a write that wrote none of the remaining bytes, or after 1,024
-/// interruptions in a row. No such failure is ignored. After WriteFailed a prefix of the listing was written, the whole of it
-/// where the flush failed; after any other error nothing was written. A call that allocates may return OutOfMemory.
+/// ReadFailed comes after a read that failed by another error than an interruption, or after 1,024
+/// interrupted reads in a row; WriteFailed after a write or flush that failed so, after a write
+/// that wrote none of the remaining bytes, or after 1,024 interruptions in a row. No such failure
+/// is ignored. After WriteFailed a prefix of the listing was written, the whole of it where the
+/// flush failed; after any other error nothing was written. A call that allocates may return
+/// OutOfMemory.
 pub fn list_traced<S: TracedRead, T: TracedWrite>(
     alloc: Global,
     source: &mut S,
@@ -68,8 +74,8 @@ pub fn list_traced<S: TracedRead, T: TracedWrite>(
         (T.trace target.old) (T.trace target.new) (IsListing limits)
         (λ file. IsStreamError (IsOpenError limits) file error)
         (error ≡ Error.ReadFailed) (error ≡ Error.WriteFailed)) }
-    ensures takes_at_most_one_byte_more {
-        TakesAtMost (S.trace source.old).remaining (S.trace source.new).remaining (limits.file + 1) }
+    ensures takes_at_most_one_byte_more { TakesAtMost (S.trace source.old).remaining (S.trace source.new).remaining
+        (limits.file + 1) }
     ensures no_failed_read_ignored { ReadsWell (S.trace source.old) →
         (IsErrOf result Error.ReadFailed → ⊥) → ReadsWell (S.trace source.new) }
     ensures no_failed_write_ignored { WritesWell (T.trace target.old) →
@@ -82,11 +88,12 @@ pub fn list_traced<S: TracedRead, T: TracedWrite>(
     write_and_flush(target, text.as_bytes())
 }
 
-/// Reads a boot image to its end, writes its listing, and flushes: `list_traced` over a plain reader and a plain writer.
+/// Reads a boot image to its end, writes its listing, and flushes: `list_traced` over a plain
+/// reader and a plain writer.
 ///
-/// The errors are those of `list_traced`. A plain reader or writer does not record a failed call, so no clause here says why
-/// ReadFailed and WriteFailed come. After WriteFailed a prefix of the listing was written; after any other error nothing was
-/// written.
+/// The errors are those of `list_traced`. A plain reader or writer does not record a failed call,
+/// so no clause here says why ReadFailed and WriteFailed come. After WriteFailed a prefix of the
+/// listing was written; after any other error nothing was written.
 pub fn list_to<R: Read, W: Write>(
     alloc: Global,
     reader: &mut R,
@@ -95,11 +102,12 @@ pub fn list_to<R: Read, W: Write>(
 ) -> Result<(), Error>
     ensures done { OnOk result (Moved (R.remaining reader.old) (R.remaining reader.new)
         (W.contents writer.old) (W.contents writer.new) (IsListing limits)) }
-    ensures failed { IfErr result (λ error. MoveFailed (R.remaining reader.old) (R.remaining reader.new)
+    ensures failed { IfErr result (λ error. MoveFailed
+        (R.remaining reader.old) (R.remaining reader.new)
         (W.contents writer.old) (W.contents writer.new) ⊥ (IsListing limits)
         (λ file. IsStreamError (IsOpenError limits) file error) (error ≡ Error.WriteFailed)) }
-    ensures takes_at_most_one_byte_more {
-        TakesAtMost (R.remaining reader.old) (R.remaining reader.new) (limits.file + 1) }
+    ensures takes_at_most_one_byte_more { TakesAtMost (R.remaining reader.old)
+        (R.remaining reader.new) (limits.file + 1) }
 {
     let mut source = TracedReader::new(reader);
     let mut target = TracedWriter::new(writer);
@@ -121,7 +129,8 @@ fn legacy_listing(alloc: Global, image: &Legacy) -> Result<String, AllocError>
 
 /// Appends the lines of the name and the numbers of the header.
 fn put_fields(alloc: Global, text: &mut String, image: &Legacy) -> Result<(), AllocError>
-    ensures { OnOk result (string_bytes text.new ≡ string_bytes text.old ++ field_lines image.now.image) }
+    ensures { OnOk result (string_bytes text.new ≡ string_bytes text.old
+        ++ field_lines image.now.image) }
 {
     let fields = image.fields();
     let name = shown_name(alloc, fields.name)?;
@@ -134,7 +143,8 @@ fn put_fields(alloc: Global, text: &mut String, image: &Legacy) -> Result<(), Al
 
 /// Appends the lines of the codes of the header.
 fn put_codes(text: &mut String, image: &Legacy) -> Result<(), AllocError>
-    ensures { OnOk result (string_bytes text.new ≡ string_bytes text.old ++ code_lines image.now.image) }
+    ensures { OnOk result (string_bytes text.new ≡ string_bytes text.old
+        ++ code_lines image.now.image) }
 {
     let fields = image.fields();
     put_code(text, "os", os_name(fields.os), fields.os)?;
@@ -156,7 +166,8 @@ fn put_codes(text: &mut String, image: &Legacy) -> Result<(), AllocError>
 
 /// Appends the line that tells how many parts there are, and a line for each part.
 fn put_parts(text: &mut String, image: &Legacy) -> Result<(), AllocError>
-    ensures { OnOk result (string_bytes text.new ≡ string_bytes text.old ++ parts_lines image.now.image) }
+    ensures { OnOk result (string_bytes text.new ≡ string_bytes text.old
+        ++ parts_lines image.now.image) }
 {
     put_number(text, "parts", image.part_count() as u64)?;
     for (index, part) in image.parts().enumerate() {
@@ -167,7 +178,8 @@ fn put_parts(text: &mut String, image: &Legacy) -> Result<(), AllocError>
 
 /// Appends the line of a part.
 fn put_part(text: &mut String, index: usize, part: &Part) -> Result<(), AllocError>
-    ensures { OnOk result (string_bytes text.new ≡ string_bytes text.old ++ part_line index (placed_part_of part.now)) }
+    ensures { OnOk result (string_bytes text.new ≡ string_bytes text.old
+        ++ part_line index (placed_part_of part.now)) }
 {
     let (size, place) = (part.bytes.len(), part.place);
     writeln!(text, "part {index} size {size} at {place}")
@@ -176,7 +188,8 @@ fn put_part(text: &mut String, index: usize, part: &Part) -> Result<(), AllocErr
 /// Appends the line of a code: its name, or its number where it has none.
 fn put_code(text: &mut String, label: &str, name: Option<&str>, code: u8) -> Result<(), AllocError>
     ensures { OnOk result (string_bytes text.new ≡ string_bytes text.old
-        ++ line (label.now ∷ unwrap_or (option_map (λ name. name.now) name.entry) (decimal code) ∷ [])) }
+        ++ line (label.now ∷ unwrap_or (option_map (λ name. name.now) name.entry) (decimal code)
+        ∷ [])) }
 {
     match name {
         Some(name) => put_word(text, label, name),
@@ -186,7 +199,8 @@ fn put_code(text: &mut String, label: &str, name: Option<&str>, code: u8) -> Res
 
 /// Appends the line of a word.
 fn put_word(text: &mut String, label: &str, word: &str) -> Result<(), AllocError>
-    ensures { OnOk result (string_bytes text.new ≡ string_bytes text.old ++ line (label.now ∷ word.now ∷ [])) }
+    ensures { OnOk result (string_bytes text.new ≡ string_bytes text.old
+        ++ line (label.now ∷ word.now ∷ [])) }
 {
     writeln!(text, "{label} {word}")
 }

@@ -3,7 +3,7 @@ use Rattle.std.proofs.lemmas.List.{nil_from_length}
 use Rattle.std.specs.Slice.Iter.{chunks_rest}
 use Rattle.bi_hash.proofs.pieces.digest_in_pieces.Goals as goal
 
--- A message after which nothing is left is the whole one.
+-- A message after which nothing remains is the whole payload.
 whole : (message rest payload : List ℕ) → message ++ rest ≡ payload → length rest ≡ 0 → message ≡ payload
 whole message rest payload parts none =
     sym (append-nil message) ∙ ap (λ (later : List ℕ). message ++ later) (sym (nil_from_length rest none)) ∙ parts

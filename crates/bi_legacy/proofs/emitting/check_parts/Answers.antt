@@ -3,7 +3,7 @@ use Rattle.std.proofs.lemmas.List.{drop_all, length-map}
 use Rattle.bi_base.specs.Checks.{HasNoFault}
 use Rattle.std.specs.Borrow.{Bor}
 use Rattle.std.proofs.lemmas.Bool.{eqb-true, eqb-false}
-use Rattle.bi_legacy.specs.Emitting.{PartPasses, part_checks, bytes_of}
+use Rattle.bi_legacy.specs.Emitting.{EmitPartPasses, emit_part_checks, bytes_of}
 use Rattle.bi_legacy.proofs.EmitParts.{drop-bytes_of, empty_here, empty_later, none_empty}
 use Rattle.bi_legacy.proofs.emitting.check_parts.Goals as goal
 
@@ -34,4 +34,4 @@ returns-clause-ok c =
     let parts = bytes_of c.args.parts.now in
     let index = c.loop-index.index in
     let none : drop index parts ≡ [] = drop_all index parts (omega (arith, length-map c.args.parts.now (λ (part : Bor (List ℕ)). part.now))) in
-    c.loop-index.invariant.ok (subst (λ (left : List (List ℕ)). HasNoFault PartPasses (part_checks index left)) (sym none) tt)
+    c.loop-index.invariant.ok (subst (λ (left : List (List ℕ)). HasNoFault EmitPartPasses (emit_part_checks index left)) (sym none) tt)

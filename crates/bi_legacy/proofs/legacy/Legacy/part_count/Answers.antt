@@ -5,5 +5,5 @@ use Rattle.bi_legacy.proofs.legacy.Legacy.part_count.Goals as goal
 
 pub returns : goal.returns
 returns c =
-    c.self.invariant.count ∙ sym (length-parts_of_body c.self.inside.fields.image_type c.self.inside.body.now)
+    c.self.invariant.is_table.count ∙ sym (length-parts_of_body c.self.inside.fields.image_type c.self.inside.body.now)
     ∙ ap (λ (value : ParsedImage). length value.image.parts) c.self.view_is

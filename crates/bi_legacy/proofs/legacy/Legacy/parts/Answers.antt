@@ -12,7 +12,7 @@ returns-clause-parts c =
     let body = c.self.inside.body.now in
     c.new.ensures
     ∙ ap (λ has_table. placed_slices body (first_part_offset has_table body) (part_sizes has_table body)) c.has_part_table.ensures
-    ∙ placed_is c.self.inside.fields.image_type body c.self.invariant.fit
+    ∙ placed_is c.self.inside.fields.image_type body c.self.invariant.is_table.fit
     ∙ ap (λ (value : ParsedImage). placed_parts value.image) c.self.view_is
 
 pub returns-clause-bytes : goal.returns-clause-bytes

@@ -1,0 +1,59 @@
+use Rattle.std.proofs.Common.{◌≡◌, subst, arith, rules}
+use Rattle.bi_base.specs.Cells.{AreBytes}
+use Rattle.bi_blob.specs.Blob.{tree_blocks}
+use Rattle.bi_blob.specs.BlobFaults.{IsStructureFault}
+use Rattle.bi_blob.proofs.Blobs.OneBlob.{one_blob}
+use Rattle.bi_blob.proofs.Blobs.Faults.{blob_has_no_fault}
+use Rattle.bi_fdt.specs.Growth.{IsRefusal}
+use Rattle.bi_fdt.specs.Reading.{HasTable}
+use Rattle.bi_fdt.proofs.Refusals.{error_passed_on}
+use Rattle.bi_fdt.proofs.Contents.{only_fault, fault_before, refused_in_tree, is_held, is_blob, is_blob_within}
+use Rattle.bi_fdt.proofs.blob.Blob.read.Goals as goal
+
+pub returns-in_err-reservation_count-clause-refused : goal.returns-in_err-reservation_count-clause-refused
+returns-in_err-reservation_count-clause-refused c =
+    error_passed_on _ _ _ c.from_residual.ensures.1
+    (only_fault c.args.limits c.args.file.now c.in_err-reservation_count.field-0.0
+    (fault_before c.args.limits c.args.file.now c.in_err-reservation_count.field-0.0 c.in_err-reservation_count.ensures.fault))
+
+pub returns-in_err-entries-clause-refused : goal.returns-in_err-entries-clause-refused
+returns-in_err-entries-clause-refused c =
+    let depth : c.from.result ≡ c.args.limits.depth = search rules in
+    error_passed_on _ _ _ c.from_residual-in_err-entries.ensures.1
+    (refused_in_tree c.args.limits c.args.file.now c.in_ok-reservation_count.reservation_count c.in_err-entries.field-0.0
+    c.in_ok-reservation_count.ensures.header c.in_ok-reservation_count.ensures.reservations
+    (subst (λ n. IsRefusal (IsStructureFault (tree_blocks c.args.file.now) n) c.in_err-entries.field-0.0) depth
+    (subst (λ b. IsRefusal (IsStructureFault b c.from.result) c.in_err-entries.field-0.0) c.tree_blocks.ensures c.in_err-entries.ensures.fault)))
+
+pub invariant_of-result : goal.invariant_of-result
+invariant_of-result c =
+    let depth : c.from.result ≡ c.args.limits.depth = search rules in
+    is_held c.args.limits c.args.file.now c.in_ok-reservation_count.reservation_count c.in_ok-entries.entries.items
+    c.in_ok-reservation_count.ensures.header c.in_ok-reservation_count.ensures.reservations
+    (subst (λ n. HasTable (tree_blocks c.args.file.now) n c.in_ok-entries.entries.items) depth
+    (subst (λ b. HasTable b c.from.result c.in_ok-entries.entries.items) c.tree_blocks.ensures c.in_ok-entries.ensures.ok))
+
+pub returns-clause-accepts : goal.returns-clause-accepts
+returns-clause-accepts c =
+    let depth : c.from.result ≡ c.args.limits.depth = search rules in
+    let bytes : AreBytes c.args.file.now = record { each = λ i. omega (arith, c.type_inv.file i) } in
+    is_blob_within c.args.limits c.args.file.now c.in_ok-reservation_count.reservation_count c.in_ok-entries.entries.items bytes
+    c.in_ok-reservation_count.ensures.header c.in_ok-reservation_count.ensures.reservations
+    (subst (λ n. HasTable (tree_blocks c.args.file.now) n c.in_ok-entries.entries.items) depth
+    (subst (λ b. HasTable b c.from.result c.in_ok-entries.entries.items) c.tree_blocks.ensures c.in_ok-entries.ensures.ok))
+
+pub returns-clause-content : goal.returns-clause-content
+returns-clause-content c =
+    let depth : c.from.result ≡ c.args.limits.depth = search rules in
+    let bytes : AreBytes c.args.file.now = record { each = λ i. omega (arith, c.type_inv.file i) } in
+    is_blob c.args.limits c.args.file.now c.in_ok-reservation_count.reservation_count c.in_ok-entries.entries.items bytes
+    c.in_ok-reservation_count.ensures.header c.in_ok-reservation_count.ensures.reservations
+    (subst (λ n. HasTable (tree_blocks c.args.file.now) n c.in_ok-entries.entries.items) depth
+    (subst (λ b. HasTable b c.from.result c.in_ok-entries.entries.items) c.tree_blocks.ensures c.in_ok-entries.ensures.ok))
+
+pub returns-clause-one_content : goal.returns-clause-one_content
+returns-clause-one_content c = λ cpu reservations root is.
+    one_blob c.args.file.now _ cpu _ reservations _ root (returns-clause-content c) is
+
+pub returns-clause-no_fault : goal.returns-clause-no_fault
+returns-clause-no_fault c = λ fault is. blob_has_no_fault c.args.limits c.args.file.now fault (returns-clause-accepts c) is

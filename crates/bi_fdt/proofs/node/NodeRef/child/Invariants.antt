@@ -1,0 +1,16 @@
+use Rattle.std.proofs.Common.{◌≡◌, length, map}
+use Rattle.std.specs.Prelude.{bytes_eq}
+use Rattle.std.specs.Map.{lookup}
+use Rattle.std.specs.Option.{option_map}
+use Rattle.bi_blob.specs.Lookups.{node_named}
+use Rattle.bi_fdt.specs.Views.{node_of}
+use Rattle.bi_fdt.proofs.NodeViews.{from_sibling}
+use Rattle.bi_fdt.proofs.node.NodeRef.child.Given as goal
+
+abbrev pub invariant-loop-next : goal.invariant-loop-next
+invariant-loop-next l =
+    lookup (λ other. bytes_eq other l.name) (map (λ sibling. (sibling.name, sibling)) (from_sibling (option_map node_of l.next)))
+    ≡ node_named (node_of l.self).children l.name
+
+abbrev pub decreases-loop-next : goal.decreases-loop-next
+decreases-loop-next l = length (from_sibling (option_map node_of l.next))

@@ -1,0 +1,12 @@
+use Rattle.std.proofs.Common.{◌≡◌, ◌+◌, length}
+use Rattle.std.specs.Option.{option_map}
+use Rattle.bi_blob.specs.Lookups.{siblings}
+use Rattle.bi_fdt.specs.Views.{node_of}
+use Rattle.bi_fdt.proofs.NodeViews.{from_sibling}
+use Rattle.bi_fdt.proofs.node.NodeRef.child_count.Given as goal
+
+abbrev pub invariant-loop-next : goal.invariant-loop-next
+invariant-loop-next l = l.count + length (from_sibling (option_map node_of l.next)) ≡ length (siblings (node_of l.self).children)
+
+abbrev pub decreases-loop-next : goal.decreases-loop-next
+decreases-loop-next l = length (from_sibling (option_map node_of l.next))

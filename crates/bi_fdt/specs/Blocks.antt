@@ -1,0 +1,32 @@
+use Rattle.std.specs.Prelude.{◌≡◌, ℕ, ◌+◌, ◌^◌, ◌<◌, ◌≤◌, List, [], ◌∷◌}
+use Rattle.bi_base.specs.Cells.{u32_at}
+use Rattle.bi_blob.specs.Blob.{TreeBlocks, IsReadable}
+use Rattle.bi_blob.specs.BlobFaults.{TokenCheck, IsWithinDepth, HasNodeName, MayNameNode, IsBeforeChildren, HasValue, HasPropertyName, MayNameProperty}
+use Rattle.bi_fdt.specs.declared.blocks.Blocks.{Blocks}
+
+-- The blocks that hold a tree, as the definitions of blobs see them.
+abbrev pub blocks_of : Blocks → TreeBlocks
+blocks_of blocks = record {
+  file = blocks.file.now;
+  begin = blocks.begin;
+  end = blocks.end;
+  strings = blocks.strings.now;
+}
+
+-- The structure block is within a file of bytes that is no longer than limits allow.
+pub record AreBlocks (blocks : TreeBlocks) : Type 0 where
+  pub readable : IsReadable blocks
+  pub small : blocks.end < 2 ^ 31
+
+-- The number of the token at this offset is within the structure block, and it is this.
+pub record IsNumberAt (blocks : TreeBlocks) (place number : ℕ) : Type 0 where
+  pub within : place + 4 ≤ blocks.end
+  pub is_number : u32_at blocks.file place ≡ number
+
+-- The checks of FDT_BEGIN_NODE that ask for nothing of the other children of a node.
+abbrev pub node_name_checks : List TokenCheck
+node_name_checks = IsWithinDepth ∷ HasNodeName ∷ MayNameNode ∷ []
+
+-- The checks of FDT_PROP that ask for nothing of the other properties of a node.
+abbrev pub property_token_checks : List TokenCheck
+property_token_checks = IsBeforeChildren ∷ HasValue ∷ HasPropertyName ∷ MayNameProperty ∷ []

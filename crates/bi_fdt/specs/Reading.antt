@@ -1,0 +1,50 @@
+use Rattle.std.specs.Prelude.{◌≡◌, ℕ, ◌+◌, ◌<◌, ◌≤◌, List, map}
+use Rattle.bi_blob.specs.Tree.{Root, FileNode, depth_of}
+use Rattle.bi_blob.specs.Events.{file_events_of}
+use Rattle.bi_blob.specs.Blob.{TreeBlocks, HoldsTree}
+use Rattle.bi_blob.proofs.Blobs.PartialNodes.{PartialNode, Standing, NotBegun, Growing, Grown}
+use Rattle.bi_fdt.specs.declared.table.Entry.{Entry}
+use Rattle.bi_fdt.specs.declared.tokens.Reading.{Reading}
+use Rattle.bi_fdt.specs.declared.tokens.Next.{Next}
+use Rattle.bi_fdt.specs.declared.tokens.Next.TheVariants as next
+use Rattle.bi_fdt.specs.Table.{item_of, items_of, AreLinked}
+use Rattle.bi_fdt.specs.Growth.{IsGrowing}
+
+-- A reader of the structure block, token by token.
+
+-- A reader is at this offset, before the root.
+pub record IsBefore (blocks : TreeBlocks) (depth_limit place : ℕ) : Type 0 where
+  pub standing : Standing blocks depth_limit place NotBegun
+  pub within : place ≤ blocks.end + 3
+
+-- A reader is inside the root.
+pub record IsReading (blocks : TreeBlocks) (depth_limit : ℕ) (reading : Reading) : Type 0 where
+  pub innermost : PartialNode
+  pub outer : List PartialNode
+  pub standing : Standing blocks depth_limit reading.place (Growing innermost outer)
+  pub growing : IsGrowing reading.growing innermost outer
+  pub within : reading.place ≤ blocks.end + 3
+
+-- A table is that of this tree.
+pub record IsTable (entries : List Entry) (root : Root FileNode) : Type 0 where
+  pub items : map item_of entries ≡ items_of 0 (file_events_of root)
+  pub linked : AreLinked 0 0 entries
+
+-- A reader is at this offset, after the root, which this table holds.
+pub record IsAfter (blocks : TreeBlocks) (depth_limit place : ℕ) (entries : List Entry) : Type 0 where
+  pub root : Root FileNode
+  pub standing : Standing blocks depth_limit place (Grown root)
+  pub is_table : IsTable entries root
+  pub within : place ≤ blocks.end + 3
+
+-- A reader has come from an offset to what comes after the token there.
+abbrev pub IsAhead : TreeBlocks → (depth_limit place : ℕ) → Next → Type 0
+IsAhead blocks depth_limit place (next.Inside reading) = IsReading blocks depth_limit reading × (place < reading.place)
+IsAhead blocks depth_limit place (next.After end entries) = IsAfter blocks depth_limit end entries.items
+
+-- A table is that of the tree that a structure block holds, which is no deeper than a limit.
+pub record HasTable (blocks : TreeBlocks) (depth_limit : ℕ) (entries : List Entry) : Type 0 where
+  pub root : Root FileNode
+  pub holds : HoldsTree blocks root
+  pub shallow : depth_of root ≤ depth_limit
+  pub is_table : IsTable entries root

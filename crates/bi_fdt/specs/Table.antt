@@ -1,0 +1,65 @@
+use Rattle.std.specs.Prelude.{◌≡◌, ℕ, ◌+◌, ◌-◌, ◌<◌, ◌≤◌, List, [], ◌∷◌, length, map, nat_lt, ◌==◌, if◌then◌else◌}
+use Rattle.bi_blob.specs.Tree.{Nodes, none, node, FileProperty, FileNode}
+use Rattle.bi_blob.specs.Events.{FileEvent, FileNodeStart, FileNodeProperty, FileNodeEnd}
+use Rattle.bi_fdt.specs.declared.table.Entry.{Entry}
+use Rattle.bi_fdt.specs.declared.table.Entry.TheVariants as entry
+use Rattle.bi_fdt.specs.declared.table.NodeEntry.{NodeEntry}
+use Rattle.bi_fdt.specs.declared.table.Property.{Property}
+
+-- The table of a tree: its nodes and properties in the order of their tokens in the file.
+
+-- What a table says at one entry: a node of this depth, or a property of the last node before it.
+pub data Item : Type 0 where
+  NodeItem : (depth place : ℕ) → (name : List ℕ) → Item
+  PropertyItem : (property : FileProperty) → Item
+
+-- The properties that items begin with.
+abbrev pub first_properties : List Item → List FileProperty
+first_properties [] = []
+first_properties (PropertyItem property ∷ later) = property ∷ first_properties later
+first_properties (NodeItem depth place name ∷ later) = []
+
+-- The nodes of this depth among items, up to the first node that is less deep.
+abbrev pub nodes_of : ℕ → List Item → Nodes FileNode
+nodes_of depth [] = none
+nodes_of depth (PropertyItem property ∷ later) = nodes_of depth later
+nodes_of depth (NodeItem own_depth place name ∷ later) =
+    if own_depth == depth then
+    node name (record { place = place; properties = first_properties later }) (nodes_of (depth + 1) later) (nodes_of depth later)
+    else if nat_lt depth own_depth then nodes_of depth later else none
+
+-- The items of what a tree says, where nodes that begin first have this depth.
+abbrev pub items_of : ℕ → List FileEvent → List Item
+items_of depth [] = []
+items_of depth (FileNodeStart place name ∷ later) = NodeItem depth place name ∷ items_of (depth + 1) later
+items_of depth (FileNodeProperty property ∷ later) = PropertyItem property ∷ items_of depth later
+items_of depth (FileNodeEnd ∷ later) = items_of (depth - 1) later
+
+-- How many items come before the first node that is not deeper than this.
+abbrev pub count_inside : ℕ → List Item → ℕ
+count_inside depth [] = 0
+count_inside depth (PropertyItem property ∷ later) = count_inside depth later + 1
+count_inside depth (NodeItem own_depth place name ∷ later) = if nat_lt depth own_depth then count_inside depth later + 1 else 0
+
+-- A property of a file, as the definitions of blobs see it.
+abbrev pub file_property_of : Property → FileProperty
+file_property_of property = record { name = property.name.now; value = property.value.now; place = property.place }
+
+-- What an entry says.
+abbrev pub item_of : Entry → Item
+item_of (entry.Node node_entry) = NodeItem node_entry.depth node_entry.place node_entry.name.now
+item_of (entry.Property property) = PropertyItem (file_property_of property)
+
+-- The numbers of the entry of a node at index `at` fit the items after it. While the node is open, `opened` being the number
+-- of the open nodes, nothing is said of its last descendant.
+pub record IsLinked (opened at : ℕ) (node_entry : NodeEntry) (later : List Item) : Type 0 where
+  pub count : node_entry.property_count ≡ length (first_properties later)
+  pub before_end : count_inside node_entry.depth later < length later → node_entry.after ≡ at + 1 + count_inside node_entry.depth later
+  pub at_end : opened ≤ node_entry.depth → node_entry.after ≡ at + 1 + count_inside node_entry.depth later
+
+-- The numbers of all entries from index `at` on fit.
+abbrev pub AreLinked : ℕ → ℕ → List Entry → Type 0
+AreLinked opened at [] = Unit {0}
+AreLinked opened at (entry.Node node_entry ∷ later) =
+    IsLinked opened at node_entry (map item_of later) × AreLinked opened (at + 1) later
+AreLinked opened at (entry.Property property ∷ later) = AreLinked opened (at + 1) later

@@ -1,0 +1,154 @@
+//! Reading a devicetree blob.
+
+ghost use Rattle.std.specs.Prelude.{◌≡◌, ℕ, ◌≤◌, ◌<◌, ◌^◌, ◌↔◌, List, length, map, slice_get, IfOk, IfErr, IsOk, OnOk};
+ghost use Rattle.bi_base.specs.declared.fault.Fault.{Fault};
+ghost use Rattle.bi_blob.specs.Tree.{Root, FileNode};
+ghost use Rattle.bi_blob.specs.Blob.{Reservation, header_length, totalsize, off_mem_rsvmap, tree_blocks as tree_blocks_of, IsBlob, IsBlobWithin, Header};
+ghost use Rattle.bi_blob.specs.BlobFaults.{HasNoHeaderFault, HasReservations, HasNoFaultBeforeTree, IsFaultBeforeTree, IsBlobFault};
+ghost use Rattle.bi_blob.specs.BlobLaws.{SameContent};
+ghost use Rattle.bi_fdt.specs.Blocks.{blocks_of};
+ghost use Rattle.bi_blob.specs.Lookups.{root_node};
+ghost use Rattle.bi_fdt.specs.Table.{item_of};
+ghost use Rattle.bi_fdt.specs.Reading.{IsTable};
+ghost use Rattle.bi_fdt.specs.Content.{root_of};
+ghost use Rattle.bi_fdt.specs.Refused.{IsRefused};
+
+use crate::blocks::Blocks;
+use crate::cells::{cell_at, two_cells_at};
+use crate::header::{check_header, structure_end};
+use crate::node::NodeRef;
+use crate::reservations::{PAIR_SIZE, count_reservations};
+use crate::structure::read_tree;
+use crate::table::Entry;
+use bi_base::{Error, Fault, Limits};
+use std::alloc::Global;
+use std::marker::Model;
+
+/// A devicetree blob that was read (Devicetree Specification, chapter 5). It holds slices of its file, and one table of the
+/// nodes and properties of its tree.
+#[derive(Drop)]
+pub struct Blob<'a> {
+    file: &'a [u8],
+    reservation_count: usize,
+    entries: Vec<Entry<'a>>,
+}
+
+impl<'a> Model for Blob<'a> {
+    ghost use Rattle.std.specs.Prelude.{map};
+    ghost use Rattle.bi_blob.specs.Blob.{boot_cpuid_phys, totalsize, off_mem_rsvmap};
+    ghost use Rattle.bi_blob.proofs.Blobs.ReservationFaults.{reservations_at};
+    ghost use Rattle.bi_fdt.specs.Table.{item_of};
+    ghost use Rattle.bi_fdt.specs.Content.{BlobContent, IsHeld};
+
+    ghost Value = { BlobContent };
+
+    ghost view = { λ blob. record {
+      file = blob.file.now;
+      cpu = boot_cpuid_phys blob.file.now;
+      total_size = totalsize blob.file.now;
+      reservations = reservations_at blob.file.now (off_mem_rsvmap blob.file.now) blob.reservation_count;
+      table = map item_of blob.entries.items;
+    } };
+
+    ghost invariant = { λ blob. IsHeld blob.file.now blob.reservation_count blob.entries.items };
+}
+
+impl<'a> Blob<'a> {
+    ghost use Rattle.bi_fdt.specs.Views.{node_of};
+
+    /// Reads a blob of version 16 or 17, or of a later version that is compatible with 17. The file may be longer than
+    /// the blob.
+    pub fn read(alloc: Global, file: &'a [u8], limits: Limits) -> Result<Blob<'a>, Error>
+        ensures accepts { OnOk result (IsBlobWithin limits file.entry.now) }
+        ensures content { IfOk result (λ blob. IsBlob file.entry.now blob.cpu blob.reservations (root_of blob)) }
+        ensures one_content { IfOk result (λ blob. (cpu : ℕ) (reservations : List Reservation) (root : Root FileNode) → IsBlob file.entry.now cpu reservations root
+            → SameContent blob.cpu cpu blob.reservations reservations (root_of blob) root) }
+        ensures no_fault { OnOk result ((fault : Fault) → ¬ (IsBlobFault limits file.entry.now fault)) }
+        ensures file { IfOk result (λ blob. blob.file ≡ file.entry.now) }
+        ensures total_size { IfOk result (λ blob. blob.total_size ≡ totalsize file.entry.now) }
+        ensures refused { IfErr result (IsRefused limits file.entry.now) }
+    {
+        let reservation_count = check_before_tree(file, limits)?;
+        let entries = read_tree(alloc, tree_blocks(file), usize::from(limits.depth()))?;
+        Ok(Blob {
+            file,
+            reservation_count,
+            entries,
+        })
+    }
+
+    /// The physical number of the boot processor (5.2, boot_cpuid_phys).
+    pub fn boot_cpu(&self) -> u32
+        ensures { result ≡ self.now.cpu }
+    {
+        cell_at(self.file, 28)
+    }
+
+    /// The length of the blob in bytes (5.2, totalsize).
+    pub fn total_size(&self) -> u32
+        ensures { result ≡ self.now.total_size }
+    {
+        cell_at(self.file, 4)
+    }
+
+    /// The number of the memory reservations (5.3).
+    pub fn reservation_count(&self) -> usize
+        ensures { result ≡ length self.now.reservations }
+    {
+        self.reservation_count
+    }
+
+    /// The address and the size of memory reservation `index`, from 0. None exactly where there is no such reservation.
+    pub fn reservation(&self, index: usize) -> Option<(u64, u64)>
+        ensures { result ≡ slice_get (map (λ reservation. (reservation.address, reservation.size)) self.now.reservations) index }
+    {
+        if index >= self.reservation_count {
+            return None;
+        }
+        let place = cell_at(self.file, 16) as usize + PAIR_SIZE * index;
+        Some((
+            two_cells_at(self.file, place),
+            two_cells_at(self.file, place + 8),
+        ))
+    }
+
+    /// The root of the tree.
+    pub fn root<'b>(&'b self) -> NodeRef<'a, 'b>
+        ensures { node_of result ≡ root_node (root_of self.now) }
+    {
+        NodeRef::new(self)
+    }
+
+    /// The table of the tree.
+    pub(crate) fn entries<'b>(&'b self) -> &'b [Entry<'a>]
+        ensures items { map item_of result.now ≡ self.now.table }
+        ensures is_table { IsTable result.now (root_of self.now) }
+        ensures small { length self.now.table < 2 ^ 63 }
+    {
+        &self.entries
+    }
+}
+
+/// Makes the checks of the header and of the reservation block, and counts the reservations.
+fn check_before_tree(file: &[u8], limits: Limits) -> Result<usize, Fault>
+    ensures header { OnOk result (HasNoHeaderFault limits file.now) }
+    ensures reservations { IfOk result (HasReservations file.now (off_mem_rsvmap file.now) (totalsize file.now)) }
+    ensures fault { IfErr result (IsFaultBeforeTree limits file.now) }
+{
+    check_header(file, limits)?;
+    count_reservations(file, cell_at(file, 16) as usize, cell_at(file, 4) as usize)
+}
+
+/// Where a file whose header was checked has its tree.
+fn tree_blocks<'a>(file: &'a [u8]) -> Blocks<'a>
+    requires { Header file.now }
+    ensures { blocks_of result ≡ tree_blocks_of file.entry.now }
+{
+    let strings = cell_at(file, 12) as usize;
+    Blocks {
+        file,
+        begin: cell_at(file, 8) as usize,
+        end: structure_end(file),
+        strings: &file[strings..strings + cell_at(file, 32) as usize],
+    }
+}

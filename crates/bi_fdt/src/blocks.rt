@@ -1,0 +1,128 @@
+//! The blocks of a blob that hold its tree, and what a single token in them holds.
+
+ghost use Rattle.std.specs.Prelude.{◌≡◌, ℕ, ◌+◌, ◌≤◌, List, [], ◌↔◌, length, IsTrue, IfOk, IfErr, OnOk};
+ghost use Rattle.bi_base.specs.Cells.{u32_at, slice};
+ghost use Rattle.bi_base.specs.Checks.{IsFirstFault, HasNoFault};
+ghost use Rattle.bi_blob.specs.Tokens.{name_from};
+ghost use Rattle.bi_blob.specs.Stages.{OpenNode, BeforeRoot, Inside};
+ghost use Rattle.bi_blob.specs.BlobFaults.{TokenPasses, token_fault, HasTokenNumber, begin_checks, property_checks};
+ghost use Rattle.bi_fdt.specs.Blocks.{blocks_of, AreBlocks, node_name_checks, property_token_checks};
+
+use crate::cells::cell_at;
+use crate::names::{is_child_name, name_at};
+use crate::refusal::refuse;
+use crate::table::Property;
+use bi_base::{Cause, Fault};
+
+/// Where a file has its tree: the structure block, from `begin` to `end`, and the strings block (Devicetree Specification,
+/// 5.4, 5.5).
+#[derive(Clone, Copy)]
+pub(crate) struct Blocks<'a> {
+    pub(crate) file: &'a [u8],
+    pub(crate) begin: usize,
+    pub(crate) end: usize,
+    pub(crate) strings: &'a [u8],
+}
+
+/// The number of the token at `place`. Truncated where the structure block ends before the number does.
+pub(crate) fn number_at(blocks: Blocks, place: usize) -> Result<u32, Fault>
+    requires blocks { AreBlocks (blocks_of blocks) }
+    requires within { place ≤ blocks.end + 3 }
+    ensures within { OnOk result (place + 4 ≤ blocks.entry.end) }
+    ensures number { IfOk result (λ number. number ≡ u32_at blocks.entry.file.now place) }
+    ensures truncated { IfErr result (λ fault. (blocks.entry.end + 1 ≤ place + 4) × (fault ≡ token_fault place HasTokenNumber)) }
+{
+    if place + 4 > blocks.end {
+        return refuse(Cause::Truncated, place as u32);
+    }
+    Ok(cell_at(blocks.file, place))
+}
+
+/// The name of the root, whose token is at `place`.
+pub(crate) fn root_name<'a>(
+    blocks: Blocks<'a>,
+    place: usize,
+    depth_limit: usize,
+) -> Result<&'a [u8], Fault>
+    requires blocks { AreBlocks (blocks_of blocks) }
+    requires within { place + 4 ≤ blocks.end }
+    requires depth { 1 ≤ depth_limit }
+    ensures name { IfOk result (λ name. name.now ≡ name_from blocks.entry.file.now (place + 4)) }
+    ensures ok { OnOk result (HasNoFault (TokenPasses (blocks_of blocks.entry) depth_limit place BeforeRoot) begin_checks) }
+    ensures fault { IfErr result (IsFirstFault (TokenPasses (blocks_of blocks.entry) depth_limit place BeforeRoot) (token_fault place) begin_checks) }
+{
+    let Some(name) = name_at(blocks.file, place + 4, blocks.end) else {
+        return refuse(Cause::Truncated, place as u32);
+    };
+    if !name.is_empty() {
+        return refuse(Cause::BadName, place as u32);
+    }
+    Ok(name)
+}
+
+/// The name of a child, whose token is at `place`, where `depth` nodes are open.
+pub(crate) fn child_name<'a>(
+    blocks: Blocks<'a>,
+    place: usize,
+    depth: usize,
+    depth_limit: usize,
+) -> Result<&'a [u8], Fault>
+    requires blocks { AreBlocks (blocks_of blocks) }
+    requires within { place + 4 ≤ blocks.end }
+    ensures name { IfOk result (λ name. name.now ≡ name_from blocks.entry.file.now (place + 4)) }
+    ensures ok { OnOk result ((innermost : OpenNode) (outer : List OpenNode) → length outer + 1 ≡ depth
+        → HasNoFault (TokenPasses (blocks_of blocks.entry) depth_limit place (Inside innermost outer)) node_name_checks) }
+    ensures fault { IfErr result (λ fault. (innermost : OpenNode) (outer : List OpenNode) → length outer + 1 ≡ depth
+        → IsFirstFault (TokenPasses (blocks_of blocks.entry) depth_limit place (Inside innermost outer)) (token_fault place) begin_checks fault) }
+{
+    if depth >= depth_limit {
+        return refuse(Cause::TooDeep, place as u32);
+    }
+    let Some(name) = name_at(blocks.file, place + 4, blocks.end) else {
+        return refuse(Cause::Truncated, place as u32);
+    };
+    if !is_child_name(name) {
+        return refuse(Cause::BadName, place as u32);
+    }
+    Ok(name)
+}
+
+/// The property whose token is at `place`.
+pub(crate) fn property_at<'a>(
+    blocks: Blocks<'a>,
+    place: usize,
+    is_childless: bool,
+) -> Result<Property<'a>, Fault>
+    requires blocks { AreBlocks (blocks_of blocks) }
+    requires within { place + 4 ≤ blocks.end }
+    ensures name { IfOk result (λ property. property.name.now ≡ name_from blocks.entry.strings.now (u32_at blocks.entry.file.now (place + 8))) }
+    ensures value { IfOk result (λ property. property.value.now ≡ slice blocks.entry.file.now (place + 12) (u32_at blocks.entry.file.now (place + 4))) }
+    ensures place { IfOk result (λ property. property.place ≡ place) }
+    ensures ok { OnOk result ((innermost : OpenNode) (outer : List OpenNode) → (IsTrue is_childless ↔ (innermost.children ≡ []))
+        → HasNoFault (TokenPasses (blocks_of blocks.entry) 0 place (Inside innermost outer)) property_token_checks) }
+    ensures fault { IfErr result (λ fault. (innermost : OpenNode) (outer : List OpenNode) → (IsTrue is_childless ↔ (innermost.children ≡ []))
+        → IsFirstFault (TokenPasses (blocks_of blocks.entry) 0 place (Inside innermost outer)) (token_fault place) property_checks fault) }
+{
+    if !is_childless {
+        return refuse(Cause::PropertyAfterChild, place as u32);
+    }
+    if place + 12 > blocks.end {
+        return refuse(Cause::Truncated, place as u32);
+    }
+    let length = cell_at(blocks.file, place + 4) as usize;
+    if length > blocks.end - (place + 12) {
+        return refuse(Cause::Truncated, place as u32);
+    }
+    let name_offset = cell_at(blocks.file, place + 8) as usize;
+    let Some(name) = name_at(blocks.strings, name_offset, blocks.strings.len()) else {
+        return refuse(Cause::BadNameOffset, place as u32);
+    };
+    if name.is_empty() {
+        return refuse(Cause::BadName, place as u32);
+    }
+    Ok(Property {
+        name,
+        value: &blocks.file[place + 12..place + 12 + length],
+        place: place as u32,
+    })
+}

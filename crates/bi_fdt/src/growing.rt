@@ -1,0 +1,191 @@
+//! A tree while its tokens are read.
+
+ghost use Rattle.std.specs.Prelude.{◌≡◌, ℕ, ◌+◌, List, [], ◌∷◌, ◌↔◌, length, map, IsTrue, IfOk, IfErr, OnOk};
+ghost use Rattle.bi_blob.specs.Tree.{names, IsNew};
+ghost use Rattle.bi_blob.specs.BlobFaults.{token_fault, IsNewNode, IsNewProperty};
+ghost use Rattle.bi_blob.proofs.Blobs.PartialNodes.{PartialNode, begun, with_one_property};
+ghost use Rattle.bi_fdt.specs.Table.{file_property_of};
+ghost use Rattle.bi_fdt.specs.Growth.{IsGrowing, IsGrown, IsEnding, IsRefusal};
+
+use crate::table::{Entry, NodeEntry, Property, set_after, set_property_count};
+use bi_base::{Cause, Error, Fault};
+use std::alloc::Global;
+use std::collections::BTreeSet;
+
+/// A node that has begun and not ended.
+#[derive(Drop)]
+pub(crate) struct OpenNode<'a> {
+    /// The index of its entry in the table.
+    entry: usize,
+    /// The names of its children so far.
+    children: BTreeSet<&'a [u8]>,
+}
+
+/// The table of a tree whose root has begun and not ended.
+#[derive(Drop)]
+pub(crate) struct Growing<'a> {
+    entries: Vec<Entry<'a>>,
+    innermost: OpenNode<'a>,
+    /// The nodes that contain the innermost open node, the root first.
+    outer: Vec<OpenNode<'a>>,
+    /// The names of the properties of the innermost open node, where it has no child yet.
+    properties: BTreeSet<&'a [u8]>,
+}
+
+/// What remains of a growing tree after a node has ended: the tree itself, or the table of the whole tree where the node
+/// is the root.
+#[derive(Drop)]
+pub(crate) enum Ending<'a> {
+    Inside(Growing<'a>),
+    Root(Vec<Entry<'a>>),
+}
+
+impl<'a> Growing<'a> {
+    /// A tree whose root has begun at `place`.
+    pub(crate) fn new(alloc: Global, name: &'a [u8], place: u32) -> Result<Growing<'a>, Error>
+        ensures ok { IfOk result (λ growing. IsGrowing growing (begun name.entry.now place) []) }
+        ensures error { IfErr result (IsRefusal (λ _. ⊥)) }
+    {
+        let mut entries = Vec::new(alloc);
+        entries.push(Entry::Node(NodeEntry {
+            name,
+            place,
+            depth: 0,
+            property_count: 0,
+            after: 0,
+        }))?;
+        Ok(Growing {
+            entries,
+            innermost: OpenNode {
+                entry: 0,
+                children: BTreeSet::new(alloc),
+            },
+            outer: Vec::new(alloc),
+            properties: BTreeSet::new(alloc),
+        })
+    }
+
+    /// The number of the open nodes.
+    pub(crate) fn depth(&self) -> usize
+        ensures { (innermost : PartialNode) (outer : List PartialNode) → IsGrowing self.now innermost outer → result ≡ length outer + 1 }
+    {
+        self.outer.len() + 1
+    }
+
+    /// Whether the innermost open node has no child yet.
+    pub(crate) fn is_childless(&self) -> bool
+        ensures { (innermost : PartialNode) (outer : List PartialNode) → IsGrowing self.now innermost outer
+            → (IsTrue result ↔ (names innermost.children ≡ [])) }
+    {
+        self.innermost.children.is_empty()
+    }
+
+    /// The tree after a child of the innermost open node has begun at `place`. DuplicateNode where a child has the name
+    /// already.
+    pub(crate) fn begin_node(
+        self,
+        alloc: Global,
+        name: &'a [u8],
+        place: u32,
+    ) -> Result<Growing<'a>, Error>
+        ensures new { OnOk result ((innermost : PartialNode) (outer : List PartialNode) → IsGrowing self.entry innermost outer
+            → IsNew name.entry.now (names innermost.children)) }
+        ensures grown { IfOk result (λ grown. (innermost : PartialNode) (outer : List PartialNode) → IsGrowing self.entry innermost outer
+            → IsGrowing grown (begun name.entry.now place) (innermost ∷ outer)) }
+        ensures fault { IfErr result (IsRefusal (λ fault. fault ≡ token_fault place IsNewNode)) }
+        ensures duplicate { IfErr result (IsRefusal (λ _. (innermost : PartialNode) (outer : List PartialNode) → IsGrowing self.entry innermost outer
+            → ¬ (IsNew name.entry.now (names innermost.children)))) }
+    {
+        let Growing {
+            mut entries,
+            mut innermost,
+            mut outer,
+            mut properties,
+        } = self;
+        if !innermost.children.insert(name)? {
+            return Err(Error::Refused(Fault {
+                cause: Cause::DuplicateNode,
+                offset: place,
+            }));
+        }
+        let entry = entries.len();
+        entries.push(Entry::Node(NodeEntry {
+            name,
+            place,
+            depth: outer.len() + 1,
+            property_count: 0,
+            after: 0,
+        }))?;
+        outer.push(innermost)?;
+        properties.clear();
+        Ok(Growing {
+            entries,
+            innermost: OpenNode {
+                entry,
+                children: BTreeSet::new(alloc),
+            },
+            outer,
+            properties,
+        })
+    }
+
+    /// The tree after a property of the innermost open node, which has no child yet. DuplicateProperty where a property has
+    /// the name already.
+    pub(crate) fn add_property(self, property: Property<'a>) -> Result<Growing<'a>, Error>
+        requires { IsGrown self }
+        ensures new { OnOk result ((innermost : PartialNode) (outer : List PartialNode) → IsGrowing self.entry innermost outer
+            → names innermost.children ≡ [] → IsNew property.entry.name.now (map (λ other. other.name) innermost.properties)) }
+        ensures grown { IfOk result (λ grown. (innermost : PartialNode) (outer : List PartialNode) → IsGrowing self.entry innermost outer
+            → names innermost.children ≡ [] → IsGrowing grown (with_one_property innermost (file_property_of property.entry)) outer) }
+        ensures fault { IfErr result (IsRefusal (λ fault. fault ≡ token_fault property.entry.place IsNewProperty)) }
+        ensures duplicate { IfErr result (IsRefusal (λ _. (innermost : PartialNode) (outer : List PartialNode) → IsGrowing self.entry innermost outer
+            → names innermost.children ≡ [] → ¬ (IsNew property.entry.name.now (map (λ other. other.name) innermost.properties)))) }
+    {
+        let Growing {
+            mut entries,
+            innermost,
+            outer,
+            mut properties,
+        } = self;
+        if !properties.insert(property.name)? {
+            return Err(Error::Refused(Fault {
+                cause: Cause::DuplicateProperty,
+                offset: property.place,
+            }));
+        }
+        entries.push(Entry::Property(property))?;
+        let property_count = entries.len() - innermost.entry - 1;
+        set_property_count(&mut entries, innermost.entry, property_count);
+        Ok(Growing {
+            entries,
+            innermost,
+            outer,
+            properties,
+        })
+    }
+
+    /// The tree after the innermost open node has ended.
+    pub(crate) fn end_node(self) -> Ending<'a>
+        requires { IsGrown self }
+        ensures { IsEnding self.entry result }
+    {
+        let Growing {
+            mut entries,
+            innermost,
+            mut outer,
+            properties,
+        } = self;
+        let OpenNode { entry, children: _ } = innermost;
+        let after = entries.len();
+        set_after(&mut entries, entry, after);
+        match outer.pop() {
+            Some(parent) => Ending::Inside(Growing {
+                entries,
+                innermost: parent,
+                outer,
+                properties,
+            }),
+            None => Ending::Root(entries),
+        }
+    }
+}

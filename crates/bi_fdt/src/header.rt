@@ -1,0 +1,110 @@
+//! The header of a blob (Devicetree Specification, 5.2): its checks, and where it places the blocks.
+
+ghost use Rattle.std.specs.Prelude.{◌≡◌, ◌≤◌, length, IfErr, OnOk};
+ghost use Rattle.bi_base.specs.Checks.{IsFirstFault, HasNoFault};
+ghost use Rattle.bi_blob.specs.Blob.{header_length as length_of_header, structure_end as end_of_structure, totalsize};
+ghost use Rattle.bi_blob.specs.BlobFaults.{HasNoHeaderFault, HeaderPasses, header_fault, IsHeaderFault};
+ghost use Rattle.bi_fdt.specs.Header.{place_checks};
+
+use crate::cells::cell_at;
+use crate::refusal::refuse;
+use bi_base::{Cause, Fault, Limits, be32_at};
+
+/// The number that a blob begins with.
+const MAGIC: u32 = 0xd00d_feed;
+
+/// The least version that is accepted.
+const LEAST_VERSION: u32 = 16;
+
+/// The version of this reader.
+const READER_VERSION: u32 = 17;
+
+/// The version whose header ends before the size of the structure block.
+const VERSION_WITHOUT_STRUCTURE_SIZE: u32 = 16;
+
+/// Makes the checks of the header, in order. The fault is that of the first check that fails.
+pub(crate) fn check_header(file: &[u8], limits: Limits) -> Result<(), Fault>
+    ensures ok { OnOk result (HasNoHeaderFault limits file.now) }
+    ensures fault { IfErr result (IsHeaderFault limits file.now) }
+{
+    if file.len() > limits.file() as usize {
+        return refuse(Cause::TooLarge, limits.file());
+    }
+    let Some(magic) = be32_at(file, 0) else {
+        return refuse(Cause::Truncated, 0);
+    };
+    if magic != MAGIC {
+        return refuse(Cause::BadMagic, 0);
+    }
+    let length = header_length(file);
+    if file.len() < length {
+        return refuse(Cause::Truncated, 0);
+    }
+    if cell_at(file, 20) < LEAST_VERSION {
+        return refuse(Cause::BadVersion, 20);
+    }
+    if cell_at(file, 24) > READER_VERSION {
+        return refuse(Cause::BadVersion, 24);
+    }
+    let total = cell_at(file, 4) as usize;
+    if total < length {
+        return refuse(Cause::BadTotalSize, 4);
+    }
+    if total > file.len() {
+        return refuse(Cause::Truncated, 4);
+    }
+    check_places(file, limits)
+}
+
+/// Checks the offsets of the three blocks, in order.
+fn check_places(file: &[u8], limits: Limits) -> Result<(), Fault>
+    requires whole { length_of_header file.now ≤ length file.now }
+    ensures ok { OnOk result (HasNoFault (HeaderPasses limits file.now) place_checks) }
+    ensures fault { IfErr result (IsFirstFault (HeaderPasses limits file.now) (header_fault limits) place_checks) }
+{
+    let length = header_length(file);
+    let total = cell_at(file, 4) as usize;
+    let reservations = cell_at(file, 16) as usize;
+    if reservations < length || reservations % 8 != 0 || reservations > total {
+        return refuse(Cause::BadOffset, 16);
+    }
+    let structure = cell_at(file, 8) as usize;
+    let structure_end = structure_end(file);
+    if structure < length
+        || structure % 4 != 0
+        || structure > structure_end
+        || structure_end > total
+    {
+        return refuse(Cause::BadOffset, 8);
+    }
+    let strings = cell_at(file, 12) as usize;
+    if strings < length || strings + cell_at(file, 32) as usize > total {
+        return refuse(Cause::BadOffset, 12);
+    }
+    Ok(())
+}
+
+/// The length of the header in bytes: 36 in version 16, else 40. It is 40 where the file ends before the cell of its
+/// version.
+fn header_length(file: &[u8]) -> usize
+    ensures least { 36 ≤ result }
+    ensures value { 36 ≤ length file.now → result ≡ length_of_header file.now }
+{
+    if be32_at(file, 20) == Some(VERSION_WITHOUT_STRUCTURE_SIZE) {
+        36
+    } else {
+        40
+    }
+}
+
+/// The offset of the end of the structure block: in version 16 the end of the blob.
+pub(crate) fn structure_end(file: &[u8]) -> usize
+    requires { length_of_header file.now ≤ length file.now }
+    ensures { result ≡ end_of_structure file.now }
+{
+    if cell_at(file, 20) == VERSION_WITHOUT_STRUCTURE_SIZE {
+        cell_at(file, 4) as usize
+    } else {
+        cell_at(file, 8) as usize + cell_at(file, 36) as usize
+    }
+}

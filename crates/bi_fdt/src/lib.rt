@@ -1,0 +1,24 @@
+//! Devicetree blobs (Devicetree Specification, chapter 5): reading one, and looking at its tree.
+#![tactic(auto)]
+
+mod blob;
+mod blocks;
+mod cells;
+mod growing;
+mod header;
+mod names;
+mod node;
+mod properties;
+mod refusal;
+mod reservations;
+mod structure;
+mod table;
+mod tokens;
+
+pub use blob::Blob;
+pub use node::NodeRef;
+pub use properties::Properties;
+pub use table::Property;
+
+#[cfg(test)]
+mod tests;

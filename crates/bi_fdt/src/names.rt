@@ -1,0 +1,26 @@
+//! Names in a blob, which a zero byte ends (Devicetree Specification, 5.4.1, 5.5).
+
+ghost use Rattle.std.specs.Prelude.{◌≡◌, ◌≤◌, ◌↔◌, length, IsSome, IfSome, IsTrue};
+ghost use Rattle.bi_blob.specs.Tokens.{name_from};
+ghost use Rattle.bi_blob.specs.Tree.{HasNoZero, IsChildName, IsPropertyName};
+ghost use Rattle.bi_blob.specs.BlobFaults.{HasName};
+
+/// The name at offset `at`. None exactly where no zero byte ends it before `end`.
+pub(crate) fn name_at<'a>(bytes: &'a [u8], at: usize, end: usize) -> Option<&'a [u8]>
+    requires { end ≤ length bytes.now }
+    ensures some { IsSome result ↔ HasName bytes.entry.now at end }
+    ensures value { IfSome result (λ name. name.now ≡ name_from bytes.entry.now at) }
+    ensures no_zero { IfSome result (λ name. HasNoZero name.now) }
+{
+    let rest = bytes.get(at..end)?;
+    let length = rest.iter().position(|byte| *byte == 0)?;
+    Some(&rest[..length])
+}
+
+/// Whether a node other than the root may have this name, which has no zero byte.
+pub(crate) fn is_child_name(name: &[u8]) -> bool
+    requires { HasNoZero name.now }
+    ensures { IsTrue result ↔ IsChildName name.now }
+{
+    !name.is_empty() && !name.contains(&b'/')
+}

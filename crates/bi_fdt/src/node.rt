@@ -1,0 +1,191 @@
+//! The nodes of a blob.
+
+ghost use Rattle.std.specs.Prelude.{◌≡◌, ◌<◌, ◌^◌, drop, length, map, slice_get, IsTrue};
+ghost use Rattle.std.specs.Option.{option_map};
+ghost use Rattle.bi_blob.specs.Tree.{property_of, properties_of};
+ghost use Rattle.bi_blob.specs.Lookups.{siblings, root_node, node_at, node_named, value_named, property_named};
+ghost use Rattle.bi_fdt.specs.Table.{file_property_of};
+ghost use Rattle.bi_fdt.specs.Content.{root_of, begins_with_node};
+
+use crate::blob::Blob;
+use crate::properties::Properties;
+use crate::table::{Entry, NodeEntry, Property};
+
+/// A node of a blob that was read: a borrow of the blob, and the index of the node's entry in its table.
+#[derive(Clone, Copy)]
+pub struct NodeRef<'a, 'b> {
+    blob: &'b Blob<'a>,
+    index: usize,
+    ghost is_node: { IsTrue (begins_with_node (drop index blob.now.table)) },
+    ghost small: { length blob.now.table < 2 ^ 63 },
+}
+
+impl<'a, 'b> NodeRef<'a, 'b> {
+    ghost use Rattle.bi_fdt.specs.Views.{node_of, IsNodeOf};
+
+    /// The root of a blob.
+    pub(crate) fn new(blob: &'b Blob<'a>) -> NodeRef<'a, 'b>
+        ensures { node_of result ≡ root_node (root_of blob.entry.now) }
+    {
+        let _ = blob.entries();
+        NodeRef { blob, index: 0 }
+    }
+
+    /// The node's entry.
+    fn entry(self) -> NodeEntry<'a>
+        ensures { IsNodeOf self.entry.blob.now.table self.entry.index result }
+    {
+        let entry = self.blob.entries()[self.index];
+        match entry {
+            Entry::Node(node) => node,
+            Entry::Property(_) => unreachable!(),
+        }
+    }
+
+    /// The name. That of the root is empty.
+    pub fn name(self) -> &'a [u8]
+        ensures { result.now ≡ (node_of self.entry).name }
+    {
+        self.entry().name
+    }
+
+    /// The offset in the file of the token that begins the node.
+    pub fn place(self) -> u32
+        ensures { result ≡ (node_of self.entry).own.place }
+    {
+        self.entry().place
+    }
+
+    /// The number of the properties.
+    pub fn property_count(self) -> usize
+        ensures { result ≡ length (node_of self.entry).own.properties }
+    {
+        self.entry().property_count
+    }
+
+    /// The properties in their order in the file. Going over all of them takes time linear in their number.
+    pub fn properties(self) -> Properties<'a, 'b>
+        ensures { result ≡ (node_of self.entry).own.properties }
+    {
+        let entries = self.blob.entries();
+        let begin = self.index + 1;
+        let end = begin + self.entry().property_count;
+        Properties::new(&entries[begin..end])
+    }
+
+    /// The name and value of property `index`, from 0, in the order of the file. None exactly where there is no such
+    /// property.
+    pub fn property_at(self, index: usize) -> Option<(&'a [u8], &'a [u8])>
+        ensures { option_map (λ property. (property.0.now, property.1.now)) result ≡ slice_get (properties_of (node_of self.entry).own) index }
+    {
+        let node = self.entry();
+        if index >= node.property_count {
+            return None;
+        }
+        let entry = self.blob.entries()[self.index + 1 + index];
+        match entry {
+            Entry::Property(property) => Some((property.name, property.value)),
+            Entry::Node(_) => unreachable!(),
+        }
+    }
+
+    /// The value of the property of this name. None exactly where there is no such property.
+    pub fn property(self, name: &[u8]) -> Option<&'a [u8]>
+        ensures { option_map (λ value. value.now) result ≡ value_named (properties_of (node_of self.entry).own) name.now }
+    {
+        Some(self.find_property(name)?.value)
+    }
+
+    /// The offset in the file of the token of the property of this name. None exactly where there is no such property.
+    pub fn property_place(self, name: &[u8]) -> Option<u32>
+        ensures { result ≡ option_map (λ property. property.place) (property_named (node_of self.entry).own.properties name.now) }
+    {
+        Some(self.find_property(name)?.place)
+    }
+
+    /// The property of this name. None exactly where there is no such property.
+    fn find_property(self, name: &[u8]) -> Option<Property<'a>>
+        ensures { option_map file_property_of result ≡ property_named (node_of self.entry).own.properties name.now }
+    {
+        for property in self.properties() {
+            if property.name == name {
+                return Some(property);
+            }
+        }
+        None
+    }
+
+    /// The first child. None exactly where there is no child.
+    pub fn first_child(self) -> Option<NodeRef<'a, 'b>>
+        ensures { option_map node_of result ≡ node_at (node_of self.entry).children 0 }
+    {
+        let node = self.entry();
+        let index = self.index + 1 + node.property_count;
+        if index == node.after {
+            return None;
+        }
+        Some(NodeRef {
+            blob: self.blob,
+            index,
+        })
+    }
+
+    /// The next child of the node's parent. None exactly for the last child, and for the root.
+    pub fn next_sibling(self) -> Option<NodeRef<'a, 'b>>
+        ensures { option_map node_of result ≡ node_at (node_of self.entry).later 0 }
+    {
+        let node = self.entry();
+        let entry = *self.blob.entries().get(node.after)?;
+        match entry {
+            Entry::Node(next) => {
+                if next.depth != node.depth {
+                    return None;
+                }
+                Some(NodeRef {
+                    blob: self.blob,
+                    index: node.after,
+                })
+            }
+            Entry::Property(_) => None,
+        }
+    }
+
+    /// The number of the children. It goes over all of them.
+    pub fn child_count(self) -> usize
+        ensures { result ≡ length (siblings (node_of self.entry).children) }
+    {
+        let mut count = 0;
+        let mut next = self.first_child();
+        while let Some(child) = next {
+            count += 1;
+            next = child.next_sibling();
+        }
+        count
+    }
+
+    /// Child `index`, from 0, in the order of the file. None exactly where there is no such child. It goes over the children
+    /// before it.
+    pub fn child_at(self, index: usize) -> Option<NodeRef<'a, 'b>>
+        ensures { option_map node_of result ≡ node_at (node_of self.entry).children index }
+    {
+        let mut child = self.first_child()?;
+        for _ in 0..index {
+            child = child.next_sibling()?;
+        }
+        Some(child)
+    }
+
+    /// The child of this name. None exactly where there is no such child. It goes over the children before it.
+    pub fn child(self, name: &[u8]) -> Option<NodeRef<'a, 'b>>
+        ensures { option_map node_of result ≡ node_named (node_of self.entry).children name.now }
+    {
+        let mut next = self.first_child();
+        while let Some(child) = next {
+            if child.name() == name {
+                return Some(child);
+            }
+            next = child.next_sibling();
+        }
+        None
+    }
+}

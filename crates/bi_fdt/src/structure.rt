@@ -1,0 +1,125 @@
+//! The structure block as a whole (Devicetree Specification, 5.4.2).
+
+ghost use Rattle.std.specs.Prelude.{ℕ, ◌+◌, ◌≤◌, IfOk, IfErr, OnOk};
+ghost use Rattle.bi_blob.specs.Tokens.{begin_node_number};
+ghost use Rattle.bi_blob.specs.Tree.{Root, FileNode, depth_of};
+ghost use Rattle.bi_blob.specs.Blob.{HoldsTree};
+ghost use Rattle.bi_blob.specs.BlobFaults.{IsStructureFault};
+ghost use Rattle.bi_blob.proofs.Blobs.PartialNodes.{Standing, NotBegun, Grown};
+ghost use Rattle.bi_fdt.specs.Blocks.{blocks_of, AreBlocks, IsNumberAt};
+ghost use Rattle.bi_fdt.specs.Growth.{IsRefusal};
+ghost use Rattle.bi_fdt.specs.Reading.{IsReading, IsAfter, HasTable};
+
+use crate::blocks::{Blocks, number_at, root_name};
+use crate::cells::up4;
+use crate::growing::Growing;
+use crate::refusal::refuse;
+use crate::table::Entry;
+use crate::tokens::{BEGIN_NODE, END, NOP, Next, Reading, step};
+use bi_base::{Cause, Error, Fault};
+use std::alloc::Global;
+
+/// The table of the tree that the structure block holds. The fault is that of the first check that fails.
+pub(crate) fn read_tree<'a>(
+    alloc: Global,
+    blocks: Blocks<'a>,
+    depth_limit: usize,
+) -> Result<Vec<Entry<'a>>, Error>
+    requires blocks { AreBlocks (blocks_of blocks) }
+    requires ordered { blocks.begin ≤ blocks.end }
+    requires depth { 1 ≤ depth_limit }
+    ensures ok { IfOk result (λ entries. HasTable (blocks_of blocks.entry) depth_limit entries.items) }
+    ensures fault { IfErr result (IsRefusal (IsStructureFault (blocks_of blocks.entry) depth_limit)) }
+{
+    let place = skip_to_root(blocks)?;
+    let begun = begin_root(alloc, blocks, depth_limit, place)?;
+    let (place, entries) = read_root(alloc, blocks, depth_limit, begun)?;
+    check_after_root(blocks, place)?;
+    Ok(entries)
+}
+
+/// The offset of the token of the root.
+fn skip_to_root(blocks: Blocks) -> Result<usize, Fault>
+    requires blocks { AreBlocks (blocks_of blocks) }
+    requires ordered { blocks.begin ≤ blocks.end }
+    ensures number { IfOk result (λ place. IsNumberAt (blocks_of blocks.entry) place begin_node_number) }
+    ensures ok { IfOk result (λ place. (depth_limit : ℕ) → Standing (blocks_of blocks.entry) depth_limit place NotBegun) }
+    ensures fault { IfErr result (λ fault. (depth_limit : ℕ) → IsStructureFault (blocks_of blocks.entry) depth_limit fault) }
+{
+    let mut place = blocks.begin;
+    loop {
+        let number = number_at(blocks, place)?;
+        if number == BEGIN_NODE {
+            return Ok(place);
+        }
+        if number != NOP {
+            return refuse(Cause::BadToken, place as u32);
+        }
+        place += 4;
+    }
+}
+
+/// A reader inside the root, whose token is at `place`.
+fn begin_root<'a>(
+    alloc: Global,
+    blocks: Blocks<'a>,
+    depth_limit: usize,
+    place: usize,
+) -> Result<Reading<'a>, Error>
+    requires blocks { AreBlocks (blocks_of blocks) }
+    requires depth { 1 ≤ depth_limit }
+    requires number { IsNumberAt (blocks_of blocks) place begin_node_number }
+    requires standing { Standing (blocks_of blocks) depth_limit place NotBegun }
+    ensures ok { IfOk result (IsReading (blocks_of blocks.entry) depth_limit) }
+    ensures fault { IfErr result (IsRefusal (IsStructureFault (blocks_of blocks.entry) depth_limit)) }
+{
+    let name = root_name(blocks, place, depth_limit)?;
+    let growing = Growing::new(alloc, name, place as u32)?;
+    Ok(Reading {
+        place: place + up4(name.len() + 5),
+        growing,
+    })
+}
+
+/// Reads the tokens inside the root: the offset after them, and the table.
+fn read_root<'a>(
+    alloc: Global,
+    blocks: Blocks<'a>,
+    depth_limit: usize,
+    begun: Reading<'a>,
+) -> Result<(usize, Vec<Entry<'a>>), Error>
+    requires blocks { AreBlocks (blocks_of blocks) }
+    requires reading { IsReading (blocks_of blocks) depth_limit begun }
+    ensures ok { IfOk result (λ after. IsAfter (blocks_of blocks.entry) depth_limit after.0 after.1.items) }
+    ensures fault { IfErr result (IsRefusal (IsStructureFault (blocks_of blocks.entry) depth_limit)) }
+{
+    let mut reading = begun;
+    loop {
+        match step(alloc, blocks, depth_limit, reading)? {
+            Next::Inside(next) => reading = next,
+            Next::After(place, entries) => return Ok((place, entries)),
+        }
+    }
+}
+
+/// Checks the tokens after the root, from `place` on.
+fn check_after_root(blocks: Blocks, place: usize) -> Result<(), Fault>
+    requires blocks { AreBlocks (blocks_of blocks) }
+    requires within { place ≤ blocks.end + 3 }
+    ensures ok { OnOk result ((depth_limit : ℕ) (root : Root FileNode) → Standing (blocks_of blocks.entry) depth_limit place (Grown root)
+        → HoldsTree (blocks_of blocks.entry) root × (depth_of root ≤ depth_limit)) }
+    ensures fault { IfErr result (λ fault. (depth_limit : ℕ) (root : Root FileNode) → Standing (blocks_of blocks.entry) depth_limit place (Grown root)
+        → IsStructureFault (blocks_of blocks.entry) depth_limit fault) }
+{
+    let mut place = place;
+    loop {
+        let number = number_at(blocks, place)?;
+        if number == END {
+            return Ok(());
+        }
+        if number != NOP {
+            return refuse(Cause::BadToken, place as u32);
+        }
+        place += 4;
+    }
+}

@@ -1,0 +1,123 @@
+//! The tokens of the structure block, one at a time (Devicetree Specification, 5.4.1).
+
+ghost use Rattle.std.specs.Prelude.{IfOk, IfErr};
+ghost use Rattle.bi_blob.specs.BlobFaults.{IsStructureFault};
+ghost use Rattle.bi_blob.specs.Tokens.{begin_node_number, prop_number};
+ghost use Rattle.bi_fdt.specs.Blocks.{blocks_of, AreBlocks, IsNumberAt};
+ghost use Rattle.bi_fdt.specs.Growth.{IsRefusal};
+ghost use Rattle.bi_fdt.specs.Reading.{IsReading, IsAhead};
+
+use crate::blocks::{Blocks, child_name, number_at, property_at};
+use crate::cells::up4;
+use crate::growing::{Ending, Growing};
+use crate::table::Entry;
+use bi_base::{Cause, Error, Fault};
+use std::alloc::Global;
+
+pub(crate) const BEGIN_NODE: u32 = 1;
+
+pub(crate) const END_NODE: u32 = 2;
+
+pub(crate) const PROP: u32 = 3;
+
+pub(crate) const NOP: u32 = 4;
+
+pub(crate) const END: u32 = 9;
+
+/// A reader inside the root: the offset of its next token, and the tree so far.
+#[derive(Drop)]
+pub(crate) struct Reading<'a> {
+    pub(crate) place: usize,
+    pub(crate) growing: Growing<'a>,
+}
+
+/// What comes after a token inside the root.
+#[derive(Drop)]
+pub(crate) enum Next<'a> {
+    /// More tokens inside the root.
+    Inside(Reading<'a>),
+    /// The tokens after the root, from this offset on, and the table of the tree.
+    After(usize, Vec<Entry<'a>>),
+}
+
+/// The reader after the token at its place.
+pub(crate) fn step<'a>(
+    alloc: Global,
+    blocks: Blocks<'a>,
+    depth_limit: usize,
+    reading: Reading<'a>,
+) -> Result<Next<'a>, Error>
+    requires blocks { AreBlocks (blocks_of blocks) }
+    requires reading { IsReading (blocks_of blocks) depth_limit reading }
+    ensures ok { IfOk result (IsAhead (blocks_of blocks.entry) depth_limit reading.entry.place) }
+    ensures fault { IfErr result (IsRefusal (IsStructureFault (blocks_of blocks.entry) depth_limit)) }
+{
+    let number = number_at(blocks, reading.place)?;
+    if number == BEGIN_NODE {
+        return begin_node(alloc, blocks, depth_limit, reading);
+    }
+    if number == PROP {
+        return add_property(blocks, depth_limit, reading);
+    }
+    let Reading { place, growing } = reading;
+    if number == NOP {
+        let place = place + 4;
+        return Ok(Next::Inside(Reading { place, growing }));
+    }
+    if number != END_NODE {
+        return Err(Error::Refused(Fault {
+            cause: Cause::BadToken,
+            offset: place as u32,
+        }));
+    }
+    Ok(match growing.end_node() {
+        Ending::Inside(growing) => Next::Inside(Reading {
+            place: place + 4,
+            growing,
+        }),
+        Ending::Root(entries) => Next::After(place + 4, entries),
+    })
+}
+
+/// The reader after FDT_BEGIN_NODE at its place.
+fn begin_node<'a>(
+    alloc: Global,
+    blocks: Blocks<'a>,
+    depth_limit: usize,
+    reading: Reading<'a>,
+) -> Result<Next<'a>, Error>
+    requires blocks { AreBlocks (blocks_of blocks) }
+    requires reading { IsReading (blocks_of blocks) depth_limit reading }
+    requires number { IsNumberAt (blocks_of blocks) reading.place begin_node_number }
+    ensures ok { IfOk result (IsAhead (blocks_of blocks.entry) depth_limit reading.entry.place) }
+    ensures fault { IfErr result (IsRefusal (IsStructureFault (blocks_of blocks.entry) depth_limit)) }
+{
+    let Reading { place, growing } = reading;
+    let name = child_name(blocks, place, growing.depth(), depth_limit)?;
+    let growing = growing.begin_node(alloc, name, place as u32)?;
+    Ok(Next::Inside(Reading {
+        place: place + up4(name.len() + 5),
+        growing,
+    }))
+}
+
+/// The reader after FDT_PROP at its place.
+fn add_property<'a>(
+    blocks: Blocks<'a>,
+    depth_limit: usize,
+    reading: Reading<'a>,
+) -> Result<Next<'a>, Error>
+    requires blocks { AreBlocks (blocks_of blocks) }
+    requires reading { IsReading (blocks_of blocks) depth_limit reading }
+    requires number { IsNumberAt (blocks_of blocks) reading.place prop_number }
+    ensures ok { IfOk result (IsAhead (blocks_of blocks.entry) depth_limit reading.entry.place) }
+    ensures fault { IfErr result (IsRefusal (IsStructureFault (blocks_of blocks.entry) depth_limit)) }
+{
+    let Reading { place, growing } = reading;
+    let property = property_at(blocks, place, growing.is_childless())?;
+    let width = up4(property.value.len() + 12);
+    Ok(Next::Inside(Reading {
+        place: place + width,
+        growing: growing.add_property(property)?,
+    }))
+}
