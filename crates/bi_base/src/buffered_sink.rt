@@ -88,3 +88,6 @@ impl<'a, T: TracedWrite> Sink for BufferedSink<'a, T> {
 
     ghost fails_before = { buffer_fails_before T.trace };
 }
+
+#[cfg(test)]
+mod tests;

@@ -23,7 +23,7 @@ pub const KERNEL_LISTING: &[u8] = b"kind legacy\n\
     part 0 size 9 at 64\n\
     unused 0\n";
 
-/// The same image with other bytes behind its name and behind its data.
+/// The same image with other bytes after the NUL of its name, and bytes after its data.
 #[rattlefmt::skip]
 pub const PADDED_KERNEL: &[u8; 80] =
     b"\x27\x05\x19\x56\x3f\x03\x0c\xe3\x00\x00\x00\x00\x00\x00\x00\x09\
@@ -111,7 +111,7 @@ pub const LESS_THAN_A_SIZE: &[u8; 67] =
       \x00\x00\x00\x00\x00\x00\x00\x00\x00\x00\x00\x00\x00\x00\x00\x00\
       \x01\x02\x03";
 
-/// A multi image whose second part ends behind the data.
+/// A multi image whose second part ends after the data.
 #[rattlefmt::skip]
 pub const SECOND_PART_TOO_LONG: &[u8; 87] =
     b"\x27\x05\x19\x56\xe7\xb6\x47\xd6\x00\x00\x00\x00\x00\x00\x00\x17\
@@ -121,7 +121,7 @@ pub const SECOND_PART_TOO_LONG: &[u8; 87] =
       \x00\x00\x00\x05\x00\x00\x00\x04\x00\x00\x00\x00hell\
       o\xff\xff\xffabc";
 
-/// A multi image whose first part ends behind the data.
+/// A multi image whose first part ends after the data.
 #[rattlefmt::skip]
 pub const FIRST_PART_TOO_LONG: &[u8; 72] =
     b"\x27\x05\x19\x56\x52\x9d\x58\x85\x00\x00\x00\x00\x00\x00\x00\x08\

@@ -4,9 +4,11 @@ use crate::images::{
     EMPTY_KERNEL, FIRST_PART_TOO_LONG, KERNEL, LESS_THAN_A_SIZE, NO_END_OF_SIZES, NO_PARTS,
     PADDED_KERNEL, PADDED_PARTS, PARTS, SCRIPT, SECOND_PART_TOO_LONG, TREE,
 };
-use bi_base::{Cause, Error, Fault, Limits, TracedReader, TracedWriter};
-use bi_norm::{Form, normalise, normalise_to, normalise_traced};
+use bi_base::{Cause, Error, Fault, Limits, VecSink};
+use bi_legacy::{Fields, emit};
+use bi_norm::{Form, normalise, normalise_into, normalise_to};
 use scripted_io::{Script, ScriptedReader, ScriptedWriter, Turn};
+use std::alloc::Global;
 use std::test::Fail;
 
 fn limits(file: u32) -> Result<Limits, Fail> {
@@ -27,6 +29,10 @@ fn normal_forms(rt: HostRuntime) -> Result<(), Fail> {
     ] {
         let text = normalise(alloc, file, Form::Embedded, limits(0x7fff_ffff)?)?;
         assert_eq!(rt; text.as_slice(), normal);
+        let mut sink = VecSink::new(alloc);
+        let count = normalise_into(alloc, file, Form::Embedded, limits(0x7fff_ffff)?, &mut sink)?;
+        assert_eq!(rt; count, 0);
+        assert_eq!(rt; sink.into_vec().as_slice(), normal);
         let mut written = Vec::new(alloc);
         let count = normalise_to(
             alloc,
@@ -76,7 +82,7 @@ fn refusals(rt: HostRuntime) -> Result<(), Fail> {
 }
 
 #[test]
-fn a_flipped_bit_is_found(rt: HostRuntime) -> Result<(), Fail> {
+fn a_changed_bit_is_refused(rt: HostRuntime) -> Result<(), Fail> {
     for (at, cause, offset) in [
         (19, Cause::BadHeaderCrc, 4),
         (31, Cause::BadHeaderCrc, 4),
@@ -94,7 +100,7 @@ fn a_flipped_bit_is_found(rt: HostRuntime) -> Result<(), Fail> {
 }
 
 #[test]
-fn a_failed_write_leaves_the_first_bytes(rt: HostRuntime) -> Result<(), Fail> {
+fn a_failed_write_leaves_a_prefix(rt: HostRuntime) -> Result<(), Fail> {
     let alloc = rt.alloc();
     for whole in 0..KERNEL.len() {
         let script = Script::failing_among(whole as u64, Turn::Takes(1));
@@ -143,7 +149,7 @@ fn a_failed_read_writes_nothing(rt: HostRuntime) -> Result<(), Fail> {
 }
 
 #[test]
-fn interruptions_are_outlasted(rt: HostRuntime) -> Result<(), Fail> {
+fn interrupted_calls_are_made_again(rt: HostRuntime) -> Result<(), Fail> {
     let alloc = rt.alloc();
     let script = Script::repeated(1023, Turn::IsInterrupted, Turn::Takes(40));
     let mut reader = ScriptedReader::new(PADDED_KERNEL.as_slice(), script);
@@ -157,5 +163,48 @@ fn interruptions_are_outlasted(rt: HostRuntime) -> Result<(), Fail> {
     )?;
     assert_eq!(rt; count, 0);
     assert_eq!(rt; writer.held.as_slice(), KERNEL.as_slice());
+    Ok(())
+}
+
+/// A multi image of 100,000 parts of one to nine bytes.
+fn image_of_many_parts(alloc: Global) -> Result<Vec<u8>, Fail> {
+    let fields = Fields {
+        time: 0,
+        load: 0x8000,
+        entry: 0x8000,
+        os: 5,
+        arch: 2,
+        image_type: 4,
+        compression: 0,
+        name: b"k",
+    };
+    let mut parts = Vec::new(alloc);
+    for index in 0..100_000 {
+        parts.push(&b"123456789"[..1 + index % 9])?;
+    }
+    let mut sink = VecSink::new(alloc);
+    emit(fields, &parts, limits(0x7fff_ffff)?, &mut sink)?;
+    Ok(sink.into_vec())
+}
+
+#[test]
+fn many_parts_make_few_writes(rt: HostRuntime) -> Result<(), Fail> {
+    let alloc = rt.alloc();
+    let file = image_of_many_parts(alloc)?;
+    let all = Script::always(Turn::TakesAll);
+    let mut writer = ScriptedWriter::new(alloc, all, all);
+    normalise_to(
+        alloc,
+        &mut &file[..],
+        &mut writer,
+        Form::Embedded,
+        limits(0x7fff_ffff)?,
+    )?;
+    assert_eq!(rt; writer.held.as_slice(), file.as_slice());
+    assert!(rt;
+        writer.writes <= file.len() as u64 / 4096,
+        "{} writes",
+        writer.writes
+    );
     Ok(())
 }

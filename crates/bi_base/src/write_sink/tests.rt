@@ -1,8 +1,9 @@
 use super::*;
 use scripted_io::{Script, ScriptedWriter, Turn};
+use std::alloc::Global;
 use std::test::Fail;
 
-/// A writer whose writes do this, and whose flushes work.
+/// A writer whose writes do this, and whose flushes succeed.
 fn writer(alloc: Global, writing: Script) -> ScriptedWriter {
     ScriptedWriter::new(alloc, writing, Script::always(Turn::TakesAll))
 }
@@ -13,17 +14,7 @@ fn flusher(alloc: Global, flushing: Script) -> ScriptedWriter {
 }
 
 #[test]
-fn a_sink_in_memory_holds_what_was_put(rt: HostRuntime) -> Result<(), Fail> {
-    let mut sink = VecSink::new(rt.alloc());
-    sink.put(b"abc")?;
-    sink.put(b"")?;
-    sink.put(b"de")?;
-    assert_eq!(rt; sink.into_vec().as_slice(), b"abcde".as_slice());
-    Ok(())
-}
-
-#[test]
-fn a_writer_may_take_few_bytes_and_be_interrupted(rt: HostRuntime) -> Result<(), Fail> {
+fn the_writer_may_take_few_bytes_and_be_interrupted(rt: HostRuntime) -> Result<(), Fail> {
     for turn in [Turn::Takes(1), Turn::Takes(2), Turn::TakesAll] {
         for interruptions in [0, 1, 1023] {
             let script = Script::repeated(interruptions, Turn::IsInterrupted, turn);
@@ -41,7 +32,7 @@ fn a_writer_may_take_few_bytes_and_be_interrupted(rt: HostRuntime) -> Result<(),
 }
 
 #[test]
-fn a_failed_write_leaves_what_was_taken_before(rt: HostRuntime) -> Result<(), Fail> {
+fn no_write_follows_a_failed_one(rt: HostRuntime) -> Result<(), Fail> {
     for (number, left) in [(0, ""), (1, "a"), (4, "abcd")] {
         let mut held = writer(rt.alloc(), Script::failing_among(number, Turn::Takes(1)));
         let mut sink = WriteSink::new(&mut held);
@@ -57,7 +48,7 @@ fn a_failed_write_leaves_what_was_taken_before(rt: HostRuntime) -> Result<(), Fa
 }
 
 #[test]
-fn a_write_that_takes_nothing_is_a_failure(rt: HostRuntime) {
+fn a_write_of_none_of_the_bytes_is_a_failure(rt: HostRuntime) {
     let mut held = writer(rt.alloc(), Script::first(1, Turn::Takes(2), Turn::Takes(0)));
     let mut sink = WriteSink::new(&mut held);
     assert_eq!(rt; sink.put(b"abcde"), Err(Error::WriteFailed));
@@ -78,7 +69,7 @@ fn too_many_interruptions_in_a_row_are_a_failure(rt: HostRuntime) {
 
 #[test]
 fn a_flush_may_be_interrupted_and_may_fail(rt: HostRuntime) {
-    for (flushing, answer, flushes) in [
+    for (flushing, result, flushes) in [
         (Script::always(Turn::TakesAll), Ok(()), 1),
         (
             Script::first(1023, Turn::IsInterrupted, Turn::TakesAll),
@@ -95,7 +86,7 @@ fn a_flush_may_be_interrupted_and_may_fail(rt: HostRuntime) {
         let mut held = flusher(rt.alloc(), flushing);
         let mut sink = WriteSink::new(&mut held);
         assert_eq!(rt; sink.put(b"abc"), Ok(()));
-        assert_eq!(rt; sink.finish(), answer);
+        assert_eq!(rt; sink.finish(), result);
         assert_eq!(rt; held.held.as_slice(), b"abc".as_slice());
         assert_eq!(rt; held.flushes, flushes);
     }
