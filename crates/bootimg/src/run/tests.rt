@@ -9,20 +9,20 @@ use std::alloc::Global;
 use std::process::Abort;
 use std::test::Fail;
 
-/// The commands, each with the words that it needs, and what they write for `PADDED_PARTS`.
+/// The commands, each with the arguments that it needs, and what it writes for `PADDED_PARTS`.
 const COMMANDS: [(&[&str], &[u8]); 3] = [
     (&["normalise"], PARTS),
     (&["list"], PARTS_LISTING),
     (&["extract", "--part", "0"], b"hello"),
 ];
 
-/// What a run has to read and write with.
+/// The scripts of the streams of a run.
 #[derive(Clone, Copy)]
 struct Streams {
     reading: Script,
     writing: Script,
     flushing: Script,
-    telling: Script,
+    errors: Script,
 }
 
 impl Streams {
@@ -33,12 +33,12 @@ impl Streams {
             reading: all,
             writing: all,
             flushing: all,
-            telling: all,
+            errors: all,
         }
     }
 }
 
-/// How a run went.
+/// The result of a run.
 #[derive(Drop)]
 struct Outcome {
     status: u8,
@@ -47,12 +47,12 @@ struct Outcome {
     reads: u64,
 }
 
-/// Runs the program with these words on this input.
+/// Runs the program with these arguments on this input.
 fn run_on<'a>(alloc: Global, words: &'a [&'a str], input: &[u8], streams: Streams) -> Outcome {
     let quiet = Script::always(Turn::TakesAll);
     let mut reader = ScriptedReader::new(input, streams.reading);
     let mut writer = ScriptedWriter::new(alloc, streams.writing, streams.flushing);
-    let mut errors = ScriptedWriter::new(alloc, streams.telling, quiet);
+    let mut errors = ScriptedWriter::new(alloc, streams.errors, quiet);
     let status = run(alloc, words, &mut reader, &mut writer, &mut errors);
     Outcome {
         status,
@@ -62,7 +62,7 @@ fn run_on<'a>(alloc: Global, words: &'a [&'a str], input: &[u8], streams: Stream
     }
 }
 
-/// The program does what these words ask for, writes this and says nothing.
+/// The program ends with status 0, and writes this to its output and nothing to its errors.
 fn gives<'a>(rt: &(impl Abort + AllocGlobal), words: &'a [&'a str], input: &[u8], wanted: &[u8]) {
     let got = run_on(rt.alloc(), words, input, Streams::sound());
     assert_eq!(rt; got.status, 0, "{words:?}");
@@ -70,7 +70,7 @@ fn gives<'a>(rt: &(impl Abort + AllocGlobal), words: &'a [&'a str], input: &[u8]
     assert_eq!(rt; got.errors.len(), 0, "{words:?}");
 }
 
-/// The program ends with status 2, writes nothing and says this.
+/// The program ends with status 2, and writes nothing to its output and this to its errors.
 fn says<'a>(rt: &(impl Abort + AllocGlobal), words: &'a [&'a str], input: &[u8], wanted: &str) {
     let got = run_on(rt.alloc(), words, input, Streams::sound());
     assert_eq!(rt; got.status, 2, "{words:?}");
@@ -263,22 +263,22 @@ fn extract_takes_one_selection(rt: HostRuntime) {
 }
 
 /// The streams of a run, one of which fails.
-fn failing(reading: Script, writing: Script, flushing: Script, telling: Script) -> Streams {
+fn failing(reading: Script, writing: Script, flushing: Script, errors: Script) -> Streams {
     Streams {
         reading,
         writing,
         flushing,
-        telling,
+        errors,
     }
 }
 
 #[test]
-fn a_failed_write_is_told(rt: HostRuntime) {
+fn a_failed_write_is_reported(rt: HostRuntime) {
     let sound = Streams::sound();
     for (words, wanted) in COMMANDS {
         for number in 0..wanted.len() {
             let writing = Script::failing_among(number as u64, Turn::Takes(1));
-            let streams = failing(sound.reading, writing, sound.flushing, sound.telling);
+            let streams = failing(sound.reading, writing, sound.flushing, sound.errors);
             let got = run_on(rt.alloc(), words, PADDED_PARTS, streams);
             assert_eq!(rt; got.status, 2, "{words:?} at {number}");
             assert_eq!(rt;
@@ -289,7 +289,7 @@ fn a_failed_write_is_told(rt: HostRuntime) {
         }
     }
     let writing = Script::first(1, Turn::Takes(50), Turn::Fails);
-    let streams = failing(sound.reading, writing, sound.flushing, sound.telling);
+    let streams = failing(sound.reading, writing, sound.flushing, sound.errors);
     let got = run_on(rt.alloc(), &["normalise"], PADDED_KERNEL, streams);
     assert_eq!(rt; got.status, 2);
     assert_eq!(rt;
@@ -300,10 +300,10 @@ fn a_failed_write_is_told(rt: HostRuntime) {
 }
 
 #[test]
-fn a_failed_flush_is_told(rt: HostRuntime) {
+fn a_failed_flush_is_reported(rt: HostRuntime) {
     let sound = Streams::sound();
     let fails = Script::always(Turn::Fails);
-    let streams = failing(sound.reading, sound.writing, fails, sound.telling);
+    let streams = failing(sound.reading, sound.writing, fails, sound.errors);
     for (words, wanted) in COMMANDS {
         let got = run_on(rt.alloc(), words, PADDED_PARTS, streams);
         assert_eq!(rt; got.status, 2, "{words:?}");
@@ -316,12 +316,12 @@ fn a_failed_flush_is_told(rt: HostRuntime) {
 }
 
 #[test]
-fn a_failed_read_is_told(rt: HostRuntime) {
+fn a_failed_read_is_reported(rt: HostRuntime) {
     let sound = Streams::sound();
     for (words, _) in COMMANDS {
         for number in 0..=KERNEL.len() {
             let reading = Script::failing_among(number as u64, Turn::Takes(1));
-            let streams = failing(reading, sound.writing, sound.flushing, sound.telling);
+            let streams = failing(reading, sound.writing, sound.flushing, sound.errors);
             let got = run_on(rt.alloc(), words, KERNEL, streams);
             assert_eq!(rt; got.status, 2, "{words:?} at {number}");
             assert_eq!(rt; got.errors.as_slice(), b"bootimg: read failed\n".as_slice());
@@ -331,7 +331,7 @@ fn a_failed_read_is_told(rt: HostRuntime) {
 }
 
 #[test]
-fn what_cannot_be_said_is_left_out(rt: HostRuntime) {
+fn a_failed_write_of_a_failure_is_ignored(rt: HostRuntime) {
     let sound = Streams::sound();
     let fails = Script::always(Turn::Fails);
     let streams = failing(sound.reading, sound.writing, sound.flushing, fails);
@@ -343,8 +343,8 @@ fn what_cannot_be_said_is_left_out(rt: HostRuntime) {
     }
 }
 
-/// The program reads nothing and ends with this status. It writes a text with this in it and says nothing where the status
-/// is 0, and else it says the text and writes nothing.
+/// The program reads nothing and ends with this status. It writes a text that contains this, to its output where the status is
+/// 0, and else to its errors.
 fn shows<'a>(
     rt: &(impl Abort + AllocGlobal),
     words: &'a [&'a str],
@@ -364,16 +364,28 @@ fn shows<'a>(
     Ok(())
 }
 
+/// The usage line of each command, which says where the image comes from.
+const USAGES: [(&str, &str); 3] = [
+    (
+        "normalise",
+        "Usage: bootimg normalise [OPTIONS] < IMAGE > NORMAL\n",
+    ),
+    ("list", "Usage: bootimg list [OPTIONS] < IMAGE\n"),
+    (
+        "extract",
+        "Usage: bootimg extract --part <N> [OPTIONS] < IMAGE > PART\n",
+    ),
+];
+
 #[test]
 fn help_is_shown_where_it_is_asked_for(rt: HostRuntime) -> Result<(), Fail> {
     for word in ["help", "--help", "-h"] {
         shows(&rt, &[word], 0, "Usage: bootimg <COMMAND>\n")?;
     }
-    for command in ["normalise", "list", "extract"] {
-        let usage = format!(in rt.alloc(); "Usage: bootimg {command} [OPTIONS]\n")?;
-        shows(&rt, &["help", command], 0, usage.as_str())?;
-        shows(&rt, &[command, "--help"], 0, usage.as_str())?;
-        shows(&rt, &[command, "-h"], 0, usage.as_str())?;
+    for (command, usage) in USAGES {
+        shows(&rt, &["help", command], 0, usage)?;
+        shows(&rt, &[command, "--help"], 0, usage)?;
+        shows(&rt, &[command, "-h"], 0, usage)?;
     }
     Ok(())
 }
@@ -388,7 +400,7 @@ fn the_version_is_shown(rt: HostRuntime) {
 fn help_that_cannot_be_written_is_a_failure(rt: HostRuntime) {
     let sound = Streams::sound();
     let fails = Script::first(1, Turn::Takes(5), Turn::Fails);
-    let streams = failing(sound.reading, fails, sound.flushing, sound.telling);
+    let streams = failing(sound.reading, fails, sound.flushing, sound.errors);
     for word in ["help", "--version"] {
         let got = run_on(rt.alloc(), &[word], KERNEL, streams);
         assert_eq!(rt; (got.status, got.output.len(), got.reads), (2, 5, 0));
@@ -418,22 +430,14 @@ fn unknown_words_are_refused(rt: HostRuntime) -> Result<(), Fail> {
         2,
         "Usage: bootimg <COMMAND>\n",
     )?;
-    for word in ["--external", "-x", "--part", "image", "--version"] {
-        shows(
-            &rt,
-            &["normalise", word],
-            2,
-            "Usage: bootimg normalise [OPTIONS]\n",
-        )?;
-        shows(&rt, &["list", word], 2, "Usage: bootimg list [OPTIONS]\n")?;
+    for (command, usage) in USAGES {
+        for word in ["--external", "-x", "--config", "--key", "image"] {
+            shows(&rt, &[command, word], 2, usage)?;
+        }
     }
-    for word in ["--config", "--key", "--index", "image"] {
-        shows(
-            &rt,
-            &["extract", word, "a"],
-            2,
-            "Usage: bootimg extract [OPTIONS]\n",
-        )?;
+    for word in ["--part", "--version"] {
+        shows(&rt, &["normalise", word], 2, USAGES[0].1)?;
+        shows(&rt, &["list", word], 2, USAGES[1].1)?;
     }
     Ok(())
 }
@@ -484,7 +488,7 @@ fn options_need_a_value_and_come_once(rt: HostRuntime) -> Result<(), Fail> {
 }
 
 #[test]
-fn nothing_is_read_before_the_words_are_accepted(rt: HostRuntime) {
+fn nothing_is_read_before_the_arguments_are_parsed(rt: HostRuntime) {
     for words in [
         ["normalise", "--limit", "63"].as_slice(),
         ["extract", "--part", "x"].as_slice(),
