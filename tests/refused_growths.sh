@@ -1,7 +1,8 @@
 #!/bin/sh
-# Has each growth of each call that takes memory refused, one in each run, until a run has none to refuse: the call's answer
-# has to be that of ample memory, or OutOfMemory with nothing written. What a call is, and how its answer is judged, stands in
-# crates/bootimg/src/refused_growths.rt. Here a copy of the sources gets a test for each growth, so that all are built at once.
+# Has one allocation fail in each run of a call, the first, the second and so on, until a run has none left to fail. If an
+# allocation fails, the call has to return OutOfMemory with nothing written, or to succeed as if none had failed. The calls, and
+# how their results are checked, are in crates/bootimg/src/refused_growths.rt. The script adds a test for each allocation to a
+# copy of the sources, so that all are built at once.
 set -eu
 
 root=$(cd "$(dirname "$0")/.." && pwd)
@@ -11,13 +12,13 @@ trap 'exit 1' HUP INT TERM
 
 (cd "$root" && tar cf - --exclude=out crates.txt HANDLES crates) | (cd "$copy" && tar xf -)
 
-# The other tests take more memory than the allocation that is refused.
+# The other tests are removed, since their allocations would be counted too.
 for file in $(grep -rl '^mod tests;$' "$copy/crates/bootimg/src"); do
     sed -i '/^#\[cfg(test)\]$/{N;/\nmod tests;$/d}' "$file"
 done
 find "$copy/crates/bootimg/src" -name tests.rt -delete
 
-# tests_of CALL MOST: a test for each growth of a call, which makes one at least and at most so many.
+# tests_of CALL MOST: writes a test for each allocation of a call, which makes at least one and at most MOST.
 tests_of() {
     echo "#[test] fn $1_first(rt: HostRuntime) -> Result<(), Fail> { assert!(rt; $1(&rt, 1)?); Ok(()) }"
     growth=2
