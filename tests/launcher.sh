@@ -152,9 +152,10 @@ rm broken
 check "the next call builds" launch
 check "the next call runs the program" prints one
 
-# interrupt SIGNAL: a call that gets the signal while rt runs.
+# interrupt SIGNAL: a call that gets the signal while rt runs. A shell has commands in the background ignore INT, and env undoes
+# that.
 interrupt() {
-    PATH="$work/bin:$PATH" checkout/bootimg > output 2> errors &
+    PATH="$work/bin:$PATH" env --default-signal=INT checkout/bootimg > output 2> errors &
     launcher=$!
     while [ ! -s builds ]; do sleep 0.05; done
     kill -s "$1" "$launcher"
@@ -168,6 +169,12 @@ echo 0 > seconds
 check "the call after an interrupted one builds" launch
 check "it runs the program" prints one
 check "there were two builds" builds 2
+new_checkout
+echo 2 > seconds
+check "a call that is interrupted from the keyboard ends with status 130" fails 130 interrupt INT
+check "it says so, too" tells "interrupted; the next call builds the program"
+echo 0 > seconds
+check "the call after that builds the program" launch
 # A build of an edited source is interrupted when there is a program already.
 sleep 0.1
 echo two > checkout/crates/bootimg/src/main.rt
