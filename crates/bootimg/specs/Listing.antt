@@ -39,7 +39,8 @@ abbrev pub part_lines : ℕ → List PlacedPart → List ℕ
 part_lines index [] = []
 part_lines index (placed ∷ later) = part_line index placed ++ part_lines (index + 1) later
 
--- The lines with the number of parts, and with each part's size and the offset of its first byte in the file.
+-- The lines with the number of parts, and with each part's size and the offset of its first byte
+-- in the file.
 abbrev pub parts_lines : LegacyImage → List ℕ
 parts_lines image =
     line (codes "parts" ∷ decimal (length image.parts) ∷ []) ++ part_lines 0 (placed_parts image)

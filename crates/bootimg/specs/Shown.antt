@@ -21,7 +21,8 @@ hexadecimal number = codes "0x" ++ flat_map (digits_of_byte false) (cell number)
 abbrev pub is_plain : ℕ → Bool
 is_plain byte = nat_le 0x21 byte && nat_le byte 0x7e && not (byte == 37)
 
--- A byte of a name as it is printed: unchanged, or as `%` and two hexadecimal digits in upper case.
+-- A byte of a name as it is printed: unchanged, or as `%` and two hexadecimal digits in upper
+-- case.
 abbrev pub shown_byte : ℕ → List ℕ
 shown_byte byte = if is_plain byte then byte ∷ [] else 37 ∷ digits_of_byte true byte
 

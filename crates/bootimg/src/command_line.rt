@@ -69,8 +69,8 @@ impl From<Failure> for Outcome {
 
 /// Parses the arguments, without the program's own name.
 ///
-/// Errors, the first that applies: what clap rejects; `extract` without exactly one selection; a number that is malformed or
-/// out of range. A call that allocates may run out of memory.
+/// Errors, the first that applies: what clap rejects; `extract` without exactly one selection; a
+/// number that is malformed or out of range. A call that allocates may run out of memory.
 pub fn parse_arguments<'a>(
     alloc: Global,
     arguments: &'a [&'a str],
@@ -103,8 +103,8 @@ fn program<'a>(alloc: Global) -> Result<Command<'a>, AllocError> {
         .version(VERSION)
         .about("Normalises, lists and takes apart U-Boot boot images")
         .after_help(
-            "The image is read from standard input, and the output is written to standard output:\n\n    \
-             bootimg list < kernel.uimage\n\n\
+            "The image is read from standard input, and the output is written to standard output:\n\n\
+             \x20   bootimg list < kernel.uimage\n\n\
              A failure is reported on standard error, and the exit status is then 2.",
         )
         .subcommand_required(true)
@@ -118,8 +118,8 @@ fn normalise<'a>(alloc: Global) -> Result<Command<'a>, AllocError> {
         .about("Write the normal form of an image")
         .override_usage("bootimg normalise [OPTIONS] < IMAGE > NORMAL")
         .after_help(
-            "Reads an image from standard input, and writes its normal form to standard output. Two images of\n\
-             one kind have the same normal form exactly if they mean the same.\n\n\
+            "Reads an image from standard input, and writes its normal form to standard output.\n\
+             Two images of one kind have the same normal form exactly if they mean the same.\n\n\
              Example: bootimg normalise < kernel.uimage > normal.uimage",
         )
         .arg(limit(alloc))
@@ -130,8 +130,8 @@ fn list<'a>(alloc: Global) -> Result<Command<'a>, AllocError> {
         .about("List what an image holds")
         .override_usage("bootimg list [OPTIONS] < IMAGE")
         .after_help(
-            "Reads an image from standard input, and writes its fields, the size and offset of each part, and\n\
-             the number of bytes after the last part to standard output.\n\n\
+            "Reads an image from standard input, and writes to standard output its fields, the size\n\
+             and offset of each part, and the number of bytes after the last part.\n\n\
              Example: bootimg list < kernel.uimage",
         )
         .arg(limit(alloc))
@@ -154,8 +154,9 @@ fn extract<'a>(alloc: Global) -> Result<Command<'a>, AllocError> {
         .about("Write one part of an image")
         .override_usage("bootimg extract --part <N> [OPTIONS] < IMAGE > PART")
         .after_help(
-            "Reads an image from standard input, and writes the bytes of the part to standard output. The parts\n\
-             of a multi-file image or a script are those in its list of sizes; any other image has one part.\n\n\
+            "Reads an image from standard input, and writes the bytes of the part to standard output.\n\
+             The parts of a multi-file image or a script are those in its list of sizes; any other\n\
+             image has one part.\n\n\
              Numbers are decimal, or hexadecimal with 0x.\n\n\
              Example: bootimg extract --part 1 < multi.uimage > ramdisk",
         )
@@ -182,7 +183,8 @@ fn limits(options: &ArgMatches<'_>) -> Result<Limits, Failure> {
         .ok_or(Failure::BadValue)
 }
 
-/// Returns the selection that the options give. Fails with NoSelection where there is not exactly one, and with BadValue.
+/// Returns the selection that the options give. Fails with NoSelection where there is not exactly
+/// one, and with BadValue.
 fn selection<'a>(options: &ArgMatches<'a>) -> Result<Select<'a>, Failure> {
     match (options.get_str("part"), options.get_str("image")) {
         (Some(value), None) => {

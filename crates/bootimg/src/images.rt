@@ -1,4 +1,5 @@
-//! Boot images for tests, and the listings of two of them. The checksums were computed by Python's zlib.
+//! Boot images for tests, and the listings of two of them. The checksums were computed by Python's
+//! zlib.
 
 /// A kernel image with the name `k`, whose data is `123456789`.
 #[rattlefmt::skip]

@@ -3,9 +3,10 @@
 ghost use Rattle.std.specs.Prelude.{◌≡◌, ◌≤◌, ◌<◌, ◌^◌, ℕ, Some, IfSome};
 ghost use Rattle.bootimg.specs.Numbers.{IsNumber, AreDigitsOf};
 
-/// Parses a number: one or more decimal digits, or `0x` and one or more hexadecimal digits of either case. Leading zeros are
-/// allowed. Returns None exactly for any other text, and for a number over 0xffffffff: a sign, `_`, `0X`, a digit of another
-/// alphabet and the empty text are not allowed.
+/// Parses a number: one or more decimal digits, or `0x` and one or more hexadecimal digits of
+/// either case. Leading zeros are allowed. Returns None exactly for any other text, and for a
+/// number over 0xffffffff: a sign, `_`, `0X`, a digit of another alphabet and the empty text are
+/// not allowed.
 pub fn parse_number(word: &str) -> Option<u32>
     ensures some { IfSome result (IsNumber word.now) }
     ensures exactly { (number : ℕ) → IsNumber word.now number → result ≡ Some number }
@@ -16,7 +17,8 @@ pub fn parse_number(word: &str) -> Option<u32>
     }
 }
 
-/// Parses the digits of a number in this base. Returns None exactly for any other text, and for a number over 0xffffffff.
+/// Parses the digits of a number in this base. Returns None exactly for any other text, and for a
+/// number over 0xffffffff.
 fn number_of(digits: &str, base: u32) -> Option<u32>
     requires least_base { 2 ≤ base }
     requires most_base { base ≤ 36 }

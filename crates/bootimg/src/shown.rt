@@ -7,8 +7,9 @@ ghost use Rattle.bootimg.specs.Shown.{shown, shown_byte, is_plain as is_plain_by
 use std::alloc::{AllocError, Global};
 use std::fmt::Write;
 
-/// Returns a name as it is printed: a graphic ASCII character other than `%` is unchanged, and every other byte is `%` and
-/// two hexadecimal digits in upper case. The empty name is `-`, and the name `-` is `%2D`.
+/// Returns a name as it is printed: a graphic ASCII character other than `%` is unchanged, and
+/// every other byte is `%` and two hexadecimal digits in upper case. The empty name is `-`, and
+/// the name `-` is `%2D`.
 ///
 /// Fails only where memory is refused.
 pub fn shown_name(alloc: Global, name: &[u8]) -> Result<String, AllocError>

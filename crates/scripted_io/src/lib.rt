@@ -1,4 +1,5 @@
-//! Readers and writers for tests, over memory. Each call follows a script, and the calls are counted.
+//! Readers and writers for tests, over memory. Each call follows a script, and the calls are
+//! counted.
 #![tactic(auto)]
 
 mod reader;

@@ -10,7 +10,8 @@ use std::num::NonZeroU64;
 pub enum Turn {
     /// It reads or writes as many bytes as it can.
     TakesAll,
-    /// It reads or writes this many bytes, or all if there are fewer. A read returns at least one byte before the end.
+    /// It reads or writes this many bytes, or all if there are fewer. A read returns at least one
+    /// byte before the end.
     Takes(usize),
     /// It is interrupted, and reads or writes nothing.
     IsInterrupted,
@@ -18,8 +19,8 @@ pub enum Turn {
     Fails,
 }
 
-/// What each call does: one turn for some calls in a row, and another turn for all others. A script with a period begins
-/// again after that many calls.
+/// What each call does: one turn for some calls in a row, and another turn for all others. A
+/// script with a period begins again after that many calls.
 #[derive(Clone, Copy, Debug, PartialEq, Eq)]
 pub struct Script {
     first: u64,
@@ -45,7 +46,8 @@ impl Script {
         }
     }
 
-    /// Returns the script of which the call of this number, counted from 0, fails, and each other call has this turn.
+    /// Returns the script of which the call of this number, counted from 0, fails, and each other
+    /// call has this turn.
     pub fn failing_among(number: u64, others: Turn) -> Script
         ensures fails { turn_at result number ≡ Turn.Fails }
         ensures others { (other : ℕ) → other ≢ number → turn_at result other ≡ others }
@@ -59,7 +61,8 @@ impl Script {
         }
     }
 
-    /// Returns the script of which the first `calls` calls have the turn `turn`, and each call after them has `then`.
+    /// Returns the script of which the first `calls` calls have the turn `turn`, and each call
+    /// after them has `then`.
     pub fn first(calls: u64, turn: Turn, then: Turn) -> Script
         ensures turn { (number : ℕ) → number < calls → turn_at result number ≡ turn }
         ensures then { (number : ℕ) → calls ≤ number → turn_at result number ≡ then }
@@ -73,7 +76,8 @@ impl Script {
         }
     }
 
-    /// Returns the script of which `calls` calls have the turn `turn` and the next one has `then`, again and again.
+    /// Returns the script of which `calls` calls have the turn `turn` and the next one has `then`,
+    /// again and again.
     pub fn repeated(calls: u32, turn: Turn, then: Turn) -> Script
         ensures turn { (number : ℕ) → number % (calls + 1) < calls → turn_at result number ≡ turn }
         ensures then { (number : ℕ) → number % (calls + 1) ≡ calls → turn_at result number ≡ then }
@@ -102,7 +106,8 @@ impl Script {
         }
     }
 
-    /// Returns how many bytes the call of this number may read or write, or fails as that call does.
+    /// Returns how many bytes the call of this number may read or write, or fails as that call
+    /// does.
     pub(crate) fn most(self, number: u64) -> io::Result<usize>
         ensures { Follows (turn_at self number) (λ most. result ≡ Ok most) result }
     {

@@ -343,8 +343,8 @@ fn a_failed_write_of_a_failure_is_ignored(rt: HostRuntime) {
     }
 }
 
-/// The program reads nothing and ends with this status. It writes a text that contains this, to its output where the status is
-/// 0, and else to its errors.
+/// The program reads nothing and ends with this status. It writes a text that contains this, to
+/// its output where the status is 0, and else to its errors.
 fn shows<'a>(
     rt: &(impl Abort + AllocGlobal),
     words: &'a [&'a str],
