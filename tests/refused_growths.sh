@@ -1,8 +1,8 @@
 #!/bin/sh
-# Runs each call that allocates with one allocation refused, for each of its allocations: the call has to succeed as it does
-# with no allocation refused, or fail with OutOfMemory and nothing written. A call on a document that ran out of memory is made
-# again. The calls and how their results are checked are in src/refused_growths.rt of each crate. This script adds a test for
-# each allocation to a copy of the sources, so that all tests of a crate are built at once.
+# Has one allocation fail in each run of a call, the first, the second and so on, until a run has none left to fail. If an
+# allocation fails, the call has to return OutOfMemory with nothing written, or to succeed as if none had failed. A call on a
+# document that ran out of memory is made again. The calls, and how their results are checked, are in src/refused_growths.rt of
+# each crate. The script adds a test for each allocation to a copy of the sources, so that all of a crate are built at once.
 set -eu
 
 root=$(cd "$(dirname "$0")/.." && pwd)
@@ -12,7 +12,7 @@ trap 'exit 1' HUP INT TERM
 
 (cd "$root" && tar cf - --exclude=out crates.txt HANDLES crates) | (cd "$copy" && tar xf -)
 
-# tests_of CALL MOST: a test for each allocation of a call, which makes at least one and at most MOST.
+# tests_of CALL MOST: writes a test for each allocation of a call, which makes at least one and at most MOST.
 tests_of() {
     echo "#[test] fn $1_first(rt: HostRuntime) -> Result<(), Fail> { assert!(rt; $1(&rt, 1)?); Ok(()) }"
     number=2

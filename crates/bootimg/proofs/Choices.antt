@@ -10,7 +10,7 @@ use Rattle.bootimg.specs.Extracting.{IsChosen, IsExtractError}
 
 -- The part of a legacy image that is selected.
 
--- A part that is there is chosen.
+-- A part that the image has is chosen.
 pub part_chosen : (limits : Bounds) (file : List ℕ) (parsed : ParsedImage) (index : ℕ) (part : Option (Bor (List ℕ))) → IsParsedImage limits file parsed → option_map (λ (bytes : Bor (List ℕ)). bytes.now) part ≡ slice_get parsed.image.parts index → IfOk (ok_or part NoPart) (λ bytes. IsChosen (Part index) limits file bytes.now)
 part_chosen limits file parsed index None opened is = tt
 part_chosen limits file parsed index (Some bytes) opened is = record {
@@ -19,11 +19,11 @@ part_chosen limits file parsed index (Some bytes) opened is = record {
   chosen = sym is;
 }
 
--- Nothing is not something.
+-- None is not Some.
 none_is_not_some : {X : Type 0} {x : X} → ¬ (None ≡ Some x)
 none_is_not_some e = absurd cc
 
--- A part that is not there is past the parts.
+-- A part that the image does not have is past its parts.
 pub part_missing : (limits : Bounds) (file : List ℕ) (parsed : ParsedImage) (index : ℕ) (part : Option (Bor (List ℕ))) → IsParsedImage limits file parsed → option_map (λ (bytes : Bor (List ℕ)). bytes.now) part ≡ slice_get parsed.image.parts index → IfErr (ok_or part NoPart) (IsExtractError (Part index) limits file)
 part_missing limits file parsed index (Some bytes) opened is = tt
 part_missing limits file parsed index None opened is = record {

@@ -10,7 +10,7 @@ use Rattle.bootimg.specs.Shown.{line, hexadecimal, shown}
 
 -- The text that `list` writes (profile of this project).
 
--- The word for a code: its name, or its number where it has none.
+-- The word for a code: its name, or its number if it has none.
 abbrev pub code_word : List CodeName → ℕ → List ℕ
 code_word names code = unwrap_or (name_of_code names code) (decimal code)
 
@@ -41,8 +41,8 @@ abbrev pub part_lines : ℕ → List PlacedPart → List ℕ
 part_lines index [] = []
 part_lines index (placed ∷ later) = part_line index placed ++ part_lines (index + 1) later
 
--- The lines that tell how many parts there are, and each part's size and the offset of its first
--- byte in the file.
+-- The lines with the number of parts, and with each part's size and the offset of its first byte
+-- in the file.
 abbrev pub parts_lines : LegacyImage → List ℕ
 parts_lines image =
     line (codes "parts" ∷ decimal (length image.parts) ∷ []) ++ part_lines 0 (placed_parts image)

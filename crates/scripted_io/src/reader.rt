@@ -1,4 +1,4 @@
-//! Readers.
+//! Readers that follow scripts.
 
 ghost use Rattle.std.specs.Prelude.{◌≡◌, ◌+◌, ◌-◌, ◌^◌, min, max, length, replicate, Some, None, MatchResult};
 ghost use Rattle.std.specs.Io.{ReadsAtMost};
@@ -7,21 +7,21 @@ ghost use Rattle.std.specs.Io.KnownBytes.{ReadConsumes};
 use crate::script::Script;
 use std::io::{self, Read};
 
-/// A reader of bytes in memory, each of whose calls does what its script says.
+/// A reader of bytes in memory. Each read follows its script.
 #[derive(Drop)]
 pub struct ScriptedReader<'a> {
     bytes: &'a [u8],
     script: Script,
-    /// How many reads there were.
+    /// The number of reads so far.
     pub reads: u64,
-    /// How many bytes they took.
+    /// The number of bytes that were read so far.
     pub taken: u64,
 }
 
 impl<'a> ScriptedReader<'a> {
     ghost use Rattle.scripted_io.specs.Reader.{bytes_left, script_of};
 
-    /// A reader of these bytes.
+    /// Returns a reader of these bytes.
     pub fn new(bytes: &'a [u8], script: Script) -> ScriptedReader<'a>
         ensures bytes { bytes_left result ≡ bytes.now }
         ensures script { script_of result ≡ script }
@@ -63,18 +63,18 @@ impl<'a> Read for ScriptedReader<'a> {
     }
 }
 
-/// A reader without end: each of its calls fills the buffer with one byte, again and again.
+/// A reader without end. Each read fills the whole buffer with the same byte.
 #[derive(Drop)]
 pub struct EndlessReader {
     byte: u8,
-    /// How many bytes were taken.
+    /// The number of bytes that were read so far.
     pub taken: u64,
 }
 
 impl EndlessReader {
     ghost use Rattle.scripted_io.specs.Reader.{byte_of};
 
-    /// A reader of this byte.
+    /// Returns a reader of this byte.
     pub fn new(byte: u8) -> EndlessReader
         ensures byte { byte_of result ≡ byte }
         ensures taken { result.taken ≡ 0 }

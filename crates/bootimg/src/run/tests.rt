@@ -403,16 +403,28 @@ fn shows<'a>(
     Ok(())
 }
 
+/// The usage line of each command, which says where the image comes from.
+const USAGES: [(&str, &str); 3] = [
+    (
+        "normalise",
+        "Usage: bootimg normalise [OPTIONS] < IMAGE > NORMAL\n",
+    ),
+    ("list", "Usage: bootimg list [OPTIONS] < IMAGE\n"),
+    (
+        "extract",
+        "Usage: bootimg extract --part <N> [OPTIONS] < IMAGE > PART\n",
+    ),
+];
+
 #[test]
 fn help_is_written_to_standard_output(rt: HostRuntime) -> Result<(), Fail> {
     for word in ["help", "--help", "-h"] {
         shows(&rt, &[word], 0, "Usage: bootimg <COMMAND>\n")?;
     }
-    for command in ["normalise", "list", "extract"] {
-        let usage = format!(in rt.alloc(); "Usage: bootimg {command} [OPTIONS]\n")?;
-        shows(&rt, &["help", command], 0, usage.as_str())?;
-        shows(&rt, &[command, "--help"], 0, usage.as_str())?;
-        shows(&rt, &[command, "-h"], 0, usage.as_str())?;
+    for (command, usage) in USAGES {
+        shows(&rt, &["help", command], 0, usage)?;
+        shows(&rt, &[command, "--help"], 0, usage)?;
+        shows(&rt, &[command, "-h"], 0, usage)?;
     }
     Ok(())
 }
@@ -462,22 +474,14 @@ fn unknown_arguments_are_refused(rt: HostRuntime) -> Result<(), Fail> {
         2,
         "Usage: bootimg <COMMAND>\n",
     )?;
-    for word in ["--external", "-x", "--part", "image", "--version"] {
-        shows(
-            &rt,
-            &["normalise", word],
-            2,
-            "Usage: bootimg normalise [OPTIONS]\n",
-        )?;
-        shows(&rt, &["list", word], 2, "Usage: bootimg list [OPTIONS]\n")?;
+    for (command, usage) in USAGES {
+        for word in ["--external", "-x", "--config", "--key", "image"] {
+            shows(&rt, &[command, word], 2, usage)?;
+        }
     }
-    for word in ["--config", "--key", "--index", "image"] {
-        shows(
-            &rt,
-            &["extract", word, "a"],
-            2,
-            "Usage: bootimg extract [OPTIONS]\n",
-        )?;
+    for word in ["--part", "--version"] {
+        shows(&rt, &["normalise", word], 2, USAGES[0].1)?;
+        shows(&rt, &["list", word], 2, USAGES[1].1)?;
     }
     Ok(())
 }
