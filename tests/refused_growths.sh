@@ -55,6 +55,9 @@ run_tests() {
 tests_of builds 40 > "$copy/tests"
 run_tests bi_lay
 
+tests_of reads 40 > "$copy/tests"
+run_tests bi_fdt
+
 {
     tests_of reads 20
     tests_of appends 5

@@ -10,7 +10,8 @@ use Rattle.bi_fdt.specs.Reading.{IsTable}
 
 -- What a blob that was read holds.
 
--- The file, its boot processor, its length as a blob, its memory reservations and the table of its tree.
+-- The file, its boot processor, its length as a blob, its memory reservations and the table of its
+-- tree.
 pub record BlobContent : Type 0 where
   pub file : List ℕ
   pub cpu : ℕ
@@ -50,8 +51,10 @@ begins_with_node (PropertyItem property ∷ later) = false
 
 -- The node that items begin with, and the siblings after it.
 abbrev pub first_sibling : List Item → Sibling FileNode
-first_sibling [] = record { name = []; own = record { place = 0; properties = [] }; children = none; later = none }
-first_sibling (PropertyItem property ∷ later) = record { name = []; own = record { place = 0; properties = [] }; children = none; later = none }
+first_sibling [] =
+    record { name = []; own = record { place = 0; properties = [] }; children = none; later = none }
+first_sibling (PropertyItem property ∷ later) =
+    record { name = []; own = record { place = 0; properties = [] }; children = none; later = none }
 first_sibling (NodeItem depth place name ∷ later) = record {
   name = name;
   own = record { place = place; properties = first_properties later };

@@ -20,23 +20,30 @@ use Rattle.bi_fdt.specs.Table.{item_of, items_of, AreLinked}
 
 -- A set has exactly these names.
 pub record Holds (set : BTreeSet (Bor (List ℕ))) (held : List (List ℕ)) : Type 0 where
-  pub each : (name : Bor (List ℕ)) → contains (λ x y. slice_cmp nat_cmp x.now y.now) set name ≡ list_any (λ other. bytes_eq other name.now) held
+  pub each : (name : Bor (List ℕ)) → contains (λ x y. slice_cmp nat_cmp x.now y.now) set name
+      ≡ list_any (λ other. bytes_eq other name.now) held
 
--- The open nodes of a table, the innermost first: each with its place in the table and the names of its children so far.
+-- The open nodes of a table, the innermost first: each with its place in the table and the names of
+-- its children so far.
 abbrev pub AreOpen : List OpenNode → List (List ℕ) → List ℕ → List PartialNode → Type 0
 AreOpen [] children name outer = ⊥
-AreOpen (open_node ∷ []) children name [] = (open_node.entry ≡ 0) × Holds open_node.children children
+AreOpen (open_node ∷ []) children name [] =
+    (open_node.entry ≡ 0) × Holds open_node.children children
 AreOpen (open_node ∷ later) children name [] = ⊥
 AreOpen (open_node ∷ later) children name (parent ∷ outer) =
-    (open_node.entry ≡ length (items_of 0 (said_by parent outer))) × Holds open_node.children children
+    (open_node.entry ≡ length (items_of 0 (said_by parent outer)))
+    × Holds open_node.children children
     × AreOpen later (names parent.children ++ name ∷ []) parent.name outer
 
 -- A growing table says what these open nodes say.
-pub record IsGrowing (growing : Growing) (innermost : PartialNode) (outer : List PartialNode) : Type 0 where
+pub record IsGrowing (growing : Growing) (innermost : PartialNode) (outer : List PartialNode)
+    : Type 0 where
   pub items : map item_of growing.entries.items ≡ items_of 0 (said_by innermost outer)
   pub linked : AreLinked (length outer + 1) 0 growing.entries.items
-  pub opened : AreOpen (growing.innermost ∷ reverse growing.outer.items) (names innermost.children) innermost.name outer
-  pub properties : names innermost.children ≡ [] → Holds growing.properties (map (λ property. property.name) innermost.properties)
+  pub opened : AreOpen (growing.innermost ∷ reverse growing.outer.items)
+      (names innermost.children) innermost.name outer
+  pub properties : names innermost.children ≡ []
+      → Holds growing.properties (map (λ property. property.name) innermost.properties)
 
 -- Some open nodes say what a growing table says.
 pub record IsGrown (growing : Growing) : Type 0 where
@@ -52,12 +59,14 @@ pub record IsFinished (entries : List Entry) (root : PartialNode) : Type 0 where
 -- The innermost of these open nodes has ended, and what remains is this growing table.
 abbrev pub EndsInside : Growing → PartialNode → List PartialNode → Type 0
 EndsInside growing innermost [] = ⊥
-EndsInside growing innermost (parent ∷ outer) = IsGrowing growing (with_one_child parent innermost) outer
+EndsInside growing innermost (parent ∷ outer) =
+    IsGrowing growing (with_one_child parent innermost) outer
 
 -- The innermost open node of a growing table has ended.
 abbrev pub IsEnding : Growing → Ending → Type 0
 IsEnding growing (ending.Inside rest) =
-    (innermost : PartialNode) (outer : List PartialNode) → IsGrowing growing innermost outer → EndsInside rest innermost outer
+    (innermost : PartialNode) (outer : List PartialNode) → IsGrowing growing innermost outer
+    → EndsInside rest innermost outer
 IsEnding growing (ending.Root entries) =
     (innermost : PartialNode) (outer : List PartialNode) → IsGrowing growing innermost outer
     → (outer ≡ []) × IsFinished entries.items innermost

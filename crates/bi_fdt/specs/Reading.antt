@@ -31,7 +31,8 @@ pub record IsTable (entries : List Entry) (root : Root FileNode) : Type 0 where
   pub linked : AreLinked 0 0 entries
 
 -- A reader is at this offset, after the root, which this table holds.
-pub record IsAfter (blocks : TreeBlocks) (depth_limit place : ℕ) (entries : List Entry) : Type 0 where
+pub record IsAfter (blocks : TreeBlocks) (depth_limit place : ℕ) (entries : List Entry)
+    : Type 0 where
   pub root : Root FileNode
   pub standing : Standing blocks depth_limit place (Grown root)
   pub is_table : IsTable entries root
@@ -39,8 +40,10 @@ pub record IsAfter (blocks : TreeBlocks) (depth_limit place : ℕ) (entries : Li
 
 -- A reader has come from an offset to what comes after the token there.
 abbrev pub IsAhead : TreeBlocks → (depth_limit place : ℕ) → Next → Type 0
-IsAhead blocks depth_limit place (next.Inside reading) = IsReading blocks depth_limit reading × (place < reading.place)
-IsAhead blocks depth_limit place (next.After end entries) = IsAfter blocks depth_limit end entries.items
+IsAhead blocks depth_limit place (next.Inside reading) =
+    IsReading blocks depth_limit reading × (place < reading.place)
+IsAhead blocks depth_limit place (next.After end entries) =
+    IsAfter blocks depth_limit end entries.items
 
 -- A table is that of the tree that a structure block holds, which is no deeper than a limit.
 pub record HasTable (blocks : TreeBlocks) (depth_limit : ℕ) (entries : List Entry) : Type 0 where

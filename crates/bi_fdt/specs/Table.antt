@@ -25,13 +25,15 @@ nodes_of depth [] = none
 nodes_of depth (PropertyItem property ∷ later) = nodes_of depth later
 nodes_of depth (NodeItem own_depth place name ∷ later) =
     if own_depth == depth then
-    node name (record { place = place; properties = first_properties later }) (nodes_of (depth + 1) later) (nodes_of depth later)
+    node name (record { place = place; properties = first_properties later })
+    (nodes_of (depth + 1) later) (nodes_of depth later)
     else if nat_lt depth own_depth then nodes_of depth later else none
 
 -- The items of what a tree says, where nodes that begin first have this depth.
 abbrev pub items_of : ℕ → List FileEvent → List Item
 items_of depth [] = []
-items_of depth (FileNodeStart place name ∷ later) = NodeItem depth place name ∷ items_of (depth + 1) later
+items_of depth (FileNodeStart place name ∷ later) =
+    NodeItem depth place name ∷ items_of (depth + 1) later
 items_of depth (FileNodeProperty property ∷ later) = PropertyItem property ∷ items_of depth later
 items_of depth (FileNodeEnd ∷ later) = items_of (depth - 1) later
 
@@ -39,23 +41,27 @@ items_of depth (FileNodeEnd ∷ later) = items_of (depth - 1) later
 abbrev pub count_inside : ℕ → List Item → ℕ
 count_inside depth [] = 0
 count_inside depth (PropertyItem property ∷ later) = count_inside depth later + 1
-count_inside depth (NodeItem own_depth place name ∷ later) = if nat_lt depth own_depth then count_inside depth later + 1 else 0
+count_inside depth (NodeItem own_depth place name ∷ later) =
+    if nat_lt depth own_depth then count_inside depth later + 1 else 0
 
 -- A property of a file, as the definitions of blobs see it.
 abbrev pub file_property_of : Property → FileProperty
-file_property_of property = record { name = property.name.now; value = property.value.now; place = property.place }
+file_property_of property =
+    record { name = property.name.now; value = property.value.now; place = property.place }
 
 -- What an entry says.
 abbrev pub item_of : Entry → Item
 item_of (entry.Node node_entry) = NodeItem node_entry.depth node_entry.place node_entry.name.now
 item_of (entry.Property property) = PropertyItem (file_property_of property)
 
--- The numbers of the entry of a node at index `at` fit the items after it. While the node is open, `opened` being the number
--- of the open nodes, nothing is said of its last descendant.
+-- The numbers of the entry of a node at index `at` fit the items after it. While the node is open,
+-- `opened` being the number of the open nodes, nothing is said of its last descendant.
 pub record IsLinked (opened at : ℕ) (node_entry : NodeEntry) (later : List Item) : Type 0 where
   pub count : node_entry.property_count ≡ length (first_properties later)
-  pub before_end : count_inside node_entry.depth later < length later → node_entry.after ≡ at + 1 + count_inside node_entry.depth later
-  pub at_end : opened ≤ node_entry.depth → node_entry.after ≡ at + 1 + count_inside node_entry.depth later
+  pub before_end : count_inside node_entry.depth later < length later → node_entry.after
+      ≡ at + 1 + count_inside node_entry.depth later
+  pub at_end : opened ≤ node_entry.depth → node_entry.after
+      ≡ at + 1 + count_inside node_entry.depth later
 
 -- The numbers of all entries from index `at` on fit.
 abbrev pub AreLinked : ℕ → ℕ → List Entry → Type 0

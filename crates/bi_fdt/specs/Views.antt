@@ -17,10 +17,12 @@ node_of reference = first_sibling (drop reference.index reference.blob.now.table
 -- The entry of the node at this index of a table, and the items after it.
 pub record IsNodeOf (table : List Item) (index : ℕ) (node_entry : NodeEntry) : Type 0 where
   pub later : List Item
-  pub is_at : drop index table ≡ NodeItem node_entry.depth node_entry.place node_entry.name.now ∷ later
+  pub is_at : drop index table
+      ≡ NodeItem node_entry.depth node_entry.place node_entry.name.now ∷ later
   pub linked : IsLinked 0 index node_entry later
   pub below : (events : List FileEvent) × (later ≡ items_of (node_entry.depth + 1) events)
 
 -- A call that gives the first of some properties, and leaves the others; None where none are left.
 abbrev pub GivesProperty : List FileProperty → Option Property → List FileProperty → Type 0
-GivesProperty old result new = MatchOption result ((old ≡ []) × (new ≡ [])) (λ property. old ≡ file_property_of property ∷ new)
+GivesProperty old result new =
+    MatchOption result ((old ≡ []) × (new ≡ [])) (λ property. old ≡ file_property_of property ∷ new)

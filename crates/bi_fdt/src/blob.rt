@@ -24,8 +24,8 @@ use bi_base::{Error, Fault, Limits};
 use std::alloc::Global;
 use std::marker::Model;
 
-/// A devicetree blob that was read (Devicetree Specification, chapter 5). It holds slices of its file, and one table of the
-/// nodes and properties of its tree.
+/// A devicetree blob that was read (Devicetree Specification, chapter 5). It holds slices of its
+/// file, and one table of the nodes and properties of its tree.
 #[derive(Drop)]
 pub struct Blob<'a> {
     file: &'a [u8],
@@ -46,7 +46,8 @@ impl<'a> Model for Blob<'a> {
       file = blob.file.now;
       cpu = boot_cpuid_phys blob.file.now;
       total_size = totalsize blob.file.now;
-      reservations = reservations_at blob.file.now (off_mem_rsvmap blob.file.now) blob.reservation_count;
+      reservations = reservations_at blob.file.now (off_mem_rsvmap blob.file.now)
+          blob.reservation_count;
       table = map item_of blob.entries.items;
     } };
 
@@ -56,14 +57,18 @@ impl<'a> Model for Blob<'a> {
 impl<'a> Blob<'a> {
     ghost use Rattle.bi_fdt.specs.Views.{node_of};
 
-    /// Reads a blob of version 16 or 17, or of a later version that is compatible with 17. The file may be longer than
-    /// the blob.
+    /// Reads a blob of version 16 or 17, or of a later version that is compatible with 17. The file
+    /// may be longer than the blob.
     pub fn read(alloc: Global, file: &'a [u8], limits: Limits) -> Result<Blob<'a>, Error>
         ensures accepts { OnOk result (IsBlobWithin limits file.entry.now) }
-        ensures content { IfOk result (λ blob. IsBlob file.entry.now blob.cpu blob.reservations (root_of blob)) }
-        ensures one_content { IfOk result (λ blob. (cpu : ℕ) (reservations : List Reservation) (root : Root FileNode) → IsBlob file.entry.now cpu reservations root
+        ensures content { IfOk result
+            (λ blob. IsBlob file.entry.now blob.cpu blob.reservations (root_of blob)) }
+        ensures one_content { IfOk result
+            (λ blob. (cpu : ℕ) (reservations : List Reservation) (root : Root FileNode)
+            → IsBlob file.entry.now cpu reservations root
             → SameContent blob.cpu cpu blob.reservations reservations (root_of blob) root) }
-        ensures no_fault { OnOk result ((fault : Fault) → ¬ (IsBlobFault limits file.entry.now fault)) }
+        ensures no_fault { OnOk result ((fault : Fault)
+            → ¬ (IsBlobFault limits file.entry.now fault)) }
         ensures file { IfOk result (λ blob. blob.file ≡ file.entry.now) }
         ensures total_size { IfOk result (λ blob. blob.total_size ≡ totalsize file.entry.now) }
         ensures refused { IfErr result (IsRefused limits file.entry.now) }
@@ -98,9 +103,11 @@ impl<'a> Blob<'a> {
         self.reservation_count
     }
 
-    /// The address and the size of memory reservation `index`, from 0. None exactly where there is no such reservation.
+    /// The address and the size of memory reservation `index`, from 0. None exactly where there is
+    /// no such reservation.
     pub fn reservation(&self, index: usize) -> Option<(u64, u64)>
-        ensures { result ≡ slice_get (map (λ reservation. (reservation.address, reservation.size)) self.now.reservations) index }
+        ensures { result ≡ slice_get (map
+            (λ reservation. (reservation.address, reservation.size)) self.now.reservations) index }
     {
         if index >= self.reservation_count {
             return None;
@@ -132,7 +139,8 @@ impl<'a> Blob<'a> {
 /// Makes the checks of the header and of the reservation block, and counts the reservations.
 fn check_before_tree(file: &[u8], limits: Limits) -> Result<usize, Fault>
     ensures header { OnOk result (HasNoHeaderFault limits file.now) }
-    ensures reservations { IfOk result (HasReservations file.now (off_mem_rsvmap file.now) (totalsize file.now)) }
+    ensures reservations { IfOk result (HasReservations file.now
+        (off_mem_rsvmap file.now) (totalsize file.now)) }
     ensures fault { IfErr result (IsFaultBeforeTree limits file.now) }
 {
     check_header(file, limits)?;

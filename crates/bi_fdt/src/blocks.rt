@@ -14,8 +14,8 @@ use crate::refusal::refuse;
 use crate::table::Property;
 use bi_base::{Cause, Fault};
 
-/// Where a file has its tree: the structure block, from `begin` to `end`, and the strings block (Devicetree Specification,
-/// 5.4, 5.5).
+/// Where a file has its tree: the structure block, from `begin` to `end`, and the strings block
+/// (Devicetree Specification, 5.4, 5.5).
 #[derive(Clone, Copy)]
 pub(crate) struct Blocks<'a> {
     pub(crate) file: &'a [u8],
@@ -24,13 +24,15 @@ pub(crate) struct Blocks<'a> {
     pub(crate) strings: &'a [u8],
 }
 
-/// The number of the token at `place`. Truncated where the structure block ends before the number does.
+/// The number of the token at `place`. Truncated where the structure block ends before the number
+/// does.
 pub(crate) fn number_at(blocks: Blocks, place: usize) -> Result<u32, Fault>
     requires blocks { AreBlocks (blocks_of blocks) }
     requires within { place ≤ blocks.end + 3 }
     ensures within { OnOk result (place + 4 ≤ blocks.entry.end) }
     ensures number { IfOk result (λ number. number ≡ u32_at blocks.entry.file.now place) }
-    ensures truncated { IfErr result (λ fault. (blocks.entry.end + 1 ≤ place + 4) × (fault ≡ token_fault place HasTokenNumber)) }
+    ensures truncated { IfErr result (λ fault. (blocks.entry.end + 1 ≤ place + 4)
+        × (fault ≡ token_fault place HasTokenNumber)) }
 {
     if place + 4 > blocks.end {
         return refuse(Cause::Truncated, place as u32);
@@ -48,8 +50,11 @@ pub(crate) fn root_name<'a>(
     requires within { place + 4 ≤ blocks.end }
     requires depth { 1 ≤ depth_limit }
     ensures name { IfOk result (λ name. name.now ≡ name_from blocks.entry.file.now (place + 4)) }
-    ensures ok { OnOk result (HasNoFault (TokenPasses (blocks_of blocks.entry) depth_limit place BeforeRoot) begin_checks) }
-    ensures fault { IfErr result (IsFirstFault (TokenPasses (blocks_of blocks.entry) depth_limit place BeforeRoot) (token_fault place) begin_checks) }
+    ensures ok { OnOk result (HasNoFault
+        (TokenPasses (blocks_of blocks.entry) depth_limit place BeforeRoot) begin_checks) }
+    ensures fault { IfErr result (IsFirstFault
+        (TokenPasses (blocks_of blocks.entry) depth_limit place BeforeRoot)
+        (token_fault place) begin_checks) }
 {
     let Some(name) = name_at(blocks.file, place + 4, blocks.end) else {
         return refuse(Cause::Truncated, place as u32);
@@ -70,10 +75,14 @@ pub(crate) fn child_name<'a>(
     requires blocks { AreBlocks (blocks_of blocks) }
     requires within { place + 4 ≤ blocks.end }
     ensures name { IfOk result (λ name. name.now ≡ name_from blocks.entry.file.now (place + 4)) }
-    ensures ok { OnOk result ((innermost : OpenNode) (outer : List OpenNode) → length outer + 1 ≡ depth
-        → HasNoFault (TokenPasses (blocks_of blocks.entry) depth_limit place (Inside innermost outer)) node_name_checks) }
-    ensures fault { IfErr result (λ fault. (innermost : OpenNode) (outer : List OpenNode) → length outer + 1 ≡ depth
-        → IsFirstFault (TokenPasses (blocks_of blocks.entry) depth_limit place (Inside innermost outer)) (token_fault place) begin_checks fault) }
+    ensures ok { OnOk result ((innermost : OpenNode) (outer : List OpenNode)
+        → length outer + 1 ≡ depth
+        → HasNoFault (TokenPasses (blocks_of blocks.entry) depth_limit place
+        (Inside innermost outer)) node_name_checks) }
+    ensures fault { IfErr result (λ fault. (innermost : OpenNode) (outer : List OpenNode)
+        → length outer + 1 ≡ depth
+        → IsFirstFault (TokenPasses (blocks_of blocks.entry) depth_limit place
+        (Inside innermost outer)) (token_fault place) begin_checks fault) }
 {
     if depth >= depth_limit {
         return refuse(Cause::TooDeep, place as u32);
@@ -95,13 +104,19 @@ pub(crate) fn property_at<'a>(
 ) -> Result<Property<'a>, Fault>
     requires blocks { AreBlocks (blocks_of blocks) }
     requires within { place + 4 ≤ blocks.end }
-    ensures name { IfOk result (λ property. property.name.now ≡ name_from blocks.entry.strings.now (u32_at blocks.entry.file.now (place + 8))) }
-    ensures value { IfOk result (λ property. property.value.now ≡ slice blocks.entry.file.now (place + 12) (u32_at blocks.entry.file.now (place + 4))) }
+    ensures name { IfOk result (λ property. property.name.now
+        ≡ name_from blocks.entry.strings.now (u32_at blocks.entry.file.now (place + 8))) }
+    ensures value { IfOk result (λ property. property.value.now
+        ≡ slice blocks.entry.file.now (place + 12) (u32_at blocks.entry.file.now (place + 4))) }
     ensures place { IfOk result (λ property. property.place ≡ place) }
-    ensures ok { OnOk result ((innermost : OpenNode) (outer : List OpenNode) → (IsTrue is_childless ↔ (innermost.children ≡ []))
-        → HasNoFault (TokenPasses (blocks_of blocks.entry) 0 place (Inside innermost outer)) property_token_checks) }
-    ensures fault { IfErr result (λ fault. (innermost : OpenNode) (outer : List OpenNode) → (IsTrue is_childless ↔ (innermost.children ≡ []))
-        → IsFirstFault (TokenPasses (blocks_of blocks.entry) 0 place (Inside innermost outer)) (token_fault place) property_checks fault) }
+    ensures ok { OnOk result ((innermost : OpenNode) (outer : List OpenNode)
+        → (IsTrue is_childless ↔ (innermost.children ≡ []))
+        → HasNoFault (TokenPasses (blocks_of blocks.entry) 0 place
+        (Inside innermost outer)) property_token_checks) }
+    ensures fault { IfErr result (λ fault. (innermost : OpenNode) (outer : List OpenNode)
+        → (IsTrue is_childless ↔ (innermost.children ≡ []))
+        → IsFirstFault (TokenPasses (blocks_of blocks.entry) 0 place
+        (Inside innermost outer)) (token_fault place) property_checks fault) }
 {
     if !is_childless {
         return refuse(Cause::PropertyAfterChild, place as u32);

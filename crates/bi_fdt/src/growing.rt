@@ -32,8 +32,8 @@ pub(crate) struct Growing<'a> {
     properties: BTreeSet<&'a [u8]>,
 }
 
-/// What remains of a growing tree after a node has ended: the tree itself, or the table of the whole tree where the node
-/// is the root.
+/// What remains of a growing tree after a node has ended: the tree itself, or the table of the
+/// whole tree where the node is the root.
 #[derive(Drop)]
 pub(crate) enum Ending<'a> {
     Inside(Growing<'a>),
@@ -67,33 +67,40 @@ impl<'a> Growing<'a> {
 
     /// The number of the open nodes.
     pub(crate) fn depth(&self) -> usize
-        ensures { (innermost : PartialNode) (outer : List PartialNode) → IsGrowing self.now innermost outer → result ≡ length outer + 1 }
+        ensures { (innermost : PartialNode) (outer : List PartialNode)
+            → IsGrowing self.now innermost outer → result ≡ length outer + 1 }
     {
         self.outer.len() + 1
     }
 
     /// Whether the innermost open node has no child yet.
     pub(crate) fn is_childless(&self) -> bool
-        ensures { (innermost : PartialNode) (outer : List PartialNode) → IsGrowing self.now innermost outer
+        ensures { (innermost : PartialNode) (outer : List PartialNode)
+            → IsGrowing self.now innermost outer
             → (IsTrue result ↔ (names innermost.children ≡ [])) }
     {
         self.innermost.children.is_empty()
     }
 
-    /// The tree after a child of the innermost open node has begun at `place`. DuplicateNode where a child has the name
-    /// already.
+    /// The tree after a child of the innermost open node has begun at `place`. DuplicateNode where
+    /// a child has the name already.
     pub(crate) fn begin_node(
         self,
         alloc: Global,
         name: &'a [u8],
         place: u32,
     ) -> Result<Growing<'a>, Error>
-        ensures new { OnOk result ((innermost : PartialNode) (outer : List PartialNode) → IsGrowing self.entry innermost outer
+        ensures new { OnOk result ((innermost : PartialNode) (outer : List PartialNode)
+            → IsGrowing self.entry innermost outer
             → IsNew name.entry.now (names innermost.children)) }
-        ensures grown { IfOk result (λ grown. (innermost : PartialNode) (outer : List PartialNode) → IsGrowing self.entry innermost outer
+        ensures grown { IfOk result
+            (λ grown. (innermost : PartialNode) (outer : List PartialNode)
+            → IsGrowing self.entry innermost outer
             → IsGrowing grown (begun name.entry.now place) (innermost ∷ outer)) }
         ensures fault { IfErr result (IsRefusal (λ fault. fault ≡ token_fault place IsNewNode)) }
-        ensures duplicate { IfErr result (IsRefusal (λ _. (innermost : PartialNode) (outer : List PartialNode) → IsGrowing self.entry innermost outer
+        ensures duplicate { IfErr result (IsRefusal
+            (λ _. (innermost : PartialNode) (outer : List PartialNode)
+            → IsGrowing self.entry innermost outer
             → ¬ (IsNew name.entry.now (names innermost.children)))) }
     {
         let Growing {
@@ -129,17 +136,27 @@ impl<'a> Growing<'a> {
         })
     }
 
-    /// The tree after a property of the innermost open node, which has no child yet. DuplicateProperty where a property has
-    /// the name already.
+    /// The tree after a property of the innermost open node, which has no child yet.
+    /// DuplicateProperty where a property has the name already.
     pub(crate) fn add_property(self, property: Property<'a>) -> Result<Growing<'a>, Error>
         requires { IsGrown self }
-        ensures new { OnOk result ((innermost : PartialNode) (outer : List PartialNode) → IsGrowing self.entry innermost outer
-            → names innermost.children ≡ [] → IsNew property.entry.name.now (map (λ other. other.name) innermost.properties)) }
-        ensures grown { IfOk result (λ grown. (innermost : PartialNode) (outer : List PartialNode) → IsGrowing self.entry innermost outer
-            → names innermost.children ≡ [] → IsGrowing grown (with_one_property innermost (file_property_of property.entry)) outer) }
-        ensures fault { IfErr result (IsRefusal (λ fault. fault ≡ token_fault property.entry.place IsNewProperty)) }
-        ensures duplicate { IfErr result (IsRefusal (λ _. (innermost : PartialNode) (outer : List PartialNode) → IsGrowing self.entry innermost outer
-            → names innermost.children ≡ [] → ¬ (IsNew property.entry.name.now (map (λ other. other.name) innermost.properties)))) }
+        ensures new { OnOk result ((innermost : PartialNode) (outer : List PartialNode)
+            → IsGrowing self.entry innermost outer
+            → names innermost.children ≡ []
+            → IsNew property.entry.name.now (map (λ other. other.name) innermost.properties)) }
+        ensures grown { IfOk result
+            (λ grown. (innermost : PartialNode) (outer : List PartialNode)
+            → IsGrowing self.entry innermost outer
+            → names innermost.children ≡ []
+            → IsGrowing grown
+            (with_one_property innermost (file_property_of property.entry)) outer) }
+        ensures fault { IfErr result (IsRefusal (λ fault. fault
+            ≡ token_fault property.entry.place IsNewProperty)) }
+        ensures duplicate { IfErr result (IsRefusal
+            (λ _. (innermost : PartialNode) (outer : List PartialNode)
+            → IsGrowing self.entry innermost outer
+            → names innermost.children ≡ []
+            → ¬ (IsNew property.entry.name.now (map (λ other. other.name) innermost.properties)))) }
     {
         let Growing {
             mut entries,

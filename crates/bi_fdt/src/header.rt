@@ -1,4 +1,5 @@
-//! The header of a blob (Devicetree Specification, 5.2): its checks, and where it places the blocks.
+//! The header of a blob (Devicetree Specification, 5.2): its checks, and where it places the
+//! blocks.
 
 ghost use Rattle.std.specs.Prelude.{◌≡◌, ◌≤◌, length, IfErr, OnOk};
 ghost use Rattle.bi_base.specs.Checks.{IsFirstFault, HasNoFault};
@@ -60,7 +61,8 @@ pub(crate) fn check_header(file: &[u8], limits: Limits) -> Result<(), Fault>
 fn check_places(file: &[u8], limits: Limits) -> Result<(), Fault>
     requires whole { length_of_header file.now ≤ length file.now }
     ensures ok { OnOk result (HasNoFault (HeaderPasses limits file.now) place_checks) }
-    ensures fault { IfErr result (IsFirstFault (HeaderPasses limits file.now) (header_fault limits) place_checks) }
+    ensures fault { IfErr result
+        (IsFirstFault (HeaderPasses limits file.now) (header_fault limits) place_checks) }
 {
     let length = header_length(file);
     let total = cell_at(file, 4) as usize;
@@ -84,8 +86,8 @@ fn check_places(file: &[u8], limits: Limits) -> Result<(), Fault>
     Ok(())
 }
 
-/// The length of the header in bytes: 36 in version 16, else 40. It is 40 where the file ends before the cell of its
-/// version.
+/// The length of the header in bytes: 36 in version 16, else 40. It is 40 where the file ends
+/// before the cell of its version.
 fn header_length(file: &[u8]) -> usize
     ensures least { 36 ≤ result }
     ensures value { 36 ≤ length file.now → result ≡ length_of_header file.now }

@@ -21,4 +21,6 @@ pub use properties::Properties;
 pub use table::Property;
 
 #[cfg(test)]
+mod refused_growths;
+#[cfg(test)]
 mod tests;

@@ -11,7 +11,8 @@ use crate::blob::Blob;
 use crate::properties::Properties;
 use crate::table::{Entry, NodeEntry, Property};
 
-/// A node of a blob that was read: a borrow of the blob, and the index of the node's entry in its table.
+/// A node of a blob that was read: a borrow of the blob, and the index of the node's entry in its
+/// table.
 #[derive(Clone, Copy)]
 pub struct NodeRef<'a, 'b> {
     blob: &'b Blob<'a>,
@@ -63,7 +64,8 @@ impl<'a, 'b> NodeRef<'a, 'b> {
         self.entry().property_count
     }
 
-    /// The properties in their order in the file. Going over all of them takes time linear in their number.
+    /// The properties in their order in the file. Going over all of them takes time linear in their
+    /// number.
     pub fn properties(self) -> Properties<'a, 'b>
         ensures { result ≡ (node_of self.entry).own.properties }
     {
@@ -73,10 +75,11 @@ impl<'a, 'b> NodeRef<'a, 'b> {
         Properties::new(&entries[begin..end])
     }
 
-    /// The name and value of property `index`, from 0, in the order of the file. None exactly where there is no such
-    /// property.
+    /// The name and value of property `index`, from 0, in the order of the file. None exactly where
+    /// there is no such property.
     pub fn property_at(self, index: usize) -> Option<(&'a [u8], &'a [u8])>
-        ensures { option_map (λ property. (property.0.now, property.1.now)) result ≡ slice_get (properties_of (node_of self.entry).own) index }
+        ensures { option_map (λ property. (property.0.now, property.1.now)) result
+            ≡ slice_get (properties_of (node_of self.entry).own) index }
     {
         let node = self.entry();
         if index >= node.property_count {
@@ -91,21 +94,26 @@ impl<'a, 'b> NodeRef<'a, 'b> {
 
     /// The value of the property of this name. None exactly where there is no such property.
     pub fn property(self, name: &[u8]) -> Option<&'a [u8]>
-        ensures { option_map (λ value. value.now) result ≡ value_named (properties_of (node_of self.entry).own) name.now }
+        ensures { option_map (λ value. value.now) result
+            ≡ value_named (properties_of (node_of self.entry).own) name.now }
     {
         Some(self.find_property(name)?.value)
     }
 
-    /// The offset in the file of the token of the property of this name. None exactly where there is no such property.
+    /// The offset in the file of the token of the property of this name. None exactly where there
+    /// is no such property.
     pub fn property_place(self, name: &[u8]) -> Option<u32>
-        ensures { result ≡ option_map (λ property. property.place) (property_named (node_of self.entry).own.properties name.now) }
+        ensures { result ≡ option_map
+            (λ property. property.place)
+            (property_named (node_of self.entry).own.properties name.now) }
     {
         Some(self.find_property(name)?.place)
     }
 
     /// The property of this name. None exactly where there is no such property.
     fn find_property(self, name: &[u8]) -> Option<Property<'a>>
-        ensures { option_map file_property_of result ≡ property_named (node_of self.entry).own.properties name.now }
+        ensures { option_map file_property_of result
+            ≡ property_named (node_of self.entry).own.properties name.now }
     {
         for property in self.properties() {
             if property.name == name {
@@ -163,8 +171,8 @@ impl<'a, 'b> NodeRef<'a, 'b> {
         count
     }
 
-    /// Child `index`, from 0, in the order of the file. None exactly where there is no such child. It goes over the children
-    /// before it.
+    /// Child `index`, from 0, in the order of the file. None exactly where there is no such child.
+    /// It goes over the children before it.
     pub fn child_at(self, index: usize) -> Option<NodeRef<'a, 'b>>
         ensures { option_map node_of result ≡ node_at (node_of self.entry).children index }
     {
@@ -175,7 +183,8 @@ impl<'a, 'b> NodeRef<'a, 'b> {
         Some(child)
     }
 
-    /// The child of this name. None exactly where there is no such child. It goes over the children before it.
+    /// The child of this name. None exactly where there is no such child. It goes over the children
+    /// before it.
     pub fn child(self, name: &[u8]) -> Option<NodeRef<'a, 'b>>
         ensures { option_map node_of result ≡ node_named (node_of self.entry).children name.now }
     {

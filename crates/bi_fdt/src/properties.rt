@@ -19,7 +19,8 @@ pub struct Properties<'a, 'b> {
 impl<'a, 'b> Model for Properties<'a, 'b> {
     ghost Value = { List FileProperty };
 
-    ghost view = { λ properties. first_properties (map item_of (drop properties.index properties.entries.now)) };
+    ghost view = { λ properties. first_properties (map item_of
+        (drop properties.index properties.entries.now)) };
 }
 
 impl<'a, 'b> Properties<'a, 'b> {

@@ -19,7 +19,8 @@ use crate::tokens::{BEGIN_NODE, END, NOP, Next, Reading, step};
 use bi_base::{Cause, Error, Fault};
 use std::alloc::Global;
 
-/// The table of the tree that the structure block holds. The fault is that of the first check that fails.
+/// The table of the tree that the structure block holds. The fault is that of the first check that
+/// fails.
 pub(crate) fn read_tree<'a>(
     alloc: Global,
     blocks: Blocks<'a>,
@@ -28,8 +29,10 @@ pub(crate) fn read_tree<'a>(
     requires blocks { AreBlocks (blocks_of blocks) }
     requires ordered { blocks.begin ≤ blocks.end }
     requires depth { 1 ≤ depth_limit }
-    ensures ok { IfOk result (λ entries. HasTable (blocks_of blocks.entry) depth_limit entries.items) }
-    ensures fault { IfErr result (IsRefusal (IsStructureFault (blocks_of blocks.entry) depth_limit)) }
+    ensures ok { IfOk result (λ entries. HasTable
+        (blocks_of blocks.entry) depth_limit entries.items) }
+    ensures fault { IfErr result (IsRefusal
+        (IsStructureFault (blocks_of blocks.entry) depth_limit)) }
 {
     let place = skip_to_root(blocks)?;
     let begun = begin_root(alloc, blocks, depth_limit, place)?;
@@ -42,9 +45,12 @@ pub(crate) fn read_tree<'a>(
 fn skip_to_root(blocks: Blocks) -> Result<usize, Fault>
     requires blocks { AreBlocks (blocks_of blocks) }
     requires ordered { blocks.begin ≤ blocks.end }
-    ensures number { IfOk result (λ place. IsNumberAt (blocks_of blocks.entry) place begin_node_number) }
-    ensures ok { IfOk result (λ place. (depth_limit : ℕ) → Standing (blocks_of blocks.entry) depth_limit place NotBegun) }
-    ensures fault { IfErr result (λ fault. (depth_limit : ℕ) → IsStructureFault (blocks_of blocks.entry) depth_limit fault) }
+    ensures number { IfOk result
+        (λ place. IsNumberAt (blocks_of blocks.entry) place begin_node_number) }
+    ensures ok { IfOk result (λ place. (depth_limit : ℕ)
+        → Standing (blocks_of blocks.entry) depth_limit place NotBegun) }
+    ensures fault { IfErr result (λ fault. (depth_limit : ℕ)
+        → IsStructureFault (blocks_of blocks.entry) depth_limit fault) }
 {
     let mut place = blocks.begin;
     loop {
@@ -71,7 +77,8 @@ fn begin_root<'a>(
     requires number { IsNumberAt (blocks_of blocks) place begin_node_number }
     requires standing { Standing (blocks_of blocks) depth_limit place NotBegun }
     ensures ok { IfOk result (IsReading (blocks_of blocks.entry) depth_limit) }
-    ensures fault { IfErr result (IsRefusal (IsStructureFault (blocks_of blocks.entry) depth_limit)) }
+    ensures fault { IfErr result (IsRefusal
+        (IsStructureFault (blocks_of blocks.entry) depth_limit)) }
 {
     let name = root_name(blocks, place, depth_limit)?;
     let growing = Growing::new(alloc, name, place as u32)?;
@@ -90,8 +97,10 @@ fn read_root<'a>(
 ) -> Result<(usize, Vec<Entry<'a>>), Error>
     requires blocks { AreBlocks (blocks_of blocks) }
     requires reading { IsReading (blocks_of blocks) depth_limit begun }
-    ensures ok { IfOk result (λ after. IsAfter (blocks_of blocks.entry) depth_limit after.0 after.1.items) }
-    ensures fault { IfErr result (IsRefusal (IsStructureFault (blocks_of blocks.entry) depth_limit)) }
+    ensures ok { IfOk result (λ after. IsAfter (blocks_of blocks.entry)
+        depth_limit after.0 after.1.items) }
+    ensures fault { IfErr result (IsRefusal
+        (IsStructureFault (blocks_of blocks.entry) depth_limit)) }
 {
     let mut reading = begun;
     loop {
@@ -106,9 +115,11 @@ fn read_root<'a>(
 fn check_after_root(blocks: Blocks, place: usize) -> Result<(), Fault>
     requires blocks { AreBlocks (blocks_of blocks) }
     requires within { place ≤ blocks.end + 3 }
-    ensures ok { OnOk result ((depth_limit : ℕ) (root : Root FileNode) → Standing (blocks_of blocks.entry) depth_limit place (Grown root)
+    ensures ok { OnOk result ((depth_limit : ℕ) (root : Root FileNode)
+        → Standing (blocks_of blocks.entry) depth_limit place (Grown root)
         → HoldsTree (blocks_of blocks.entry) root × (depth_of root ≤ depth_limit)) }
-    ensures fault { IfErr result (λ fault. (depth_limit : ℕ) (root : Root FileNode) → Standing (blocks_of blocks.entry) depth_limit place (Grown root)
+    ensures fault { IfErr result (λ fault. (depth_limit : ℕ) (root : Root FileNode)
+        → Standing (blocks_of blocks.entry) depth_limit place (Grown root)
         → IsStructureFault (blocks_of blocks.entry) depth_limit fault) }
 {
     let mut place = place;

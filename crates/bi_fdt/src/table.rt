@@ -1,10 +1,12 @@
-//! The table of a tree: one entry for each node and each property, in the order of their tokens in the file.
+//! The table of a tree: one entry for each node and each property, in the order of their tokens in
+//! the file.
 
 ghost use Rattle.std.specs.Prelude.{◌≡◌, ◌<◌, length, slice_get, slice_set};
 ghost use Rattle.bi_fdt.specs.declared.table.NodeEntry.{NodeEntry};
 ghost use Rattle.bi_fdt.specs.declared.table.Entry.TheVariants as entry;
 
-/// A node: its token FDT_BEGIN_NODE (Devicetree Specification, 5.4.1), and where its entries are in the table.
+/// A node: its token FDT_BEGIN_NODE (Devicetree Specification, 5.4.1), and where its entries are in
+/// the table.
 #[derive(Clone, Copy, Debug, Drop)]
 pub(crate) struct NodeEntry<'a> {
     /// The name, without the zero byte that ends it.
@@ -41,7 +43,8 @@ pub(crate) enum Entry<'a> {
 pub(crate) fn set_property_count(entries: &mut [Entry], index: usize, property_count: usize)
     requires { index < length entries.old }
     ensures { (node_entry : NodeEntry) → slice_get entries.old index ≡ Some (entry.Node node_entry)
-        → entries.new ≡ slice_set entries.old index (entry.Node (record node_entry { property_count = property_count })) }
+        → entries.new ≡ slice_set entries.old index (entry.Node
+        (record node_entry { property_count = property_count })) }
 {
     if let Entry::Node(node) = entries[index] {
         entries[index] = Entry::Node(NodeEntry {
@@ -55,7 +58,8 @@ pub(crate) fn set_property_count(entries: &mut [Entry], index: usize, property_c
 pub(crate) fn set_after(entries: &mut [Entry], index: usize, after: usize)
     requires { index < length entries.old }
     ensures { (node_entry : NodeEntry) → slice_get entries.old index ≡ Some (entry.Node node_entry)
-        → entries.new ≡ slice_set entries.old index (entry.Node (record node_entry { after = after })) }
+        → entries.new ≡ slice_set entries.old index (entry.Node
+        (record node_entry { after = after })) }
 {
     if let Entry::Node(node) = entries[index] {
         entries[index] = Entry::Node(NodeEntry { after, ..node });

@@ -4,8 +4,8 @@ use std::alloc::Global;
 use std::process::Abort;
 use std::test::Fail;
 
-/// A root with one child `images`, in the normal layout: the header, an empty reservation block at 40, the structure block
-/// at 56, and an empty strings block at 88.
+/// A root with one child `images`, in the normal layout: the header, an empty reservation block at
+/// 40, the structure block at 56, and an empty strings block at 88.
 const SMALLEST: [u8; 88] = *b"\xd0\x0d\xfe\xed\x00\x00\x00\x58\x00\x00\x00\x38\x00\x00\x00\x58\
     \x00\x00\x00\x28\x00\x00\x00\x11\x00\x00\x00\x10\x00\x00\x00\x00\
     \x00\x00\x00\x00\x00\x00\x00\x20\0\0\0\0\0\0\0\0\0\0\0\0\0\0\0\0\
@@ -159,7 +159,8 @@ fn blocks_may_overlap(rt: HostRuntime) -> Result<(), Fail> {
     Ok(())
 }
 
-/// The smallest blob with this version, and with `ff` in the cell of the size of its structure block.
+/// The smallest blob with this version, and with `ff` in the cell of the size of its structure
+/// block.
 fn of_version_16(alloc: Global) -> Result<Vec<u8>, Fail> {
     with_cell(
         alloc,
@@ -333,8 +334,9 @@ fn at_most_64_nodes_are_open(rt: HostRuntime) -> Result<(), Fail> {
     Ok(())
 }
 
-/// A root with the properties `name` and `filename`, which share the bytes of one name, and a child `images`; FDT_NOP before
-/// each token. The strings block is before the structure block, and 16 free bytes follow.
+/// A root with the properties `name` and `filename`, which share the bytes of one name, and a child
+/// `images`; FDT_NOP before each token. The strings block is before the structure block, and 16
+/// free bytes follow.
 fn with_nops(alloc: Global) -> Result<Vec<u8>, Fail> {
     let mut sink = VecSink::new(alloc);
     put_cells(

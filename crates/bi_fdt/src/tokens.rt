@@ -50,7 +50,8 @@ pub(crate) fn step<'a>(
     requires blocks { AreBlocks (blocks_of blocks) }
     requires reading { IsReading (blocks_of blocks) depth_limit reading }
     ensures ok { IfOk result (IsAhead (blocks_of blocks.entry) depth_limit reading.entry.place) }
-    ensures fault { IfErr result (IsRefusal (IsStructureFault (blocks_of blocks.entry) depth_limit)) }
+    ensures fault { IfErr result (IsRefusal
+        (IsStructureFault (blocks_of blocks.entry) depth_limit)) }
 {
     let number = number_at(blocks, reading.place)?;
     if number == BEGIN_NODE {
@@ -90,7 +91,8 @@ fn begin_node<'a>(
     requires reading { IsReading (blocks_of blocks) depth_limit reading }
     requires number { IsNumberAt (blocks_of blocks) reading.place begin_node_number }
     ensures ok { IfOk result (IsAhead (blocks_of blocks.entry) depth_limit reading.entry.place) }
-    ensures fault { IfErr result (IsRefusal (IsStructureFault (blocks_of blocks.entry) depth_limit)) }
+    ensures fault { IfErr result (IsRefusal
+        (IsStructureFault (blocks_of blocks.entry) depth_limit)) }
 {
     let Reading { place, growing } = reading;
     let name = child_name(blocks, place, growing.depth(), depth_limit)?;
@@ -111,7 +113,8 @@ fn add_property<'a>(
     requires reading { IsReading (blocks_of blocks) depth_limit reading }
     requires number { IsNumberAt (blocks_of blocks) reading.place prop_number }
     ensures ok { IfOk result (IsAhead (blocks_of blocks.entry) depth_limit reading.entry.place) }
-    ensures fault { IfErr result (IsRefusal (IsStructureFault (blocks_of blocks.entry) depth_limit)) }
+    ensures fault { IfErr result (IsRefusal
+        (IsStructureFault (blocks_of blocks.entry) depth_limit)) }
 {
     let Reading { place, growing } = reading;
     let property = property_at(blocks, place, growing.is_childless())?;

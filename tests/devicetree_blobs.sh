@@ -1,0 +1,154 @@
+#!/bin/sh
+# Devicetree blobs that Debian's dtc makes, of versions 17 and 16, with padding, free space, alignment, memory reservations and
+# symbols: they are read as fdtget and fdtdump show them. Blobs of hostile shapes are read in at most ten times what sha256sum
+# takes. The program that reads them is tests/print_blob. It needs Debian's device-tree-compiler and python3, and installs them
+# where one is missing and it runs as root.
+set -u
+
+export LC_ALL=C
+root=$(cd "$(dirname "$0")/.." && pwd)
+passed=0
+failed=0
+
+# check NAME COMMAND..: passes where the command ends with status 0.
+check() {
+    name=$1
+    shift
+    if said=$("$@" 2>&1 < /dev/null); then
+        passed=$((passed + 1))
+    else
+        failed=$((failed + 1))
+        echo "FAILED: $name"
+        echo "$said" | head -n 40
+    fi
+}
+
+# finish: the line that ends each script.
+finish() {
+    echo "$passed passed, $failed failed"
+    [ "$failed" = 0 ]
+    exit
+}
+
+if [ "$(id -u)" = 0 ] && { ! command -v dtc || ! command -v fdtget || ! command -v python3; } > /dev/null; then
+    (apt-get update && apt-get install -y device-tree-compiler python3) >&2
+fi
+for tool in dtc fdtget fdtdump python3 sha256sum; do
+    check "$tool is there (Debian: device-tree-compiler, python3, coreutils)" command -v "$tool"
+done
+[ "$failed" = 0 ] || finish
+
+work=$(mktemp -d)
+trap 'rm -rf "$work"' EXIT
+trap 'exit 1' HUP INT TERM
+
+# The program, in a workspace of its own over copies of the crates that it stands on.
+(cd "$root" && tar cf - HANDLES crates/scripted_io crates/bi_base crates/bi_blob crates/bi_fdt) | (cd "$work" && tar xf -)
+{
+    grep -E '^(scripted_io|bi_base|bi_blob|bi_fdt):' "$root/crates.txt"
+    echo 'print_blob: bi_fdt bi_base'
+} > "$work/crates.txt"
+mkdir -p "$work/crates/print_blob/src"
+cp "$root/tests/print_blob/main.rt.source" "$work/crates/print_blob/src/main.rt"
+(cd "$work/crates/print_blob" && rt run) < /dev/null > "$work/log" 2>&1
+program=$work/crates/print_blob/out/print_blob
+check "the program is built" test -x "$program"
+[ "$failed" = 0 ] || { tail -n 20 "$work/log"; finish; }
+cd "$work" || exit 2
+
+# nodes FILE PATH NAME: the node at this path and all below it, as fdtget shows them and print_blob prints them.
+nodes() {
+    echo "node $3"
+    for property in $(fdtget -p "$1" "$2"); do
+        value=$(fdtget -t bx "$1" "$2" "$property")
+        echo "property $property${value:+ $value}"
+    done
+    for child in $(fdtget -l "$1" "$2"); do
+        nodes "$1" "${2%/}/$child" "$child"
+    done
+    echo end
+}
+
+# shown FILE: the blob as fdtdump and fdtget show it.
+shown() {
+    fdtdump "$1" 2> /dev/null > dump
+    sed -n 's|^// totalsize:.*(\([0-9]*\))$|totalsize \1|p' dump
+    sed -n 's|^// boot_cpuid_phys:[^0-9]*\([0-9a-fx]*\)$|\1|p' dump | while read -r number; do
+        echo "boot_cpuid_phys $((number))"
+    done
+    sed -n 's|^/memreserve/ 0x\([0-9a-f]*\) 0x\([0-9a-f]*\);$|memreserve \1 \2|p' dump
+    nodes "$1" / ""
+}
+
+# reads FILE: the program prints the blob as these tools show it.
+reads() {
+    shown "$1" | sed 's/ $//' > wanted
+    "$program" < "$1" > printed && sed -i "s/ $//" printed && diff wanted printed
+}
+
+cat > board.dts <<'DTS'
+/dts-v1/;
+/memreserve/ 0x10000000 0x4000;
+/memreserve/ 0x2000000000 0x100;
+/ {
+    #address-cells = <2>;
+    #size-cells = <1>;
+    compatible = "acme,board", "acme,chip";
+    flag;
+    aliases { serial0 = &uart; };
+    cpus { #address-cells = <1>; #size-cells = <0>; cpu@0 { reg = <0>; }; cpu@1 { reg = <1>; }; };
+    soc {
+        ranges;
+        uart: serial@1000 { reg = <0 0x1000 0x100>; status = "okay"; bytes = [00 ff 10 07]; };
+        gpio: gpio@2000 { reg = <0 0x2000 0x100>; gpio-controller; leds { led { pin = <&gpio 3>; }; }; };
+    };
+    chosen { bootargs = ""; };
+};
+DTS
+printf '/dts-v1/;\n/ { };\n' > empty.dts
+for source in board empty; do
+    for version in 17 16; do
+        for options in "" "-a 64" "-p 100" "-S 4096" "-R 4" "-b 3" "-@" "-s" "-a 8 -p 1 -R 2 -@"; do
+            # shellcheck disable=SC2086
+            dtc -q -I dts -O dtb -V "$version" $options -o blob.dtb "$source.dts" || { failed=$((failed + 1)); continue; }
+            check "dtc -V $version $options $source.dts" reads blob.dtb
+        done
+    done
+done
+
+# Hostile shapes: a node with 100,000 properties or children, 100,000 tokens FDT_NOP, and 500 chains of 60 nodes.
+cat > shapes.py <<'PY'
+import resource, struct, subprocess, sys, time
+def blob(structure, strings=b''):
+    structure = struct.pack('>2I', 1, 0) + structure + struct.pack('>2I', 2, 9)
+    end = 56 + len(structure)
+    return struct.pack('>10I', 0xd00dfeed, end + len(strings), 56, end, 40, 17, 16, 0, len(strings), len(structure)) + bytes(16) + structure + strings
+def begin(name):
+    return struct.pack('>I', 1) + name + bytes(4 - len(name) % 4)
+end = struct.pack('>I', 2)
+def shape(name, n):
+    if name == 'properties':
+        return blob(b''.join(struct.pack('>3I', 3, 0, 9 * i) for i in range(n)), b''.join(b'p%07d\0' % i for i in range(n)))
+    if name == 'children':
+        return blob(b''.join(begin(b'n%07d' % i) + end for i in range(n)))
+    if name == 'nops':
+        return blob(struct.pack('>I', 4) * n)
+    chain = b''.join(begin(b'c%d' % i) for i in range(59))
+    return blob(b''.join(begin(b't%d' % i) + chain + end * 60 for i in range(n // 200)))
+def took(command, data):
+    best = 1e9
+    for _ in range(9):
+        before = time.perf_counter()
+        subprocess.run(command, input=data, stdout=subprocess.DEVNULL, check=True)
+        best = min(best, time.perf_counter() - before)
+    return best
+name, program = sys.argv[1:]
+data = shape(name, 100000)
+ours, sums = took([program, 'count'], data), took(['sha256sum'], data)
+print('%s: %.1f ms, sha256sum %.1f ms' % (name, 1000 * ours, 1000 * sums))
+sys.exit(ours > 10 * sums)
+PY
+for shape in properties children nops chains; do
+    check "$shape are read in ten times what sha256sum takes" python3 shapes.py "$shape" "$program"
+done
+finish
