@@ -1,6 +1,6 @@
 //! A sink that writes to a writer in large pieces.
 
-ghost use Rattle.std.specs.Prelude.{◌≡◌, [], IsFalse};
+ghost use Rattle.std.specs.Prelude.{◌≡◌, [], IsFalse, OnOk};
 ghost use Rattle.bi_base.specs.Sinks.{Wrote};
 ghost use Rattle.bi_base.specs.Writing.{WroteAndFlushed, WriteOrFlushStopped};
 
@@ -43,11 +43,13 @@ impl<'a, T: TracedWrite> BufferedSink<'a, T> {
     /// The only error is `WriteFailed`, and a prefix of what is held back was written then, all of
     /// it where the flush failed. It comes after a write or flush that failed by another error than
     /// an interruption, after a write that wrote none of some bytes, or after 1,024 interruptions
-    /// in a row. No failure is ignored.
+    /// in a row. No failure is ignored. After an error of `put` or `finish` the sink is not to be
+    /// used.
     pub fn finish(&mut self) -> Result<(), Error>
         ensures finished { let old = buffered T.trace self.old in
             let new = buffered T.trace self.new in
             Wrote WroteAndFlushed WriteOrFlushStopped old.trace old.held result new.trace }
+        ensures none_held { OnOk result ((buffered T.trace self.new).held ≡ []) }
         ensures same_borrow { (buffered T.trace self.new).borrow
             ≡ (buffered T.trace self.old).borrow }
     {

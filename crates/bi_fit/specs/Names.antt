@@ -56,8 +56,8 @@ is_hash_name name = starts_with nat_eq name (codes "hash")
 abbrev pub is_signature_name : List ℕ → Bool
 is_signature_name name = starts_with nat_eq name (codes "signature")
 
--- The property of a configuration node that lists images under a key (that no other property is a
--- key is profile of this project).
+-- The property of a configuration node that lists images under a key. Other properties that list
+-- images are not looked at (profile).
 abbrev pub key_name : Key → List ℕ
 key_name Kernel = codes "kernel"
 key_name Fdt = codes "fdt"

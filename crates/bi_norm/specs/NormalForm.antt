@@ -33,10 +33,6 @@ pub record Normalised (limits : Bounds) (form : Form) (count : ℕ) (file text :
     pub normal : IsNormalForm limits form file text
     pub signatures : count ≡ signature_count normal.meaning
 
--- The text is the normal form of the file.
-abbrev pub Normalises : Bounds → Form → List ℕ → List ℕ → Type 0
-Normalises limits form file text = IsNormalForm limits form file text
-
 -- The file means something whose normal text is longer than the limit. This is so of no legacy
 -- image.
 pub record IsTooLong (limits : Bounds) (form : Form) (file : List ℕ) : Type 0 where

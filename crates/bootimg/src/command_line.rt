@@ -103,7 +103,8 @@ fn program<'a>(alloc: Global) -> Result<Command<'a>, AllocError> {
         .version(VERSION)
         .about("Normalises, lists and takes apart U-Boot boot images")
         .after_help(
-            "The image is read from standard input, and the output is written to standard output:\n\n\
+            "The image is read from standard input, and the output is written to standard \
+             output:\n\n\
              \x20   bootimg list < kernel.uimage\n\n\
              A failure is reported on standard error, and the exit status is then 2.",
         )
@@ -130,7 +131,8 @@ fn list<'a>(alloc: Global) -> Result<Command<'a>, AllocError> {
         .about("List what an image holds")
         .override_usage("bootimg list [OPTIONS] < IMAGE")
         .after_help(
-            "Reads an image from standard input, and writes to standard output its fields, the size\n\
+            "Reads an image from standard input, and writes to standard output its fields, the \
+             size\n\
              and offset of each part, and the number of bytes after the last part.\n\n\
              Example: bootimg list < kernel.uimage",
         )
@@ -154,8 +156,10 @@ fn extract<'a>(alloc: Global) -> Result<Command<'a>, AllocError> {
         .about("Write one part of an image")
         .override_usage("bootimg extract --part <N> [OPTIONS] < IMAGE > PART")
         .after_help(
-            "Reads an image from standard input, and writes the bytes of the part to standard output.\n\
-             The parts of a multi-file image or a script are those in its list of sizes; any other\n\
+            "Reads an image from standard input, and writes the bytes of the part to standard \
+             output.\n\
+             The parts of a multi-file image or a script are those in its list of sizes; any \
+             other\n\
              image has one part.\n\n\
              Numbers are decimal, or hexadecimal with 0x.\n\n\
              Example: bootimg extract --part 1 < multi.uimage > ramdisk",

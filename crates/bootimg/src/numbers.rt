@@ -22,8 +22,10 @@ pub fn parse_number(word: &str) -> Option<u32>
 fn number_of(digits: &str, base: u32) -> Option<u32>
     requires least_base { 2 ≤ base }
     requires most_base { base ≤ 36 }
-    ensures some { IfSome result (λ number. AreDigitsOf base number digits.now × (number < 2 ^ 32)) }
-    ensures exactly { (number : ℕ) → AreDigitsOf base number digits.now → number < 2 ^ 32 → result ≡ Some number }
+    ensures some { IfSome result (λ number. AreDigitsOf base number digits.now
+        × (number < 2 ^ 32)) }
+    ensures exactly { (number : ℕ) → AreDigitsOf base number digits.now → number < 2 ^ 32 → result
+        ≡ Some number }
 {
     if digits.starts_with('+') {
         return None;

@@ -26,7 +26,8 @@ pub fn shown_name(alloc: Global, name: &[u8]) -> Result<String, AllocError>
 
 /// Appends the bytes of a name as they are printed.
 fn put_bytes(text: &mut String, name: &[u8]) -> Result<(), AllocError>
-    ensures { OnOk result (string_bytes text.new ≡ string_bytes text.old ++ flat_map shown_byte name.now) }
+    ensures { OnOk result (string_bytes text.new ≡ string_bytes text.old
+        ++ flat_map shown_byte name.now) }
 {
     for byte in name {
         put_byte(text, *byte)?;

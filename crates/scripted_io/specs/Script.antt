@@ -1,4 +1,5 @@
-use Rattle.std.specs.Prelude.{◌≡◌, ℕ, ◌+◌, ◌-◌, ◌^◌, ◌%◌, ◌&&◌, if◌then◌else◌, nat_lt, nat_le, Option, Some, None, Result, IsErrAnd}
+use Rattle.std.specs.Prelude.{◌≡◌, ℕ, ◌+◌, ◌-◌, ◌^◌, ◌%◌, ◌&&◌, if◌then◌else◌, nat_lt, nat_le}
+use Rattle.std.specs.Prelude.{Option, Some, None, Result, IsErrAnd}
 use Rattle.std.specs.Int.NonZero.{non_zero_u64_get}
 use Rattle.std.specs.IoError.{error_kind}
 use Rattle.std.specs.declared.io.Error.{Error}
@@ -7,7 +8,8 @@ use Rattle.std.specs.declared.io.ErrorKind.TheVariants.{Interrupted, BrokenPipe}
 use Rattle.std.specs.declared.num.NonZeroU64.{NonZeroU64}
 use Rattle.scripted_io.specs.declared.script.Script.{Script}
 use Rattle.scripted_io.specs.declared.script.Turn.{Turn}
-use Rattle.scripted_io.specs.declared.script.Turn.TheVariants.{TakesAll, Takes, IsInterrupted, Fails}
+use Rattle.scripted_io.specs.declared.script.Turn.TheVariants.{TakesAll, Takes, IsInterrupted}
+use Rattle.scripted_io.specs.declared.script.Turn.TheVariants.{Fails}
 
 -- What the calls of a reader or a writer do in tests, by a script (profile of this project).
 
@@ -21,7 +23,8 @@ place_in (Some period) number = number % non_zero_u64_get period
 abbrev pub turn_at : Script → ℕ → Turn
 turn_at script number =
     let place = place_in script.period number in
-    if nat_le script.first place && nat_lt place (script.first + script.calls) then script.turn else script.others
+    if nat_le script.first place && nat_lt place (script.first + script.calls) then script.turn else
+    script.others
 
 -- A call returned an error of this kind.
 abbrev pub FailsBy : {T : Type 0} → ErrorKind → Result T Error → Type 0

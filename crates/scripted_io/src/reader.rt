@@ -1,6 +1,7 @@
 //! Readers that follow scripts.
 
-ghost use Rattle.std.specs.Prelude.{◌≡◌, ◌+◌, ◌-◌, ◌^◌, min, max, length, replicate, Some, None, MatchResult};
+ghost use Rattle.std.specs.Prelude.{◌≡◌, ◌+◌, ◌-◌, ◌^◌, min, max, length, replicate, Some, None};
+ghost use Rattle.std.specs.Prelude.{MatchResult};
 ghost use Rattle.std.specs.Io.{ReadsAtMost};
 ghost use Rattle.std.specs.Io.KnownBytes.{ReadConsumes};
 
@@ -45,9 +46,12 @@ impl<'a> Read for ScriptedReader<'a> {
 
     fn read(&mut self, buffer: &mut [u8]) -> io::Result<usize>
         ensures bound { ReadsAtMost result buffer.new }
-        ensures bytes { ReadConsumes (Some (bytes_left self.old)) (Some (bytes_left self.new)) result buffer.new }
+        ensures bytes { ReadConsumes (Some (bytes_left self.old)) (Some (bytes_left self.new))
+            result buffer.new }
         ensures turn { Follows (turn_at (script_of self.old) self.old.reads)
-            (λ most. result ≡ Ok (min (max most 1) (min (length buffer.old) (length (bytes_left self.old))))) result }
+            (λ most. result
+            ≡ Ok (min (max most 1)
+            (min (length buffer.old) (length (bytes_left self.old))))) result }
         ensures script { script_of self.new ≡ script_of self.old }
         ensures reads { self.new.reads ≡ min (self.old.reads + 1) (2 ^ 64 - 1) }
         ensures taken { MatchResult result
@@ -91,7 +95,8 @@ impl Read for EndlessReader {
         ensures bytes { ReadConsumes None None result buffer.new }
         ensures count { result ≡ Ok (length buffer.old) }
         ensures filled { buffer.new ≡ replicate (length buffer.old) (byte_of self.old) }
-        ensures state { self.new ≡ record self.old { taken = min (self.old.taken + length buffer.old) (2 ^ 64 - 1) } }
+        ensures state { self.new
+            ≡ record self.old { taken = min (self.old.taken + length buffer.old) (2 ^ 64 - 1) } }
     {
         self.taken = self.taken.saturating_add(buffer.len() as u64);
         buffer.fill(self.byte);

@@ -50,10 +50,15 @@ impl Write for ScriptedWriter {
 
     fn write(&mut self, bytes: &[u8]) -> io::Result<usize>
         ensures bound { WritesAtMost result bytes.now }
-        ensures bytes { WriteAppends (Some self.old.held.items) (Some self.new.held.items) result bytes.now }
+        ensures bytes { WriteAppends (Some self.old.held.items) (Some self.new.held.items) result
+            bytes.now }
         ensures turn { Follows (turn_at (writing_of self.old) self.old.writes)
             (λ most. TakesOrLacksMemory self.old.held (min most (length bytes.now)) result) result }
-        ensures state { self.new ≡ record self.old { held = self.new.held; writes = min (self.old.writes + 1) (2 ^ 64 - 1) } }
+        ensures state { self.new ≡ record self.old {
+          held = self.new.held;
+          writes =
+              min (self.old.writes + 1) (2 ^ 64 - 1);
+        } }
     {
         let number = self.writes;
         self.writes = self.writes.saturating_add(1);
@@ -64,8 +69,10 @@ impl Write for ScriptedWriter {
 
     fn flush(&mut self) -> io::Result<()>
         ensures bytes { Keeps (Some self.old.held.items) (Some self.new.held.items) }
-        ensures turn { Follows (turn_at (flushing_of self.old) self.old.flushes) (λ _. IsOk result) result }
-        ensures state { self.new ≡ record self.old { flushes = min (self.old.flushes + 1) (2 ^ 64 - 1) } }
+        ensures turn { Follows (turn_at (flushing_of self.old) self.old.flushes) (λ _. IsOk result)
+            result }
+        ensures state { self.new
+            ≡ record self.old { flushes = min (self.old.flushes + 1) (2 ^ 64 - 1) } }
     {
         let number = self.flushes;
         self.flushes = self.flushes.saturating_add(1);
