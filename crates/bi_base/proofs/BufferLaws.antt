@@ -2,7 +2,6 @@ use Rattle.std.proofs.Common.{◌≡◌, ℕ, List, [], ◌++◌, append-nil, sy
 use Rattle.bi_base.specs.declared.fault.Error.{Error}
 use Rattle.bi_base.specs.BufferedSinks.{Buffered, Holds, Stops}
 use Rattle.bi_base.specs.Sinks.{Wrote}
-use Rattle.bi_base.specs.Traces.{WriteTrace}
 use Rattle.bi_base.specs.Writing.{WroteAll, WriteStopped}
 
 -- A sink that holds bytes back.

@@ -1,11 +1,11 @@
-use Rattle.std.specs.Prelude.{◌≡◌, ℕ, List, [], ◌++◌, Option, refl}
+use Rattle.std.specs.Prelude.{◌≡◌, ℕ, List, [], ◌++◌, refl}
 use Rattle.std.specs.Borrow.{GName}
 use Rattle.std.proofs.Common.{sym, ap, subst, ◌∙◌}
 use Rattle.std.proofs.KnownBytes.{Appends-nil, Appends-trans}
 use Rattle.std.proofs.lemmas.List.{append-nil, append_assoc}
 use Rattle.bi_base.specs.declared.fault.Error.{Error}
 use Rattle.bi_base.specs.declared.buffered_sink.BufferedSink.{BufferedSink}
-use Rattle.bi_base.specs.Sinks.{AppendsPrefix, AppendsNothing, AppendsInTurn, FailsAfter}
+use Rattle.bi_base.specs.Sinks.{AppendsNothing, AppendsInTurn, FailsAfter}
 use Rattle.bi_base.specs.Sinks.{FailsBefore}
 use Rattle.bi_base.specs.SinkLaws.{prefix_more, prefix_after}
 use Rattle.bi_base.specs.Traces.{WriteTrace}

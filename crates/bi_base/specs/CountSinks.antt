@@ -1,4 +1,4 @@
-use Rattle.std.specs.Prelude.{◌≡◌, ℕ, ◌+◌, ◌-◌, ◌^◌, ◌<◌, List, ◌++◌, length, min}
+use Rattle.std.specs.Prelude.{◌≡◌, ℕ, ◌+◌, ◌-◌, ◌^◌, ◌<◌, List, length, min}
 use Rattle.std.proofs.Common.{arith, length-append}
 use Rattle.bi_base.specs.Sinks.{AppendsNothing, AppendsInTurn}
 

@@ -1,4 +1,4 @@
-use Rattle.std.proofs.Common.{◌≡◌, ℕ, List, Option, subst, sym, ap}
+use Rattle.std.proofs.Common.{◌≡◌, ℕ, List, Option, subst, sym}
 use Rattle.std.proofs.KnownBytes.{Keeps-refl}
 use Rattle.bi_base.specs.Limits.{Bounds}
 use Rattle.bi_base.specs.Reading.{IsReadError, ReadWhole}

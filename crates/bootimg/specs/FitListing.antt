@@ -5,7 +5,7 @@ use Rattle.std.specs.Fmt.{decimal}
 use Rattle.bi_base.specs.Cells.{cell8}
 use Rattle.bi_base.specs.Limits.{Bounds}
 use Rattle.bi_blob.specs.Blob.{Reservation, totalsize}
-use Rattle.bi_blob.specs.Tree.{Nodes, none, node, FileNode, names}
+use Rattle.bi_blob.specs.Tree.{Nodes, node, FileNode, names}
 use Rattle.bi_fit.specs.declared.key.Key.{Key}
 use Rattle.bi_fit.specs.File.{FitMeans}
 use Rattle.bi_fit.specs.ImageTree.{ImageTree}

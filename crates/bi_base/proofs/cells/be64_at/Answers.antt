@@ -1,10 +1,10 @@
 use Rattle.bi_base.proofs.cells.be64_at.Goals as goal
-use Rattle.std.proofs.Common.{◌≡◌, ◌+◌, ◌≤◌, length, take, arith, ap, ◌∙◌, refl}
+use Rattle.std.proofs.Common.{◌≡◌, ◌+◌, ◌≤◌, length, take, arith, ap, ◌∙◌}
 use Rattle.std.specs.Int.{from_be_bytes, w64}
 use Rattle.std.proofs.lemmas.List.{take_rest}
 use Rattle.std.proofs.lemmas.Nat.{be_bytes_8}
 use Rattle.std.proofs.lemmas.Grind.{common_steps}
-use Rattle.bi_base.specs.Cells.{AreBytes, cell8, slice, u64_at}
+use Rattle.bi_base.specs.Cells.{AreBytes, cell8, slice}
 use Rattle.bi_base.proofs.CellLaws.{length-slice, AreBytes-slice}
 
 pub returns-clause-inverse : goal.returns-clause-inverse

@@ -1,6 +1,4 @@
-use Rattle.std.proofs.Common.{IfOk, IfErr, subst, sym, ◌∙◌, ap}
 use Rattle.bi_norm.specs.Meaning.{OfLegacy}
-use Rattle.bootimg.specs.Extracting.{IsChosen, IsExtractError}
 use Rattle.bootimg.proofs.Choices.{part_chosen, part_missing}
 use Rattle.bootimg.proofs.extract.extract_part.Goals as goal
 
