@@ -22,3 +22,6 @@ pub mod ReservationFaults
 pub mod Headers
 pub mod Faults
 pub mod Padding
+pub mod EventTrees
+pub mod BeforeTree
+pub mod Lookups

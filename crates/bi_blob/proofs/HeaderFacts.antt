@@ -1,40 +1,54 @@
-use Rattle.std.proofs.Common.{◌≡◌, ℕ, zero, suc, ◌+◌, ◌*◌, ◌≤◌, ◌<◌, refl, inl, inr, lit≤, lit<, arith}
+use Rattle.std.proofs.Common.{◌≡◌, ℕ, zero, suc, ◌+◌, ◌*◌, ◌<◌, refl, lit≤, lit<, arith}
 use Rattle.bi_base.specs.Cells.{cell, u32_at, u64_at}
-use Rattle.bi_blob.specs.BlobFaults.{IsEndPair, InHeader, InReservations}
+use Rattle.bi_blob.specs.BlobFaults.{IsEndPair, InReservations, IsWithinLimit, HasMagicCell, HasMagic, HasHeader, HasVersion, HasCompatibleVersion, TotalHoldsHeader, FileHoldsTotal, PlacesReservations, PlacesStructure, PlacesStrings}
 use Rattle.bi_blob.specs.KnownTexts.{smallest_text}
-use Rattle.bi_blob.specs.KnownFaults.{widest, with_cell, HeadersHaveFaults, ReservationsHaveFaults}
-use Rattle.bi_blob.proofs.HeaderTests.{test, fine_by_test}
+use Rattle.bi_blob.specs.KnownBlobs.{widest, with_cell}
+use Rattle.bi_blob.specs.KnownFaults.{longer_file, HeadersHaveFaults, HeaderChecksHaveOrder, ReservationsHaveFaults}
+use Rattle.bi_blob.proofs.CheckTests.{first_failing}
+use Rattle.bi_blob.proofs.HeaderTests.{test, fine_by_test, in_header}
 
 -- The faults of small files before their structure blocks.
 
--- In each header, the checks up to the one that fails.
+-- In each header, the check that fails.
 pub headers_have_faults : HeadersHaveFaults
-unfolding u32_at cell
+unfolding u32_at cell test first_failing
 headers_have_faults = record {
-  past_limit = InHeader (inl ((λ (wrong : 88 ≤ 87). omega arith), refl));
-  no_bytes = InHeader (inr (lit≤ tt, inl ((λ (wrong : 4 ≤ 0). omega arith), refl)));
-  three_bytes = InHeader (inr (lit≤ tt, inl ((λ (wrong : 4 ≤ 3). omega arith), refl)));
-  other_magic = InHeader (inr (lit≤ tt, inr (lit≤ tt, inl ((λ (wrong : 0x01020304 ≡ 0xd00dfeed). omega arith), refl))));
-  short_header = InHeader (inr (lit≤ tt, inr (lit≤ tt, inr (refl, inl ((λ (wrong : 40 ≤ 39). omega arith), refl)))));
-  version_15 = InHeader (inr (lit≤ tt, inr (lit≤ tt, inr (refl, inr (lit≤ tt, inl ((λ (wrong : 16 ≤ 15). omega arith), refl))))));
-  compatible_18 = InHeader (inr (lit≤ tt, inr (lit≤ tt, inr (refl, inr (lit≤ tt, inr (lit≤ tt, inl ((λ (wrong : 18 ≤ 17). omega arith), refl)))))));
-  total_39 = InHeader (inr (lit≤ tt, inr (lit≤ tt, inr (refl, inr (lit≤ tt, inr (lit≤ tt, inr (lit≤ tt, inl ((λ (wrong : 40 ≤ 39). omega arith), refl))))))));
-  total_past_end = InHeader (inr (lit≤ tt, inr (lit≤ tt, inr (refl, inr (lit≤ tt, inr (lit≤ tt, inr (lit≤ tt, inr (lit≤ tt, inl ((λ (wrong : 89 ≤ 88). omega arith), refl)))))))));
-  reservations_in_header = InHeader (inr (lit≤ tt, inr (lit≤ tt, inr (refl, inr (lit≤ tt, inr (lit≤ tt, inr (lit≤ tt, inr (lit≤ tt, inr (lit≤ tt, inl ((λ wrong. let inside : 40 ≤ 32 = wrong.0 in omega arith), refl))))))))));
-  reservations_unaligned = InHeader (inr (lit≤ tt, inr (lit≤ tt, inr (refl, inr (lit≤ tt, inr (lit≤ tt, inr (lit≤ tt, inr (lit≤ tt, inr (lit≤ tt, inl ((λ wrong. let unaligned : 4 ≡ 0 = wrong.1 in omega arith), refl))))))))));
-  reservations_past_end = InHeader (inr (lit≤ tt, inr (lit≤ tt, inr (refl, inr (lit≤ tt, inr (lit≤ tt, inr (lit≤ tt, inr (lit≤ tt, inr (lit≤ tt, inl ((λ wrong. let past : 96 ≤ 88 = wrong.2 in omega arith), refl))))))))));
-  structure_in_header = InHeader (inr (lit≤ tt, inr (lit≤ tt, inr (refl, inr (lit≤ tt, inr (lit≤ tt, inr (lit≤ tt, inr (lit≤ tt, inr (lit≤ tt, inr ((lit≤ tt, refl, lit≤ tt), inl ((λ wrong. let inside : 40 ≤ 36 = wrong.0 in omega arith), refl)))))))))));
-  structure_unaligned = InHeader (inr (lit≤ tt, inr (lit≤ tt, inr (refl, inr (lit≤ tt, inr (lit≤ tt, inr (lit≤ tt, inr (lit≤ tt, inr (lit≤ tt, inr ((lit≤ tt, refl, lit≤ tt), inl ((λ wrong. let unaligned : 2 ≡ 0 = wrong.1 in omega arith), refl)))))))))));
-  structure_past_end = InHeader (inr (lit≤ tt, inr (lit≤ tt, inr (refl, inr (lit≤ tt, inr (lit≤ tt, inr (lit≤ tt, inr (lit≤ tt, inr (lit≤ tt, inr ((lit≤ tt, refl, lit≤ tt), inl ((λ wrong. let past : 0x10000001c ≤ 88 = wrong.3 in omega arith), refl)))))))))));
-  strings_in_header = InHeader (inr (lit≤ tt, inr (lit≤ tt, inr (refl, inr (lit≤ tt, inr (lit≤ tt, inr (lit≤ tt, inr (lit≤ tt, inr (lit≤ tt, inr ((lit≤ tt, refl, lit≤ tt), inr ((lit≤ tt, refl, lit≤ tt, lit≤ tt), inl ((λ wrong. let inside : 40 ≤ 39 = wrong.0 in omega arith), refl))))))))))));
-  strings_past_end = InHeader (inr (lit≤ tt, inr (lit≤ tt, inr (refl, inr (lit≤ tt, inr (lit≤ tt, inr (lit≤ tt, inr (lit≤ tt, inr (lit≤ tt, inr ((lit≤ tt, refl, lit≤ tt), inr ((lit≤ tt, refl, lit≤ tt, lit≤ tt), inl ((λ wrong. let past : 0xffffffff ≤ 88 = wrong.1 in omega arith), refl))))))))))));
-  version_before_compatible = InHeader (inr (lit≤ tt, inr (lit≤ tt, inr (refl, inr (lit≤ tt, inl ((λ (wrong : 16 ≤ 15). omega arith), refl))))));
-  version_before_total = InHeader (inr (lit≤ tt, inr (lit≤ tt, inr (refl, inr (lit≤ tt, inl ((λ (wrong : 16 ≤ 15). omega arith), refl))))));
-  reservations_before_structure = InHeader (inr (lit≤ tt, inr (lit≤ tt, inr (refl, inr (lit≤ tt, inr (lit≤ tt, inr (lit≤ tt, inr (lit≤ tt, inr (lit≤ tt, inl ((λ wrong. let unaligned : 4 ≡ 0 = wrong.1 in omega arith), refl))))))))));
-  structure_before_strings = InHeader (inr (lit≤ tt, inr (lit≤ tt, inr (refl, inr (lit≤ tt, inr (lit≤ tt, inr (lit≤ tt, inr (lit≤ tt, inr (lit≤ tt, inr ((lit≤ tt, refl, lit≤ tt), inl ((λ wrong. let past : 0x10000001c ≤ 88 = wrong.3 in omega arith), refl)))))))))));
+  past_limit = in_header _ _ IsWithinLimit refl;
+  no_bytes = in_header _ _ HasMagicCell refl;
+  three_bytes = in_header _ _ HasMagicCell refl;
+  other_magic = in_header _ _ HasMagic refl;
+  short_header = in_header _ _ HasHeader refl;
+  version_15 = in_header _ _ HasVersion refl;
+  compatible_18 = in_header _ _ HasCompatibleVersion refl;
+  total_39 = in_header _ _ TotalHoldsHeader refl;
+  total_past_end = in_header _ _ FileHoldsTotal refl;
+  reservations_in_header = in_header _ _ PlacesReservations refl;
+  reservations_unaligned = in_header _ _ PlacesReservations refl;
+  reservations_past_end = in_header _ _ PlacesReservations refl;
+  structure_in_header = in_header _ _ PlacesStructure refl;
+  structure_unaligned = in_header _ _ PlacesStructure refl;
+  structure_past_end = in_header _ _ PlacesStructure refl;
+  strings_in_header = in_header _ _ PlacesStrings refl;
+  strings_past_end = in_header _ _ PlacesStrings refl;
+  reservations_past_total = in_header _ _ PlacesReservations refl;
+  structure_past_total = in_header _ _ PlacesStructure refl;
+  strings_past_total = in_header _ _ PlacesStrings refl;
 }
 
--- In each reservation block, the pairs up to the one that reaches past its end.
+-- Of two checks that fail, the first.
+pub header_checks_have_order : HeaderChecksHaveOrder
+unfolding u32_at cell test first_failing
+header_checks_have_order = record {
+  limit_before_magic = in_header _ _ IsWithinLimit refl;
+  length_before_version = in_header _ _ HasHeader refl;
+  version_before_compatible = in_header _ _ HasVersion refl;
+  version_before_total = in_header _ _ HasVersion refl;
+  compatible_before_total = in_header _ _ HasCompatibleVersion refl;
+  reservations_before_structure = in_header _ _ PlacesReservations refl;
+  structure_before_strings = in_header _ _ PlacesStructure refl;
+}
+
+-- In each reservation block, the pairs up to the one that extends past its end.
 pub reservations_have_faults : ReservationsHaveFaults
 unfolding u32_at u64_at cell test
 reservations_have_faults = record {
@@ -46,6 +60,13 @@ reservations_have_faults = record {
     is = refl;
   });
   at_end = InReservations (fine_by_test widest (with_cell smallest_text 16 88) refl) (record {
+    index = 0;
+    before = λ earlier below. omega arith;
+    fits = lit≤ tt;
+    past = lit< tt;
+    is = refl;
+  });
+  past_total = InReservations (fine_by_test widest (with_cell longer_file 16 80) refl) (record {
     index = 0;
     before = λ earlier below. omega arith;
     fits = lit≤ tt;

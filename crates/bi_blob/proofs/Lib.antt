@@ -1,5 +1,9 @@
 pub mod TextFacts
+pub mod CheckTests
 pub mod HeaderTests
+pub mod TokenTests
+pub mod BlobTests
+pub mod BlobFacts
 pub mod HeaderFacts
 pub mod StructureFacts
 pub mod Blobs

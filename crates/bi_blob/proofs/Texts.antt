@@ -9,6 +9,7 @@ pub mod Length
 pub mod Structure
 pub mod Header
 pub mod Blocks
+pub mod Lengths
 pub mod TextBytes
 pub mod TextBlob
 pub mod EncodedBytes
@@ -19,3 +20,5 @@ pub mod Ordering
 pub mod Accepted
 pub mod Ordered
 pub mod FirstUse
+pub mod Offsets
+pub mod NormalEvents

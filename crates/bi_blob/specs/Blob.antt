@@ -1,13 +1,15 @@
-use Rattle.std.specs.Prelude.{◌≡◌, ℕ, ◌+◌, ◌-◌, ◌%◌, ◌^◌, ◌<◌, ◌≤◌, Bool, ◌==◌, if◌then◌else◌, List, [], ◌∷◌, ◌++◌, length, flat_map}
+use Rattle.std.specs.Prelude.{◌≡◌, ℕ, ◌+◌, ◌-◌, ◌%◌, ◌^◌, ◌<◌, ◌≤◌, Bool, ◌==◌, if◌then◌else◌}
+use Rattle.std.specs.Prelude.{List, [], ◌∷◌, ◌++◌, length, flat_map}
 use Rattle.std.specs.List.{AllByRecursion}
 use Rattle.bi_base.specs.Cells.{cell8, slice, u32_at, AreBytes}
 use Rattle.bi_base.specs.Limits.{Bounds}
 use Rattle.bi_blob.specs.Tokens.{Token, End, AreEncodings}
-use Rattle.bi_blob.specs.Tree.{Root, FileNode, IsTree, AreProperties, tree_without_places, depth_of}
+use Rattle.bi_blob.specs.Tree.{Root, FileNode, IsTree, AreProperties, tree_without_places}
+use Rattle.bi_blob.specs.Tree.{depth_of}
 use Rattle.bi_blob.specs.Events.{EncodeEvents, file_events_of}
 
--- What a file says as a devicetree blob (Devicetree Specification, chapter 5): the number of the boot processor, the
--- memory reservations, and the tree. A file may be longer than its blob
+-- What a file has as a devicetree blob (Devicetree Specification, chapter 5): the number of the
+-- boot processor, the memory reservations and the tree. A file may be longer than its blob
 -- (profile of this project).
 
 -- The cells of the header, by their names in the standard (5.2).
@@ -41,7 +43,7 @@ size_dt_strings file = u32_at file 32
 abbrev pub size_dt_struct : List ℕ → ℕ
 size_dt_struct file = u32_at file 36
 
--- The word that a blob begins with (5.2).
+-- The magic number of a blob (5.2).
 abbrev pub blob_magic : ℕ
 blob_magic = 0xd00dfeed
 
@@ -49,11 +51,12 @@ blob_magic = 0xd00dfeed
 abbrev pub least_version : ℕ
 least_version = 16
 
--- The version that a reader here is of: `last_comp_version` may be this at most (5.1).
+-- The version of the reader: `last_comp_version` is at most this (5.1).
 abbrev pub reader_version : ℕ
 reader_version = 17
 
--- The version whose header ends before `size_dt_struct`: this cell joined with version 17 (5.2).
+-- The version whose header ends before `size_dt_struct`: in libfdt's `fdt.h` this cell is one of
+-- version 17. The Devicetree Specification describes version 17 alone (5.1, 5.2).
 abbrev pub version_without_structure_size : ℕ
 version_without_structure_size = 16
 
@@ -61,23 +64,25 @@ version_without_structure_size = 16
 abbrev pub lacks_structure_size : List ℕ → Bool
 lacks_structure_size file = version file == version_without_structure_size
 
--- How many bytes the header has: ten cells, or nine in version 16 (5.2). In a file too short for the cell of its version
--- what is read there makes no difference: neither length fits.
+-- The number of bytes of the header: ten cells (5.2), or nine in version 16. In a file too short
+-- for the cell of its version what is read there makes no difference: neither length fits.
 abbrev pub header_length : List ℕ → ℕ
 header_length file = if lacks_structure_size file then 36 else 40
 
--- The offset of the structure block's end (5.2). Where the header has no size of the block, it may extend to `totalsize`.
+-- The offset of the structure block's end (5.2). Where the header has no size of the block, it may
+-- extend to `totalsize` (profile of this project).
 abbrev pub structure_end : List ℕ → ℕ
 structure_end file =
     if lacks_structure_size file then totalsize file else off_dt_struct file + size_dt_struct file
 
--- Where the strings block ends (5.2).
+-- The offset of the strings block's end (5.2).
 abbrev pub strings_end : List ℕ → ℕ
 strings_end file = off_dt_strings file + size_dt_strings file
 
--- The header of a blob (5.2, 5.6). The three blocks stand behind the header and before `totalsize`, in any order, and may
--- overlap (profile of this project). That the structure block does not end before it begins (`structure_ordered`) is a
--- condition in version 16 alone, where the block has no size.
+-- The header of a blob (5.2, 5.6). The three blocks are after the header and within `totalsize`,
+-- in any order, and may overlap (profile of this project). That the structure block does not end
+-- before it begins (`structure_ordered`) is a condition in version 16 alone, where the block has
+-- no size.
 pub record Header (file : List ℕ) : Type 0 where
   pub whole : header_length file ≤ length file
   pub is_magic : magic file ≡ blob_magic
@@ -108,8 +113,8 @@ pair_bytes reservation = cell8 reservation.address ++ cell8 reservation.size
 abbrev pub end_pair : Reservation
 end_pair = record { address = 0; size = 0 }
 
--- A reservation that the reservation block can hold: not both numbers are zero (5.3.2; that one of size zero counts is
--- profile of this project).
+-- A reservation that the reservation block can hold: not both numbers are zero (5.3.2; that one of
+-- size zero counts is profile of this project).
 pub record IsReservation (reservation : Reservation) : Type 0 where
   pub address_fits : reservation.address < 2 ^ 64
   pub size_fits : reservation.size < 2 ^ 64
@@ -125,7 +130,8 @@ pub record BeginsWithReservations (bytes : List ℕ) (reservations : List Reserv
   pub trailing : List ℕ
   pub is_at : bytes ≡ reservation_block reservations ++ trailing
 
--- Where a file has its tree: the structure block from `begin` on and before `end`, and the strings block (5.4, 5.5).
+-- Where a file has its tree: the structure block from `begin` to `end`, and the strings block
+-- (5.4, 5.5).
 pub record TreeBlocks : Type 0 where
   pub file : List ℕ
   pub begin : ℕ
@@ -146,8 +152,8 @@ pub record IsReadable (blocks : TreeBlocks) : Type 0 where
   pub bytes : AreBytes blocks.file
   pub within : blocks.end ≤ length blocks.file
 
--- The structure block holds this tree: it begins with tokens that say the tree, and FDT_END behind them (5.4.2; that bytes
--- may stand behind FDT_END is profile of this project).
+-- The structure block holds this tree: it begins with tokens that encode the tree, and FDT_END
+-- after them (5.4.2; that bytes may follow FDT_END is profile of this project).
 pub record HoldsTree (blocks : TreeBlocks) (root : Root FileNode) : Type 0 where
   pub tokens : List Token
   pub structure : List ℕ
@@ -157,13 +163,16 @@ pub record HoldsTree (blocks : TreeBlocks) (root : Root FileNode) : Type 0 where
   pub encodes : EncodeEvents blocks.strings blocks.begin tokens (file_events_of root)
   pub is_tree : IsTree AreProperties (tree_without_places root)
 
--- This file begins with a blob that has this boot processor, these memory reservations and this tree (chapter 5; that a
--- file may be longer than its blob is profile of this project).
-pub record IsBlob (file : List ℕ) (cpu : ℕ) (reservations : List Reservation) (root : Root FileNode) : Type 0 where
+-- This file begins with a blob that has this boot processor, these memory reservations and this
+-- tree (chapter 5; that a file may be longer than its blob is profile of this project).
+pub record IsBlob (file : List ℕ) (cpu : ℕ) (reservations : List Reservation)
+    (root : Root FileNode) : Type 0 where
   pub bytes : AreBytes file
   pub header : Header file
   pub is_cpu : boot_cpuid_phys file ≡ cpu
-  pub reserved : BeginsWithReservations (slice file (off_mem_rsvmap file) (totalsize file - off_mem_rsvmap file)) reservations
+  pub reserved :
+      BeginsWithReservations
+      (slice file (off_mem_rsvmap file) (totalsize file - off_mem_rsvmap file)) reservations
   pub holds : HoldsTree (tree_blocks file) root
 
 -- A file and its tree are no larger than the limits allow (profile of this project).

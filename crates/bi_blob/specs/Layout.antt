@@ -1,19 +1,21 @@
-use Rattle.std.specs.Prelude.{◌≡◌, ℕ, ◌+◌, ◌-◌, ◌^◌, ◌<◌, List, [], ◌∷◌, ◌++◌, map, length, replicate, filter, flat_map, sum_by, not, bytes_eq, if◌then◌else◌}
+use Rattle.std.specs.Prelude.{◌≡◌, ℕ, ◌+◌, ◌-◌, ◌^◌, ◌<◌, List, [], ◌∷◌, ◌++◌, map, length}
+use Rattle.std.specs.Prelude.{replicate, filter, flat_map, sum_by, not, bytes_eq, if◌then◌else◌}
 use Rattle.std.specs.List.{AllByRecursion}
 use Rattle.std.specs.FinMap.{entries}
 use Rattle.bi_base.specs.Cells.{cell, up4, AreBytes}
 use Rattle.bi_blob.specs.Tokens.{Token, BeginNode, EndNode, Prop, End, token_bytes, width}
-use Rattle.bi_blob.specs.Tree.{Nodes, none, node, Root, Property, PropertyMap, FileProperty, FileNode, with_each_node, IsTree, AreProperties, IsNormal}
+use Rattle.bi_blob.specs.Tree.{Nodes, none, node, Root, Property, PropertyMap, FileProperty}
+use Rattle.bi_blob.specs.Tree.{FileNode, with_each_node, IsTree, AreProperties, IsNormal}
 use Rattle.bi_blob.specs.Events.{Event, NodeStart, NodeProperty, NodeEnd, events, events_of}
 use Rattle.bi_blob.specs.Blob.{Reservation, IsReservation, reservation_block, blob_magic}
 
--- The text of a blob as this project lays it out (profile of this project): the header of version 17, the reservation block,
--- the structure block and the strings block stand one behind the other, there is no FDT_NOP, what fills up is zero, and
--- each name of a property stands once in the strings block, in the order of first use; names share no bytes. Properties
--- and children stand in the order of the tree. The text is the normal one where the properties of each node stand by name
--- in byte order.
+-- The text of a blob as this project lays it out (profile of this project): a header of version
+-- 17, the reservation block, the structure block and the strings block, one after the other. There
+-- is no FDT_NOP, padding is zero, and each name of a property is in the strings block once, in the
+-- order of first use; names share no bytes. Properties and children are in the order of the tree.
+-- The text is the normal one where the properties of each node are in byte order of their names.
 
--- The names of properties that a mark uses.
+-- The names of properties that an event uses.
 abbrev pub event_names : Event → List (List ℕ)
 event_names (NodeProperty property) = property.0 ∷ []
 event_names event = []
@@ -22,21 +24,23 @@ event_names event = []
 abbrev pub used_names : List Event → List (List ℕ)
 used_names events = flat_map event_names events
 
--- Each of these names once, where it stands first.
+-- Each of these names once, where it is first.
 abbrev pub distinct_names : List (List ℕ) → List (List ℕ)
 distinct_names [] = []
-distinct_names (name ∷ later) = name ∷ filter (λ other. not (bytes_eq name other)) (distinct_names later)
+distinct_names (name ∷ later) =
+    name ∷ filter (λ other. not (bytes_eq name other)) (distinct_names later)
 
--- These names one behind the other, a zero byte after each (Devicetree Specification, 5.5).
+-- These names one after the other, with a zero byte after each (Devicetree Specification, 5.5).
 abbrev pub strings_of : List (List ℕ) → List ℕ
 strings_of names = flat_map (λ name. name ++ 0 ∷ []) names
 
--- The offset of a name in these: the length of what stands before it.
+-- The offset of a name in these: the length of what comes before it.
 abbrev pub offset_in : List (List ℕ) → List ℕ → ℕ
 offset_in [] name = 0
-offset_in (other ∷ later) name = if bytes_eq other name then 0 else length other + 1 + offset_in later name
+offset_in (other ∷ later) name =
+    if bytes_eq other name then 0 else length other + 1 + offset_in later name
 
--- The zero bytes that fill up what is this long to a multiple of four.
+-- The zero bytes that pad what is this long to a multiple of four.
 abbrev pub padding_to_4 : ℕ → List ℕ
 padding_to_4 size = replicate (up4 size - size) 0
 
@@ -44,29 +48,31 @@ padding_to_4 size = replicate (up4 size - size) 0
 abbrev pub encoding : Token → List ℕ
 encoding token = token_bytes token ++ padding_to_4 (length (token_bytes token))
 
--- The token of a mark, where the strings block has these names.
+-- The token of an event, where the strings block has these names.
 abbrev pub token_of : List (List ℕ) → Event → Token
 token_of names (NodeStart name) = BeginNode name
 token_of names (NodeProperty property) = Prop (offset_in names property.0) property.1
 token_of names NodeEnd = EndNode
 
--- The tokens of these marks, but for FDT_END.
+-- The tokens of these events, without FDT_END.
 abbrev pub tokens_of : List Event → List Token
 tokens_of events = map (token_of (distinct_names (used_names events))) events
 
--- The structure block of these marks (5.4).
+-- The structure block of these events (5.4).
 abbrev pub structure_block : List Event → List ℕ
 structure_block events = flat_map encoding (tokens_of events ++ End ∷ [])
 
--- The strings block of these marks (5.5).
+-- The strings block of these events (5.5).
 abbrev pub strings_block : List Event → List ℕ
 strings_block events = strings_of (distinct_names (used_names events))
 
--- The length of a text before it is filled up, with blocks of these lengths behind a header of 40 bytes.
+-- The length of a text before its padding, with blocks of these lengths after a header of 40
+-- bytes.
 abbrev pub length_before_padding : (reserved structure strings : ℕ) → ℕ
 length_before_padding reserved structure strings = 40 + reserved + structure + strings
 
--- The header of a text with blocks of these lengths: version 17, and a reader of version 16 can read it (5.1, 5.2).
+-- The header of a text with blocks of these lengths: version 17, and a reader of version 16 can
+-- read it (5.1, 5.2).
 abbrev pub blob_header : (cpu reserved structure strings : ℕ) → List ℕ
 blob_header cpu reserved structure strings =
     cell blob_magic
@@ -84,53 +90,67 @@ blob_header cpu reserved structure strings =
 unfoldable pub text_of_blocks : ℕ → (reserved structure strings : List ℕ) → List ℕ
 text_of_blocks cpu reserved structure strings =
     blob_header cpu (length reserved) (length structure) (length strings)
-    ++ (reserved ++ (structure ++ (strings ++ padding_to_4 (length_before_padding (length reserved) (length structure) (length strings)))))
+    ++ (reserved
+    ++ (structure
+    ++ (strings
+    ++ padding_to_4
+    (length_before_padding (length reserved) (length structure) (length strings)))))
 
--- The text of a boot processor, memory reservations and marks.
+-- The text of a boot processor, memory reservations and events.
 unfoldable pub text_of_events : ℕ → List Reservation → List Event → List ℕ
-text_of_events cpu reservations events = text_of_blocks cpu (reservation_block reservations) (structure_block events) (strings_block events)
+text_of_events cpu reservations events =
+    text_of_blocks cpu (reservation_block reservations) (structure_block events)
+    (strings_block events)
 
--- The text of a boot processor, memory reservations and a tree, with its properties in their order.
+-- The text of a boot processor, memory reservations and a tree, with its properties in their
+-- order.
 abbrev pub text_of_tree : ℕ → List Reservation → Root (List Property) → List ℕ
 text_of_tree cpu reservations root = text_of_events cpu reservations (events_of root)
 
--- This is the normal text of a boot processor, memory reservations and a tree: the properties of each node stand by their
--- names in byte order (profile of this project).
-pub record IsNormalText (cpu : ℕ) (reservations : List Reservation) (root : Root (List Property)) (text : List ℕ) : Type 0 where
+-- This is the normal text of a boot processor, memory reservations and a tree: the properties of
+-- each node are in byte order of their names (profile of this project).
+pub record IsNormalText (cpu : ℕ) (reservations : List Reservation)
+    (root : Root (List Property)) (text : List ℕ) : Type 0 where
   pub is_normal : IsNormal root
   pub is_text : text ≡ text_of_tree cpu reservations root
 
--- The tree with these properties by name whose properties stand in byte order: there is one (profile of this project).
+-- The tree with these properties by name, and with the properties of each node in byte order
+-- (profile of this project).
 abbrev pub in_byte_order : Root PropertyMap → Root (List Property)
 in_byte_order root = with_each_node entries root
 
--- How many bytes the token of a mark takes.
+-- The number of bytes of an event's token.
 abbrev pub event_width : Event → ℕ
 event_width (NodeStart name) = width (BeginNode name)
 event_width (NodeProperty property) = width (Prop 0 property.1)
 event_width NodeEnd = width EndNode
 
--- Where the token behind those of these marks stands, if theirs stand from this offset on.
+-- The offset of the token after those of these events, the first of which is at this offset.
 abbrev pub place_after_events : ℕ → List Event → ℕ
 place_after_events at events = at + sum_by event_width events
 
--- Properties with the places of their tokens, if these stand from this offset on.
+-- Properties with the places of their tokens, the first of which is at this offset.
 abbrev pub properties_with_places : ℕ → List Property → List FileProperty
 properties_with_places at [] = []
 properties_with_places at (property ∷ later) =
     record { name = property.0; value = property.1; place = at }
     ∷ properties_with_places (at + event_width (NodeProperty property)) later
 
--- Nodes with the places of their tokens, if these stand from this offset on.
+-- Nodes with the places of their tokens, the first of which is at this offset.
 abbrev pub with_places : ℕ → Nodes (List Property) → Nodes FileNode
 with_places at none = none
 with_places at (node name properties children later) =
     node name
-    (record { place = at; properties = properties_with_places (at + event_width (NodeStart name)) properties })
-    (with_places (place_after_events (at + event_width (NodeStart name)) (map NodeProperty properties)) children)
+    (record {
+      place = at;
+      properties = properties_with_places (at + event_width (NodeStart name)) properties;
+    })
+    (with_places
+    (place_after_events (at + event_width (NodeStart name)) (map NodeProperty properties))
+    children)
     (with_places (place_after_events at (events (node name properties children none))) later)
 
--- Where the structure block stands in a text with these reservations.
+-- The offset of the structure block in a text with these reservations.
 abbrev pub structure_place : List Reservation → ℕ
 structure_place reservations = 40 + length (reservation_block reservations)
 
@@ -139,20 +159,26 @@ abbrev pub tree_with_places : List Reservation → Root (List Property) → Root
 tree_with_places reservations root = record {
   own = record {
     place = structure_place reservations;
-    properties = properties_with_places (structure_place reservations + event_width (NodeStart [])) root.own;
+    properties = properties_with_places (structure_place reservations + event_width (NodeStart []))
+        root.own;
   };
-  children = with_places (place_after_events (structure_place reservations + event_width (NodeStart [])) (map NodeProperty root.own)) root.children;
+  children = with_places
+      (place_after_events (structure_place reservations + event_width (NodeStart []))
+      (map NodeProperty root.own))
+      root.children;
 }
 
--- The names and values of a mark are bytes.
+-- The names and values of an event are bytes.
 abbrev pub AreEventBytes : Event → Type 0
 AreEventBytes (NodeStart name) = AreBytes name
 AreEventBytes (NodeProperty property) = AreBytes property.0 × AreBytes property.1
 AreEventBytes NodeEnd = Unit {0}
 
--- What may be laid out: a boot processor and memory reservations within their ranges of numbers, and a tree with good names,
--- all of whose names and values are bytes. How long values may be is bounded by the length of the text alone.
-pub record IsContent (cpu : ℕ) (reservations : List Reservation) (root : Root (List Property)) : Type 0 where
+-- What may be laid out: a boot processor and memory reservations within their ranges of numbers,
+-- and a tree that a blob can hold, all of whose names and values are bytes. How long values may be
+-- is bounded by the length of the text alone.
+pub record IsContent (cpu : ℕ) (reservations : List Reservation) (root : Root (List Property))
+    : Type 0 where
   pub cpu_fits : cpu < 2 ^ 32
   pub are_reservations : AllByRecursion IsReservation reservations
   pub is_tree : IsTree AreProperties root

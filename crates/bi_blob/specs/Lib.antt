@@ -10,4 +10,5 @@ pub mod Layout
 pub mod BlobLaws
 pub mod TextLaws
 pub mod KnownTexts
+pub mod KnownBlobs
 pub mod KnownFaults

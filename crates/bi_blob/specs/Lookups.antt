@@ -3,8 +3,8 @@ use Rattle.std.specs.List.{slice_get}
 use Rattle.std.specs.Map.{lookup}
 use Rattle.bi_blob.specs.Tree.{Nodes, none, node, Root, Property, FileProperty}
 
--- What a tree has at an index or under a name (Devicetree Specification, 2.2.1, 2.2.4). A name that is there more than once
--- stands for the first.
+-- What a tree has at an index or under a name (Devicetree Specification, 2.2.1, 2.2.4). Where
+-- several have a name, the first of them is found.
 
 -- A node of a list with the nodes after it.
 pub record Sibling (Own : Type 0) : Type 0 where
@@ -30,7 +30,8 @@ node_at nodes index = slice_get (siblings nodes) index
 -- The node of this name in a list.
 abbrev pub node_named : {Own : Type 0} → Nodes Own → List ℕ → Option (Sibling Own)
 node_named nodes name =
-    lookup (λ other. bytes_eq other name) (map (λ sibling. (sibling.name, sibling)) (siblings nodes))
+    lookup (λ other. bytes_eq other name)
+    (map (λ sibling. (sibling.name, sibling)) (siblings nodes))
 
 -- The value of the property of this name.
 abbrev pub value_named : List Property → List ℕ → Option (List ℕ)

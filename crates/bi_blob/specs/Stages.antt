@@ -1,22 +1,23 @@
 use Rattle.std.specs.Prelude.{ℕ, List, [], ◌∷◌, ◌++◌, Bool, ◌||◌, ◌==◌}
-use Rattle.bi_blob.specs.Tokens.{begin_node_number, end_node_number, prop_number, nop_number, end_number}
+use Rattle.bi_blob.specs.Tokens.{begin_node_number, end_node_number, prop_number, nop_number}
+use Rattle.bi_blob.specs.Tokens.{end_number}
 use Rattle.bi_blob.specs.Events.{Event, NodeStart, NodeProperty, NodeEnd}
 
--- Where in its tree a structure block has come to (Devicetree Specification, 5.4.2). A reader of blobs and a writer of them
--- both speak of it.
+-- How far a structure block is in its tree (Devicetree Specification, 5.4.2), for readers and
+-- writers of blobs.
 
 -- An open node: the names of its properties and of its children so far, in order.
 pub record OpenNode : Type 0 where
   pub properties : List (List ℕ)
   pub children : List (List ℕ)
 
--- The root has not begun; some nodes are open, the innermost first; or the root has ended.
+-- The root has not started; some nodes are open, the innermost first; or the root has ended.
 pub data Stage : Type 0 where
   BeforeRoot : Stage
   Inside : (innermost : OpenNode) → (outer : List OpenNode) → Stage
   AfterRoot : Stage
 
--- A node that has just been opened.
+-- A node that has just started.
 abbrev pub empty_node : OpenNode
 empty_node = record { properties = []; children = [] }
 
@@ -28,11 +29,14 @@ with_property innermost name = record innermost { properties = innermost.propert
 abbrev pub with_child : OpenNode → List ℕ → OpenNode
 with_child innermost name = record innermost { children = innermost.children ++ name ∷ [] }
 
--- The stage after one more mark. Outside a node a property and a close change nothing; a node opens always.
+-- The stage after one more event. Outside a node, properties and ends change nothing. A node can
+-- always start.
 abbrev pub next_stage : Stage → Event → Stage
-next_stage (Inside innermost outer) (NodeStart name) = Inside empty_node (with_child innermost name ∷ outer)
+next_stage (Inside innermost outer) (NodeStart name) =
+    Inside empty_node (with_child innermost name ∷ outer)
 next_stage stage (NodeStart name) = Inside empty_node []
-next_stage (Inside innermost outer) (NodeProperty property) = Inside (with_property innermost property.0) outer
+next_stage (Inside innermost outer) (NodeProperty property) =
+    Inside (with_property innermost property.0) outer
 next_stage (Inside innermost (parent ∷ outer)) NodeEnd = Inside parent outer
 next_stage (Inside innermost []) NodeEnd = AfterRoot
 next_stage stage event = stage
@@ -52,10 +56,11 @@ abbrev pub child_names : Stage → List (List ℕ)
 child_names (Inside innermost outer) = innermost.children
 child_names stage = []
 
--- Whether the token of this number may stand next: before the root FDT_NOP and FDT_BEGIN_NODE, inside a node all but FDT_END,
--- after the root FDT_NOP and FDT_END (5.4.2).
+-- Whether the token of this number may come next: before the root FDT_NOP and FDT_BEGIN_NODE,
+-- inside a node all but FDT_END, after the root FDT_NOP and FDT_END (5.4.2).
 abbrev pub is_expected : Stage → ℕ → Bool
 is_expected BeforeRoot number = number == nop_number || number == begin_node_number
 is_expected (Inside innermost outer) number =
-    number == nop_number || number == begin_node_number || number == end_node_number || number == prop_number
+    number == nop_number || number == begin_node_number || number == end_node_number || number ==
+    prop_number
 is_expected AfterRoot number = number == nop_number || number == end_number

@@ -1,7 +1,13 @@
-//! Laws of what a devicetree blob is. Their functions do nothing: what each of them ensures is the law.
+//! Laws of what a devicetree blob is. The functions do nothing: the contract of each is the law.
 
-ghost use Rattle.bi_blob.specs.BlobLaws.{OneBlob, BlobHasNoFault, OneFault, BlobOrFault, BlobWhereNoFault, PassedWhereEncoded};
-ghost use Rattle.bi_blob.specs.KnownFaults.{HeadersHaveFaults, ReservationsHaveFaults, TokensHaveFaults};
+ghost use Rattle.bi_blob.specs.BlobLaws.{OneBlob, BlobHasNoFault, OneFault, BlobOrFault};
+ghost use Rattle.bi_blob.specs.BlobLaws.{BlobWhereNoFault, PassedWhereEncoded};
+ghost use Rattle.bi_blob.specs.BlobLaws.{ClosedEventsHaveOneTree, FaultBeforeTreeComesFirst};
+ghost use Rattle.bi_blob.specs.BlobLaws.{NodesAreFound, PropertiesAreFound};
+ghost use Rattle.bi_blob.specs.KnownBlobs.{FilesAreBlobs, TokensAreNewestFirst};
+ghost use Rattle.bi_blob.specs.KnownFaults.{HeadersHaveFaults, HeaderChecksHaveOrder};
+ghost use Rattle.bi_blob.specs.KnownFaults.{Version16HasFaults, ReservationsHaveFaults};
+ghost use Rattle.bi_blob.specs.KnownFaults.{TokensHaveFaults, TokenChecksHaveOrder};
 
 /// A file is a blob of at most one boot processor, one list of memory reservations and one tree.
 pub fn a_file_is_one_blob()
@@ -28,15 +34,54 @@ pub fn a_file_is_a_blob_where_it_has_no_fault()
     ensures { BlobWhereNoFault }
 {}
 
-/// Tokens of a structure block that pass their checks stand in the file as their spellings, the last of which may end
-/// in any three bytes behind the file.
-pub fn passed_tokens_are_spelled()
+/// Tokens of a structure block that pass their checks are encoded in the file. The padding of the
+/// last of them may end in any three bytes after the file.
+pub fn passed_tokens_are_encoded()
     ensures { PassedWhereEncoded }
 {}
 
-/// Small files that are at fault in their headers have known faults: each check of a header is the first that fails in one.
+/// Events are those of exactly one tree that a blob can hold, within a limit on depth, where each
+/// of them may follow those before it and the last ends the root. The events of each such tree
+/// are so (Devicetree Specification, 5.4.2).
+pub fn closed_events_have_one_tree()
+    ensures { ClosedEventsHaveOneTree }
+{}
+
+/// A file has a fault in its header or its reservation block, which is then its fault; or it has
+/// none there, and its fault, if it has one, is in its structure block.
+pub fn fault_before_tree_comes_first()
+    ensures { FaultBeforeTreeComesFirst }
+{}
+
+/// A node at an index of a list of siblings is found by its name, and a property of a node
+/// likewise, where names are distinct. Nothing else is found by a name. The node at the next index
+/// is the first of the later siblings.
+pub fn names_find_nodes_and_properties()
+    ensures nodes { NodesAreFound }
+    ensures properties { PropertiesAreFound }
+{}
+
+/// Small files are blobs of known boot processors, memory reservations and trees. Among them are
+/// files with FDT_NOP, names that share bytes, properties in any order, blocks that are in any
+/// order, overlap or have free bytes around them, and bytes after the blob; and files of versions
+/// 16 to 18. The first tokens of one of them pass their checks, and lead to a known offset and to
+/// known open nodes.
+pub fn files_are_these_blobs()
+    ensures blobs { FilesAreBlobs }
+    ensures tokens { TokensAreNewestFirst }
+{}
+
+/// Small files that are at fault in their headers have known faults: each check of a header is the
+/// first that fails in one. Of two checks that fail, the first gives the fault.
 pub fn headers_have_these_faults()
     ensures headers { HeadersHaveFaults }
+    ensures order { HeaderChecksHaveOrder }
+{}
+
+/// Small files of version 16 that are at fault have known faults: the header has 36 bytes, and the
+/// structure block may extend to `totalsize`.
+pub fn version_16_has_these_faults()
+    ensures faults { Version16HasFaults }
 {}
 
 /// Small files that are at fault in their memory reservations have known faults.
@@ -44,7 +89,9 @@ pub fn reservations_have_these_faults()
     ensures reservations { ReservationsHaveFaults }
 {}
 
-/// Small files that are at fault in a token have known faults: each check of a token is the first that fails in one.
+/// Small files that are at fault in a token have known faults: each check of a token is the first
+/// that fails in one. Of two checks that fail, the first gives the fault.
 pub fn tokens_have_these_faults()
     ensures tokens { TokensHaveFaults }
+    ensures order { TokenChecksHaveOrder }
 {}

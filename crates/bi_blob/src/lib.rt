@@ -1,5 +1,7 @@
-//! What a devicetree blob is, and the text that one is laid out as: definitions that the reader and the layout both stand
-//! on, and their laws.
+//! What a devicetree blob is, and the text that one is laid out as: definitions, and their laws.
+//!
+//! The reader of blobs and their layout both cite them, and do not depend on each other. The
+//! definitions are in `specs/`. No function here computes anything: the contract of each is a law.
 #![tactic(auto)]
 
 pub mod blob_laws;

@@ -5,22 +5,22 @@ use Rattle.std.proofs.lemmas.Nat.{be_bytes_8, from_be_bytes-to_be_bytes_4, from_
 use Rattle.bi_base.specs.Cells.{cell, cell8, slice, u32_at, u64_at, AreBytes}
 use Rattle.bi_base.proofs.CellLaws.{length-cell, length-slice, AreBytes-slice, cell-u32_at}
 
--- These bytes stand at this offset of a file.
+-- These bytes are at this offset of a file.
 abbrev pub BytesAt : List ℕ → ℕ → List ℕ → Type 0
 BytesAt file at bytes = slice file at (length bytes) ≡ bytes
 
--- Bytes that what follows an offset begins with stand there.
+-- Bytes that the rest of a file from an offset on begins with are there.
 pub BytesAt-from : (file : List ℕ) (at : ℕ) (bytes rest : List ℕ) → drop at file ≡ bytes ++ rest → BytesAt file at bytes
 BytesAt-from file at bytes rest e = ap (take (length bytes)) e ∙ take_at bytes rest (length bytes) refl
 
--- What follows an offset begins with the bytes that stand there.
+-- The rest of a file from an offset on begins with the bytes there.
 pub BytesAt-drop : (file : List ℕ) (at : ℕ) (bytes : List ℕ) → BytesAt file at bytes → drop at file ≡ bytes ++ drop (at + length bytes) file
 BytesAt-drop file at bytes e =
     sym (take-append-drop (length bytes) (drop at file))
     ∙ ap (λ l. l ++ drop (length bytes) (drop at file)) e
     ∙ ap (λ l. bytes ++ l) (drop-drop (length bytes) at file)
 
--- Bytes that stand at an offset are within the file.
+-- Bytes at an offset are within the file.
 pub BytesAt-within : (file : List ℕ) (at : ℕ) (bytes : List ℕ) → 0 < length bytes → BytesAt file at bytes → at + length bytes ≤ length file
 BytesAt-within file at bytes some e =
     let long : length (slice file at (length bytes)) ≡ length bytes = ap length e in
@@ -28,11 +28,11 @@ BytesAt-within file at bytes some e =
     let left : length (drop at file) ≡ length file - at = length-drop at file in
     omega arith
 
--- The first of two lists that stand together stands there.
+-- The first of two lists at an offset is there.
 pub BytesAt-left : (file : List ℕ) (at : ℕ) (a b : List ℕ) → BytesAt file at (a ++ b) → BytesAt file at a
 BytesAt-left file at a b e = BytesAt-from file at a (b ++ drop (at + length (a ++ b)) file) (BytesAt-drop file at (a ++ b) e ∙ append_assoc a b _)
 
--- The second stands behind it.
+-- The second is after it.
 pub BytesAt-right : (file : List ℕ) (at : ℕ) (a b : List ℕ) → BytesAt file at (a ++ b) → BytesAt file (at + length a) b
 BytesAt-right file at a b e =
     BytesAt-from file (at + length a) b (drop (at + length (a ++ b)) file)
@@ -40,18 +40,18 @@ BytesAt-right file at a b e =
     ∙ ap (drop (length a)) (BytesAt-drop file at (a ++ b) e ∙ append_assoc a b _)
     ∙ drop_at a (b ++ drop (at + length (a ++ b)) file) (length a) refl)
 
--- Two lists of which one stands behind the other stand together.
+-- Two lists, one after the other, are there together.
 pub BytesAt-join : (file : List ℕ) (at : ℕ) (a b : List ℕ) → BytesAt file at a → BytesAt file (at + length a) b → BytesAt file at (a ++ b)
 BytesAt-join file at a b one other =
     BytesAt-from file at (a ++ b) (drop (at + length a + length b) file)
     (BytesAt-drop file at a one ∙ ap (λ l. a ++ l) (BytesAt-drop file (at + length a) b other) ∙ sym (append_assoc a b _))
 
--- A cell that stands at an offset is read there.
+-- A cell at an offset is read there.
 pub u32_at-BytesAt : (file : List ℕ) (at n : ℕ) → n < 2 ^ 32 → BytesAt file at (cell n) → u32_at file at ≡ n
 unfolding u32_at cell
 u32_at-BytesAt file at n fits e = ap (from_be_bytes w32) e ∙ from_be_bytes-to_be_bytes_4 n fits
 
--- The cell that is read at an offset stands there.
+-- The cell that is read at an offset is there.
 pub BytesAt-cell : (file : List ℕ) (at : ℕ) → AreBytes file → at + 4 ≤ length file → BytesAt file at (cell (u32_at file at))
 BytesAt-cell file at bytes within =
     ap (slice file at) (length-cell (u32_at file at)) ∙ sym (cell-u32_at file at bytes within)
@@ -67,18 +67,18 @@ unfolding cell8
 cell8_agree m n m_fits n_fits e =
     sym (from_be_bytes-to_be_bytes_8 m m_fits) ∙ ap (from_be_bytes w64) e ∙ from_be_bytes-to_be_bytes_8 n n_fits
 
--- Two cells that stand at an offset are read there.
+-- Two cells at an offset are read there.
 pub u64_at-BytesAt : (file : List ℕ) (at n : ℕ) → n < 2 ^ 64 → BytesAt file at (cell8 n) → u64_at file at ≡ n
 unfolding u64_at cell8
 u64_at-BytesAt file at n fits e = ap (from_be_bytes w64) e ∙ from_be_bytes-to_be_bytes_8 n fits
 
--- The two cells that are read at an offset stand there.
+-- The two cells that are read at an offset are there.
 pub BytesAt-cell8 : (file : List ℕ) (at : ℕ) → AreBytes file → at + 8 ≤ length file → BytesAt file at (cell8 (u64_at file at))
 unfolding u64_at cell8
 BytesAt-cell8 file at bytes within =
     sym (be_bytes_8 (slice file at 8) (from_be_bytes w64 (slice file at 8)) (length-slice file at 8 within) (AreBytes-slice file at 8 bytes).each refl)
 
--- What eight bytes say is below 2^64.
+-- The number of eight bytes is below 2^64.
 from_be_bytes_8-fits : (bytes : List ℕ) → ((i : ℕ) → get_or bytes i 0 < 256) → from_be_bytes w64 bytes < 2 ^ 64
 from_be_bytes_8-fits bytes each =
     let a : get_or bytes 0 0 < 256 = each 0 in

@@ -4,9 +4,9 @@ use Rattle.bi_blob.specs.Tokens.{Token, BeginNode, EndNode, Prop, Nop, End, widt
 use Rattle.bi_blob.specs.Tree.{FileProperty}
 use Rattle.bi_blob.specs.Events.{FileEvent, FileNodeStart, FileNodeProperty, FileNodeEnd, EncodeEvents, EncodesProperty}
 use Rattle.bi_blob.proofs.Blobs.Names.{one_name}
-use Rattle.bi_blob.proofs.Blobs.TokenEncoding.{behind_all}
+use Rattle.bi_blob.proofs.Blobs.TokenEncoding.{place_after_all}
 
--- A token says one property at most.
+-- A token encodes at most one property.
 one_property : (strings : List ℕ) (at o : ℕ) (v : List ℕ) (p q : FileProperty) → EncodesProperty strings at o v p → EncodesProperty strings at o v q → p ≡ q
 one_property strings at o v p q one other =
     let same_name : p.name ≡ q.name = one_name strings o p.name q.name one.name other.name in
@@ -14,24 +14,24 @@ one_property strings at o v p q one other =
     let same_place : p.place ≡ q.place = sym one.place ∙ other.place in
     λ i. record { name = same_name i; value = same_value i; place = same_place i }
 
--- Tokens say one thing at most.
-pub one_saying : (strings : List ℕ) (at : ℕ) (tokens : List Token) (a b : List FileEvent) → EncodeEvents strings at tokens a → EncodeEvents strings at tokens b → a ≡ b
-one_saying strings at [] [] [] one other = refl
-one_saying strings at (Nop ∷ tokens) a b one other = one_saying strings (at + width Nop) tokens a b one other
-one_saying strings at (BeginNode n ∷ tokens) (FileNodeStart p k ∷ a) (FileNodeStart q m ∷ b) one other =
+-- Tokens encode at most one list of events.
+pub one_event_list : (strings : List ℕ) (at : ℕ) (tokens : List Token) (a b : List FileEvent) → EncodeEvents strings at tokens a → EncodeEvents strings at tokens b → a ≡ b
+one_event_list strings at [] [] [] one other = refl
+one_event_list strings at (Nop ∷ tokens) a b one other = one_event_list strings (at + width Nop) tokens a b one other
+one_event_list strings at (BeginNode n ∷ tokens) (FileNodeStart p k ∷ a) (FileNodeStart q m ∷ b) one other =
     let same_name : k ≡ m = sym one.0.same_name ∙ other.0.same_name in
     let same_place : p ≡ q = sym one.0.same_place ∙ other.0.same_place in
-    let rest : a ≡ b = one_saying strings (at + width (BeginNode n)) tokens a b one.1 other.1 in
+    let rest : a ≡ b = one_event_list strings (at + width (BeginNode n)) tokens a b one.1 other.1 in
     λ i. FileNodeStart (same_place i) (same_name i) ∷ rest i
-one_saying strings at (Prop o v ∷ tokens) (FileNodeProperty p ∷ a) (FileNodeProperty q ∷ b) one other =
+one_event_list strings at (Prop o v ∷ tokens) (FileNodeProperty p ∷ a) (FileNodeProperty q ∷ b) one other =
     let same : p ≡ q = one_property strings at o v p q one.0 other.0 in
-    let rest : a ≡ b = one_saying strings (at + width (Prop o v)) tokens a b one.1 other.1 in
+    let rest : a ≡ b = one_event_list strings (at + width (Prop o v)) tokens a b one.1 other.1 in
     λ i. FileNodeProperty (same i) ∷ rest i
-one_saying strings at (EndNode ∷ tokens) (FileNodeEnd ∷ a) (FileNodeEnd ∷ b) one other =
-    ap (λ l. FileNodeEnd ∷ l) (one_saying strings (at + width EndNode) tokens a b one other)
-one_saying strings at tokens a b one other = absurd (assumption (one, other))
+one_event_list strings at (EndNode ∷ tokens) (FileNodeEnd ∷ a) (FileNodeEnd ∷ b) one other =
+    ap (λ l. FileNodeEnd ∷ l) (one_event_list strings (at + width EndNode) tokens a b one other)
+one_event_list strings at tokens a b one other = absurd (assumption (one, other))
 
--- Tokens that say something have no FDT_END among them.
+-- Tokens that encode events have no FDT_END among them.
 pub EncodeEvents-no_end : (strings : List ℕ) (at : ℕ) (tokens : List Token) (token_events : List FileEvent) → EncodeEvents strings at tokens token_events → AllByRecursion (λ t. t ≢ End) tokens
 EncodeEvents-no_end strings at [] [] encodes = tt
 EncodeEvents-no_end strings at (Nop ∷ tokens) token_events encodes = ((λ (e : Nop ≡ End). absurd cc), EncodeEvents-no_end strings (at + width Nop) tokens token_events encodes)
@@ -43,8 +43,8 @@ EncodeEvents-no_end strings at (EndNode ∷ tokens) (FileNodeEnd ∷ token_event
     ((λ (e : EndNode ≡ End). absurd cc), EncodeEvents-no_end strings (at + width EndNode) tokens token_events encodes)
 EncodeEvents-no_end strings at tokens token_events encodes = absurd encodes
 
--- Tokens that say one thing, and then tokens that say another, say both.
-pub EncodeEvents-append : (strings : List ℕ) (at : ℕ) (ts us : List Token) (a b : List FileEvent) → EncodeEvents strings at ts a → EncodeEvents strings (behind_all at ts) us b → EncodeEvents strings at (ts ++ us) (a ++ b)
+-- Tokens that encode events, and then tokens that encode others, encode all of them.
+pub EncodeEvents-append : (strings : List ℕ) (at : ℕ) (ts us : List Token) (a b : List FileEvent) → EncodeEvents strings at ts a → EncodeEvents strings (place_after_all at ts) us b → EncodeEvents strings at (ts ++ us) (a ++ b)
 EncodeEvents-append strings at [] us [] b first second = second
 EncodeEvents-append strings at (Nop ∷ ts) us a b first second = EncodeEvents-append strings (at + width Nop) ts us a b first second
 EncodeEvents-append strings at (BeginNode n ∷ ts) us (FileNodeStart p k ∷ a) b first second =

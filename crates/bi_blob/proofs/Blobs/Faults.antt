@@ -30,25 +30,25 @@ blob_has_no_fault bounds file fault within (InStructure fine count has faulty) =
     no_fault_in_ended (tree_blocks file) bounds.depth ends.0 fault ends.1 faulty
 
 -- A header has no fault where its checks pass.
-fine_or_faulty : (bounds : Bounds) (file : List ℕ) (fault : Fault) → HasNoHeaderFault bounds file → IsHeaderFault bounds file fault → ⊥
-fine_or_faulty bounds file fault fine first = not_both (HeaderPasses bounds file) (header_fault bounds) header_checks fault fine first
+no_fault_or_fault : (bounds : Bounds) (file : List ℕ) (fault : Fault) → HasNoHeaderFault bounds file → IsHeaderFault bounds file fault → ⊥
+no_fault_or_fault bounds file fault fine first = not_both (HeaderPasses bounds file) (header_fault bounds) header_checks fault fine first
 
 pub one_blob_fault : OneFault
 one_blob_fault bounds file f g (InHeader one) (InHeader other) = one_fault (HeaderPasses bounds file) (header_fault bounds) header_checks f g one other
-one_blob_fault bounds file f g (InHeader one) (InReservations fine other) = absurd (fine_or_faulty bounds file f fine one)
-one_blob_fault bounds file f g (InHeader one) (InStructure fine count has other) = absurd (fine_or_faulty bounds file f fine one)
-one_blob_fault bounds file f g (InReservations fine one) (InHeader other) = absurd (fine_or_faulty bounds file g fine other)
+one_blob_fault bounds file f g (InHeader one) (InReservations fine other) = absurd (no_fault_or_fault bounds file f fine one)
+one_blob_fault bounds file f g (InHeader one) (InStructure fine count has other) = absurd (no_fault_or_fault bounds file f fine one)
+one_blob_fault bounds file f g (InReservations fine one) (InHeader other) = absurd (no_fault_or_fault bounds file g fine other)
 one_blob_fault bounds file f g (InReservations fine one) (InReservations too other) =
     one_reservations_fault file (off_mem_rsvmap file) (totalsize file) f g one other
 one_blob_fault bounds file f g (InReservations fine one) (InStructure too count has other) =
     absurd (no_reservations_with_fault file (off_mem_rsvmap file) (totalsize file) count f has one)
-one_blob_fault bounds file f g (InStructure fine count has one) (InHeader other) = absurd (fine_or_faulty bounds file g fine other)
+one_blob_fault bounds file f g (InStructure fine count has one) (InHeader other) = absurd (no_fault_or_fault bounds file g fine other)
 one_blob_fault bounds file f g (InStructure fine count has one) (InReservations too other) =
     absurd (no_reservations_with_fault file (off_mem_rsvmap file) (totalsize file) count g has other)
 one_blob_fault bounds file f g (InStructure fine count has one) (InStructure too other_count has_too other) =
     one_structure_fault (tree_blocks file) bounds.depth f g one other
 
--- A file with a good header, reservations and a tree is a blob within the limits.
+-- A file with a header without fault, reservations and a tree is a blob within the limits.
 pub blob_of_parts : (bounds : Bounds) (file : List ℕ) (count : ℕ) → AreBytes file → HasNoHeaderFault bounds file → HasReservations file (off_mem_rsvmap file) (totalsize file) count → HasTree (tree_blocks file) bounds.depth → IsBlobWithin bounds file
 blob_of_parts bounds file count bytes fine has tree =
     let header : Header file = HasNoHeaderFault-Header bounds file fine in

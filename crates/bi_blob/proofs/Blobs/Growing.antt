@@ -26,7 +26,7 @@ pub names_of_properties : (ps : List FileProperty) → map (λ (q : Property). q
 names_of_properties [] = refl
 names_of_properties (p ∷ ps) = ap (λ l. p.name ∷ l) (names_of_properties ps)
 
--- Good properties stay so with one more whose name is good and new.
+-- Properties that a node may have, and one more with a valid and new name.
 pub AreProperties-push : (ps : List FileProperty) (p : FileProperty) → AreProperties (map property_of ps) → IsPropertyName p.name → IsNew p.name (map (λ (q : FileProperty). q.name) ps) → AreProperties (map property_of (ps ++ p ∷ []))
 AreProperties-push ps p are is_name is_new =
     subst AreProperties (sym (map_push property_of ps p)) (record {
@@ -60,7 +60,7 @@ depth-with_last (node n o cs later) name own children limit first last =
     let rest : depth (with_last later name own children) ≤ limit = depth-with_last later name own children limit (omega arith) last in
     omega arith
 
--- Good nodes stay so with one more at their end that is good and has a new name.
+-- Nodes that a tree may have, and one more at their end with a valid and new name.
 pub AreNodes-with_last : {Own : Type 0} (IsOwn : Own → Type 0) (nodes : Nodes Own) (name : List ℕ) (own : Own) (children : Nodes Own) → AreNodes IsOwn nodes → IsChildName name → IsNew name (names nodes) → IsOwn own → AreNodes IsOwn children → AreNodes IsOwn (with_last nodes name own children)
 AreNodes-with_last IsOwn none name own children are is_name is_new is_own are_children =
     (record { is_name = is_name; is_own = is_own; is_new = tt }, are_children, tt)
@@ -89,7 +89,7 @@ no_children : (nodes : Nodes FileNode) → names nodes ≡ [] → nodes ≡ none
 no_children none e = refl
 no_children (node n l cs later) e = absurd cc
 
--- An open node without children says one thing more after one more property.
+-- One more property of an open node without children is one more event.
 said_of-property : (o : PartialNode) (p : FileProperty) → names o.children ≡ [] → said_of (with_one_property o p) ≡ said_of o ++ FileNodeProperty p ∷ []
 said_of-property o p childless =
     let bare : o.children ≡ none = no_children o.children childless in
@@ -99,13 +99,13 @@ said_of-property o p childless =
     ∙ map_push FileNodeProperty o.properties p
     ∙ ap (λ l. l ++ FileNodeProperty p ∷ []) (sym (append-nil (map FileNodeProperty o.properties)) ∙ ap (λ c. map FileNodeProperty o.properties ++ file_events c) (sym bare)))
 
--- What all open nodes say after one more property of the innermost.
+-- The events of all open nodes after one more property of the innermost.
 pub said_by-property : (o : PartialNode) (outer : List PartialNode) (p : FileProperty) → names o.children ≡ [] → said_by (with_one_property o p) outer ≡ said_by o outer ++ FileNodeProperty p ∷ []
 said_by-property o [] p childless = said_of-property o p childless
 said_by-property o (parent ∷ outer) p childless =
     ap (λ l. said_by parent outer ++ l) (said_of-property o p childless) ∙ sym (append_assoc (said_by parent outer) (said_of o) (FileNodeProperty p ∷ []))
 
--- What a node says when it is closed.
+-- The events of a node when it has ended.
 said_of-closed : (child : PartialNode) → file_events (node child.name (located_of child) child.children none) ≡ said_of child ++ FileNodeEnd ∷ []
 said_of-closed child =
     ap (λ l. FileNodeStart child.place child.name ∷ l) (sym (append_assoc (map FileNodeProperty child.properties) (file_events child.children) (FileNodeEnd ∷ [])))
@@ -116,7 +116,7 @@ said_of-child parent child =
     (file_events-with_last parent.children child.name (located_of child) child.children ∙ ap (λ l. file_events parent.children ++ l) (said_of-closed child))
     ∙ ap (λ l. FileNodeStart parent.place parent.name ∷ l) (sym (append_assoc (map FileNodeProperty parent.properties) (file_events parent.children) (said_of child ++ FileNodeEnd ∷ [])))
 
--- What all open nodes say after the innermost is closed.
+-- The events of all open nodes after the innermost has ended.
 pub said_by-child : (parent child : PartialNode) (outer : List PartialNode) → said_by (with_one_child parent child) outer ≡ said_by child (parent ∷ outer) ++ FileNodeEnd ∷ []
 said_by-child parent child [] = said_of-child parent child ∙ sym (append_assoc (said_of parent) (said_of child) (FileNodeEnd ∷ []))
 said_by-child parent child (grandparent ∷ outer) =
@@ -124,7 +124,7 @@ said_by-child parent child (grandparent ∷ outer) =
     ∙ sym (append_assoc (said_by grandparent outer) (said_of parent) (said_of child ++ FileNodeEnd ∷ []))
     ∙ sym (append_assoc (said_by grandparent outer ++ said_of parent) (said_of child) (FileNodeEnd ∷ []))
 
--- What a tree says is what its root says when it is closed.
+-- The events of a tree are those of its root when it has ended.
 pub said_by-root : (outermost : PartialNode) → outermost.name ≡ [] → file_events_of (root_of outermost) ≡ said_of outermost ++ FileNodeEnd ∷ []
 said_by-root outermost unnamed =
     ap (λ n. file_events (node n (located_of outermost) outermost.children none)) (sym unnamed) ∙ said_of-closed outermost

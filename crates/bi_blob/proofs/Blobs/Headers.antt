@@ -84,7 +84,7 @@ Header-HasNoHeaderFault bounds file short header =
       ),
     )
 
--- The blocks of a tree behind a good header are within the file.
+-- The blocks of a tree are within the file, where the header is one of a blob.
 pub Header-IsReadable : (file : List ℕ) → AreBytes file → Header file → IsReadable (tree_blocks file)
 Header-IsReadable file bytes header =
     let structure : structure_end file ≤ totalsize file = header.structure_within in

@@ -22,7 +22,7 @@ before_zero-cons byte rest = by_test (byte == 0) where
   by_test true = refl
   by_test false = rw one-add refl
 
--- A name is what stands before the zero byte behind it.
+-- A name is the bytes before the zero byte that ends it.
 pub before_zero-name : (name rest : List ℕ) → HasNoZero name → before_zero (name ++ 0 ∷ rest) ≡ name
 before_zero-name [] rest no_zero = refl
 before_zero-name (byte ∷ name) rest no_zero =
@@ -30,7 +30,7 @@ before_zero-name (byte ∷ name) rest no_zero =
     ∙ ap (λ zero. cond zero [] (byte ∷ before_zero (name ++ 0 ∷ rest))) (ne_eqb byte 0 no_zero.0)
     ∙ ap (λ l. byte ∷ l) (before_zero-name name rest no_zero.1)
 
--- What stands before the first zero byte has none.
+-- The bytes before the first zero byte have none.
 pub HasNoZero-before_zero : (bytes : List ℕ) → HasNoZero (before_zero bytes)
 HasNoZero-before_zero [] = tt
 HasNoZero-before_zero (byte ∷ rest) =
@@ -39,12 +39,12 @@ HasNoZero-before_zero (byte ∷ rest) =
       by_test true e none = tt
       by_test false e none = (eqb-false byte 0 e, none)
 
--- Where it is not all, a zero byte stands behind it.
-pub zero_behind : (bytes : List ℕ) → length (before_zero bytes) < length bytes → bytes ≡ before_zero bytes ++ 0 ∷ drop (suc (length (before_zero bytes))) bytes
-zero_behind [] shorter = absurd (omega arith)
-zero_behind (byte ∷ rest) shorter =
+-- Where these are not all bytes, a zero byte follows.
+pub zero_after : (bytes : List ℕ) → length (before_zero bytes) < length bytes → bytes ≡ before_zero bytes ++ 0 ∷ drop (suc (length (before_zero bytes))) bytes
+zero_after [] shorter = absurd (omega arith)
+zero_after (byte ∷ rest) shorter =
     subst (λ front. length front < suc (length rest) → byte ∷ rest ≡ front ++ 0 ∷ drop (suc (length front)) (byte ∷ rest))
-    (sym (before_zero-cons byte rest)) (by_test (byte == 0) refl (zero_behind rest)) shorter where
+    (sym (before_zero-cons byte rest)) (by_test (byte == 0) refl (zero_after rest)) shorter where
       by_test : (zero : Bool) → (byte == 0) ≡ zero
           → (length (before_zero rest) < length rest → rest ≡ before_zero rest ++ 0 ∷ drop (suc (length (before_zero rest))) rest)
           → length (cond zero [] (byte ∷ before_zero rest)) < suc (length rest)
@@ -52,7 +52,7 @@ zero_behind (byte ∷ rest) shorter =
       by_test true e later within = ap (λ b. b ∷ rest) (eqb-true byte 0 e)
       by_test false e later within = ap (λ l. byte ∷ l) (later (omega arith))
 
--- What stands before the first zero byte is no longer than all.
+-- The bytes before the first zero byte are no more than all.
 pub length_before_zero : (bytes : List ℕ) → length (before_zero bytes) ≤ length bytes
 length_before_zero [] = omega arith
 length_before_zero (byte ∷ rest) =
@@ -65,16 +65,16 @@ length_before_zero (byte ∷ rest) =
 pub names_agree : (m n x y : List ℕ) → HasNoZero m → HasNoZero n → m ++ 0 ∷ x ≡ n ++ 0 ∷ y → m ≡ n
 names_agree m n x y m_name n_name e = sym (before_zero-name m x m_name) ∙ ap before_zero e ∙ before_zero-name n y n_name
 
--- One name at most stands at an offset.
+-- At most one name is at an offset.
 pub one_name : (strings : List ℕ) (offset : ℕ) (m n : List ℕ) → IsNameAt strings offset m → IsNameAt strings offset n → m ≡ n
 one_name strings offset m n one other =
     names_agree m n one.trailing other.trailing one.no_zero other.no_zero (sym one.is_at ∙ other.is_at)
 
--- A name that stands at an offset is the one that is read from there.
+-- A name at an offset is the one that is read there.
 pub name_from-IsNameAt : (strings : List ℕ) (offset : ℕ) (name : List ℕ) → IsNameAt strings offset name → name_from strings offset ≡ name
 name_from-IsNameAt strings offset name at = ap before_zero at.is_at ∙ before_zero-name name at.trailing at.no_zero
 
--- Where a name stands, its zero byte stands before the end.
+-- The zero byte of a name at an offset is before the end.
 pub IsNameAt-within : (strings : List ℕ) (offset : ℕ) (name : List ℕ) → IsNameAt strings offset name → offset + length name < length strings
 IsNameAt-within strings offset name at =
     let long : length (drop offset strings) ≡ length name + suc (length at.trailing) = ap length at.is_at ∙ simp length-append refl in
@@ -85,10 +85,10 @@ pub IsNameAt-HasName : (strings : List ℕ) (offset : ℕ) (name : List ℕ) →
 IsNameAt-HasName strings offset name at =
     subst (λ read. offset + length read < length strings) (sym (name_from-IsNameAt strings offset name at)) (IsNameAt-within strings offset name at)
 
--- Where a zero byte follows an offset before an end, a name stands there.
+-- A name is at an offset that a zero byte before an end follows.
 pub HasName-IsNameAt : (bytes : List ℕ) (offset end : ℕ) → end ≤ length bytes → HasName bytes offset end → IsNameAt bytes offset (name_from bytes offset)
 HasName-IsNameAt bytes offset end within has = record {
   no_zero = HasNoZero-before_zero (drop offset bytes);
   trailing = drop (suc (length (name_from bytes offset))) (drop offset bytes);
-  is_at = zero_behind (drop offset bytes) (rw (length-drop offset bytes) (omega arith));
+  is_at = zero_after (drop offset bytes) (rw (length-drop offset bytes) (omega arith));
 }

@@ -5,12 +5,12 @@ use Rattle.bi_blob.specs.Tokens.{Token, End}
 use Rattle.bi_blob.specs.Events.{EncodeEvents, file_events_of}
 use Rattle.bi_blob.specs.Blob.{TreeBlocks, HoldsTree, tree_blocks}
 use Rattle.bi_blob.specs.BlobLaws.{OneBlob}
-use Rattle.bi_blob.proofs.Blobs.TokenEncoding.{AllStand, AreEncodings-stand, one_spelling}
-use Rattle.bi_blob.proofs.Blobs.EventEncoding.{one_saying, EncodeEvents-no_end}
+use Rattle.bi_blob.proofs.Blobs.TokenEncoding.{AllStand, AreEncodings-stand, one_token_list}
+use Rattle.bi_blob.proofs.Blobs.EventEncoding.{one_event_list, EncodeEvents-no_end}
 use Rattle.bi_blob.proofs.Blobs.Trees.{trees_agree}
 use Rattle.bi_blob.proofs.Blobs.Reservations.{reservations_agree}
 
--- The tokens of a block's tree stand from the block's beginning on.
+-- The tokens of a block's tree are at the block's beginning.
 pub HoldsTree-stand : (blocks : TreeBlocks) (root : Root FileNode) (holds : HoldsTree blocks root) → AllStand blocks.file blocks.begin (holds.tokens ++ End ∷ [])
 HoldsTree-stand blocks root holds =
     let size : ℕ = blocks.end - blocks.begin in
@@ -23,12 +23,12 @@ HoldsTree-stand blocks root holds =
 pub one_tree : (blocks : TreeBlocks) (a b : Root FileNode) → HoldsTree blocks a → HoldsTree blocks b → a ≡ b
 one_tree blocks a b one other =
     let same : one.tokens ≡ other.tokens =
-    one_spelling blocks.file blocks.begin one.tokens other.tokens
+    one_token_list blocks.file blocks.begin one.tokens other.tokens
     (EncodeEvents-no_end blocks.strings blocks.begin one.tokens (file_events_of a) one.encodes)
     (EncodeEvents-no_end blocks.strings blocks.begin other.tokens (file_events_of b) other.encodes)
     (HoldsTree-stand blocks a one) (HoldsTree-stand blocks b other) in
     trees_agree a b
-    (one_saying blocks.strings blocks.begin other.tokens (file_events_of a) (file_events_of b)
+    (one_event_list blocks.strings blocks.begin other.tokens (file_events_of a) (file_events_of b)
     (subst (λ (ts : List Token). EncodeEvents blocks.strings blocks.begin ts (file_events_of a)) same one.encodes) other.encodes)
 
 -- A file is a blob in one way at most.

@@ -12,13 +12,13 @@ use Rattle.bi_blob.proofs.Blobs.Tokens.{one_token}
 -- Of two lists of tokens that a structure block begins with, one is a beginning of the other; so a block has one fault at most.
 
 module _ (blocks : TreeBlocks) (depth_limit : ℕ) where
-  -- The token behind these passes its checks.
-  abbrev pub TokenIsFine : List Token → Type 0
-  TokenIsFine before =
+  -- The token after these passes its checks.
+  abbrev pub TokenHasNoFault : List Token → Type 0
+  TokenHasNoFault before =
       HasNoFault (TokenPasses blocks depth_limit (place_after blocks before) (stage_after blocks.strings before))
       (token_checks (u32_at blocks.file (place_after blocks before)))
 
-  -- The first check that fails of the token behind these gives this fault.
+  -- The first check that fails of the token after these gives this fault.
   abbrev pub TokenFault : List Token → Fault → Type 0
   TokenFault before fault =
       IsFirstFault (TokenPasses blocks depth_limit (place_after blocks before) (stage_after blocks.strings before))
@@ -27,32 +27,32 @@ module _ (blocks : TreeBlocks) (depth_limit : ℕ) where
       fault
 
   -- Two equally long lists of tokens that pass are one.
-  pub same_walk : (ts us : List Token) → ArePassed blocks depth_limit ts → ArePassed blocks depth_limit us → length ts ≡ length us → ts ≡ us
-  same_walk [] [] one other e = refl
-  same_walk [] (u ∷ us) one other e = absurd (omega arith)
-  same_walk (t ∷ ts) [] one other e = absurd (omega arith)
-  same_walk (t ∷ ts) (u ∷ us) one other e =
-      let before : ts ≡ us = same_walk ts us one.1 other.1 (omega arith) in
+  pub one_beginning : (ts us : List Token) → ArePassed blocks depth_limit ts → ArePassed blocks depth_limit us → length ts ≡ length us → ts ≡ us
+  one_beginning [] [] one other e = refl
+  one_beginning [] (u ∷ us) one other e = absurd (omega arith)
+  one_beginning (t ∷ ts) [] one other e = absurd (omega arith)
+  one_beginning (t ∷ ts) (u ∷ us) one other e =
+      let before : ts ≡ us = one_beginning ts us one.1 other.1 (omega arith) in
       let same : t ≡ u = one_token blocks.file (place_after blocks us) t u
       (subst (λ vs. IsTokenAt blocks.file (place_after blocks vs) t) before one.0.is_at) other.0.is_at in
       λ i. same i ∷ before i
 
-  -- A list of tokens that pass goes on with one that passes, where a longer list passes.
-  pub passed_behind : (ts us : List Token) → ArePassed blocks depth_limit ts → ArePassed blocks depth_limit us → length ts < length us → (u : Token) × IsPassed blocks depth_limit ts u
-  passed_behind ts [] one other less = absurd (omega arith)
-  passed_behind ts (u ∷ us) one other less =
+  -- Where a longer list of tokens passes, the token after a shorter one passes.
+  pub passed_after : (ts us : List Token) → ArePassed blocks depth_limit ts → ArePassed blocks depth_limit us → length ts < length us → (u : Token) × IsPassed blocks depth_limit ts u
+  passed_after ts [] one other less = absurd (omega arith)
+  passed_after ts (u ∷ us) one other less =
       elim (cases_order (length ts) (length us)) [
-        | inl same ↦ (u, subst (λ vs. IsPassed blocks depth_limit vs u) (sym (same_walk ts us one other.1 same)) other.0)
+        | inl same ↦ (u, subst (λ vs. IsPassed blocks depth_limit vs u) (sym (one_beginning ts us one other.1 same)) other.0)
         | inr unequal ↦ elim unequal [
-          | inl shorter ↦ passed_behind ts us one other.1 shorter
+          | inl shorter ↦ passed_after ts us one other.1 shorter
           | inr longer ↦ absurd (omega arith)
         ]
       ]
 
-  -- No fault stands before the end of tokens that pass.
+  -- There is no fault before the end of tokens that pass.
   pub no_fault_before : (ts us : List Token) (fault : Fault) → ArePassed blocks depth_limit ts → ArePassed blocks depth_limit us → length ts < length us → TokenFault ts fault → ⊥
   no_fault_before ts us fault one other less first =
-      let next : (u : Token) × IsPassed blocks depth_limit ts u = passed_behind ts us one other less in
+      let next : (u : Token) × IsPassed blocks depth_limit ts u = passed_after ts us one other less in
       not_both _ _ (token_checks (u32_at blocks.file (place_after blocks ts))) fault next.1.passes first
 
   -- A structure block has one fault at most.
@@ -60,7 +60,7 @@ module _ (blocks : TreeBlocks) (depth_limit : ℕ) where
   one_structure_fault f g one other =
       elim (cases_order (length one.before) (length other.before)) [
         | inl same ↦
-            let before : one.before ≡ other.before = same_walk one.before other.before one.passed other.passed same in
+            let before : one.before ≡ other.before = one_beginning one.before other.before one.passed other.passed same in
             one_fault _ _ (token_checks (u32_at blocks.file (place_after blocks other.before))) f g
             (subst (λ ts. TokenFault ts f) before one.first) other.first
         | inr unequal ↦ elim unequal [
@@ -69,23 +69,23 @@ module _ (blocks : TreeBlocks) (depth_limit : ℕ) where
         ]
       ]
 
-  -- The block ends with FDT_END behind these tokens: all pass, and so does it.
+  -- The block ends with FDT_END after these tokens: all pass, and so does it.
   pub record IsEnded (tokens : List Token) : Type 0 where
     pub passed : ArePassed blocks depth_limit tokens
     pub end : IsTokenAt blocks.file (place_after blocks tokens) End
-    pub passes : TokenIsFine tokens
+    pub passes : TokenHasNoFault tokens
 
   -- A block that ends has no fault.
   pub no_fault_in_ended : (tokens : List Token) (fault : Fault) → IsEnded tokens → IsStructureFault blocks depth_limit fault → ⊥
   no_fault_in_ended tokens fault ended other =
       elim (cases_order (length other.before) (length tokens)) [
         | inl same ↦
-            let before : other.before ≡ tokens = same_walk other.before tokens other.passed ended.passed same in
+            let before : other.before ≡ tokens = one_beginning other.before tokens other.passed ended.passed same in
             not_both _ _ (token_checks (u32_at blocks.file (place_after blocks tokens))) fault ended.passes
             (subst (λ ts. TokenFault ts fault) before other.first)
         | inr unequal ↦ elim unequal [
           | inl shorter ↦ no_fault_before other.before tokens fault other.passed ended.passed shorter other.first
-          | inr longer ↦ past_end (passed_behind tokens other.before ended.passed other.passed longer)
+          | inr longer ↦ past_end (passed_after tokens other.before ended.passed other.passed longer)
         ]
       ] where
         past_end : (u : Token) × IsPassed blocks depth_limit tokens u → ⊥

@@ -9,19 +9,19 @@ use Rattle.bi_blob.specs.BlobFaults.{TokenPasses, token_checks, stage_after, pla
 use Rattle.bi_blob.specs.BlobLaws.{AllTokensPass, PassedWhereEncoded}
 use Rattle.bi_blob.proofs.Blobs.Names.{one_name, HasName-IsNameAt}
 use Rattle.bi_blob.proofs.Blobs.Tokens.{number, length-token_bytes, IsTokenAt-number, IsTokenAt-within, BeginNode-name, Prop-parts}
-use Rattle.bi_blob.proofs.Blobs.TokenEncoding.{behind_all, AllStand, AreEncodings-stand}
+use Rattle.bi_blob.proofs.Blobs.TokenEncoding.{place_after_all, AllStand, AreEncodings-stand}
 use Rattle.bi_blob.proofs.Blobs.Passing.{length-Prop}
-use Rattle.bi_blob.proofs.Blobs.PassedTokens.{reverse-cons, behind_all-reverse, ArePassed-stand, stand_Spelled}
+use Rattle.bi_blob.proofs.Blobs.PassedTokens.{reverse-cons, place_after_all-reverse, ArePassed-stand, AllStand-encoded}
 
--- Tokens that pass are spelled in the file with three bytes behind it, and the other way round.
+-- Tokens that pass are encoded in the file with three bytes after it, and the converse.
 
--- A slice of a file stays as it is where bytes are put behind the file.
+-- A slice of a file is the same with further bytes after the file.
 slice-trailing : (file trailing : List ℕ) (at n : ℕ) → at + n ≤ length file → slice (file ++ trailing) at n ≡ slice file at n
 slice-trailing file trailing at n within =
     ap (take n) (drop-append-le at file trailing (omega arith))
     ∙ take-append-le n (drop at file) trailing (rw (length-drop at file) (omega arith))
 
--- A token stays where it stands.
+-- A token in a file is in the longer file.
 IsTokenAt-trailing : (file trailing : List ℕ) (at : ℕ) (token : Token) → IsTokenAt file at token → IsTokenAt (file ++ trailing) at token
 IsTokenAt-trailing file trailing at token is_at = record {
   is_token = is_at.is_token;
@@ -39,12 +39,12 @@ ArePassed-AllTokensPass blocks depth_limit [] passed = tt
 ArePassed-AllTokensPass blocks depth_limit (token ∷ before) passed =
     (passed.0.no_end, passed.0.passes, ArePassed-AllTokensPass blocks depth_limit before passed.1)
 
--- A cell of a file is read the same where bytes are put behind the file.
+-- A cell of a file is the same with further bytes after the file.
 u32_at-trailing : (file trailing : List ℕ) (at : ℕ) → at + 4 ≤ length file → u32_at (file ++ trailing) at ≡ u32_at file at
 unfolding u32_at
 u32_at-trailing file trailing at within = rw (slice-trailing file trailing at 4 within) refl
 
--- A name of a file stands where bytes are put behind the file.
+-- A name in a file is in the longer file.
 IsNameAt-trailing : (file trailing : List ℕ) (at : ℕ) (name : List ℕ) → at ≤ length file → IsNameAt file at name → IsNameAt (file ++ trailing) at name
 IsNameAt-trailing file trailing at name within named = record {
   no_zero = named.no_zero;
@@ -52,7 +52,7 @@ IsNameAt-trailing file trailing at name within named = record {
   is_at = drop-append-le at file trailing within ∙ ap (λ l. l ++ trailing) named.is_at ∙ append_assoc name (0 ∷ named.trailing) trailing;
 }
 
--- A token that stands in the longer file and whose bytes the file has stands in the file.
+-- A token in the longer file whose bytes the file has is in the file.
 IsTokenAt-shorter : (file trailing : List ℕ) (at : ℕ) (token : Token) → at + length (token_bytes token) ≤ length file → IsTokenAt (file ++ trailing) at token → IsTokenAt file at token
 IsTokenAt-shorter file trailing at token within is_at = record {
   is_token = is_at.is_token;
@@ -93,23 +93,23 @@ module _ (blocks : TreeBlocks) (depth_limit place : ℕ) (stage : Stage) (traili
     by_token Nop is_at checks = let long : length (token_bytes Nop) ≡ 4 = length-token_bytes Nop in omega arith
     by_token End is_at checks = let long : length (token_bytes End) ≡ 4 = length-token_bytes End in omega arith
 
--- Of tokens and one behind them that stand together, the tokens stand and the one behind them stands there.
-AllStand-last : (file : List ℕ) (at : ℕ) (tokens : List Token) (t : Token) → AllStand file at (tokens ++ t ∷ []) → AllStand file at tokens × IsTokenAt file (behind_all at tokens) t
+-- Where tokens with one more at their end are in a file, the tokens are, and the last one is after them.
+AllStand-last : (file : List ℕ) (at : ℕ) (tokens : List Token) (t : Token) → AllStand file at (tokens ++ t ∷ []) → AllStand file at tokens × IsTokenAt file (place_after_all at tokens) t
 AllStand-last file at [] t stand = (tt, stand.0)
 AllStand-last file at (u ∷ tokens) t stand =
-    let rest : AllStand file (at + width u) tokens × IsTokenAt file (behind_all (at + width u) tokens) t = AllStand-last file (at + width u) tokens t stand.1 in
+    let rest : AllStand file (at + width u) tokens × IsTokenAt file (place_after_all (at + width u) tokens) t = AllStand-last file (at + width u) tokens t stand.1 in
     ((stand.0, rest.0), rest.1)
 
--- Tokens that pass their checks and stand in the longer file are passed.
+-- Tokens in the longer file that pass their checks are passed.
 AllTokensPass-ArePassed : (blocks : TreeBlocks) (depth_limit : ℕ) (tokens : List Token) (trailing : List ℕ) → IsReadable blocks → AllTokensPass blocks depth_limit tokens → AllStand (blocks.file ++ trailing) blocks.begin (reverse tokens) → ArePassed blocks depth_limit tokens
 AllTokensPass-ArePassed blocks depth_limit [] trailing readable pass stand = tt
 AllTokensPass-ArePassed blocks depth_limit (token ∷ before) trailing readable pass stand =
     let place : ℕ = place_after blocks before in
-    let parts : AllStand (blocks.file ++ trailing) blocks.begin (reverse before) × IsTokenAt (blocks.file ++ trailing) (behind_all blocks.begin (reverse before)) token =
+    let parts : AllStand (blocks.file ++ trailing) blocks.begin (reverse before) × IsTokenAt (blocks.file ++ trailing) (place_after_all blocks.begin (reverse before)) token =
     AllStand-last (blocks.file ++ trailing) blocks.begin (reverse before) token
     (subst (AllStand (blocks.file ++ trailing) blocks.begin) (reverse-cons token before) stand) in
     let there : IsTokenAt (blocks.file ++ trailing) place token =
-    subst (λ p. IsTokenAt (blocks.file ++ trailing) p token) (behind_all-reverse blocks before) parts.1 in (
+    subst (λ p. IsTokenAt (blocks.file ++ trailing) p token) (place_after_all-reverse blocks before) parts.1 in (
       record {
         no_end = pass.0;
         is_at = IsTokenAt-shorter blocks.file trailing place token
@@ -119,7 +119,7 @@ AllTokensPass-ArePassed blocks depth_limit (token ∷ before) trailing readable 
       AllTokensPass-ArePassed blocks depth_limit before trailing readable pass.2 parts.0,
     )
 
--- Tokens that pass are spelled in the longer file: the last of them ends at most three bytes behind the file.
+-- Tokens that pass are encoded in the longer file: the last of them ends at most three bytes after the file.
 ArePassed-is_encoded : (blocks : TreeBlocks) (depth_limit : ℕ) (tokens : List Token) (trailing : List ℕ) → length trailing ≡ 3 → ArePassed blocks depth_limit tokens → AreEncodings (reverse tokens) (slice (blocks.file ++ trailing) blocks.begin (place_after blocks tokens - blocks.begin))
 ArePassed-is_encoded blocks depth_limit [] trailing three passed =
     ap (λ n. take n (drop blocks.begin (blocks.file ++ trailing))) (none blocks.begin) where
@@ -129,15 +129,15 @@ ArePassed-is_encoded blocks depth_limit (token ∷ before) trailing three passed
     let long : length (blocks.file ++ trailing) ≡ length blocks.file + length trailing = length-append blocks.file trailing in
     let within : place_after blocks before + length (token_bytes token) ≤ length blocks.file =
     IsTokenAt-within blocks.file (place_after blocks before) token passed.0.is_at in
-    let place : behind_all blocks.begin (reverse (token ∷ before)) ≡ place_after blocks (token ∷ before) =
-    behind_all-reverse blocks (token ∷ before) in
+    let place : place_after_all blocks.begin (reverse (token ∷ before)) ≡ place_after blocks (token ∷ before) =
+    place_after_all-reverse blocks (token ∷ before) in
     subst (λ p. AreEncodings (reverse (token ∷ before)) (slice (blocks.file ++ trailing) blocks.begin (p - blocks.begin))) place
-    (stand_Spelled (blocks.file ++ trailing) blocks.begin (reverse (token ∷ before))
+    (AllStand-encoded (blocks.file ++ trailing) blocks.begin (reverse (token ∷ before))
     (AllStand-trailing blocks.file trailing blocks.begin (reverse (token ∷ before)) (ArePassed-stand blocks depth_limit (token ∷ before) passed))
     (omega arith))
 
-pub walked_where_spelled : PassedWhereEncoded
-walked_where_spelled blocks depth_limit tokens trailing readable three = (
+pub passed_where_encoded : PassedWhereEncoded
+passed_where_encoded blocks depth_limit tokens trailing readable three = (
   (λ passed. (ArePassed-AllTokensPass blocks depth_limit tokens passed, ArePassed-is_encoded blocks depth_limit tokens trailing three passed)),
   (λ both.
       let size : ℕ = place_after blocks tokens - blocks.begin in

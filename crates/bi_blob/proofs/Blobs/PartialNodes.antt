@@ -8,20 +8,20 @@ use Rattle.bi_blob.specs.BlobFaults.{stage_after, ArePassed, place_after}
 
 -- What is known of a tree while the structure block that holds it is read, token by token.
 
--- A node that has begun and has not ended: its name, the place of its token, and its properties and children so far.
+-- A node that has started and has not ended: its name, the place of its token, and its properties and children so far.
 pub record PartialNode : Type 0 where
   pub name : List ℕ
   pub place : ℕ
   pub properties : List FileProperty
   pub children : Nodes FileNode
 
--- How much of the tree has been read: the root has not begun; some nodes are open, each in the next; or all of it.
+-- How much of the tree has been read: nothing; some nodes are open, each inside the next; or all of it.
 pub data Growth : Type 0 where
   NotBegun : Growth
   Growing : (innermost : PartialNode) → (outer : List PartialNode) → Growth
   Grown : (root : Root FileNode) → Growth
 
--- A node that has just begun.
+-- A node that has just started.
 abbrev pub begun : List ℕ → ℕ → PartialNode
 begun name place = record { name = name; place = place; properties = []; children = none }
 
@@ -52,7 +52,7 @@ root_of outermost = record { own = located_of outermost; children = outermost.ch
 abbrev pub open_of : PartialNode → OpenNode
 open_of innermost = record { properties = map (λ p. p.name) innermost.properties; children = names innermost.children }
 
--- The names that the nodes round an open node of this name have so far, the open node's among them.
+-- The names that the nodes around an open node of this name have so far, the name of the open node included.
 abbrev pub opens_of : List ℕ → List PartialNode → List OpenNode
 opens_of name [] = []
 opens_of name (parent ∷ outer) = with_child (open_of parent) name ∷ opens_of parent.name outer
@@ -63,29 +63,29 @@ stage_of NotBegun = BeforeRoot
 stage_of (Growing innermost outer) = Inside (open_of innermost) (opens_of innermost.name outer)
 stage_of (Grown root) = AfterRoot
 
--- What an open node says so far.
+-- The events of an open node so far.
 abbrev pub said_of : PartialNode → List FileEvent
 said_of innermost =
     FileNodeStart innermost.place innermost.name ∷ (map FileNodeProperty innermost.properties ++ file_events innermost.children)
 
--- What open nodes say so far, the innermost given apart.
+-- The events of open nodes so far, the innermost of which is given first.
 abbrev pub said_by : PartialNode → List PartialNode → List FileEvent
 said_by innermost [] = said_of innermost
 said_by innermost (parent ∷ outer) = said_by parent outer ++ said_of innermost
 
--- What has been said so far.
+-- The events so far.
 abbrev pub said_so_far : Growth → List FileEvent
 said_so_far NotBegun = []
 said_so_far (Growing innermost outer) = said_by innermost outer
 said_so_far (Grown root) = file_events_of root
 
--- An open node is as it has to be so far, where `above` nodes are open round it.
+-- A node that may be open, where `above` nodes are open around it.
 pub record IsOpenNode (depth_limit above : ℕ) (innermost : PartialNode) : Type 0 where
   pub properties : AreProperties (map property_of innermost.properties)
   pub children : AreNodes AreProperties (with_each properties_of innermost.children)
   pub shallow : depth innermost.children + above + 1 ≤ depth_limit
 
--- An open node may be a child of the node round it.
+-- An open node may be a child of the node around it.
 pub record MayBeChild (parent child : PartialNode) : Type 0 where
   pub is_name : IsChildName child.name
   pub is_new : IsNew child.name (names parent.children)
@@ -107,8 +107,8 @@ IsGrowth depth_limit NotBegun = Unit {0}
 IsGrowth depth_limit (Growing innermost outer) = AreOpenNodes depth_limit innermost outer
 IsGrowth depth_limit (Grown root) = IsWholeTree depth_limit root
 
--- A reader stands at this offset of a structure block: tokens that pass their checks, the newest first here, stand before it,
--- and they say what has been read.
+-- The state of a reader at this offset of a structure block: tokens that pass their checks, listed with the newest first, are before it,
+-- and they encode what has been read.
 pub record Standing (blocks : TreeBlocks) (depth_limit place : ℕ) (growth : Growth) : Type 0 where
   pub readable : IsReadable blocks
   pub tokens : List Token

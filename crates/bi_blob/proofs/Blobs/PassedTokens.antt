@@ -12,52 +12,52 @@ use Rattle.bi_blob.specs.BlobFaults.{TokenPasses, token_checks, token_events, st
 use Rattle.bi_base.proofs.CellLaws.{length-cell, length-slice, slice-first, slice-rest}
 use Rattle.bi_blob.proofs.Blobs.PartialNodes.{Growth, stage_of, said_so_far, IsGrowth, Standing}
 use Rattle.bi_blob.proofs.Blobs.Tokens.{width-at_least}
-use Rattle.bi_blob.proofs.Blobs.TokenEncoding.{behind_all, behind_all-append, AllStand}
+use Rattle.bi_blob.proofs.Blobs.TokenEncoding.{place_after_all, place_after_all-append, AllStand}
 use Rattle.bi_blob.proofs.Blobs.EventEncoding.{EncodeEvents-append}
 
 -- FDT_END takes four bytes.
 pub width-End : width End ≡ 4
 width-End = ap up4 (length-cell end_number)
 
--- The oldest of tokens come first where they are turned round.
+-- The oldest of tokens comes first in the reverse list.
 pub reverse-cons : (t : Token) (before : List Token) → reverse (t ∷ before) ≡ reverse before ++ t ∷ []
 reverse-cons t before = reverse-append (t ∷ []) before
 
--- Where the token behind tokens stands, the newest first, is where it stands with the oldest first.
-pub behind_all-reverse : (blocks : TreeBlocks) (tokens : List Token) → behind_all blocks.begin (reverse tokens) ≡ place_after blocks tokens
-behind_all-reverse blocks [] = refl
-behind_all-reverse blocks (t ∷ before) =
-    ap (behind_all blocks.begin) (reverse-cons t before)
-    ∙ behind_all-append blocks.begin (reverse before) (t ∷ [])
-    ∙ ap (λ p. p + width t) (behind_all-reverse blocks before)
+-- The offset after tokens listed with the newest first, and with the oldest first, is the same.
+pub place_after_all-reverse : (blocks : TreeBlocks) (tokens : List Token) → place_after_all blocks.begin (reverse tokens) ≡ place_after blocks tokens
+place_after_all-reverse blocks [] = refl
+place_after_all-reverse blocks (t ∷ before) =
+    ap (place_after_all blocks.begin) (reverse-cons t before)
+    ∙ place_after_all-append blocks.begin (reverse before) (t ∷ [])
+    ∙ ap (λ p. p + width t) (place_after_all-reverse blocks before)
 
--- Tokens that stand one behind the other stand so with one more behind them.
-AllStand-push : (file : List ℕ) (at : ℕ) (tokens : List Token) (t : Token) → AllStand file at tokens → IsTokenAt file (behind_all at tokens) t → AllStand file at (tokens ++ t ∷ [])
+-- Tokens one after the other, and one more after them.
+AllStand-push : (file : List ℕ) (at : ℕ) (tokens : List Token) (t : Token) → AllStand file at tokens → IsTokenAt file (place_after_all at tokens) t → AllStand file at (tokens ++ t ∷ [])
 AllStand-push file at [] t all last = (last, tt)
 AllStand-push file at (u ∷ tokens) t all last = (all.0, AllStand-push file (at + width u) tokens t all.1 last)
 
--- Tokens that pass stand one behind the other, with one more behind them.
+-- Tokens that pass are in the file one after the other, with one more after them.
 pub ArePassed-stand : (blocks : TreeBlocks) (depth_limit : ℕ) (tokens : List Token) → ArePassed blocks depth_limit tokens → AllStand blocks.file blocks.begin (reverse tokens)
 ArePassed-stand blocks depth_limit [] passed = tt
 ArePassed-stand blocks depth_limit (t ∷ before) passed =
     subst (AllStand blocks.file blocks.begin) (sym (reverse-cons t before))
     (AllStand-push blocks.file blocks.begin (reverse before) t (ArePassed-stand blocks depth_limit before passed.1)
-    (subst (λ p. IsTokenAt blocks.file p t) (sym (behind_all-reverse blocks before)) passed.0.is_at))
+    (subst (λ p. IsTokenAt blocks.file p t) (sym (place_after_all-reverse blocks before)) passed.0.is_at))
 
--- The same with a token behind them.
+-- The same with a token after them.
 pub ArePassed-stand-push : (blocks : TreeBlocks) (depth_limit : ℕ) (tokens : List Token) (t : Token) → ArePassed blocks depth_limit tokens → IsTokenAt blocks.file (place_after blocks tokens) t → AllStand blocks.file blocks.begin (reverse tokens ++ t ∷ [])
 ArePassed-stand-push blocks depth_limit tokens t passed last =
     AllStand-push blocks.file blocks.begin (reverse tokens) t (ArePassed-stand blocks depth_limit tokens passed)
-    (subst (λ p. IsTokenAt blocks.file p t) (sym (behind_all-reverse blocks tokens)) last)
+    (subst (λ p. IsTokenAt blocks.file p t) (sym (place_after_all-reverse blocks tokens)) last)
 
--- What stands behind tokens does not stand before them.
-pub behind_all-past : (at : ℕ) (tokens : List Token) → at ≤ behind_all at tokens
-behind_all-past at [] = omega arith
-behind_all-past at (t ∷ later) = let rest : at + width t ≤ behind_all (at + width t) later = behind_all-past (at + width t) later in omega arith
+-- What is after tokens is not before them.
+pub place_after_all-past : (at : ℕ) (tokens : List Token) → at ≤ place_after_all at tokens
+place_after_all-past at [] = omega arith
+place_after_all-past at (t ∷ later) = let rest : at + width t ≤ place_after_all (at + width t) later = place_after_all-past (at + width t) later in omega arith
 
--- A token that stands at an offset is spelled by the bytes there, where the file has them all.
-stand_Spells : (file : List ℕ) (at : ℕ) (t : Token) → IsTokenAt file at t → at + width t ≤ length file → IsEncoding t (slice file at (width t))
-stand_Spells file at t is_at within =
+-- The bytes at the offset of a token are its encoding, where the file has them all.
+IsTokenAt-encoded : (file : List ℕ) (at : ℕ) (t : Token) → IsTokenAt file at t → at + width t ≤ length file → IsEncoding t (slice file at (width t))
+IsTokenAt-encoded file at t is_at within =
     let long : ℕ = length (token_bytes t) in
     let padded : long ≤ width t = (width-at_least t).1 in
     record {
@@ -70,27 +70,27 @@ stand_Spells file at t is_at within =
       sum : {a b : ℕ} → a ≤ b → b ≡ a + (b - a)
       sum {a} {b} le = omega arith
 
--- Tokens that stand one behind the other are spelled by the bytes there, where the file has them all.
-pub stand_Spelled : (file : List ℕ) (at : ℕ) (tokens : List Token) → AllStand file at tokens → behind_all at tokens ≤ length file → AreEncodings tokens (slice file at (behind_all at tokens - at))
-stand_Spelled file at [] stand within = ap (λ n. slice file at n) (none at) where
+-- The bytes at the offset of tokens are their encodings, where the file has them all.
+pub AllStand-encoded : (file : List ℕ) (at : ℕ) (tokens : List Token) → AllStand file at tokens → place_after_all at tokens ≤ length file → AreEncodings tokens (slice file at (place_after_all at tokens - at))
+AllStand-encoded file at [] stand within = ap (λ n. slice file at n) (none at) where
   none : (n : ℕ) → n - n ≡ 0
   none n = omega arith
-stand_Spelled file at (t ∷ later) stand within =
+AllStand-encoded file at (t ∷ later) stand within =
     let w : ℕ = width t in
-    let end : ℕ = behind_all (at + w) later in
-    let past : at + w ≤ end = behind_all-past (at + w) later in
+    let end : ℕ = place_after_all (at + w) later in
+    let past : at + w ≤ end = place_after_all-past (at + w) later in
     let within_here : end ≤ length file = within in
     let room : w ≤ end - at = omega arith in
     let sum : end - at ≡ w + (end - (at + w)) = omega arith in
     let fits : at + w ≤ length file = omega arith in (
-      subst (IsEncoding t) (sym (slice-first file at w (end - at) room)) (stand_Spells file at t stand.0 fits),
+      subst (IsEncoding t) (sym (slice-first file at w (end - at) room)) (IsTokenAt-encoded file at t stand.0 fits),
       subst (AreEncodings later) (sym (slice-rest file at w (end - at) (end - (at + w)) sum))
-          (stand_Spelled file (at + w) later stand.1 within_here),
+          (AllStand-encoded file (at + w) later stand.1 within_here),
     )
 
--- A reader that stands at a token which passes stands behind it, where what was read grows by what the token says.
+-- The state of a reader after one more token that passes, where what was read grows by the events of the token.
 pub stand_more : (blocks : TreeBlocks) (depth_limit place : ℕ) (old new : Growth) (t : Token) (more : List FileEvent) → Standing blocks depth_limit place old → t ≢ End → IsTokenAt blocks.file place t → HasNoFault (TokenPasses blocks depth_limit place (stage_of old)) (token_checks (u32_at blocks.file place)) → EncodeEvents blocks.strings place (t ∷ []) more → said_so_far new ≡ said_so_far old ++ more → fold next_stage (stage_of old) (token_events blocks.strings t) ≡ stage_of new → IsGrowth depth_limit new → Standing blocks depth_limit (place + width t) new
-stand_more blocks depth_limit place old new t more standing no_end is_at passes says grown staged is_growth = record {
+stand_more blocks depth_limit place old new t more standing no_end is_at passes encodes_events grown staged is_growth = record {
   readable = standing.readable;
   tokens = t ∷ standing.tokens;
   passed = (
@@ -108,6 +108,6 @@ stand_more blocks depth_limit place old new t more standing no_end is_at passes 
   encodes = subst (λ ts. EncodeEvents blocks.strings blocks.begin ts (said_so_far new)) (sym (reverse-cons t standing.tokens))
       (subst (EncodeEvents blocks.strings blocks.begin (reverse standing.tokens ++ t ∷ [])) (sym grown)
       (EncodeEvents-append blocks.strings blocks.begin (reverse standing.tokens) (t ∷ []) (said_so_far old) more standing.encodes
-      (subst (λ p. EncodeEvents blocks.strings p (t ∷ []) more) (sym (behind_all-reverse blocks standing.tokens ∙ standing.is_place)) says)));
+      (subst (λ p. EncodeEvents blocks.strings p (t ∷ []) more) (sym (place_after_all-reverse blocks standing.tokens ∙ standing.is_place)) encodes_events)));
   is_growth = is_growth;
 }

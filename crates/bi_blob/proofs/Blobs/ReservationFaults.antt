@@ -34,15 +34,15 @@ length-reservation_block (pair ∷ later) =
 abbrev pub pair_at : List ℕ → ℕ → Reservation
 pair_at file at = record { address = u64_at file at; size = u64_at file (at + 8) }
 
--- It stands there.
-pair_stands : (file : List ℕ) (at : ℕ) → AreBytes file → at + 16 ≤ length file → BytesAt file at (pair_bytes (pair_at file at))
-pair_stands file at bytes within =
+-- It is there.
+pair_is_there : (file : List ℕ) (at : ℕ) → AreBytes file → at + 16 ≤ length file → BytesAt file at (pair_bytes (pair_at file at))
+pair_is_there file at bytes within =
     BytesAt-join file at (cell8 (u64_at file at)) (cell8 (u64_at file (at + 8)))
     (BytesAt-cell8 file at bytes (omega arith))
     (subst (λ n. BytesAt file (at + n) (cell8 (u64_at file (at + 8)))) (sym (length-cell8 (u64_at file at)))
     (BytesAt-cell8 file (at + 8) bytes (omega arith)))
 
--- A pair that stands at an offset is read there.
+-- A pair at an offset is read there.
 pub pair_read : (file : List ℕ) (at : ℕ) (pair : Reservation) → pair.address < 2 ^ 64 → pair.size < 2 ^ 64 → BytesAt file at (pair_bytes pair) → (u64_at file at ≡ pair.address) × (u64_at file (at + 8) ≡ pair.size)
 pair_read file at pair address_fits size_fits is_at = (
   u64_at-BytesAt file at pair.address address_fits (BytesAt-left file at (cell8 pair.address) (cell8 pair.size) is_at),
@@ -61,7 +61,7 @@ pair_is file at bytes other = record {
   ];
 }
 
--- What the pairs behind the first one are, seen from the first one.
+-- The pairs after the first one, counted from the first one.
 one_later : (P : ℕ → Type 0) (at index : ℕ) → P (at + 16 + 16 * index) → P (at + 16 * (index + 1))
 one_later P at index holds = subst P (same at index) holds where
   same : (a i : ℕ) → a + 16 + 16 * i ≡ a + 16 * (i + 1)
@@ -82,7 +82,7 @@ from_first P at holds = subst P (same at) holds where
   same : (a : ℕ) → a + 16 * 0 ≡ a
   same a = omega arith
 
--- No pair before one index ends the block, where neither the first does nor those behind it.
+-- No pair before an index ends the block, where neither the first nor those after it do.
 none_before : (file : List ℕ) (at count : ℕ) → ¬ (IsEndPair file at) → ((index : ℕ) → index < count → ¬ (IsEndPair file (at + 16 + 16 * index))) → (index : ℕ) → index < count + 1 → ¬ (IsEndPair file (at + 16 * index))
 none_before file at count first later zero below = λ is. first (from_first (IsEndPair file) at is)
 none_before file at count first later (suc index) below =
@@ -91,7 +91,7 @@ none_before file at count first later (suc index) below =
       one_more : (n : ℕ) → suc n ≡ n + 1
       one_more n = omega arith
 
--- One more reservation stands before those of a block.
+-- One more reservation before those of a block.
 pub HasReservations-cons : (file : List ℕ) (at total count : ℕ) → ¬ (IsEndPair file at) → HasReservations file (at + 16) total count → HasReservations file at total (count + 1)
 HasReservations-cons file at total count first later =
     let within : at + 16 + 16 * count + 16 ≤ total = later.within in
@@ -101,7 +101,7 @@ HasReservations-cons file at total count first later =
       within = omega arith;
     }
 
--- One more reservation stands before the pair that gives the fault.
+-- One more reservation before the pair that gives the fault.
 IsReservationsFault-cons : (file : List ℕ) (at total : ℕ) (fault : Fault) → ¬ (IsEndPair file at) → IsReservationsFault file (at + 16) total fault → IsReservationsFault file at total fault
 IsReservationsFault-cons file at total fault first later =
     let fits : at + 16 + 16 * later.index ≤ total = later.fits in
@@ -127,7 +127,7 @@ ends_here file at total room end = record {
   within = omega arith;
 }
 
--- The first pair reaches past the blob.
+-- The first pair extends past the blob.
 past_here : (file : List ℕ) (at total : ℕ) → at ≤ total → total < at + 16 → IsReservationsFault file at total (record { cause = Truncated; offset = at })
 past_here file at total fits past = record {
   index = 0;
@@ -142,9 +142,9 @@ abbrev pub Found : List ℕ → ℕ → ℕ → Type 0
 Found file at total = HasSome file at total ⊎ ((fault : Fault) × IsReservationsFault file at total fault)
 
 -- The same with a first pair that is no end pair.
-found_behind : (file : List ℕ) (at total : ℕ) → ¬ (IsEndPair file at) → Found file (at + 16) total → Found file at total
-found_behind file at total first (inl later) = inl (record { count = later.count + 1; has = HasReservations-cons file at total later.count first later.has })
-found_behind file at total first (inr later) = inr (later.0, IsReservationsFault-cons file at total later.0 first later.1)
+found_after : (file : List ℕ) (at total : ℕ) → ¬ (IsEndPair file at) → Found file (at + 16) total → Found file at total
+found_after file at total first (inl later) = inl (record { count = later.count + 1; has = HasReservations-cons file at total later.count first later.has })
+found_after file at total first (inr later) = inr (later.0, IsReservationsFault-cons file at total later.0 first later.1)
 
 found_from : (steps : ℕ) (file : List ℕ) (at total : ℕ) → at ≤ total → total ≤ at + steps → Found file at total
 found_from zero file at total fits left = inr (record { cause = Truncated; offset = at }, past_here file at total fits (omega arith))
@@ -152,7 +152,7 @@ found_from (suc steps) file at total fits left =
     by_room (cases_lt total (at + 16)) (λ room. found_from steps file (at + 16) total room (omega arith)) where
       by_pair : at + 16 ≤ total → IsEndPair file at ⊎ ¬ (IsEndPair file at) → (at + 16 ≤ total → Found file (at + 16) total) → Found file at total
       by_pair room (inl end) later = inl (record { count = 0; has = ends_here file at total room end })
-      by_pair room (inr other) later = found_behind file at total other (later room)
+      by_pair room (inr other) later = found_after file at total other (later room)
 
       by_room : (total < at + 16) ⊎ (at + 16 ≤ total) → (at + 16 ≤ total → Found file (at + 16) total) → Found file at total
       by_room (inl past) later = inr (record { cause = Truncated; offset = at }, past_here file at total fits past)
@@ -184,7 +184,7 @@ abbrev pub reservations_at : List ℕ → ℕ → ℕ → List Reservation
 reservations_at file at zero = []
 reservations_at file at (suc count) = pair_at file at ∷ reservations_at file (at + 16) count
 
--- What a block of one more has behind its first pair.
+-- The reservations after the first one of a block.
 HasReservations-later : (file : List ℕ) (at total count : ℕ) → HasReservations file at total (suc count) → HasReservations file (at + 16) total count
 HasReservations-later file at total count has =
     let within : at + 16 * suc count + 16 ≤ total = has.within in
@@ -206,29 +206,29 @@ are_reservations_at file at total (suc count) bytes has =
       are_reservations_at file (at + 16) total count bytes (HasReservations-later file at total count has),
     )
 
--- The end pair stands where both of its numbers are zero.
-end_stands : (file : List ℕ) (at : ℕ) → AreBytes file → at + 16 ≤ length file → IsEndPair file at → BytesAt file at (pair_bytes end_pair)
-end_stands file at bytes within is =
-    subst (λ (pair : Reservation). BytesAt file at (pair_bytes pair)) (λ i. record { address = is.address i; size = is.size i }) (pair_stands file at bytes within)
+-- The end pair is where both of its numbers are zero.
+end_pair_is_there : (file : List ℕ) (at : ℕ) → AreBytes file → at + 16 ≤ length file → IsEndPair file at → BytesAt file at (pair_bytes end_pair)
+end_pair_is_there file at bytes within is =
+    subst (λ (pair : Reservation). BytesAt file at (pair_bytes pair)) (λ i. record { address = is.address i; size = is.size i }) (pair_is_there file at bytes within)
 
--- Their block stands at the offset.
-reservations_stand : (file : List ℕ) (at total count : ℕ) → AreBytes file → total ≤ length file → HasReservations file at total count → BytesAt file at (reservation_block (reservations_at file at count))
-reservations_stand file at total zero bytes inside has =
+-- Their block is at the offset.
+reservations_are_there : (file : List ℕ) (at total count : ℕ) → AreBytes file → total ≤ length file → HasReservations file at total count → BytesAt file at (reservation_block (reservations_at file at count))
+reservations_are_there file at total zero bytes inside has =
     let within : at + 16 * 0 + 16 ≤ total = has.within in
-    end_stands file at bytes (omega arith) (from_first (IsEndPair file) at has.end)
-reservations_stand file at total (suc count) bytes inside has =
+    end_pair_is_there file at bytes (omega arith) (from_first (IsEndPair file) at has.end)
+reservations_are_there file at total (suc count) bytes inside has =
     let within : at + 16 * suc count + 16 ≤ total = has.within in
     subst (BytesAt file at) (sym (reservation_block-first (pair_at file at) (reservations_at file (at + 16) count)))
     (BytesAt-join file at (pair_bytes (pair_at file at)) (reservation_block (reservations_at file (at + 16) count))
-    (pair_stands file at bytes (omega arith))
+    (pair_is_there file at bytes (omega arith))
     (subst (λ n. BytesAt file (at + n) (reservation_block (reservations_at file (at + 16) count))) (sym (length-pair_bytes (pair_at file at)))
-    (reservations_stand file (at + 16) total count bytes inside (HasReservations-later file at total count has))))
+    (reservations_are_there file (at + 16) total count bytes inside (HasReservations-later file at total count has))))
 
 length-reservations_at : (file : List ℕ) (at count : ℕ) → length (reservations_at file at count) ≡ count
 length-reservations_at file at zero = refl
 length-reservations_at file at (suc count) = ap suc (length-reservations_at file (at + 16) count)
 
--- What is before an end begins with what stands there.
+-- The bytes up to an end begin with the bytes at an offset.
 begins : (file : List ℕ) (at total : ℕ) (bytes : List ℕ) → BytesAt file at bytes → length bytes ≤ total - at → slice file at (total - at) ≡ bytes ++ take ((total - at) - length bytes) (drop (length bytes) (drop at file))
 begins file at total bytes is_at fits =
     ap (λ n. take n (drop at file)) sum
@@ -247,10 +247,10 @@ HasReservations-BeginsWithReservations file at total count bytes inside has =
     record {
       are_reservations = are_reservations_at file at total count bytes has;
       trailing = take ((total - at) - length (reservation_block all)) (drop (length (reservation_block all)) (drop at file));
-      is_at = begins file at total (reservation_block all) (reservations_stand file at total count bytes inside has) (omega arith);
+      is_at = begins file at total (reservation_block all) (reservations_are_there file at total count bytes inside has) (omega arith);
     }
 
--- A block that stands at an offset has as many reservations as it is made of.
+-- A block at an offset has as many reservations as its list.
 block_has : (file : List ℕ) (at total : ℕ) (all : List Reservation) → AllByRecursion IsReservation all → BytesAt file at (reservation_block all) → at + (16 * length all + 16) ≤ total → HasReservations file at total (length all)
 block_has file at total [] are is_at fits =
     let read : (u64_at file at ≡ 0) × (u64_at file (at + 8) ≡ 0) = pair_read file at end_pair (lit< tt) (lit< tt) is_at in

@@ -26,13 +26,13 @@ passes_there blocks depth_limit place number stage next =
     subst (λ n. HasNoFault (TokenPasses blocks depth_limit place stage) (token_checks n)) (sym next.is_number) next.passes
 
 -- The token's number is within the file.
-pub word_within : (blocks : TreeBlocks) (depth_limit place number : ℕ) (stage : Stage) → IsReadable blocks → IsNext blocks depth_limit place stage number → place + 4 ≤ length blocks.file
-word_within blocks depth_limit place number stage readable next =
+pub number_within : (blocks : TreeBlocks) (depth_limit place number : ℕ) (stage : Stage) → IsReadable blocks → IsNext blocks depth_limit place stage number → place + 4 ≤ length blocks.file
+number_within blocks depth_limit place number stage readable next =
     let word : place + 4 ≤ blocks.end = next.passes.0 in
     let within : blocks.end ≤ length blocks.file = readable.within in
     omega arith
 
-length-opens_of : (name : List ℕ) (outer : List PartialNode) → length (opens_of name outer) ≡ length outer
+pub length-opens_of : (name : List ℕ) (outer : List PartialNode) → length (opens_of name outer) ≡ length outer
 length-opens_of name [] = refl
 length-opens_of name (parent ∷ outer) = ap suc (length-opens_of parent.name outer)
 
@@ -41,18 +41,18 @@ pub next_nop : (blocks : TreeBlocks) (depth_limit place : ℕ) (growth : Growth)
 next_nop blocks depth_limit place growth standing next =
     stand_more blocks depth_limit place growth growth Nop [] standing
     (λ (e : Nop ≡ End). absurd cc)
-    (Nop-is_at blocks.file place standing.readable.bytes (word_within blocks depth_limit place nop_number (stage_of growth) standing.readable next) next.is_number)
+    (Nop-is_at blocks.file place standing.readable.bytes (number_within blocks depth_limit place nop_number (stage_of growth) standing.readable next) next.is_number)
     (passes_there blocks depth_limit place nop_number (stage_of growth) next)
     tt
     (sym (append-nil (said_so_far growth)))
     refl
     standing.is_growth
 
--- A node that begins stands there with its name.
-begin_stands : (blocks : TreeBlocks) (depth_limit place : ℕ) (stage : Stage) → IsReadable blocks → IsNext blocks depth_limit place stage begin_node_number → IsTokenAt blocks.file place (BeginNode (name_from blocks.file (place + 4)))
-begin_stands blocks depth_limit place stage readable next =
+-- FDT_BEGIN_NODE that passes its checks is there with its name.
+start_is_there : (blocks : TreeBlocks) (depth_limit place : ℕ) (stage : Stage) → IsReadable blocks → IsNext blocks depth_limit place stage begin_node_number → IsTokenAt blocks.file place (BeginNode (name_from blocks.file (place + 4)))
+start_is_there blocks depth_limit place stage readable next =
     BeginNode-is_at blocks.file place (name_from blocks.file (place + 4)) readable.bytes
-    (word_within blocks depth_limit place begin_node_number stage readable next) next.is_number
+    (number_within blocks depth_limit place begin_node_number stage readable next) next.is_number
     (HasName-IsNameAt blocks.file (place + 4) blocks.end readable.within next.passes.1.1.1.0)
 
 -- FDT_BEGIN_NODE before the root begins the root.
@@ -63,7 +63,7 @@ next_root blocks depth_limit place standing next =
     let unnamed : name ≡ [] = next.passes.1.1.1.1.0 in
     stand_more blocks depth_limit place NotBegun (Growing (begun name place) []) (BeginNode name) (FileNodeStart place name ∷ []) standing
     (λ (e : BeginNode name ≡ End). absurd cc)
-    (begin_stands blocks depth_limit place BeforeRoot standing.readable next)
+    (start_is_there blocks depth_limit place BeforeRoot standing.readable next)
     (passes_there blocks depth_limit place begin_node_number BeforeRoot next)
     (record { same_name = refl; same_place = refl }, tt)
     refl
@@ -79,7 +79,7 @@ next_child blocks depth_limit place parent outer standing next =
     let open_here : length (opens_of parent.name outer) ≡ length outer = length-opens_of parent.name outer in
     stand_more blocks depth_limit place (Growing parent outer) (Growing (begun name place) (parent ∷ outer)) (BeginNode name) (FileNodeStart place name ∷ []) standing
     (λ (e : BeginNode name ≡ End). absurd cc)
-    (begin_stands blocks depth_limit place stage standing.readable next)
+    (start_is_there blocks depth_limit place stage standing.readable next)
     (passes_there blocks depth_limit place begin_node_number stage next)
     (record { same_name = refl; same_place = refl }, tt)
     refl
@@ -90,7 +90,7 @@ next_child blocks depth_limit place parent outer standing next =
     )
 
 -- Good open nodes stay so with one more property of the innermost.
-AreOpenNodes-property : (depth_limit : ℕ) (o : PartialNode) (outer : List PartialNode) (p : FileProperty) → AreOpenNodes depth_limit o outer → AreProperties (map (λ (q : FileProperty). (q.name, q.value)) (o.properties ++ p ∷ [])) → AreOpenNodes depth_limit (with_one_property o p) outer
+pub AreOpenNodes-property : (depth_limit : ℕ) (o : PartialNode) (outer : List PartialNode) (p : FileProperty) → AreOpenNodes depth_limit o outer → AreProperties (map (λ (q : FileProperty). (q.name, q.value)) (o.properties ++ p ∷ [])) → AreOpenNodes depth_limit (with_one_property o p) outer
 AreOpenNodes-property depth_limit o [] p are good = (record { properties = good; children = are.0.children; shallow = are.0.shallow }, are.1)
 AreOpenNodes-property depth_limit o (parent ∷ outer) p are good = (
   record { properties = good; children = are.0.children; shallow = are.0.shallow },
@@ -98,12 +98,12 @@ AreOpenNodes-property depth_limit o (parent ∷ outer) p are good = (
   are.2,
 )
 
--- The innermost of good open nodes is good.
-innermost_properties : (depth_limit : ℕ) (o : PartialNode) (outer : List PartialNode) → AreOpenNodes depth_limit o outer → AreProperties (map (λ (q : FileProperty). (q.name, q.value)) o.properties)
+-- The properties of the innermost open node.
+pub innermost_properties : (depth_limit : ℕ) (o : PartialNode) (outer : List PartialNode) → AreOpenNodes depth_limit o outer → AreProperties (map (λ (q : FileProperty). (q.name, q.value)) o.properties)
 innermost_properties depth_limit o [] are = are.0.properties
 innermost_properties depth_limit o (parent ∷ outer) are = are.0.properties
 
--- The property that a token at this offset says.
+-- The property that a token at this offset encodes.
 abbrev pub property_at : TreeBlocks → ℕ → FileProperty
 property_at blocks place = record {
   name = name_from blocks.strings (u32_at blocks.file (place + 8));
@@ -111,7 +111,7 @@ property_at blocks place = record {
   place = place;
 }
 
--- The token that says it.
+-- The token that encodes it.
 abbrev pub property_token : TreeBlocks → ℕ → Token
 property_token blocks place = Prop (u32_at blocks.file (place + 8)) (slice blocks.file (place + 12) (u32_at blocks.file (place + 4)))
 
@@ -141,7 +141,7 @@ names-with_each : (nodes : Nodes FileNode) → names (with_each properties_of no
 names-with_each none = refl
 names-with_each (node n l cs later) = ap (λ l. n ∷ l) (names-with_each later)
 
--- A good open node stays so with one more child that is good.
+-- An open node and one more child.
 IsOpenNode-child : (depth_limit above : ℕ) (parent child : PartialNode) → IsOpenNode depth_limit above parent → IsOpenNode depth_limit (above + 1) child → MayBeChild parent child → IsOpenNode depth_limit above (with_one_child parent child)
 IsOpenNode-child depth_limit above parent child is is_child may =
     let deep : depth parent.children + above + 1 ≤ depth_limit = is.shallow in
@@ -157,7 +157,7 @@ IsOpenNode-child depth_limit above parent child is is_child may =
       shallow = omega arith;
     }
 
-AreOpenNodes-child : (depth_limit : ℕ) (child parent : PartialNode) (outer : List PartialNode) → AreOpenNodes depth_limit child (parent ∷ outer) → AreOpenNodes depth_limit (with_one_child parent child) outer
+pub AreOpenNodes-child : (depth_limit : ℕ) (child parent : PartialNode) (outer : List PartialNode) → AreOpenNodes depth_limit child (parent ∷ outer) → AreOpenNodes depth_limit (with_one_child parent child) outer
 AreOpenNodes-child depth_limit child parent [] are =
     (IsOpenNode-child depth_limit 0 parent child are.2.0 are.0 are.1, are.2.1)
 AreOpenNodes-child depth_limit child parent (grandparent ∷ outer) are = (
@@ -172,7 +172,7 @@ next_end blocks depth_limit place child parent outer standing next =
     let stage : Stage = stage_of (Growing child (parent ∷ outer)) in
     stand_more blocks depth_limit place (Growing child (parent ∷ outer)) (Growing (with_one_child parent child) outer) EndNode (FileNodeEnd ∷ []) standing
     (λ (e : EndNode ≡ End). absurd cc)
-    (EndNode-is_at blocks.file place standing.readable.bytes (word_within blocks depth_limit place end_node_number stage standing.readable next) next.is_number)
+    (EndNode-is_at blocks.file place standing.readable.bytes (number_within blocks depth_limit place end_node_number stage standing.readable next) next.is_number)
     (passes_there blocks depth_limit place end_node_number stage next)
     tt
     (said_by-child parent child outer)
@@ -187,7 +187,7 @@ next_last blocks depth_limit place outermost standing next =
     let shallow : depth outermost.children + 0 + 1 ≤ depth_limit = good.shallow in
     stand_more blocks depth_limit place (Growing outermost []) (Grown (root_of outermost)) EndNode (FileNodeEnd ∷ []) standing
     (λ (e : EndNode ≡ End). absurd cc)
-    (EndNode-is_at blocks.file place standing.readable.bytes (word_within blocks depth_limit place end_node_number stage standing.readable next) next.is_number)
+    (EndNode-is_at blocks.file place standing.readable.bytes (number_within blocks depth_limit place end_node_number stage standing.readable next) next.is_number)
     (passes_there blocks depth_limit place end_node_number stage next)
     tt
     (said_by-root outermost standing.is_growth.1)

@@ -5,36 +5,36 @@ use Rattle.bi_blob.specs.Tokens.{Token, End, token_bytes, width, IsEncoding, Are
 use Rattle.bi_blob.proofs.Blobs.Cells.{BytesAt-from}
 use Rattle.bi_blob.proofs.Blobs.Tokens.{one_token}
 
--- Where the token behind these stands, if they stand from this offset on.
-abbrev pub behind_all : ℕ → List Token → ℕ
-behind_all at [] = at
-behind_all at (token ∷ later) = behind_all (at + width token) later
+-- The offset of the token after these, the first of which is at this offset.
+abbrev pub place_after_all : ℕ → List Token → ℕ
+place_after_all at [] = at
+place_after_all at (token ∷ later) = place_after_all (at + width token) later
 
-pub behind_all-append : (at : ℕ) (a b : List Token) → behind_all at (a ++ b) ≡ behind_all (behind_all at a) b
-behind_all-append at [] b = refl
-behind_all-append at (token ∷ a) b = behind_all-append (at + width token) a b
+pub place_after_all-append : (at : ℕ) (a b : List Token) → place_after_all at (a ++ b) ≡ place_after_all (place_after_all at a) b
+place_after_all-append at [] b = refl
+place_after_all-append at (token ∷ a) b = place_after_all-append (at + width token) a b
 
--- These tokens stand in a file one behind the other, from this offset on.
+-- These tokens are in a file one after the other, the first at this offset.
 abbrev pub AllStand : List ℕ → ℕ → List Token → Type 0
 AllStand file at [] = Unit {0}
 AllStand file at (token ∷ later) = IsTokenAt file at token × AllStand file (at + width token) later
 
--- A token that is spelled by the first bytes behind an offset stands there.
+-- A token whose encoding follows an offset is there.
 IsEncoding-is_at : (file : List ℕ) (at : ℕ) (token : Token) (bytes rest : List ℕ) → IsEncoding token bytes → drop at file ≡ bytes ++ rest → IsTokenAt file at token
-IsEncoding-is_at file at token bytes rest spells e = record {
-  is_token = spells.is_token;
-  is_at = BytesAt-from file at (token_bytes token) (spells.padding ++ rest)
-      (e ∙ ap (λ l. l ++ rest) spells.is_encoded ∙ append_assoc (token_bytes token) spells.padding rest);
+IsEncoding-is_at file at token bytes rest is_padded_encoding e = record {
+  is_token = is_padded_encoding.is_token;
+  is_at = BytesAt-from file at (token_bytes token) (is_padded_encoding.padding ++ rest)
+      (e ∙ ap (λ l. l ++ rest) is_padded_encoding.is_encoded ∙ append_assoc (token_bytes token) is_padded_encoding.padding rest);
 }
 
--- The bytes of spelled tokens are as many as the first token takes, or more.
+-- The encodings of tokens are at least as long as the first token.
 AreEncodings-first : (token : Token) (bytes : List ℕ) → IsEncoding token (take (width token) bytes) → width token ≤ length bytes
-AreEncodings-first token bytes spells =
-    let long : length (take (width token) bytes) ≡ width token = spells.whole in
+AreEncodings-first token bytes is_padded_encoding =
+    let long : length (take (width token) bytes) ≡ width token = is_padded_encoding.whole in
     let short : length (take (width token) bytes) ≡ min (width token) (length bytes) = length-take (width token) bytes in
     omega arith
 
--- Tokens that are spelled by the first bytes behind an offset stand there.
+-- Tokens whose encodings follow an offset are there.
 pub AreEncodings-stand : (file : List ℕ) (at : ℕ) (tokens : List Token) (bytes rest : List ℕ) → AreEncodings tokens bytes → drop at file ≡ bytes ++ rest → AllStand file at tokens
 AreEncodings-stand file at [] bytes rest is_encoded e = tt
 AreEncodings-stand file at (token ∷ later) bytes rest is_encoded e = (
@@ -44,25 +44,25 @@ AreEncodings-stand file at (token ∷ later) bytes rest is_encoded e = (
       (sym (drop-drop (width token) at file) ∙ ap (drop (width token)) e ∙ drop-append-le (width token) bytes rest (AreEncodings-first token bytes is_encoded.0)),
 )
 
--- The bytes of spelled tokens are as many as the tokens take.
-pub AreEncodings-length : (at : ℕ) (tokens : List Token) (bytes : List ℕ) → AreEncodings tokens bytes → at + length bytes ≡ behind_all at tokens
+-- The encodings of tokens are as long as the tokens.
+pub AreEncodings-length : (at : ℕ) (tokens : List Token) (bytes : List ℕ) → AreEncodings tokens bytes → at + length bytes ≡ place_after_all at tokens
 AreEncodings-length at [] bytes is_encoded = let none : length bytes ≡ 0 = ap length is_encoded in omega arith
 AreEncodings-length at (token ∷ later) bytes is_encoded =
-    let rest : at + width token + length (drop (width token) bytes) ≡ behind_all (at + width token) later =
+    let rest : at + width token + length (drop (width token) bytes) ≡ place_after_all (at + width token) later =
     AreEncodings-length (at + width token) later (drop (width token) bytes) is_encoded.1 in
     let left : length (drop (width token) bytes) ≡ length bytes - width token = length-drop (width token) bytes in
     let first : width token ≤ length bytes = AreEncodings-first token bytes is_encoded.0 in
     let same : at + length bytes ≡ at + width token + length (drop (width token) bytes) = omega arith in
     same ∙ rest
 
--- What one token is spelled by, and then others, spells all of them.
+-- The encoding of a token and then those of others are the encodings of all.
 pub AreEncodings-cons : (token : Token) (later : List Token) (a b : List ℕ) → IsEncoding token a → AreEncodings later b → AreEncodings (token ∷ later) (a ++ b)
-AreEncodings-cons token later a b spells is_encoded = (
-  subst (IsEncoding token) (sym (take_at a b (width token) spells.whole)) spells,
-  subst (AreEncodings later) (sym (drop_at a b (width token) spells.whole)) is_encoded,
+AreEncodings-cons token later a b is_padded_encoding is_encoded = (
+  subst (IsEncoding token) (sym (take_at a b (width token) is_padded_encoding.whole)) is_padded_encoding,
+  subst (AreEncodings later) (sym (drop_at a b (width token) is_padded_encoding.whole)) is_encoded,
 )
 
--- What some tokens are spelled by, and then others, spells all of them.
+-- The encodings of some tokens and then those of others are the encodings of all.
 pub AreEncodings-append : (ts us : List Token) (a b : List ℕ) → AreEncodings ts a → AreEncodings us b → AreEncodings (ts ++ us) (a ++ b)
 AreEncodings-append [] us a b first second = subst (λ l. AreEncodings us (l ++ b)) (sym first) second
 AreEncodings-append (token ∷ ts) us a b first second =
@@ -70,13 +70,13 @@ AreEncodings-append (token ∷ ts) us a b first second =
     subst (AreEncodings (token ∷ (ts ++ us))) (sym (append_assoc (take w a) (drop w a) b) ∙ ap (λ l. l ++ b) (take-append-drop w a))
     (AreEncodings-cons token (ts ++ us) (take w a) (drop w a ++ b) first.0 (AreEncodings-append ts us (drop w a) b first.1 second))
 
--- Of two lists of tokens with one FDT_END at their ends, one at most stands at an offset.
-pub one_spelling : (file : List ℕ) (at : ℕ) (ts us : List Token) → AllByRecursion (λ t. t ≢ End) ts → AllByRecursion (λ t. t ≢ End) us → AllStand file at (ts ++ End ∷ []) → AllStand file at (us ++ End ∷ []) → ts ≡ us
-one_spelling file at [] [] no_end_ts no_end_us one other = refl
-one_spelling file at [] (u ∷ us) no_end_ts no_end_us one other = absurd (no_end_us.0 (one_token file at u End other.0 one.0))
-one_spelling file at (t ∷ ts) [] no_end_ts no_end_us one other = absurd (no_end_ts.0 (one_token file at t End one.0 other.0))
-one_spelling file at (t ∷ ts) (u ∷ us) no_end_ts no_end_us one other =
+-- At most one list of tokens that has one FDT_END, at its end, is at an offset.
+pub one_token_list : (file : List ℕ) (at : ℕ) (ts us : List Token) → AllByRecursion (λ t. t ≢ End) ts → AllByRecursion (λ t. t ≢ End) us → AllStand file at (ts ++ End ∷ []) → AllStand file at (us ++ End ∷ []) → ts ≡ us
+one_token_list file at [] [] no_end_ts no_end_us one other = refl
+one_token_list file at [] (u ∷ us) no_end_ts no_end_us one other = absurd (no_end_us.0 (one_token file at u End other.0 one.0))
+one_token_list file at (t ∷ ts) [] no_end_ts no_end_us one other = absurd (no_end_ts.0 (one_token file at t End one.0 other.0))
+one_token_list file at (t ∷ ts) (u ∷ us) no_end_ts no_end_us one other =
     let same : t ≡ u = one_token file at t u one.0 other.0 in
-    let rest : ts ≡ us = one_spelling file (at + width t) ts us no_end_ts.1 no_end_us.1 one.1
+    let rest : ts ≡ us = one_token_list file (at + width t) ts us no_end_ts.1 no_end_us.1 one.1
     (subst (λ v. AllStand file (at + width v) (us ++ End ∷ [])) (sym same) other.1) in
     λ i. same i ∷ rest i

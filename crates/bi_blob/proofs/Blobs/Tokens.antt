@@ -39,7 +39,7 @@ number_fits End = lit< tt
 pub length-token_bytes : (token : Token) → length (token_bytes token) ≡ 4 + length (operands token)
 length-token_bytes token = ap length (token_bytes-number token) ∙ simp (length-append, length-cell) refl
 
--- A token that stands at an offset is followed by what belongs to it.
+-- The bytes after the number of a token.
 pub IsTokenAt-bytes : (file : List ℕ) (at : ℕ) (token : Token) → IsTokenAt file at token → BytesAt file at (cell (number token) ++ operands token)
 IsTokenAt-bytes file at token is_at = subst (BytesAt file at) (token_bytes-number token) is_at.is_at
 
@@ -55,13 +55,13 @@ IsTokenAt-within file at token is_at =
     let long : length (token_bytes token) ≡ 4 + length (operands token) = length-token_bytes token in
     BytesAt-within file at (token_bytes token) (omega arith) is_at.is_at
 
--- What belongs to it stands behind its number.
+-- A token at an offset has these bytes after its number.
 pub IsTokenAt-operands : (file : List ℕ) (at : ℕ) (token : Token) → IsTokenAt file at token → BytesAt file (at + 4) (operands token)
 IsTokenAt-operands file at token is_at =
     subst (λ n. BytesAt file (at + n) (operands token)) (length-cell (number token))
     (BytesAt-right file at (cell (number token)) (operands token) (IsTokenAt-bytes file at token is_at))
 
--- The name of a node that begins at an offset stands behind the number.
+-- The name of a node is after the number of its token.
 pub BeginNode-name : (file : List ℕ) (at : ℕ) (name : List ℕ) → IsTokenAt file at (BeginNode name) → IsNameAt file (at + 4) name
 BeginNode-name file at name is_at = record {
   no_zero = is_at.is_token;
@@ -69,7 +69,7 @@ BeginNode-name file at name is_at = record {
   is_at = BytesAt-drop file (at + 4) (name ++ 0 ∷ []) (IsTokenAt-operands file at (BeginNode name) is_at) ∙ append_assoc name (0 ∷ []) _;
 }
 
--- What belongs to a property that stands at an offset: the length of its value, the offset of its name, and its value.
+-- What follows the number of a property at an offset: the length of its value, the offset of its name, and its value.
 pub record IsPropAt (file : List ℕ) (at name_offset : ℕ) (value : List ℕ) : Type 0 where
   pub is_length : u32_at file (at + 4) ≡ length value
   pub is_offset : u32_at file (at + 8) ≡ name_offset
@@ -91,7 +91,7 @@ Prop-parts file at name_offset value is_at =
       is_value = subst (λ p. BytesAt file p value) third (BytesAt-right file (at + 8) (cell name_offset) value two);
     }
 
--- One property at most stands at an offset.
+-- At most one property is at an offset.
 one_prop : (file : List ℕ) (at o p : ℕ) (v w : List ℕ) → IsPropAt file at o v → IsPropAt file at p w → Prop o v ≡ Prop p w
 one_prop file at o p v w one other =
     let same_offset : o ≡ p = sym one.is_offset ∙ other.is_offset in
@@ -99,7 +99,7 @@ one_prop file at o p v w one other =
     let same_value : v ≡ w = sym one.is_value ∙ ap (slice file (at + 12)) same_length ∙ other.is_value in
     λ i. Prop (same_offset i) (same_value i)
 
--- One token at most stands at an offset.
+-- At most one token is at an offset.
 pub one_token : (file : List ℕ) (at : ℕ) (t u : Token) → IsTokenAt file at t → IsTokenAt file at u → t ≡ u
 one_token file at (BeginNode m) (BeginNode n) one other =
     ap BeginNode (one_name file (at + 4) m n (BeginNode-name file at m one) (BeginNode-name file at n other))
@@ -112,30 +112,30 @@ one_token file at t u one other =
     let same : number t ≡ number u = sym (IsTokenAt-number file at t one) ∙ IsTokenAt-number file at u other in
     absurd (omega arith)
 
--- A token without operands stands where its number is read.
-bare_stands : (file : List ℕ) (at n : ℕ) → AreBytes file → at + 4 ≤ length file → u32_at file at ≡ n → BytesAt file at (cell n)
-bare_stands file at n bytes within e = subst (λ m. BytesAt file at (cell m)) e (BytesAt-cell file at bytes within)
+-- A token that is its number alone is where its number is read.
+token_is_there : (file : List ℕ) (at n : ℕ) → AreBytes file → at + 4 ≤ length file → u32_at file at ≡ n → BytesAt file at (cell n)
+token_is_there file at n bytes within e = subst (λ m. BytesAt file at (cell m)) e (BytesAt-cell file at bytes within)
 
 pub EndNode-is_at : (file : List ℕ) (at : ℕ) → AreBytes file → at + 4 ≤ length file → u32_at file at ≡ end_node_number → IsTokenAt file at EndNode
-EndNode-is_at file at bytes within e = record { is_token = tt; is_at = bare_stands file at end_node_number bytes within e }
+EndNode-is_at file at bytes within e = record { is_token = tt; is_at = token_is_there file at end_node_number bytes within e }
 
 pub Nop-is_at : (file : List ℕ) (at : ℕ) → AreBytes file → at + 4 ≤ length file → u32_at file at ≡ nop_number → IsTokenAt file at Nop
-Nop-is_at file at bytes within e = record { is_token = tt; is_at = bare_stands file at nop_number bytes within e }
+Nop-is_at file at bytes within e = record { is_token = tt; is_at = token_is_there file at nop_number bytes within e }
 
 pub End-is_at : (file : List ℕ) (at : ℕ) → AreBytes file → at + 4 ≤ length file → u32_at file at ≡ end_number → IsTokenAt file at End
-End-is_at file at bytes within e = record { is_token = tt; is_at = bare_stands file at end_number bytes within e }
+End-is_at file at bytes within e = record { is_token = tt; is_at = token_is_there file at end_number bytes within e }
 
--- A node begins where its number is read and a name stands behind it.
+-- FDT_BEGIN_NODE is where its number is read and a name follows.
 pub BeginNode-is_at : (file : List ℕ) (at : ℕ) (name : List ℕ) → AreBytes file → at + 4 ≤ length file → u32_at file at ≡ begin_node_number → IsNameAt file (at + 4) name → IsTokenAt file at (BeginNode name)
 BeginNode-is_at file at name bytes within e named = record {
   is_token = named.no_zero;
   is_at = BytesAt-join file at (cell begin_node_number) (name ++ 0 ∷ [])
-      (bare_stands file at begin_node_number bytes within e)
+      (token_is_there file at begin_node_number bytes within e)
       (subst (λ n. BytesAt file (at + n) (name ++ 0 ∷ [])) (sym (length-cell begin_node_number))
       (BytesAt-from file (at + 4) (name ++ 0 ∷ []) named.trailing (named.is_at ∙ sym (append_assoc name (0 ∷ []) named.trailing))));
 }
 
--- A property stands where its number is read and the file has its value.
+-- FDT_PROP is where its number is read and the file has the value.
 pub Prop-is_at : (file : List ℕ) (at : ℕ) → AreBytes file → at + 12 + u32_at file (at + 4) ≤ length file → u32_at file at ≡ prop_number → IsTokenAt file at (Prop (u32_at file (at + 8)) (slice file (at + 12) (u32_at file (at + 4))))
 Prop-is_at file at bytes within e =
     let n : ℕ = u32_at file (at + 4) in
@@ -144,10 +144,10 @@ Prop-is_at file at bytes within e =
     record {
       is_token = (u32_at-fits file (at + 8) bytes, subst (λ m. m < 2 ^ 32) (sym long) (u32_at-fits file (at + 4) bytes));
       is_at = BytesAt-join file at (cell prop_number) (cell (length value) ++ (cell (u32_at file (at + 8)) ++ value))
-          (bare_stands file at prop_number bytes (omega arith) e)
+          (token_is_there file at prop_number bytes (omega arith) e)
           (subst (λ m. BytesAt file (at + m) (cell (length value) ++ (cell (u32_at file (at + 8)) ++ value))) (sym (length-cell prop_number))
           (BytesAt-join file (at + 4) (cell (length value)) (cell (u32_at file (at + 8)) ++ value)
-          (bare_stands file (at + 4) (length value) bytes (omega arith) (sym long))
+          (token_is_there file (at + 4) (length value) bytes (omega arith) (sym long))
           (subst (λ p. BytesAt file p (cell (u32_at file (at + 8)) ++ value)) (second_place (length value))
           (BytesAt-join file (at + 8) (cell (u32_at file (at + 8))) value
           (BytesAt-cell file (at + 8) bytes (omega arith))

@@ -3,14 +3,14 @@ use Rattle.std.proofs.lemmas.List.{append_assoc}
 use Rattle.bi_blob.specs.Tree.{Nodes, none, node, Root, FileProperty, FileNode, as_nodes}
 use Rattle.bi_blob.specs.Events.{FileEvent, FileNodeStart, FileNodeProperty, FileNodeEnd, file_events, file_events_of}
 
--- What is said does not begin by opening a node: a list of siblings has ended.
+-- These events do not begin with the start of a node: a list of siblings has ended.
 pub IsEndOfNodes : List FileEvent → Type 0
 IsEndOfNodes [] = Unit {0}
 IsEndOfNodes (FileNodeStart place name ∷ token_events) = ⊥
 IsEndOfNodes (FileNodeProperty property ∷ token_events) = Unit {0}
 IsEndOfNodes (FileNodeEnd ∷ token_events) = Unit {0}
 
--- What is said does not begin with a property: the properties of a node have ended.
+-- These events do not begin with a property: the properties of a node have ended.
 pub IsEndOfProperties : List FileEvent → Type 0
 IsEndOfProperties [] = Unit {0}
 IsEndOfProperties (FileNodeStart place name ∷ token_events) = Unit {0}
@@ -28,7 +28,7 @@ properties_agree (p ∷ ps) (q ∷ qs) x y end_x end_y e =
     let agree : (ps ≡ qs) × (x ≡ y) = properties_agree ps qs x y end_x end_y rest in
     ((λ i. same i ∷ agree.0 i), agree.1)
 
--- The properties of a node have ended where its children begin or the node is closed.
+-- The properties of a node have ended where its children or its end follow.
 ended_properties : (children : Nodes FileNode) (x : List FileEvent) → IsEndOfProperties (file_events children ++ (FileNodeEnd ∷ x))
 unfolding IsEndOfProperties
 ended_properties none x = tt
@@ -37,7 +37,7 @@ ended_properties (node name with_places children later) x = tt
 pub regrouped : {A : Type 0} (a b c x : List A) → (a ++ (b ++ c)) ++ x ≡ a ++ (b ++ (c ++ x))
 regrouped a b c x = append_assoc a (b ++ c) x ∙ ap (λ l. a ++ l) (append_assoc b c x)
 
--- Two lists of nodes that say the same, before what does not go on with them, are the same.
+-- Two lists of nodes with the same events, before events that do not continue them, are the same.
 pub nodes_agree : (a b : Nodes FileNode) (x y : List FileEvent) → IsEndOfNodes x → IsEndOfNodes y → file_events a ++ x ≡ file_events b ++ y → (a ≡ b) × (x ≡ y)
 unfolding IsEndOfNodes
 nodes_agree none none x y end_x end_y e = (refl, e)
@@ -60,7 +60,7 @@ nodes_agree (node n l children later) (node m k others next_stage) x y end_x end
     let outer : (later ≡ next_stage) × (x ≡ y) = nodes_agree later next_stage x y end_x end_y cc in
     ((λ i. node (same_name i) (record { place = same_place i; properties = ps.0 i }) (inner.0 i) (outer.0 i)), outer.1)
 
--- Two trees that say the same are the same.
+-- Two trees with the same events are the same.
 pub trees_agree : (a b : Root FileNode) → file_events_of a ≡ file_events_of b → a ≡ b
 unfolding IsEndOfNodes
 trees_agree a b e =

@@ -25,13 +25,13 @@ pub record HasTree (blocks : TreeBlocks) (depth_limit : ℕ) : Type 0 where
   pub shallow : depth_of root ≤ depth_limit
 
 -- A reader has gone on by a token.
-pub record GoesOn (blocks : TreeBlocks) (depth_limit place : ℕ) : Type 0 where
+pub record Continues (blocks : TreeBlocks) (depth_limit place : ℕ) : Type 0 where
   pub next : ℕ
   pub growth : Growth
   pub further : place + 4 ≤ next
   pub standing : Standing blocks depth_limit next growth
 
--- A reader that has not begun stands at the beginning of the block.
+-- The state of a reader at the beginning of the block.
 pub standing_at_first : (blocks : TreeBlocks) (depth_limit : ℕ) → IsReadable blocks → Standing blocks depth_limit blocks.begin NotBegun
 standing_at_first blocks depth_limit readable = record {
   readable = readable;
@@ -43,7 +43,7 @@ standing_at_first blocks depth_limit readable = record {
   is_growth = tt;
 }
 
--- The first check that fails of the token at which a reader stands is the fault of the block.
+-- The first check of the next token that fails gives the fault of the block.
 pub fault_there : (blocks : TreeBlocks) (depth_limit place : ℕ) (growth : Growth) (fault : Fault) → Standing blocks depth_limit place growth → IsFirstFault (TokenPasses blocks depth_limit place (stage_of growth)) (token_fault place) (token_checks (u32_at blocks.file place)) fault → IsStructureFault blocks depth_limit fault
 fault_there blocks depth_limit place growth fault standing first = record {
   before = standing.tokens;
@@ -60,8 +60,8 @@ module _ (blocks : TreeBlocks) (depth_limit place : ℕ) where
       let e : u32_at blocks.file place ≡ number = eqb-true (u32_at blocks.file place) number same in
       record { is_number = e; passes = subst (λ n. HasNoFault (TokenPasses blocks depth_limit place stage) (token_checks n)) e passes }
 
-  goes_on : (growth : Growth) (token : Token) → Standing blocks depth_limit (place + width token) growth → GoesOn blocks depth_limit place
-  goes_on growth token standing = record {
+  continues : (growth : Growth) (token : Token) → Standing blocks depth_limit (place + width token) growth → Continues blocks depth_limit place
+  continues growth token standing = record {
     next = place + width token;
     growth = growth;
     further = (let wide : 4 ≤ width token = (width-at_least token).0 in omega arith);
@@ -69,17 +69,17 @@ module _ (blocks : TreeBlocks) (depth_limit place : ℕ) where
   }
 
   -- FDT_END_NODE in a node.
-  past_end : (o : PartialNode) (outer : List PartialNode) → Standing blocks depth_limit place (Growing o outer) → IsNext blocks depth_limit place (stage_of (Growing o outer)) end_node_number → GoesOn blocks depth_limit place
-  past_end o [] standing next = goes_on (Grown (root_of o)) EndNode (next_last blocks depth_limit place o standing next)
+  past_end : (o : PartialNode) (outer : List PartialNode) → Standing blocks depth_limit place (Growing o outer) → IsNext blocks depth_limit place (stage_of (Growing o outer)) end_node_number → Continues blocks depth_limit place
+  past_end o [] standing next = continues (Grown (root_of o)) EndNode (next_last blocks depth_limit place o standing next)
   past_end o (parent ∷ outer) standing next =
-      goes_on (Growing (with_one_child parent o) outer) EndNode (next_end blocks depth_limit place o parent outer standing next)
+      continues (Growing (with_one_child parent o) outer) EndNode (next_end blocks depth_limit place o parent outer standing next)
 
   -- A token that passes its checks takes a reader on, or it ends the block.
-  past_token : (growth : Growth) → Standing blocks depth_limit place growth → HasNoFault (TokenPasses blocks depth_limit place (stage_of growth)) (token_checks (u32_at blocks.file place)) → GoesOn blocks depth_limit place ⊎ HasTree blocks depth_limit
+  past_token : (growth : Growth) → Standing blocks depth_limit place growth → HasNoFault (TokenPasses blocks depth_limit place (stage_of growth)) (token_checks (u32_at blocks.file place)) → Continues blocks depth_limit place ⊎ HasTree blocks depth_limit
   past_token NotBegun standing passes =
       elim (or_cases _ _ passes.1.0) [
-        | inl nop ↦ inl (goes_on NotBegun Nop (next_nop blocks depth_limit place NotBegun standing (next_is BeforeRoot nop_number passes nop)))
-        | inr begin ↦ inl (goes_on (Growing (begun (name_from blocks.file (place + 4)) place) []) (BeginNode (name_from blocks.file (place + 4)))
+        | inl nop ↦ inl (continues NotBegun Nop (next_nop blocks depth_limit place NotBegun standing (next_is BeforeRoot nop_number passes nop)))
+        | inr begin ↦ inl (continues (Growing (begun (name_from blocks.file (place + 4)) place) []) (BeginNode (name_from blocks.file (place + 4)))
             (next_root blocks depth_limit place standing (next_is BeforeRoot begin_node_number passes begin)))
       ]
   past_token (Growing o outer) standing passes =
@@ -87,24 +87,24 @@ module _ (blocks : TreeBlocks) (depth_limit place : ℕ) where
       elim (or_cases _ _ passes.1.0) [
         | inl other ↦ elim (or_cases _ _ other) [
           | inl another ↦ elim (or_cases _ _ another) [
-            | inl nop ↦ inl (goes_on (Growing o outer) Nop (next_nop blocks depth_limit place (Growing o outer) standing (next_is stage nop_number passes nop)))
-            | inr begin ↦ inl (goes_on (Growing (begun (name_from blocks.file (place + 4)) place) (o ∷ outer)) (BeginNode (name_from blocks.file (place + 4)))
+            | inl nop ↦ inl (continues (Growing o outer) Nop (next_nop blocks depth_limit place (Growing o outer) standing (next_is stage nop_number passes nop)))
+            | inr begin ↦ inl (continues (Growing (begun (name_from blocks.file (place + 4)) place) (o ∷ outer)) (BeginNode (name_from blocks.file (place + 4)))
                 (next_child blocks depth_limit place o outer standing (next_is stage begin_node_number passes begin)))
           ]
           | inr end ↦ inl (past_end o outer standing (next_is stage end_node_number passes end))
         ]
-        | inr prop ↦ inl (goes_on (Growing (with_one_property o (property_at blocks place)) outer) (property_token blocks place)
+        | inr prop ↦ inl (continues (Growing (with_one_property o (property_at blocks place)) outer) (property_token blocks place)
             (next_property blocks depth_limit place o outer standing (next_is stage prop_number passes prop)))
       ]
   past_token (Grown root) standing passes =
       elim (or_cases _ _ passes.1.0) [
-        | inl nop ↦ inl (goes_on (Grown root) Nop (next_nop blocks depth_limit place (Grown root) standing (next_is AfterRoot nop_number passes nop)))
+        | inl nop ↦ inl (continues (Grown root) Nop (next_nop blocks depth_limit place (Grown root) standing (next_is AfterRoot nop_number passes nop)))
         | inr end ↦ inr (ended (last_token blocks depth_limit place root standing (next_is AfterRoot end_number passes end)))
       ] where
         ended : HoldsTree blocks root × (depth_of root ≤ depth_limit) → HasTree blocks depth_limit
         ended whole = record { root = root; holds = whole.0; shallow = whole.1 }
 
--- From where a reader stands the block holds a tree or has a fault.
+-- From the state of a reader on, the block holds a tree or has a fault.
 tree_or_fault_from : (steps : ℕ) (blocks : TreeBlocks) (depth_limit place : ℕ) (growth : Growth) → blocks.end ≤ place + steps → Standing blocks depth_limit place growth → HasTree blocks depth_limit ⊎ ((fault : Fault) × IsStructureFault blocks depth_limit fault)
 tree_or_fault_from zero blocks depth_limit place growth left standing =
     inr (token_fault place HasTokenNumber, fault_there blocks depth_limit place growth (token_fault place HasTokenNumber) standing (inl ((λ (word : place + 4 ≤ blocks.end). omega arith), refl)))
@@ -114,7 +114,7 @@ tree_or_fault_from (suc steps) blocks depth_limit place growth left standing =
       Outcome : Type 0
       Outcome = HasTree blocks depth_limit ⊎ ((fault : Fault) × IsStructureFault blocks depth_limit fault)
 
-      by_token : GoesOn blocks depth_limit place ⊎ HasTree blocks depth_limit
+      by_token : Continues blocks depth_limit place ⊎ HasTree blocks depth_limit
           → ((next : ℕ) → place + 4 ≤ next → (later : Growth) → Standing blocks depth_limit next later → Outcome) → Outcome
       by_token (inl on) continue = continue on.next on.further on.growth on.standing
       by_token (inr tree) continue = inl tree

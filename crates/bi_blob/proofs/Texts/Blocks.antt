@@ -26,22 +26,22 @@ fourth_slice a b c d e at n is_at is_n =
     ap (λ file. slice file at n) (sym (append_assoc a b (c ++ (d ++ e))))
     ∙ third_slice (a ++ b) c d e at n (omega (arith, length-append a b)) is_n
 
--- A slice where the first of three lists ends, and that reaches behind the second, begins with the second.
+-- A slice from the end of the first of three lists on, and past the second, begins with the second.
 pub slice_from_second : (a b c : List ℕ) (at n : ℕ) → length a ≡ at → length b ≤ n → slice (a ++ (b ++ c)) at n ≡ b ++ take (n - length b) c
 slice_from_second a b c at n is_at within =
     ap (take n) (drop_at a (b ++ c) at is_at)
     ∙ ap (λ k. take k (b ++ c)) (omega arith)
     ∙ take-append-add b c (n - length b)
 
--- What stands behind five lists stands behind the last of them.
-pub behind_five : (a b c d e rest : List ℕ) → (a ++ (b ++ (c ++ (d ++ e)))) ++ rest ≡ a ++ (b ++ (c ++ (d ++ (e ++ rest))))
-behind_five a b c d e rest = simp append_assoc
+-- What is after five lists is after the last of them.
+pub after_five : (a b c d e rest : List ℕ) → (a ++ (b ++ (c ++ (d ++ e)))) ++ rest ≡ a ++ (b ++ (c ++ (d ++ (e ++ rest))))
+after_five a b c d e rest = simp append_assoc
 
--- A text with any bytes behind it: its header and its three blocks in turn.
+-- A text with any bytes after it: its header and its three blocks in turn.
 pub text_parts : (cpu : ℕ) (reserved structure strings rest : List ℕ) → text_of_blocks cpu reserved structure strings ++ rest ≡ blob_header cpu (length reserved) (length structure) (length strings) ++ (reserved ++ (structure ++ (strings ++ (padding_to_4 (length_before_padding (length reserved) (length structure) (length strings)) ++ rest))))
 unfolding text_of_blocks
 text_parts cpu reserved structure strings rest =
-    behind_five (blob_header cpu (length reserved) (length structure) (length strings)) reserved structure strings (padding_to_4 (length_before_padding (length reserved) (length structure) (length strings))) rest
+    after_five (blob_header cpu (length reserved) (length structure) (length strings)) reserved structure strings (padding_to_4 (length_before_padding (length reserved) (length structure) (length strings))) rest
 
 -- The reservation block is a whole number of pairs.
 pub length-reservations : (reservations : List Reservation) → length (flat_map pair_bytes reservations) ≡ 16 * length reservations

@@ -15,7 +15,7 @@ use Rattle.bi_base.proofs.ByteLists.{AreBytes-none, AreBytes-left}
 use Rattle.bi_blob.proofs.Texts.EncodedBytes.{TokenHasBytes, tokens_bytes, tree_bytes}
 use Rattle.bi_blob.proofs.Texts.TextBlob.{text_blob}
 
--- What blobs say can be written, and distinct things are written as distinct texts.
+-- What a blob has can be laid out, and distinct contents have distinct texts.
 
 -- The tokens that hold a tree have bytes, where the file is bytes.
 pub holds_bytes : (blocks : TreeBlocks) (root : Root FileNode) (holds : HoldsTree blocks root) → AreBytes blocks.file → AllByRecursion TokenHasBytes holds.tokens
@@ -25,7 +25,7 @@ holds_bytes blocks root holds bytes =
     (AreBytes-left holds.structure holds.trailing (subst AreBytes holds.is_at (AreBytes-slice blocks.file blocks.begin (blocks.end - blocks.begin) bytes)))
     holds.is_encoded)
 
--- What a file says as a blob is content.
+-- What a file has as a blob is content.
 pub blob_has_content : BlobHasContent
 blob_has_content file cpu reservations root blob = record {
   cpu_fits = subst (λ n. n < 2 ^ 32) blob.is_cpu (u32_at-fits file 28 blob.bytes);

@@ -10,7 +10,7 @@ use Rattle.bi_blob.specs.Layout.{AreEventBytes}
 use Rattle.bi_blob.proofs.Texts.Members.{each-map}
 use Rattle.bi_base.proofs.ByteLists.{AreBytes-left, AreBytes-right, AreBytes-drop, AreBytes-take}
 
--- What tokens that are bytes say has names and values that are bytes.
+-- The events of tokens that are bytes have names and values that are bytes.
 
 -- The name or the value of a token is bytes.
 abbrev pub TokenHasBytes : Token → Type 0
@@ -29,7 +29,7 @@ token_has_bytes (Prop name_offset value) bytes =
 token_has_bytes Nop bytes = tt
 token_has_bytes End bytes = tt
 
--- Tokens have bytes, where they are spelled by bytes.
+-- Tokens are of bytes where their encodings are bytes.
 pub tokens_bytes : (tokens : List Token) (bytes : List ℕ) → AreBytes bytes → AreEncodings tokens bytes → AllByRecursion TokenHasBytes tokens
 tokens_bytes [] bytes are is_encoded = tt
 tokens_bytes (token ∷ later) bytes are is_encoded = (
@@ -37,49 +37,49 @@ tokens_bytes (token ∷ later) bytes are is_encoded = (
   tokens_bytes later (drop (width token) bytes) (AreBytes-drop (width token) bytes are) is_encoded.1,
 )
 
--- A mark without its place.
-abbrev pub plain_mark : FileEvent → Event
-plain_mark (FileNodeStart place name) = NodeStart name
-plain_mark (FileNodeProperty property) = NodeProperty (property_of property)
-plain_mark FileNodeEnd = NodeEnd
+-- An event without its place.
+abbrev pub event_without_place : FileEvent → Event
+event_without_place (FileNodeStart place name) = NodeStart name
+event_without_place (FileNodeProperty property) = NodeProperty (property_of property)
+event_without_place FileNodeEnd = NodeEnd
 
--- A name that stands in strings of bytes is bytes.
+-- A name in a strings block of bytes is bytes.
 pub name_bytes : (strings : List ℕ) (offset : ℕ) (name : List ℕ) → AreBytes strings → IsNameAt strings offset name → AreBytes name
 name_bytes strings offset name are there =
     AreBytes-left name (0 ∷ there.trailing) (subst AreBytes there.is_at (AreBytes-drop offset strings are))
 
--- What tokens with bytes say over strings of bytes has bytes.
-pub said_bytes : (strings : List ℕ) (at : ℕ) (tokens : List Token) (token_events : List FileEvent) → AreBytes strings → AllByRecursion TokenHasBytes tokens → EncodeEvents strings at tokens token_events → AllByRecursion (λ event. AreEventBytes (plain_mark event)) token_events
-said_bytes strings at [] [] are bytes encodes = tt
-said_bytes strings at (Nop ∷ tokens) token_events are bytes encodes = said_bytes strings (at + width Nop) tokens token_events are bytes.1 encodes
-said_bytes strings at (BeginNode token_name ∷ tokens) (FileNodeStart place name ∷ token_events) are bytes encodes = (
+-- The events of tokens of bytes over strings of bytes are of bytes.
+pub event_bytes : (strings : List ℕ) (at : ℕ) (tokens : List Token) (token_events : List FileEvent) → AreBytes strings → AllByRecursion TokenHasBytes tokens → EncodeEvents strings at tokens token_events → AllByRecursion (λ event. AreEventBytes (event_without_place event)) token_events
+event_bytes strings at [] [] are bytes encodes = tt
+event_bytes strings at (Nop ∷ tokens) token_events are bytes encodes = event_bytes strings (at + width Nop) tokens token_events are bytes.1 encodes
+event_bytes strings at (BeginNode token_name ∷ tokens) (FileNodeStart place name ∷ token_events) are bytes encodes = (
   subst AreBytes encodes.0.same_name bytes.0,
-  said_bytes strings (at + width (BeginNode token_name)) tokens token_events are bytes.1 encodes.1,
+  event_bytes strings (at + width (BeginNode token_name)) tokens token_events are bytes.1 encodes.1,
 )
-said_bytes strings at (Prop name_offset value ∷ tokens) (FileNodeProperty property ∷ token_events) are bytes encodes = (
+event_bytes strings at (Prop name_offset value ∷ tokens) (FileNodeProperty property ∷ token_events) are bytes encodes = (
   (name_bytes strings name_offset property.name are encodes.0.name, subst AreBytes encodes.0.value bytes.0),
-  said_bytes strings (at + width (Prop name_offset value)) tokens token_events are bytes.1 encodes.1,
+  event_bytes strings (at + width (Prop name_offset value)) tokens token_events are bytes.1 encodes.1,
 )
-said_bytes strings at (EndNode ∷ tokens) (FileNodeEnd ∷ token_events) are bytes encodes = (tt, said_bytes strings (at + width EndNode) tokens token_events are bytes.1 encodes)
-said_bytes strings at tokens token_events are bytes encodes = absurd encodes
+event_bytes strings at (EndNode ∷ tokens) (FileNodeEnd ∷ token_events) are bytes encodes = (tt, event_bytes strings (at + width EndNode) tokens token_events are bytes.1 encodes)
+event_bytes strings at tokens token_events are bytes encodes = absurd encodes
 
--- The marks of properties without places.
-properties_of-marks_of_properties : (properties : List FileProperty) → map NodeProperty (map property_of properties) ≡ map plain_mark (map FileNodeProperty properties)
+-- The events of properties without places.
+properties_of-marks_of_properties : (properties : List FileProperty) → map NodeProperty (map property_of properties) ≡ map event_without_place (map FileNodeProperty properties)
 properties_of-marks_of_properties [] = refl
 properties_of-marks_of_properties (property ∷ later) = ap (λ l. NodeProperty (property_of property) ∷ l) (properties_of-marks_of_properties later)
 
--- The marks of nodes without places are their marks without places.
-pub properties_of-events : (nodes : Nodes FileNode) → events (with_each properties_of nodes) ≡ map plain_mark (file_events nodes)
+-- The events of nodes without places are their events without places.
+pub properties_of-events : (nodes : Nodes FileNode) → events (with_each properties_of nodes) ≡ map event_without_place (file_events nodes)
 properties_of-events none = refl
 properties_of-events (node name with_places children later) =
     ap (λ l. NodeStart name ∷ l)
     (ap₂ (λ l m. l ++ m) (properties_of-marks_of_properties with_places.properties)
     (ap₂ (λ l m. l ++ (NodeEnd ∷ m)) (properties_of-events children) (properties_of-events later)
-    ∙ sym (map-append plain_mark (file_events children) (FileNodeEnd ∷ file_events later)))
-    ∙ sym (map-append plain_mark (map FileNodeProperty with_places.properties) (file_events children ++ (FileNodeEnd ∷ file_events later))))
+    ∙ sym (map-append event_without_place (file_events children) (FileNodeEnd ∷ file_events later)))
+    ∙ sym (map-append event_without_place (map FileNodeProperty with_places.properties) (file_events children ++ (FileNodeEnd ∷ file_events later))))
 
--- A tree that tokens with bytes say has bytes.
+-- A tree that tokens of bytes encode is of bytes.
 pub tree_bytes : (strings : List ℕ) (at : ℕ) (tokens : List Token) (root : Root FileNode) → AreBytes strings → AllByRecursion TokenHasBytes tokens → EncodeEvents strings at tokens (file_events_of root) → AllByRecursion AreEventBytes (events_of (tree_without_places root))
 tree_bytes strings at tokens root are bytes encodes =
     subst (AllByRecursion AreEventBytes) (sym (properties_of-events (as_nodes root)))
-    (each-map AreEventBytes plain_mark (file_events_of root) (said_bytes strings at tokens (file_events_of root) are bytes encodes))
+    (each-map AreEventBytes event_without_place (file_events_of root) (event_bytes strings at tokens (file_events_of root) are bytes encodes))

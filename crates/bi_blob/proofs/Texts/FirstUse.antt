@@ -60,7 +60,7 @@ pub distinct_names-known : (names : List (List ℕ)) (name : List ℕ) → Conta
 distinct_names-known names name has =
     distinct_names-push names name ∙ ap (λ b. cond b (distinct_names names) (distinct_names names ++ name ∷ [])) (found_among names name has)
 
--- It stands behind them where it was not.
+-- It is added at their end where it was not there.
 pub distinct_names-new : (names : List (List ℕ)) (name : List ℕ) → (Contains names name → ⊥) → distinct_names (names ++ name ∷ []) ≡ distinct_names names ++ name ∷ []
 distinct_names-new names name lacks = distinct_names-push names name ∙ where_found (is_among name names) refl
   where
@@ -68,7 +68,7 @@ distinct_names-new names name lacks = distinct_names-push names name ∙ where_f
     where_found true is = absurd (lacks (among_found names name is))
     where_found false is = rw is refl
 
--- The names that marks use, with one more property.
+-- The names that events use, with one more property.
 pub used_names-push : (events : List Event) (property : Property) → used_names (events ++ NodeProperty property ∷ []) ≡ used_names events ++ property.0 ∷ []
 used_names-push events property = flat_map-append event_names events (NodeProperty property ∷ [])
 

@@ -13,7 +13,7 @@ use Rattle.bi_blob.proofs.Texts.TokenEncoding.{length-padding_to_4}
 pub length-header : (cpu reserved structure strings : ℕ) → length (blob_header cpu reserved structure strings) ≡ 40
 length-header cpu reserved structure strings = simp (length-append, length-cell)
 
--- A text is as long as its header and its blocks, filled up to a multiple of four.
+-- A text is as long as its header and its blocks, padded to a multiple of four.
 pub length-text_of_blocks : (cpu : ℕ) (reserved structure strings : List ℕ) → length (text_of_blocks cpu reserved structure strings) ≡ up4 (length_before_padding (length reserved) (length structure) (length strings))
 unfolding text_of_blocks
 length-text_of_blocks cpu reserved structure strings =
@@ -28,10 +28,10 @@ pub length-text_of_tree : (cpu : ℕ) (reservations : List Reservation) (root : 
 unfolding text_of_events
 length-text_of_tree cpu reservations root = length-text_of_blocks cpu (reservation_block reservations) (structure_block (events_of root)) (strings_block (events_of root))
 
--- A number is at most the multiple of four that it is filled up to.
+-- A number is at most the multiple of four that it is padded to.
 pub up4-le : (n : ℕ) → n ≤ up4 n
 up4-le n = omega arith
 
--- What is filled up is a multiple of four.
+-- What is padded is a multiple of four.
 pub up4-whole : (n : ℕ) → up4 n % 4 ≡ 0
 up4-whole n = omega arith

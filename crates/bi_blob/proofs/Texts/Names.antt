@@ -8,19 +8,19 @@ use Rattle.bi_blob.proofs.Texts.Members.{Contains-none, Contains-cases, Contains
 
 -- The names in a strings block: each once, and each at its offset.
 
--- Names that the test tells to be the same are the same.
+-- Names that the test finds equal are the same.
 same_names : (name other : List ℕ) → bytes_eq name other ≡ true → name ≡ other
 same_names name other is = (bytes_eq-Decides name other).0 is
 
--- Names that the test tells apart are not the same.
+-- Names that the test finds different are not the same.
 other_names : (name other : List ℕ) → bytes_eq name other ≡ false → name ≢ other
 other_names name other is same = true≢false (sym ((bytes_eq-Decides name other).1 same) ∙ is)
 
--- What stands at the offset of a name among names is the name, and a zero byte behind it.
-pub stands_among : (names : List (List ℕ)) (name : List ℕ) → Contains names name → (trailing : List ℕ) × (drop (offset_in names name) (strings_of names) ≡ name ++ 0 ∷ trailing)
-stands_among [] name has = absurd (Contains-none name has)
-stands_among (first ∷ others) name has =
-    where_first (bytes_eq first name) refl (Contains-cases first others name has) (λ has. stands_among others name has)
+-- The name, and a zero byte after it, are at its offset among names.
+pub found_at_offset : (names : List (List ℕ)) (name : List ℕ) → Contains names name → (trailing : List ℕ) × (drop (offset_in names name) (strings_of names) ≡ name ++ 0 ∷ trailing)
+found_at_offset [] name has = absurd (Contains-none name has)
+found_at_offset (first ∷ others) name has =
+    where_first (bytes_eq first name) refl (Contains-cases first others name has) (λ has. found_at_offset others name has)
   where
     where_first : (b : Bool) → bytes_eq first name ≡ b → (first ≡ name) ⊎ Contains others name → (Contains others name → (trailing : List ℕ) × (drop (offset_in others name) (strings_of others) ≡ name ++ 0 ∷ trailing)) → (trailing : List ℕ) × (drop (offset_in (first ∷ others) name) (strings_of (first ∷ others)) ≡ name ++ 0 ∷ trailing)
     where_first true is has is_at =
@@ -67,7 +67,7 @@ distinct-filter test (first ∷ others) distinct = where_first (test first) refl
     where_first true is rest = rw is (each-filter (λ other. other ≢ first) test others distinct.0, rest)
     where_first false is rest = rw is rest
 
--- A name is new among those that a test tells apart from it.
+-- A name is new among those that the test finds different from it.
 new-filter : (name : List ℕ) (others : List (List ℕ)) → IsNew name (filter (λ other. not (bytes_eq name other)) others)
 new-filter name [] = tt
 new-filter name (other ∷ later) = where_first (bytes_eq name other) refl (new-filter name later)
@@ -88,8 +88,8 @@ has_names_once events = record {
   distinct = distinct_names-distinct (used_names events);
 }
 
--- A name that marks use stands at its offset.
-pub name_stands : EachNameIsFound
-name_stands events name has no_zero =
-    let there = stands_among (distinct_names (used_names events)) name (distinct_names-all (used_names events) name has) in
+-- A name that events use is at its offset.
+pub name_is_found : EachNameIsFound
+name_is_found events name has no_zero =
+    let there = found_at_offset (distinct_names (used_names events)) name (distinct_names-all (used_names events) name has) in
     record { no_zero = no_zero; trailing = there.0; is_at = there.1 }

@@ -9,7 +9,7 @@ use Rattle.bi_blob.specs.TextLaws.{EachTreeHasOneOrder, NormalTextTellsContent}
 use Rattle.bi_blob.proofs.Texts.Ordering.{order_tells}
 use Rattle.bi_blob.proofs.Texts.Content.{text_has_one_content}
 
--- The normal order of properties, and what normal texts tell.
+-- The normal order of properties, and the content of normal texts.
 
 -- Properties by name, put in order and taken by name again, are the same.
 pub made_again : (properties : PropertyMap) → from_entries (entries properties) ≡ properties
@@ -29,7 +29,7 @@ pub normal-nodes : (nodes : Nodes PropertyMap) → EachOwn (λ properties. T (is
 normal-nodes none = tt
 normal-nodes (node name properties children later) = (entries_sorted properties, normal-nodes children, normal-nodes later)
 
--- They say the same.
+-- They have the same properties.
 pub same-nodes : (nodes : Nodes PropertyMap) → with_each (from_entries {R = slice_cmp nat_cmp}) (with_each entries nodes) ≡ nodes
 same-nodes none = refl
 same-nodes (node name properties children later) =
@@ -43,7 +43,7 @@ ordered-nodes (node name properties children later) normal =
     ap (λ own. node name own (with_each entries (with_each (from_entries {R = slice_cmp nat_cmp}) children)) (with_each entries (with_each (from_entries {R = slice_cmp nat_cmp}) later))) (ordered_again properties normal.0)
     ∙ ap₂ (λ inner outer. node name properties inner outer) (ordered-nodes children normal.1) (ordered-nodes later normal.2)
 
--- A normal tree is the one in order of what it says.
+-- A normal tree is the one in byte order of its properties by name.
 pub ordered-tree : (root : Root (List Property)) → IsNormal root → in_byte_order (tree_without_order root) ≡ root
 ordered-tree root normal =
     ap₂ (λ own children. record { own = own; children = children })
@@ -57,7 +57,7 @@ has_one_order root = record {
   only = λ other normal same. sym (ordered-tree other normal) ∙ ap in_byte_order same;
 }
 
--- Normal texts tell what they were made from.
+-- Normal texts are the same exactly where their contents are.
 pub normal_text_tells_content : NormalTextTellsContent
 normal_text_tells_content cpu other_cpu reservations other_reservations root other_root text other_text is other_is normal other_normal short = (
   (λ same.

@@ -14,12 +14,12 @@ pub order_tells : IsAntisymmetric (slice_cmp nat_cmp)
 order_tells = slice_cmp-IsAntisymmetric nat_cmp-IsAntisymmetric
 
 -- Both of two tests pass where they do together.
-both_pass : (a b : Bool) → T (a && b) → T a × T b
+pub both_pass : (a b : Bool) → T (a && b) → T a × T b
 both_pass true b passes = (tt, passes)
 both_pass false b passes = absurd passes
 
 -- A name that is below another is another.
-below_other : (name other : List ℕ) → T (is_lt (slice_cmp nat_cmp name other)) → other ≢ name
+pub below_other : (name other : List ℕ) → T (is_lt (slice_cmp nat_cmp name other)) → other ≢ name
 below_other name other below same =
     subst (λ o. T (is_lt o)) (tied_itself nat_list_cmp_total name) (subst (λ other. T (is_lt (slice_cmp nat_cmp name other))) same below)
 
@@ -30,7 +30,7 @@ below_new name (property ∷ later) below =
     let both = both_pass (is_lt (slice_cmp nat_cmp name property.0)) (below_all (slice_cmp nat_cmp) name later) below in
     (below_other name property.0 both.0, below_new name later both.1)
 
--- Properties that stand in order have distinct names.
+-- Properties in order have distinct names.
 pub ordered_distinct : (properties : List Property) → T (is_sorted (slice_cmp nat_cmp) properties) → AreDistinct (map (λ property. property.0) properties)
 ordered_distinct [] sorted = tt
 ordered_distinct (property ∷ later) sorted =
@@ -49,7 +49,7 @@ below_none name (property ∷ later) below =
     where_first Equal is lower rest = absurd lower
     where_first Greater is lower rest = absurd lower
 
--- What holds of each property that is found by its name holds of each, where they stand in order.
+-- What holds of each property that is found by its name holds of each, where they are in order.
 pub each-found : (P : Property → Type 0) (properties : List Property) → T (is_sorted (slice_cmp nat_cmp) properties) → ((name value : List ℕ) → find (slice_cmp nat_cmp) name properties ≡ Some value → P (name, value)) → AllByRecursion P properties
 each-found P [] sorted found = tt
 each-found P (property ∷ later) sorted found =

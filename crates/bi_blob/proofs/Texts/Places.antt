@@ -7,26 +7,26 @@ use Rattle.bi_blob.specs.Layout.{event_width, place_after_events, properties_wit
 
 -- The places of a text's tokens, and the tree that has them.
 
--- A mark with the place of its token.
-abbrev pub placed_mark : ℕ → Event → FileEvent
-placed_mark at (NodeStart name) = FileNodeStart at name
-placed_mark at (NodeProperty property) = FileNodeProperty (record { name = property.0; value = property.1; place = at })
-placed_mark at NodeEnd = FileNodeEnd
+-- An event with the place of its token.
+abbrev pub event_with_place : ℕ → Event → FileEvent
+event_with_place at (NodeStart name) = FileNodeStart at name
+event_with_place at (NodeProperty property) = FileNodeProperty (record { name = property.0; value = property.1; place = at })
+event_with_place at NodeEnd = FileNodeEnd
 
--- Marks with the places of their tokens, if these stand from this offset on.
+-- Events with the places of their tokens, the first of which is at this offset.
 abbrev pub placed_from : ℕ → List Event → List FileEvent
 placed_from at [] = []
-placed_from at (event ∷ later) = placed_mark at event ∷ placed_from (at + event_width event) later
+placed_from at (event ∷ later) = event_with_place at event ∷ placed_from (at + event_width event) later
 
 -- Behind no tokens is where they begin.
 pub place_after_events-none : (at : ℕ) → place_after_events at [] ≡ at
 place_after_events-none at = omega arith
 
--- The tokens behind a first one stand behind it.
+-- The tokens after a first one are after it.
 pub place_after_events-cons : (at : ℕ) (event : Event) (later : List Event) → place_after_events at (event ∷ later) ≡ place_after_events (at + event_width event) later
 place_after_events-cons at event later = omega (arith, sum_by-cons event_width event later)
 
--- The tokens behind some others stand behind them.
+-- The tokens after some others are after them.
 pub place_after_events-append : (at : ℕ) (front later : List Event) → place_after_events at (front ++ later) ≡ place_after_events (place_after_events at front) later
 place_after_events-append at front later = omega (arith, sum_by-append event_width front later)
 
@@ -34,17 +34,17 @@ place_after_events-append at front later = omega (arith, sum_by-append event_wid
 pub placed_from-append : (at : ℕ) (front later : List Event) → placed_from at (front ++ later) ≡ placed_from at front ++ placed_from (place_after_events at front) later
 placed_from-append at [] later = ap (λ place. placed_from place later) (omega arith)
 placed_from-append at (event ∷ front) later =
-    ap (λ l. placed_mark at event ∷ l)
+    ap (λ l. event_with_place at event ∷ l)
     (placed_from-append (at + event_width event) front later
     ∙ ap (λ place. placed_from (at + event_width event) front ++ placed_from place later) (sym (place_after_events-cons at event front)))
 
--- The properties of a node have the places of their marks.
+-- The properties of a node have the places of their events.
 pub placed-properties : (at : ℕ) (properties : List Property) → map FileNodeProperty (properties_with_places at properties) ≡ placed_from at (map NodeProperty properties)
 placed-properties at [] = refl
 placed-properties at (property ∷ later) =
-    ap (λ l. placed_mark at (NodeProperty property) ∷ l) (placed-properties (at + event_width (NodeProperty property)) later)
+    ap (λ l. event_with_place at (NodeProperty property) ∷ l) (placed-properties (at + event_width (NodeProperty property)) later)
 
--- Where the nodes behind a first one begin.
+-- The offset of the nodes after a first one.
 pub place_after_events-node : (at : ℕ) (name : List ℕ) (properties : List Property) (children : Nodes (List Property)) → place_after_events at (events (node name properties children none)) ≡ place_after_events (place_after_events (at + event_width (NodeStart name)) (map NodeProperty properties)) (events children) + event_width NodeEnd
 place_after_events-node at name properties children =
     place_after_events-cons at (NodeStart name) (map NodeProperty properties ++ (events children ++ (NodeEnd ∷ [])))
@@ -53,7 +53,7 @@ place_after_events-node at name properties children =
     ∙ place_after_events-cons (place_after_events (place_after_events (at + event_width (NodeStart name)) (map NodeProperty properties)) (events children)) NodeEnd []
     ∙ place_after_events-none (place_after_events (place_after_events (at + event_width (NodeStart name)) (map NodeProperty properties)) (events children) + event_width NodeEnd)
 
--- Nodes with their places say what the marks with theirs say.
+-- The events of nodes with places are their events with places.
 pub placed-nodes : (at : ℕ) (nodes : Nodes (List Property)) → file_events (with_places at nodes) ≡ placed_from at (events nodes)
 placed-nodes at none = refl
 placed-nodes at (node name properties children later) =
@@ -73,7 +73,7 @@ placed-nodes at (node name properties children later) =
     below : ℕ
     below = place_after_events (at + event_width (NodeStart name)) (map NodeProperty properties)
 
--- A tree with its places says what its marks with theirs say.
+-- The events of a tree with places are its events with places.
 pub placed-tree : (reservations : List Reservation) (root : Root (List Property)) → file_events_of (tree_with_places reservations root) ≡ placed_from (structure_place reservations) (events_of root)
 placed-tree reservations root = placed-nodes (structure_place reservations) (as_nodes root)
 

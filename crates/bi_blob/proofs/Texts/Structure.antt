@@ -8,15 +8,15 @@ use Rattle.bi_blob.specs.Layout.{used_names, distinct_names, encoding, tokens_of
 use Rattle.bi_blob.specs.TextLaws.{TextEncodesItsTree}
 use Rattle.bi_blob.proofs.Texts.Members.{each-append}
 use Rattle.bi_blob.proofs.Texts.Names.{distinct_names-all}
-use Rattle.bi_blob.proofs.Texts.Trees.{good-tree}
+use Rattle.bi_blob.proofs.Texts.Trees.{names_end-tree}
 use Rattle.bi_blob.proofs.Texts.TokenEncoding.{is_encoded}
 use Rattle.bi_blob.proofs.Texts.Places.{placed-tree}
-use Rattle.bi_blob.proofs.Texts.EventEncoding.{named_in, says, are_tokens}
+use Rattle.bi_blob.proofs.Texts.EventEncoding.{named_in, encodes_events, are_tokens}
 use Rattle.bi_blob.proofs.Texts.Length.{length-text_of_tree, up4-le}
 
--- The structure block of a text says its tree.
+-- The structure block of a text encodes its tree.
 
--- The tokens of marks take no more than the structure block.
+-- The tokens of events are no longer than the structure block.
 pub tokens-le : (events : List Event) → length (flat_map encoding (tokens_of events)) ≤ length (structure_block events)
 tokens-le events =
     subst (λ l. length (flat_map encoding (tokens_of events)) ≤ length l) (sym (flat_map-append encoding (tokens_of events) (End ∷ [])))
@@ -27,16 +27,16 @@ pub blocks-le : (cpu : ℕ) (reservations : List Reservation) (root : Root (List
 blocks-le cpu reservations root =
     omega (arith, length-text_of_tree cpu reservations root, up4-le (length_before_padding (length (reservation_block reservations)) (length (structure_block (events_of root))) (length (strings_block (events_of root)))))
 
--- The blocks of a text that is not too long say its tree.
+-- The blocks of a text that is not too long encode its tree.
 pub says_tree : TextEncodesItsTree
 says_tree cpu reservations root is short = record {
   is_encoded = is_encoded (tokens_of (events_of root) ++ End ∷ [])
       (each-append IsToken (tokens_of (events_of root)) (End ∷ [])
-      (are_tokens (distinct_names (used_names (events_of root))) (events_of root) (good-tree root is.is_tree) strings_fit structure_fits)
+      (are_tokens (distinct_names (used_names (events_of root))) (events_of root) (names_end-tree root is.is_tree) strings_fit structure_fits)
       (tt, tt));
   encodes = subst (EncodeEvents (strings_block (events_of root)) (structure_place reservations) (tokens_of (events_of root))) (sym (placed-tree reservations root))
-      (says (strings_block (events_of root)) (distinct_names (used_names (events_of root))) (structure_place reservations) (events_of root)
-      (named_in (distinct_names (used_names (events_of root))) (events_of root) (distinct_names-all (used_names (events_of root))) (good-tree root is.is_tree)));
+      (encodes_events (strings_block (events_of root)) (distinct_names (used_names (events_of root))) (structure_place reservations) (events_of root)
+      (named_in (distinct_names (used_names (events_of root))) (events_of root) (distinct_names-all (used_names (events_of root))) (names_end-tree root is.is_tree)));
 }
   where
     strings_fit : length (strings_block (events_of root)) < 2 ^ 32

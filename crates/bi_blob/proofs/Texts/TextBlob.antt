@@ -15,7 +15,7 @@ use Rattle.bi_blob.proofs.Texts.Blocks.{text_parts, slice_from_second, third_sli
 use Rattle.bi_base.proofs.ByteLists.{AreBytes-append}
 use Rattle.bi_blob.proofs.Texts.TextBytes.{AreBytes-text}
 
--- A text, with any bytes behind it, is a blob of what it was made from.
+-- A text, with any bytes after it, is a blob of its content.
 
 -- A file that has the cells and the blocks of a text.
 pub record HasParts (file : List ℕ) (cpu : ℕ) (reserved structure strings : List ℕ) : Type 0 where
@@ -25,7 +25,7 @@ pub record HasParts (file : List ℕ) (cpu : ℕ) (reserved structure strings : 
   pub is_structure : slice file (off_dt_struct file) (structure_end file - off_dt_struct file) ≡ structure
   pub is_strings : slice file (off_dt_strings file) (size_dt_strings file) ≡ strings
 
--- What begins with the header of a text and goes on with its blocks has them.
+-- A file that begins with the header of a text and then its blocks has them.
 pub parts_of : (cpu : ℕ) (reserved structure strings rest : List ℕ) → cpu < 2 ^ 32 → up4 (length_before_padding (length reserved) (length structure) (length strings)) < 2 ^ 32 → HasParts (blob_header cpu (length reserved) (length structure) (length strings) ++ (reserved ++ (structure ++ (strings ++ rest)))) cpu reserved structure strings
 parts_of cpu reserved structure strings rest cpu_fits fits = record {
   cells = cells;
@@ -53,7 +53,7 @@ parts_of cpu reserved structure strings rest cpu_fits fits = record {
     long : length front ≡ 40
     long = length-header cpu (length reserved) (length structure) (length strings)
 
--- A text of three blocks, with any bytes behind it, has them.
+-- A text of three blocks, with any bytes after it, has them.
 pub text_has_parts : (cpu : ℕ) (reserved structure strings rest : List ℕ) → cpu < 2 ^ 32 → up4 (length_before_padding (length reserved) (length structure) (length strings)) < 2 ^ 32 → HasParts (text_of_blocks cpu reserved structure strings ++ rest) cpu reserved structure strings
 text_has_parts cpu reserved structure strings rest cpu_fits fits =
     subst (λ file. HasParts file cpu reserved structure strings) (sym (text_parts cpu reserved structure strings rest))
@@ -66,7 +66,7 @@ tree_text_has_parts cpu reservations root rest cpu_fits short =
     text_has_parts cpu (reservation_block reservations) (structure_block (events_of root)) (strings_block (events_of root)) rest cpu_fits
     (omega (arith, length-text_of_blocks cpu (reservation_block reservations) (structure_block (events_of root)) (strings_block (events_of root))))
 
--- A file with the blocks of a tree holds it, where these say it.
+-- A file with the blocks of a tree holds it, where these encode it.
 pub holds_tree : (file : List ℕ) (cpu : ℕ) (reservations : List Reservation) (root : Root (List Property)) → HasParts file cpu (reservation_block reservations) (structure_block (events_of root)) (strings_block (events_of root)) → EncodesTree reservations root → IsTree AreProperties root → HoldsTree (tree_blocks file) (tree_with_places reservations root)
 holds_tree file cpu reservations root parts token_events is = record {
   tokens = tokens_of (events_of root);
@@ -79,7 +79,7 @@ holds_tree file cpu reservations root parts token_events is = record {
   is_tree = subst (IsTree AreProperties) (sym (properties_of-tree reservations root)) is;
 }
 
--- The text of content, with any bytes behind it, is a blob of the content at the places of the layout.
+-- The text of content, with any bytes after it, is a blob of the content at the places of the layout.
 pub text_blob : (cpu : ℕ) (reservations : List Reservation) (root : Root (List Property)) (rest : List ℕ) → IsContent cpu reservations root → length (text_of_tree cpu reservations root) ≤ longest_text → AreBytes rest → IsBlob (text_of_tree cpu reservations root ++ rest) cpu reservations (tree_with_places reservations root)
 text_blob cpu reservations root rest is short bytes = record {
   bytes = AreBytes-append (text_of_tree cpu reservations root) rest (AreBytes-text cpu reservations root is) bytes;
@@ -105,7 +105,7 @@ text_is_blob cpu reservations root rest is short bytes = record {
   is_total = (tree_text_has_parts cpu reservations root rest is.cpu_fits short).cells.is_total ∙ sym (length-text_of_tree cpu reservations root);
 }
 
--- The length of each text is what the layout says.
+-- The length of each text is that of the layout.
 pub has_text_length : EachTextHasItsLength
 has_text_length cpu reservations root = record {
   is_length = length-text_of_tree cpu reservations root;

@@ -32,7 +32,7 @@ AreBytes-reserved reservations = AreBytes-append (flat_map pair_bytes reservatio
     each [] = tt
     each (reservation ∷ later) = (AreBytes-reservation reservation, each later)
 
--- What a token of a mark holds, without its padding, is.
+-- The bytes of an event's token without its padding.
 pub AreBytes-token_bytes : (names : List (List ℕ)) (event : Event) → AreEventBytes event → AreBytes (token_bytes (token_of names event))
 AreBytes-token_bytes names (NodeStart name) bytes =
     AreBytes-append _ _ (AreBytes-cell begin_node_number) (AreBytes-append name (0 ∷ []) bytes (AreBytes-zeros 1))
@@ -58,7 +58,7 @@ AreBytes-structure events bytes =
     each names [] bytes = tt
     each names (event ∷ later) bytes = (AreBytes-encoding (token_of names event) (AreBytes-token_bytes names event bytes.0), each names later bytes.1)
 
--- The names that marks use are.
+-- The names that events use.
 pub AreBytes-used_names : (events : List Event) → AllByRecursion AreEventBytes events → AllByRecursion AreBytes (used_names events)
 AreBytes-used_names [] bytes = tt
 AreBytes-used_names (NodeStart name ∷ later) bytes = AreBytes-used_names later bytes.1
@@ -71,7 +71,7 @@ each-distinct_names P [] each = each
 each-distinct_names P (first ∷ others) each =
     (each.0, each-filter P (λ other. not (bytes_eq first other)) (distinct_names others) (each-distinct_names P others each.1))
 
--- Names that are bytes are so with zero bytes behind them.
+-- Names that are bytes, with a zero byte after each.
 pub AreBytes-strings_of : (names : List (List ℕ)) → AllByRecursion AreBytes names → AreBytes (strings_of names)
 AreBytes-strings_of [] bytes = AreBytes-none
 AreBytes-strings_of (name ∷ later) bytes =

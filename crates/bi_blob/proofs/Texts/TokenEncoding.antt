@@ -7,9 +7,9 @@ use Rattle.bi_blob.specs.Events.{Event, NodeStart, NodeProperty, NodeEnd}
 use Rattle.bi_blob.specs.Layout.{padding_to_4, encoding, token_of, event_width, offset_in}
 use Rattle.bi_base.proofs.CellLaws.{length-cell}
 
--- How tokens are spelled in a text, with zeros as their padding.
+-- The encodings of tokens in a text, with zeros as padding.
 
--- What fills up is as long as is missing to a multiple of four.
+-- Padding is as long as is missing to a multiple of four.
 pub length-padding_to_4 : (n : ℕ) → n + length (padding_to_4 n) ≡ up4 n
 length-padding_to_4 n = simp (length-replicate) (omega arith)
 
@@ -17,20 +17,20 @@ length-padding_to_4 n = simp (length-replicate) (omega arith)
 pub length-encoding : (token : Token) → length (encoding token) ≡ width token
 length-encoding token = length-append (token_bytes token) (padding_to_4 (length (token_bytes token))) ∙ length-padding_to_4 (length (token_bytes token))
 
--- A token with zeros as its padding is spelled.
-pub spells : (token : Token) → IsToken token → IsEncoding token (encoding token)
-spells token is = record {
+-- A token with zeros as its padding is an encoding.
+pub is_padded_encoding : (token : Token) → IsToken token → IsEncoding token (encoding token)
+is_padded_encoding token is = record {
   is_token = is;
   padding = padding_to_4 (length (token_bytes token));
   is_encoded = refl;
   whole = length-encoding token;
 }
 
--- Tokens with zeros as their padding are spelled.
+-- Tokens with zeros as their padding are encodings.
 pub is_encoded : (tokens : List Token) → AllByRecursion IsToken tokens → AreEncodings tokens (flat_map encoding tokens)
 is_encoded [] each = refl
 is_encoded (token ∷ later) each = (
-  subst (IsEncoding token) (sym (take_at (encoding token) (flat_map encoding later) (width token) (length-encoding token))) (spells token each.0),
+  subst (IsEncoding token) (sym (take_at (encoding token) (flat_map encoding later) (width token) (length-encoding token))) (is_padded_encoding token each.0),
   subst (AreEncodings later) (sym (drop_at (encoding token) (flat_map encoding later) (width token) (length-encoding token))) (is_encoded later each.1),
 )
 
@@ -38,7 +38,7 @@ is_encoded (token ∷ later) each = (
 pub length_unpadded-prop : (name_offset : ℕ) (value : List ℕ) → length (token_bytes (Prop name_offset value)) ≡ 12 + length value
 length_unpadded-prop name_offset value = simp (length-append, length-cell) (omega arith)
 
--- The token of a mark takes the mark's width, wherever its name stands.
+-- The token of an event has the event's width, wherever its name is.
 pub width-token : (names : List (List ℕ)) (event : Event) → width (token_of names event) ≡ event_width event
 width-token names (NodeStart name) = refl
 width-token names (NodeProperty property) =

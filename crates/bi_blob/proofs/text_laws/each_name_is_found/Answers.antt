@@ -1,5 +1,5 @@
-use Rattle.bi_blob.proofs.Texts.Names.{name_stands}
+use Rattle.bi_blob.proofs.Texts.Names.{name_is_found}
 use Rattle.bi_blob.proofs.text_laws.each_name_is_found.Goals as goal
 
 pub returns : goal.returns
-returns c = name_stands
+returns c = name_is_found

@@ -1,0 +1,185 @@
+use Rattle.std.proofs.Common.{◌≡◌, ℕ, suc, ◌<◌, ◌≤◌, List, [], ◌∷◌, ◌++◌, length, map, refl, sym, ap, ap₂, subst, ◌∙◌, arith}
+use Rattle.std.proofs.lemmas.List.{append_assoc, append-nil, map-append}
+use Rattle.bi_blob.specs.Tree.{Nodes, none, node, Root, Property, FileProperty, FileNode, with_each, with_each_node, properties_of, property_of, tree_without_places, as_nodes}
+use Rattle.bi_blob.specs.Events.{Event, NodeStart, NodeProperty, NodeEnd, events, events_of, FileEvent, FileNodeStart, FileNodeProperty, FileNodeEnd, file_events, file_events_of}
+use Rattle.bi_blob.specs.Stages.{BeforeRoot, Inside, AfterRoot, next_stage}
+use Rattle.bi_blob.specs.Following.{MayFollow, AreClosedEvents}
+use Rattle.bi_blob.specs.BlobLaws.{HasOneTree, ClosedEventsHaveOneTree}
+use Rattle.bi_blob.proofs.Blobs.Trees.{trees_agree}
+use Rattle.bi_blob.proofs.Blobs.PartialNodes.{Growth, NotBegun, Growing, Grown, begun, with_one_property, with_one_child, root_of, opens_of, stage_of, said_so_far, IsGrowth, IsWholeTree}
+use Rattle.bi_blob.proofs.Blobs.Growing.{AreProperties-push, open_of-property, open_of-child, said_by-property, said_by-child, said_by-root}
+use Rattle.bi_blob.proofs.Blobs.Steps.{AreOpenNodes-property, AreOpenNodes-child, innermost_properties, length-opens_of}
+use Rattle.bi_blob.proofs.Blobs.Passing.{event_without_place}
+use Rattle.bi_blob.proofs.Blobs.Complete.{tree_events_without_places, depth-properties_of}
+use Rattle.bi_blob.proofs.Blobs.Following.{FollowToEnd, to_end, follow_to_end, closed_at_end, tree_follows}
+
+-- Events that may follow one another and close are those of one tree. The lemmas on trees of files are used for trees
+-- without places: all their places are 0.
+
+-- A property at place 0.
+abbrev pub property_at_0 : Property → FileProperty
+property_at_0 property = record { name = property.0; value = property.1; place = 0 }
+
+-- What a node has itself, at place 0.
+abbrev pub node_at_0 : List Property → FileNode
+node_at_0 properties = record { place = 0; properties = map property_at_0 properties }
+
+-- An event at place 0.
+abbrev pub event_at_0 : Event → FileEvent
+event_at_0 (NodeStart name) = FileNodeStart 0 name
+event_at_0 (NodeProperty property) = FileNodeProperty (property_at_0 property)
+event_at_0 NodeEnd = FileNodeEnd
+
+-- An event at place 0 is the event.
+event_without_place-at_0 : (event : Event) → event_without_place (event_at_0 event) ≡ event
+event_without_place-at_0 (NodeStart name) = refl
+event_without_place-at_0 (NodeProperty property) = refl
+event_without_place-at_0 NodeEnd = refl
+
+events_without_places-at_0 : (events : List Event) → map event_without_place (map event_at_0 events) ≡ events
+events_without_places-at_0 [] = refl
+events_without_places-at_0 (event ∷ later) = ap₂ (λ e l. e ∷ l) (event_without_place-at_0 event) (events_without_places-at_0 later)
+
+-- Properties at place 0 are the properties.
+properties-at_0 : (properties : List Property) → map property_of (map property_at_0 properties) ≡ properties
+properties-at_0 [] = refl
+properties-at_0 (property ∷ later) = ap (λ l. property ∷ l) (properties-at_0 later)
+
+-- The events of properties at place 0.
+property_events-at_0 : (properties : List Property) → map FileNodeProperty (map property_at_0 properties) ≡ map event_at_0 (map NodeProperty properties)
+property_events-at_0 [] = refl
+property_events-at_0 (property ∷ later) = ap (λ l. FileNodeProperty (property_at_0 property) ∷ l) (property_events-at_0 later)
+
+-- Nodes at place 0 are the nodes.
+nodes-at_0 : (nodes : Nodes (List Property)) → with_each properties_of (with_each node_at_0 nodes) ≡ nodes
+nodes-at_0 none = refl
+nodes-at_0 (node name properties children later) =
+    ap (λ own. node name own (with_each properties_of (with_each node_at_0 children)) (with_each properties_of (with_each node_at_0 later))) (properties-at_0 properties)
+    ∙ ap₂ (λ below after. node name properties below after) (nodes-at_0 children) (nodes-at_0 later)
+
+-- The events of nodes at place 0 are those of the nodes, at place 0.
+file_events-at_0 : (nodes : Nodes (List Property)) → file_events (with_each node_at_0 nodes) ≡ map event_at_0 (events nodes)
+file_events-at_0 none = refl
+file_events-at_0 (node name properties children later) =
+    ap (λ l. FileNodeStart 0 name ∷ l)
+    (ap (λ l. l ++ (file_events (with_each node_at_0 children) ++ (FileNodeEnd ∷ file_events (with_each node_at_0 later)))) (property_events-at_0 properties)
+    ∙ ap (λ l. map event_at_0 (map NodeProperty properties) ++ l)
+    (ap₂ (λ below after. below ++ (FileNodeEnd ∷ after)) (file_events-at_0 children) (file_events-at_0 later)
+    ∙ sym (map-append event_at_0 (events children) (NodeEnd ∷ events later)))
+    ∙ sym (map-append event_at_0 (map NodeProperty properties) (events children ++ (NodeEnd ∷ events later))))
+
+-- Two trees with the same events are the same.
+pub same_events : (root other : Root (List Property)) → events_of root ≡ events_of other → root ≡ other
+same_events root other same =
+    let agree : with_each_node node_at_0 root ≡ with_each_node node_at_0 other =
+    trees_agree (with_each_node node_at_0 root) (with_each_node node_at_0 other)
+    (file_events-at_0 (as_nodes root) ∙ ap (map event_at_0) same ∙ sym (file_events-at_0 (as_nodes other))) in
+    sym (tree-at_0 root) ∙ ap tree_without_places agree ∙ tree-at_0 other
+  where
+    tree-at_0 : (root : Root (List Property)) → tree_without_places (with_each_node node_at_0 root) ≡ root
+    tree-at_0 root = ap₂ (λ own children. record { own = own; children = children }) (properties-at_0 root.own) (nodes-at_0 root.children)
+
+-- A tree has grown by an event.
+pub record HasGrown (depth_limit : ℕ) (growth : Growth) (event : Event) : Type 0 where
+  pub after : Growth
+  pub is_growth : IsGrowth depth_limit after
+  pub is_stage : next_stage (stage_of growth) event ≡ stage_of after
+  pub said : said_so_far after ≡ said_so_far growth ++ event_at_0 event ∷ []
+
+module _ (depth_limit : ℕ) where
+  -- A tree grows by each event that may follow.
+  grow : (growth : Growth) (event : Event) → IsGrowth depth_limit growth → MayFollow depth_limit (stage_of growth) event → HasGrown depth_limit growth event
+  grow NotBegun (NodeStart name) is may = record {
+    after = Growing (begun name 0) [];
+    is_growth = (record { properties = record { named = tt; distinct = tt }; children = tt; shallow = omega (arith, may.0) }, may.1);
+    is_stage = refl;
+    said = refl;
+  }
+  grow (Growing parent outer) (NodeStart name) is may =
+      let few : suc (length (opens_of parent.name outer)) < depth_limit = may.0 in
+      let open_here : length (opens_of parent.name outer) ≡ length outer = length-opens_of parent.name outer in
+      record {
+        after = Growing (begun name 0) (parent ∷ outer);
+        is_growth = (
+          record { properties = record { named = tt; distinct = tt }; children = tt; shallow = omega arith },
+          record { is_name = may.1; is_new = may.2 },
+          is,
+        );
+        is_stage = refl;
+        said = refl;
+      }
+  grow (Grown root) (NodeStart name) is may = absurd may
+  grow NotBegun (NodeProperty property) is may = absurd may
+  grow (Growing innermost outer) (NodeProperty property) is may = record {
+    after = Growing (with_one_property innermost (property_at_0 property)) outer;
+    is_growth = AreOpenNodes-property depth_limit innermost outer (property_at_0 property) is
+        (AreProperties-push innermost.properties (property_at_0 property) (innermost_properties depth_limit innermost outer is) may.1 may.2);
+    is_stage = ap (λ open_node. Inside open_node (opens_of innermost.name outer)) (sym (open_of-property innermost (property_at_0 property)));
+    said = said_by-property innermost outer (property_at_0 property) may.0;
+  }
+  grow (Grown root) (NodeProperty property) is may = absurd may
+  grow NotBegun NodeEnd is may = absurd may
+  grow (Growing outermost []) NodeEnd is may =
+      let shallow = is.0.shallow in
+      record {
+        after = Grown (root_of outermost);
+        is_growth = record { is_tree = record { is_own = is.0.properties; children = is.0.children }; shallow = omega (arith, shallow) };
+        is_stage = refl;
+        said = said_by-root outermost is.1;
+      }
+  grow (Growing child (parent ∷ outer)) NodeEnd is may = record {
+    after = Growing (with_one_child parent child) outer;
+    is_growth = AreOpenNodes-child depth_limit child parent outer is;
+    is_stage = ap (λ open_node. Inside open_node (opens_of parent.name outer)) (sym (open_of-child parent child));
+    said = said_by-child parent child outer;
+  }
+  grow (Grown root) NodeEnd is may = absurd may
+
+  -- A tree that has ended.
+  ended : (growth : Growth) → IsGrowth depth_limit growth → stage_of growth ≡ AfterRoot → (root : Root FileNode) × (file_events_of root ≡ said_so_far growth) × IsWholeTree depth_limit root
+  ended NotBegun is closed = absurd cc
+  ended (Growing innermost outer) is closed = absurd cc
+  ended (Grown root) is closed = (root, refl, is)
+
+  -- A tree grows by events that follow to the end, and ends.
+  grow_to_end : (growth : Growth) (later : List Event) → IsGrowth depth_limit growth → FollowToEnd (MayFollow depth_limit) (stage_of growth) later → (root : Root FileNode) × (file_events_of root ≡ said_so_far growth ++ map event_at_0 later) × IsWholeTree depth_limit root
+  grow_to_end growth [] is follow =
+      let done = ended growth is follow in
+      (done.0, done.1 ∙ sym (append-nil (said_so_far growth)), done.2)
+  grow_to_end growth (event ∷ later) is follow =
+      let one : HasGrown depth_limit growth event = grow growth event is follow.0 in
+      let done = grow_to_end one.after later one.is_growth (subst (λ stage. FollowToEnd (MayFollow depth_limit) stage later) one.is_stage follow.1) in (
+        done.0,
+        done.1
+            ∙ ap (λ l. l ++ map event_at_0 later) one.said
+            ∙ append_assoc (said_so_far growth) (event_at_0 event ∷ []) (map event_at_0 later),
+        done.2,
+      )
+
+  -- Closed events are those of one tree.
+  one_tree : (events : List Event) → AreClosedEvents (MayFollow depth_limit) events → HasOneTree depth_limit events
+  one_tree events closed =
+      let done = grow_to_end NotBegun events tt (to_end (MayFollow depth_limit) BeforeRoot events closed.follow closed.closed) in
+      let same : events_of (tree_without_places done.0) ≡ events =
+      sym (tree_events_without_places done.0) ∙ ap (map event_without_place) done.1 ∙ events_without_places-at_0 events in
+      record {
+        root = tree_without_places done.0;
+        same = same;
+        only = λ other also. same_events other (tree_without_places done.0) (also ∙ sym same);
+        is_tree = done.2.is_tree;
+        shallow = subst (λ n. n ≤ depth_limit) (depth-properties_of done.0) done.2.shallow;
+      }
+
+  -- The events of one tree may follow one another, and end its root.
+  tree_closes : (events : List Event) → HasOneTree depth_limit events → AreClosedEvents (MayFollow depth_limit) events
+  tree_closes events tree =
+      let follow : FollowToEnd (MayFollow depth_limit) BeforeRoot events =
+      subst (FollowToEnd (MayFollow depth_limit) BeforeRoot) tree.same (tree_follows depth_limit tree.root tree.is_tree tree.shallow) in
+      record {
+        follow = follow_to_end (MayFollow depth_limit) BeforeRoot events follow;
+        closed = closed_at_end (MayFollow depth_limit) BeforeRoot events follow;
+      }
+
+-- Closed events are those of one tree, and only those are closed.
+pub closed_events_have_one_tree : ClosedEventsHaveOneTree
+closed_events_have_one_tree depth_limit events = (one_tree depth_limit events, tree_closes depth_limit events)
