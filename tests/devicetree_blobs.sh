@@ -49,7 +49,7 @@ trap 'exit 1' HUP INT TERM
     echo 'print_blob: bi_fdt bi_base'
 } > "$work/crates.txt"
 mkdir -p "$work/crates/print_blob/src"
-cp "$root/tests/print_blob/main.rt" "$work/crates/print_blob/src/"
+cp "$root/tests/print_blob/main.rt.source" "$work/crates/print_blob/src/main.rt"
 (cd "$work/crates/print_blob" && rt run) < /dev/null > "$work/log" 2>&1
 program=$work/crates/print_blob/out/print_blob
 check "the program is built" test -x "$program"

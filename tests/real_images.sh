@@ -1,7 +1,7 @@
 #!/bin/sh
-# Images that U-Boot's mkimage makes, through the program: they come back unchanged, or as mkimage made them where bytes without
-# a meaning were changed; their listings are right; and their parts are those that went in. It needs Debian's u-boot-tools and
-# python3, and installs them where one is missing and it runs as root.
+# Tries the program on images that U-Boot's mkimage makes: they are their own normal forms, also after bytes without a meaning
+# are changed; their listings are right; and their parts are the files that went in. The script needs Debian's u-boot-tools and
+# python3, and installs them if one is missing and it runs as root.
 set -u
 
 export LC_ALL=C SOURCE_DATE_EPOCH=1000000000
@@ -22,7 +22,7 @@ check() {
     fi
 }
 
-# finish: the line that ends each script.
+# finish: prints the last line of the script.
 finish() {
     echo "$passed passed, $failed failed"
     [ "$failed" = 0 ]
@@ -45,7 +45,8 @@ trap 'rm -rf "$work"' EXIT
 trap 'exit 1' HUP INT TERM
 cd "$work" || exit 2
 
-# gives WANTED INPUT WORD..: the program with these words, on the file INPUT, writes the file WANTED and says nothing.
+# gives WANTED INPUT ARGUMENT..: the program with these arguments, on the file INPUT, writes the contents of the file WANTED, and
+# nothing to standard error.
 gives() {
     wanted=$1
     input=$2
@@ -53,15 +54,15 @@ gives() {
     "$root/bootimg" "$@" < "$input" > output 2> errors && [ ! -s errors ] && cmp "$wanted" output
 }
 
-# noise SEED COUNT: so many bytes, the same ones each time.
+# noise SEED COUNT: writes this many bytes, the same ones each time.
 noise() {
     python3 -c 'import random, sys
 seed, count = map(int, sys.argv[1:])
 sys.stdout.buffer.write(random.Random(seed).getrandbits(8 * count).to_bytes(count, "big"))' "$@"
 }
 
-# soil IMAGE PLACE..: the image with other bytes behind the name, behind the data, and at these places, and with the checksums
-# that it has to have then.
+# soil IMAGE OFFSET..: writes the image with other bytes after the name, after the data, and at these offsets, with the right
+# checksums.
 soil() {
     python3 -c 'import sys, zlib
 image = bytearray(open(sys.argv[1], "rb").read())
@@ -76,12 +77,12 @@ image[4:8] = zlib.crc32(image[:64]).to_bytes(4, "big")
 sys.stdout.buffer.write(image + b"\xaa" * 1001)' "$@"
 }
 
-# make TYPE NAME FILES IMAGE: an image of these files, joined by colons.
+# make TYPE NAME FILES IMAGE: makes an image of these files, whose names are joined by colons.
 make() {
     mkimage -A arm -O linux -T "$1" -C none -a 0x8000 -e 0x8040 -n "$2" -d "$3" "$4" > /dev/null
 }
 
-# listing NAME TYPE PARTS: the listing, whose lines on the parts and behind are on standard input.
+# listing NAME TYPE PARTS: writes the listing; its lines from the first part on are read from standard input.
 listing() {
     echo "kind legacy"
     echo "name $1"
@@ -112,8 +113,8 @@ check "mkimage takes the normal form" mkimage -l output
 check "the kernel is extracted" gives kernel kernel.soiled extract --part 0
 check "the kernel image is listed" gives kernel.listing kernel.soiled list
 
-# multi COUNT PLACES FILE..: a multi image of these files, with zeros between its parts at these places, and the lines of its
-# listing on the parts on standard input.
+# multi COUNT OFFSETS FILE..: tries a multi-file image of these files, with padding between its parts at these offsets. The lines
+# of its parts in the listing are read from standard input.
 multi() {
     count=$1
     places=$2
@@ -138,7 +139,8 @@ multi() {
     check "there is no part $index of $count" refuses "no such part" multi.soiled extract --part "$index"
 }
 
-# refuses LINE INPUT WORD..: the program with these words, on the file INPUT, writes nothing, says this and ends with status 2.
+# refuses LINE INPUT ARGUMENT..: the program with these arguments, on the file INPUT, writes nothing, prints this line on standard
+# error and ends with status 2.
 refuses() {
     line=$1
     input=$2
@@ -147,7 +149,7 @@ refuses() {
     [ $? = 2 ] && [ ! -s output ] && [ "$(cat errors)" = "bootimg: $line" ]
 }
 
-# Multi images, of parts whose lengths are no multiples of four.
+# Multi-file images of parts whose lengths are not multiples of four.
 noise 2 1001 > part0
 noise 3 70003 > part1
 noise 4 5 > part2
@@ -179,14 +181,13 @@ check "a script image is its own normal form" gives script.image script.image no
 check "the script is extracted" gives script script.image extract --part 0
 check "the script image is listed" gives script.listing script.image list
 
-# names LABEL NAME OPTION: where mkimage is given this name by this option, the listing of its image has it on the line of this
-# label.
+# names LABEL NAME OPTION: mkimage takes this name for this option, and the listing of the image has it on the line of this label.
 names() {
     mkimage -A arm -O linux -T kernel -C none "$3" "$2" -d script names.image > /dev/null &&
         "$root/bootimg" list < names.image > output && grep -Fqx "$1 $2" output
 }
 
-# Each name of a code, but for flat_dt, of which mkimage makes no legacy image.
+# Each name of a code, except flat_dt: mkimage makes no legacy image of this type.
 for name in netbsd linux vxworks u-boot; do
     check "the system $name is listed" names os "$name" -O
 done
@@ -200,7 +201,7 @@ for name in none gzip bzip2 lzma lzo lz4 zstd; do
     check "the compression $name is listed" names compression "$name" -C
 done
 
-# The examples. dumpimage takes apart those of mkimage, which makes them again of what it gets.
+# The examples. dumpimage extracts their parts, and mkimage makes the images again from these.
 kernel=$root/examples/kernel.uimage
 padded=$root/examples/kernel-padded.uimage
 two=$root/examples/two-parts.uimage

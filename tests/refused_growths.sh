@@ -1,7 +1,8 @@
 #!/bin/sh
-# Has each growth of each call that takes memory refused, one in each run, until a run has none to refuse: the call's answer
-# has to be that of ample memory, or OutOfMemory with nothing written. What a call is, and how its answer is judged, stands in
-# crates/bootimg/src/refused_growths.rt. Here a copy of the sources gets a test for each growth, so that all are built at once.
+# Has one allocation fail in each run of a call, the first, the second and so on, until a run has none left to fail. If an
+# allocation fails, the call has to return OutOfMemory with nothing written, or to succeed as if none had failed. A call on a
+# document that ran out of memory is made again. The calls, and how their results are checked, are in src/refused_growths.rt of
+# each crate. The script adds a test for each allocation to a copy of the sources, so that all of a crate are built at once.
 set -eu
 
 root=$(cd "$(dirname "$0")/.." && pwd)
@@ -11,49 +12,69 @@ trap 'exit 1' HUP INT TERM
 
 (cd "$root" && tar cf - --exclude=out crates.txt HANDLES crates) | (cd "$copy" && tar xf -)
 
-# The other tests take more memory than the allocation that is refused.
-for file in $(grep -rl '^mod tests;$' "$copy/crates/bootimg/src"); do
-    sed -i '/^#\[cfg(test)\]$/{N;/\nmod tests;$/d}' "$file"
-done
-find "$copy/crates/bootimg/src" -name tests.rt -delete
-
-# tests_of CALL MOST: a test for each growth of a call, which makes one at least and at most so many.
+# tests_of CALL MOST: writes a test for each allocation of a call, which makes at least one and at most MOST.
 tests_of() {
     echo "#[test] fn $1_first(rt: HostRuntime) -> Result<(), Fail> { assert!(rt; $1(&rt, 1)?); Ok(()) }"
-    growth=2
-    while [ "$growth" -le "$2" ]; do
-        echo "#[test] fn $1_$growth(rt: HostRuntime) -> Result<(), Fail> { $1(&rt, $growth)?; Ok(()) }"
-        growth=$((growth + 1))
+    number=2
+    while [ "$number" -le "$2" ]; do
+        echo "#[test] fn $1_$number(rt: HostRuntime) -> Result<(), Fail> { $1(&rt, $number)?; Ok(()) }"
+        number=$((number + 1))
     done
-    echo "#[test] fn $1_none(rt: HostRuntime) -> Result<(), Fail> { assert!(rt; !$1(&rt, $growth)?); Ok(()) }"
+    echo "#[test] fn $1_none(rt: HostRuntime) -> Result<(), Fail> { assert!(rt; !$1(&rt, $number)?); Ok(()) }"
 }
+
+all_passed=0
+all_failed=0
+
+# run_tests CRATE: runs the tests of the file "tests" in a crate.
+run_tests() {
+    source=$copy/crates/$1/src
+    # The other tests make more allocations than the number of the one that is refused.
+    for file in $(grep -rl '^mod tests;$' "$source"); do
+        sed -i '/^#\[cfg(test)\]$/{N;/\nmod tests;$/d}' "$file"
+    done
+    find "$source" -name tests.rt -delete
+    if [ -f "$source/normal_forms.rt" ]; then
+        sed -i '/^#\[cfg(test)\]$/{N;/\nmod normal_forms;$/d}' "$source/main.rt"
+        rm "$source/normal_forms.rt"
+    fi
+    cat "$copy/tests" >> "$source/refused_growths.rt"
+    (cd "$copy/crates/$1" && rt try --test --fail-alloc 1000 > "$copy/log" 2>&1) || true
+    sed -n '/^test .* FAILED$/,/^test /p' "$copy/log"
+    passed=$(sed -n 's/^test result: .* \([0-9]*\) passed; .*/\1/p' "$copy/log")
+    failed=$(sed -n 's/^test result: .* \([0-9]*\) failed; .*/\1/p' "$copy/log")
+    if [ "$((${passed:-0} + ${failed:-0}))" -lt "$(wc -l < "$copy/tests")" ]; then
+        cat "$copy/log"
+        echo "not every test of $1 was run"
+        failed=$((${failed:-0} + 1))
+    fi
+    all_passed=$((all_passed + ${passed:-0}))
+    all_failed=$((all_failed + failed))
+}
+
+tests_of builds 40 > "$copy/tests"
+run_tests bi_lay
+
+tests_of reads 40 > "$copy/tests"
+run_tests bi_fdt
 
 {
     tests_of reads 20
-    tests_of puts 5
+    tests_of appends 5
     tests_of normalises 20
-    tests_of normalises_through 20
-    tests_of lists 30
-    tests_of extracts 20
+    tests_of normalises_into 20
+    tests_of normalises_to 20
+    tests_of lists_to 30
+    tests_of extracts_to 20
     tests_of runs_normalise 100
     tests_of runs_list 100
     tests_of runs_extract 100
     tests_of runs_help 100
     tests_of runs_version 100
-    tests_of runs_unknown_word 100
+    tests_of runs_unknown_argument 100
     tests_of runs_no_selection 100
 } > "$copy/tests"
-cat "$copy/tests" >> "$copy/crates/bootimg/src/refused_growths.rt"
+run_tests bootimg
 
-cd "$copy/crates/bootimg"
-rt try --test --fail-alloc 1000 > "$copy/log" 2>&1 || true
-sed -n '/^test .* FAILED$/,/^test /p' "$copy/log"
-passed=$(sed -n 's/^test result: .* \([0-9]*\) passed; .*/\1/p' "$copy/log")
-failed=$(sed -n 's/^test result: .* \([0-9]*\) failed; .*/\1/p' "$copy/log")
-if [ "$((${passed:-0} + ${failed:-0}))" -lt "$(wc -l < "$copy/tests")" ]; then
-    cat "$copy/log"
-    echo "not every test was run"
-    failed=$((${failed:-0} + 1))
-fi
-echo "${passed:-0} passed, $failed failed"
-[ "$failed" = 0 ]
+echo "$all_passed passed, $all_failed failed"
+[ "$all_failed" = 0 ]

@@ -1,5 +1,11 @@
 pub mod CellLaws
 pub mod ByteLists
 pub mod CrcLaws
+pub mod CrcTableEntries
+pub mod CrcTableLaws
 pub mod FirstFault
 pub mod SinkLaws
+pub mod InputLaws
+pub mod BufferLaws
+pub mod TransferLaws
+pub mod NulLaws

@@ -1,6 +1,14 @@
 use Rattle.std.specs.Prelude.{ℕ, List, codes}
 use Rattle.bi_base.specs.declared.fault.Cause.{Cause}
-use Rattle.bi_base.specs.declared.fault.Cause.TheVariants.{Truncated, BadMagic, BadHeaderCrc, BadDataCrc, BadPartTable, BadPart, BadTotalSize, BadVersion, BadOffset, BadToken, BadName, BadNameOffset, PropertyAfterChild, DuplicateProperty, DuplicateNode, TooDeep, NoImages, BadCell, NoSize, OutsideFile, TooLarge, NoCodeName, TooManyParts, EmptyPart, BadField, Unsupported}
+use Rattle.bi_base.specs.declared.fault.Cause.TheVariants.{Truncated, BadMagic, BadHeaderCrc}
+use Rattle.bi_base.specs.declared.fault.Cause.TheVariants.{BadDataCrc, BadPartTable, BadPart}
+use Rattle.bi_base.specs.declared.fault.Cause.TheVariants.{BadTotalSize, BadVersion, BadOffset}
+use Rattle.bi_base.specs.declared.fault.Cause.TheVariants.{BadToken, BadName, BadNameOffset}
+use Rattle.bi_base.specs.declared.fault.Cause.TheVariants.{PropertyAfterChild, DuplicateProperty}
+use Rattle.bi_base.specs.declared.fault.Cause.TheVariants.{DuplicateNode, TooDeep, NoImages}
+use Rattle.bi_base.specs.declared.fault.Cause.TheVariants.{BadCell, NoSize, OutsideFile, TooLarge}
+use Rattle.bi_base.specs.declared.fault.Cause.TheVariants.{NoCodeName, TooManyParts, EmptyPart}
+use Rattle.bi_base.specs.declared.fault.Cause.TheVariants.{BadField, Unsupported}
 
 -- The number of a cause, by which other programs may name it (profile of this project).
 abbrev pub number_of : Cause → ℕ

@@ -1,11 +1,13 @@
 use Rattle.std.specs.Prelude.{ℕ, ◌+◌, ◌*◌, ◌/◌, ◌^◌, ◌<◌, List, take, drop, slice_index}
 use Rattle.std.specs.Int.{to_be_bytes, from_be_bytes, w32, w64}
 
--- A cell: the four big-endian bytes of a number, modulo 2^32 (Devicetree Specification, 2.2.4.2: <u32>).
+-- A cell: the four big-endian bytes of a number, modulo 2^32 (Devicetree Specification, 2.2.4.2:
+-- <u32>).
 unfoldable pub cell : ℕ → List ℕ
 cell n = to_be_bytes w32 n
 
--- Two cells: the eight big-endian bytes of a number, modulo 2^64 (Devicetree Specification, 2.2.4.2: <u64>).
+-- Two cells: the eight big-endian bytes of a number, modulo 2^64 (Devicetree Specification,
+-- 2.2.4.2: <u64>).
 unfoldable pub cell8 : ℕ → List ℕ
 cell8 n = to_be_bytes w64 n
 
@@ -13,8 +15,8 @@ cell8 n = to_be_bytes w64 n
 abbrev pub slice : List ℕ → ℕ → ℕ → List ℕ
 slice file at n = take n (drop at file)
 
--- The number whose cell stands at offset `at`. What the file lacks of it reads as zero: it is asked only where the file
--- has it all, or an earlier check fails.
+-- The number whose cell stands at offset `at`. What the file lacks of it reads as zero: it is asked
+-- only where the file has it all, or an earlier check fails.
 unfoldable pub u32_at : List ℕ → ℕ → ℕ
 u32_at file at = from_be_bytes w32 (slice file at 4)
 

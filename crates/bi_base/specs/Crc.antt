@@ -1,8 +1,10 @@
-use Rattle.std.specs.Prelude.{◌≡◌, ℕ, ◌-◌, ◌/◌, ◌%◌, ◌==◌, List, [], ◌∷◌, ◌++◌, if◌then◌else◌, fold, zero, suc}
+use Rattle.std.specs.Prelude.{◌≡◌, ℕ, ◌-◌, ◌/◌, ◌%◌, ◌==◌, if◌then◌else◌, zero, suc}
+use Rattle.std.specs.Prelude.{List, [], ◌∷◌, ◌++◌, fold}
 use Rattle.std.specs.Int.Bits.{bit_xor}
 use Rattle.std.specs.List.{flat_map}
 
--- CRC-32 as U-Boot's images use it: the reflected form of the polynomial 0x04C11DB7 (ISO/IEC 3309, RFC 1952, chapter 8).
+-- CRC-32 in U-Boot's images: the reflected form of the polynomial 0x04C11DB7 (ISO/IEC 3309,
+-- RFC 1952, chapter 8).
 
 -- The register after one more message bit.
 abbrev pub crc_bit : ℕ → ℕ → ℕ
@@ -18,15 +20,17 @@ low_bits (suc n) number = number % 2 ∷ low_bits n (number / 2)
 abbrev pub message_bits : List ℕ → List ℕ
 message_bits bytes = flat_map (low_bits 8) bytes
 
--- The register after these bytes, from a given one.
+-- The register after these bytes, from this register.
 unfoldable pub crc_after : ℕ → List ℕ → ℕ
 crc_after register bytes = fold crc_bit register (message_bits bytes)
 
--- The CRC-32 of these bytes: the register begins with all bits set, and the result is its complement.
+-- The CRC-32 of these bytes: the register begins with all bits set, and the result is its
+-- complement.
 unfoldable pub crc32 : List ℕ → ℕ
 crc32 bytes = 0xFFFFFFFF - crc_after 0xFFFFFFFF bytes
 
--- The law that the register after two pieces in turn is that after both together.
+-- The law that the register after one piece and then another is the register after both together.
 abbrev pub SameForEveryCut : Type 0
 SameForEveryCut =
-    (register : ℕ) (first second : List ℕ) → crc_after register (first ++ second) ≡ crc_after (crc_after register first) second
+    (register : ℕ) (first second : List ℕ)
+    → crc_after register (first ++ second) ≡ crc_after (crc_after register first) second

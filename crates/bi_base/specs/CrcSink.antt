@@ -21,4 +21,5 @@ pub goes_on_in_turn : AppendsInTurn GoesOn
 unfolding crc_after
 goes_on_in_turn a b c xs ys first second =
     second ∙ ap (λ register. crc_after register ys) first
-    ∙ sym (ap (fold crc_bit a) (flat_map-append (low_bits 8) xs ys) ∙ fold-append crc_bit a (message_bits xs) (message_bits ys))
+    ∙ sym (ap (fold crc_bit a) (flat_map-append (low_bits 8) xs ys)
+    ∙ fold-append crc_bit a (message_bits xs) (message_bits ys))

@@ -1,21 +1,53 @@
-use Rattle.std.specs.Prelude.{ℕ, ◌≤◌, List, length, Option}
-use Rattle.std.specs.Io.KnownBytes.{Consumes}
+use Rattle.std.specs.Prelude.{◌≡◌, ℕ, ◌<◌, ◌≤◌, ⊤, List, length, take, Option, None, Some}
+use Rattle.std.specs.Io.KnownBytes.{Consumes, IsAtEnd, Keeps}
 use Rattle.bi_base.specs.declared.fault.Error.{Error}
-use Rattle.bi_base.specs.declared.fault.Error.TheVariants.{Refused, OutOfMemory, ReadFailed, WriteFailed}
+use Rattle.bi_base.specs.declared.fault.Error.TheVariants.{Refused, OutOfMemory, ReadFailed}
+use Rattle.bi_base.specs.declared.fault.Error.TheVariants.{WriteFailed}
 use Rattle.bi_base.specs.declared.fault.Cause.TheVariants.{TooLarge}
 use Rattle.bi_base.specs.declared.fault.Fault.{Fault}
+use Rattle.bi_base.specs.Traces.{ReadTrace, ReadsWell, MustStopReading}
 
--- A fact for the fault of a refusal.
-abbrev pub IfRefused : Error → (Fault → Type 0) → Type 0
-IfRefused (Refused fault) P = P fault
-IfRefused OutOfMemory P = Unit {0}
-IfRefused ReadFailed P = Unit {0}
-IfRefused WriteFailed P = Unit {0}
+-- What calls did that read a whole input (profile of this project).
 
--- The fault of what is longer than this bound (profile of this project).
+-- The fault of what is longer than this bound.
 abbrev pub too_large : ℕ → Fault
 too_large most = record { cause = TooLarge; offset = most }
 
--- Of the bytes that were left, where they are known, `n` at most are gone, and those are the first.
+-- Of the bytes that a reader had, where they are known, the first `n` at most were read.
 abbrev pub TakesAtMost : Option (List ℕ) → Option (List ℕ) → ℕ → Type 0
 TakesAtMost old new n = (bytes : List ℕ) × (length bytes ≤ n) × Consumes old new bytes
+
+-- The input of a reader that has these bytes, where they are known.
+abbrev pub IsInput : Option (List ℕ) → List ℕ → Type 0
+IsInput None input = ⊤
+IsInput (Some bytes) input = bytes ≡ input
+
+-- One call read these first bytes of a buffer: none only at the end of the input, or where the
+-- buffer is empty.
+pub record ReadSome (old new : ReadTrace) (buffer : List ℕ) (count : ℕ) : Type 0 where
+  pub consumed : Consumes old.remaining new.remaining (take count buffer)
+  pub ended : count ≡ 0 → 0 < length buffer → IsAtEnd new.remaining
+  pub no_failure_ignored : ReadsWell old → ReadsWell new
+  pub same_reader : new.reader ≡ old.reader
+
+-- Reading stopped with an error: nothing was read, and the last read was a reason to stop.
+pub record NothingRead (old new : ReadTrace) (error : Error) : Type 0 where
+  pub is : error ≡ ReadFailed
+  pub kept : Keeps old.remaining new.remaining
+  pub cause : MustStopReading new
+  pub same_reader : new.reader ≡ old.reader
+
+-- The reader had this input, and all of it was read.
+pub record ReadWhole (old new : Option (List ℕ)) (input : List ℕ) : Type 0 where
+  pub is_input : IsInput old input
+  pub consumed : Consumes old new input
+  pub ended : IsAtEnd new
+
+-- Why reading an input of at most so many bytes fails: it is longer, or memory was short, or the
+-- last read was a reason to stop.
+abbrev pub IsReadError : Option (List ℕ) → (most : ℕ) → (MustStop : Type 0) → Error → Type 0
+IsReadError old most MustStop (Refused fault) =
+    (input : List ℕ) × IsInput old input × (most < length input) × (fault ≡ too_large most)
+IsReadError old most MustStop OutOfMemory = ⊤
+IsReadError old most MustStop ReadFailed = MustStop
+IsReadError old most MustStop WriteFailed = ⊥

@@ -1,16 +1,16 @@
 //! Cells: big-endian numbers, read at an offset and appended to a sink.
-#![tactic(auto, unfolding(crate::specs::Cells::cell, crate::specs::Cells::u32_at, crate::specs::Cells::u64_at))]
+#![tactic(auto, unfolding(crate::specs::Cells::cell, crate::specs::Cells::u32_at))]
 
-ghost use Rattle.std.specs.Prelude.{◌≡◌, ◌+◌, ◌≤◌, ◌↔◌, length, IsSome, IfSome};
+ghost use Rattle.std.specs.Prelude.{◌≡◌, ◌+◌, ◌^◌, ◌<◌, ◌≤◌, ◌↔◌, length, IsSome, IfSome};
 ghost use Rattle.std.specs.List.{flat_map};
-ghost use Rattle.bi_base.specs.Cells.{cell, cell8, slice, u32_at, u64_at};
+ghost use Rattle.bi_base.specs.Cells.{cell, cell8, slice, u32_at, u64_at, up4 as up4_of};
 ghost use Rattle.bi_base.specs.Sinks.{Wrote};
 
 use crate::fault::Error;
 use crate::sinks::Sink;
 
-/// The number whose cell, its four big-endian bytes (Devicetree Specification, 2.2.4.2: u32), stands at offset `at`. None
-/// exactly where the bytes end before the cell does.
+/// The number whose cell, its four big-endian bytes (Devicetree Specification, 2.2.4.2: u32),
+/// stands at offset `at`. None exactly where the bytes end before the cell does.
 pub fn be32_at(bytes: &[u8], at: usize) -> Option<u32>
     ensures within { IsSome result ↔ (at + 4 ≤ length bytes.now) }
     ensures value { IfSome result (λ number. number ≡ u32_at bytes.now at) }
@@ -20,8 +20,17 @@ pub fn be32_at(bytes: &[u8], at: usize) -> Option<u32>
     Some(u32::from_be_bytes(*cell))
 }
 
-/// The number whose two cells, its eight big-endian bytes (Devicetree Specification, 2.2.4.2: u64), are at offset `at`.
-/// None exactly where the bytes end before the two cells do.
+/// The least multiple of four that is at least `n`, which is at most `usize::MAX - 3`.
+pub fn up4(n: usize) -> usize
+    requires { n + 3 < 2 ^ 64 }
+    ensures { result ≡ up4_of n }
+{
+    (n + 3) / 4 * 4
+}
+
+/// The number whose two cells, its eight big-endian bytes (Devicetree Specification, 2.2.4.2: u64),
+/// are at offset `at`. None exactly where the bytes end before the two cells do.
+#[tactic(auto, unfolding(crate::specs::Cells::u64_at))]
 pub fn be64_at(bytes: &[u8], at: usize) -> Option<u64>
     ensures within { IsSome result ↔ (at + 8 ≤ length bytes.now) }
     ensures value { IfSome result (λ number. number ≡ u64_at bytes.now at) }
@@ -31,18 +40,17 @@ pub fn be64_at(bytes: &[u8], at: usize) -> Option<u64>
     Some(u64::from_be_bytes(*cells))
 }
 
-/// Appends the cell of this number: its four bytes, the highest first (Devicetree Specification, 2.2.4.2: u32). An error
-/// is one that the sink names, and a prefix of the cell was appended then.
+/// Appends the cell of this number: its four bytes, the highest first (Devicetree Specification,
+/// 2.2.4.2: u32). Fails as the sink does.
 pub fn put_cell<S: Sink>(sink: &mut S, number: u32) -> Result<(), Error>
-    ensures { Wrote S.appends S.names sink.old (cell number) result sink.new }
+    ensures { Wrote S.appends S.fails sink.old (cell number) result sink.new }
 {
     sink.put(&number.to_be_bytes())
 }
 
-/// Appends the cells of these numbers in their order. An error is one that the sink names, and a prefix of the
-/// cells was appended then.
+/// Appends the cells of these numbers in their order. Fails as the sink does.
 pub fn put_cells<S: Sink>(sink: &mut S, numbers: &[u32]) -> Result<(), Error>
-    ensures { Wrote S.appends S.names sink.old (flat_map cell numbers.now) result sink.new }
+    ensures { Wrote S.appends S.fails sink.old (flat_map cell numbers.now) result sink.new }
 {
     for &number in numbers {
         put_cell(sink, number)?;
@@ -54,7 +62,7 @@ pub fn put_cells<S: Sink>(sink: &mut S, numbers: &[u32]) -> Result<(), Error>
 mod tests {
     use super::*;
     use crate::crc::Crc32;
-    use crate::sinks::VecSink;
+    use crate::vec_sink::VecSink;
     use std::test::Fail;
 
     #[test]
@@ -64,6 +72,19 @@ mod tests {
         assert_eq!(rt; be32_at(&bytes, 1), Some(0x0dfe_ed07));
         assert_eq!(rt; be32_at(&bytes, 2), None);
         assert_eq!(rt; be32_at(&bytes, usize::MAX), None);
+    }
+
+    #[test]
+    fn numbers_are_rounded_up_to_a_multiple_of_four(rt: HostRuntime) {
+        for (n, rounded) in [
+            (0, 0),
+            (1, 4),
+            (4, 4),
+            (5, 8),
+            (usize::MAX - 3, usize::MAX - 3),
+        ] {
+            assert_eq!(rt; up4(n), rounded);
+        }
     }
 
     #[test]

@@ -1,4 +1,4 @@
-//! The CRC-32 of bytes that stand together.
+//! The CRC-32 of a slice of bytes.
 #![tactic(auto, unfolding(crate::specs::Crc::crc32))]
 
 ghost use Rattle.std.specs.Prelude.{◌≡◌};
@@ -16,24 +16,4 @@ pub fn crc32(bytes: &[u8]) -> u32
 }
 
 #[cfg(test)]
-mod tests {
-    use super::*;
-
-    #[test]
-    fn checksums_are_those_of_other_programs(rt: HostRuntime) {
-        assert_eq!(rt; crc32(b""), 0);
-        assert_eq!(rt; crc32(b"abc"), 0x3524_41c2);
-        assert_eq!(rt; crc32(b"123456789"), 0xcbf4_3926);
-    }
-
-    #[test]
-    fn a_running_checksum_is_the_same_for_every_cut(rt: HostRuntime) {
-        let digits = b"123456789";
-        for cut in 0..=digits.len() {
-            let mut sum = Crc32::new();
-            sum.update(&digits[..cut]);
-            sum.update(&digits[cut..]);
-            assert_eq!(rt; sum.finish(), 0xcbf4_3926, "cut at {cut}");
-        }
-    }
-}
+mod tests;

@@ -1,19 +1,17 @@
-//! CRC-32, one bit at a time.
+//! A running CRC-32.
 #![tactic(auto, unfolding(crate::specs::Crc::crc_after))]
 
-ghost use Rattle.std.specs.Prelude.{◌≡◌, ℕ, ◌-◌, ◌<◌, fold};
-ghost use Rattle.bi_base.specs.Crc.{crc_bit, crc_after, low_bits};
+ghost use Rattle.std.specs.Prelude.{◌≡◌, ℕ, ◌-◌};
+ghost use Rattle.bi_base.specs.Crc.{crc_after};
 ghost use Rattle.bi_base.specs.CrcSink.{GoesOn, goes_on_nothing, goes_on_in_turn};
 
+use crate::crc_tables::after_bytes;
 use crate::fault::Error;
 use crate::sinks::Sink;
 use std::marker::Model;
 
-/// The polynomial of CRC-32, its bits reflected (RFC 1952, chapter 8).
-const POLYNOMIAL: u32 = 0xedb8_8320;
-
-/// A running CRC-32, for bytes that come in pieces: the checksum does not depend on where they are cut (ISO/IEC 3309,
-/// RFC 1952, chapter 8).
+/// A running CRC-32, for bytes that come in pieces. The checksum does not depend on where they are
+/// cut (ISO/IEC 3309, RFC 1952, chapter 8).
 #[derive(Clone, Copy, Debug, PartialEq, Eq)]
 pub struct Crc32 {
     register: u32,
@@ -28,7 +26,8 @@ impl Model for Crc32 {
 }
 
 impl Crc32 {
-    /// The checksum before any byte. Contracts see a `Crc32` as its register, here with all bits set.
+    /// The checksum before any byte. Contracts see a `Crc32` as its register, which begins with all
+    /// bits set.
     pub fn new() -> Crc32
         ensures { result ≡ 0xFFFFFFFF }
     {
@@ -37,7 +36,7 @@ impl Crc32 {
         }
     }
 
-    /// Goes on over these bytes.
+    /// Adds these bytes, four at a time.
     pub fn update(&mut self, bytes: &[u8])
         ensures { self.new ≡ crc_after self.old bytes.now }
     {
@@ -52,53 +51,22 @@ impl Crc32 {
     }
 }
 
-/// As a sink, a `Crc32` keeps no bytes: it goes on over those that are appended. No call answers an error.
+/// As a sink, a `Crc32` keeps no bytes: it continues over those that are appended. No call fails.
 impl Sink for Crc32 {
     ghost appends = { GoesOn };
 
-    ghost names = { λ _. ⊥ };
+    ghost fails = { λ _ _ _ _. ⊥ };
 
     fn put(&mut self, bytes: &[u8]) -> Result<(), Error> {
         self.update(bytes);
         Ok(())
     }
 
-    ghost nothing = { goes_on_nothing };
+    ghost appends_nothing = { goes_on_nothing };
 
-    ghost in_turn = { goes_on_in_turn };
-}
+    ghost appends_in_turn = { goes_on_in_turn };
 
-/// The register after these bytes.
-fn after_bytes(register: u32, bytes: &[u8]) -> u32
-    ensures { result ≡ crc_after register bytes.now }
-{
-    let mut after = register;
-    for &byte in bytes {
-        after = after_byte(after, byte);
-    }
-    after
-}
+    ghost fails_after = { λ _ _ _ _ _ _ _ failed. failed };
 
-/// The register after the eight bits of a byte, the lowest first.
-fn after_byte(register: u32, byte: u8) -> u32
-    ensures { result ≡ fold crc_bit register (low_bits 8 byte) }
-{
-    let mut after = register;
-    let mut bits = byte;
-    for _ in 0..8u8 {
-        after = after_bit(after, bits % 2);
-        bits /= 2;
-    }
-    after
-}
-
-/// The register after one bit.
-fn after_bit(register: u32, bit: u8) -> u32
-    ensures { result ≡ crc_bit register bit }
-{
-    if register % 2 == u32::from(bit) {
-        register / 2
-    } else {
-        (register / 2) ^ POLYNOMIAL
-    }
+    ghost fails_before = { λ _ _ _ _ _ failed. failed };
 }

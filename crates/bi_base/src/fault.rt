@@ -112,8 +112,16 @@ impl Cause {
 pub struct Fault {
     /// Why.
     pub cause: Cause,
-    /// Where, in bytes from the beginning of the file, or of the image to be written. For TooLarge it is the limit.
+    /// Where, in bytes from the beginning of the file, or of the image to be written. For TooLarge
+    /// it is the limit.
     pub offset: u32,
+}
+
+/// Returns the fault of this cause at this offset as an error.
+pub fn refuse<T>(cause: Cause, offset: u32) -> Result<T, Fault>
+    ensures { result ≡ Err (record { cause = cause; offset = offset }) }
+{
+    Err(Fault { cause, offset })
 }
 
 /// What a call that reads, writes or takes memory can answer in place of its value.

@@ -1,23 +1,38 @@
-//! What every layer of bootimg stands on: cells, CRC-32, limits, causes and faults, reading a whole input, and sinks
-//! that bytes are written to.
+//! What every layer of bootimg stands on: cells, CRC-32, limits, causes and faults, reading a whole
+//! input, and sinks that bytes are written to.
 #![tactic(auto)]
 
+mod buffered_sink;
 mod cells;
 mod checksum;
+mod count_sink;
 mod crc;
 pub mod crc_laws;
+mod crc_tables;
 mod fault;
 mod limits;
 mod outcomes;
 mod reading;
 mod sinks;
+mod strings;
+mod traced_read;
+mod traced_write;
+mod vec_sink;
+mod write_sink;
 mod writing;
 
-pub use cells::{be32_at, be64_at, put_cell, put_cells};
+pub use buffered_sink::BufferedSink;
+pub use cells::{be32_at, be64_at, put_cell, put_cells, up4};
 pub use checksum::crc32;
+pub use count_sink::CountSink;
 pub use crc::Crc32;
-pub use fault::{Cause, Error, Fault};
+pub use fault::{Cause, Error, Fault, refuse};
 pub use limits::Limits;
-pub use reading::{ReaderSource, Source, read_all, read_source};
-pub use sinks::{Sink, VecSink, WriteSink};
-pub use writing::{Target, WriterTarget, flush, write_text, write_whole};
+pub use reading::{read_all, read_all_traced};
+pub use sinks::Sink;
+pub use strings::before_nul;
+pub use traced_read::{TracedRead, TracedReader};
+pub use traced_write::{TracedWrite, TracedWriter};
+pub use vec_sink::VecSink;
+pub use write_sink::WriteSink;
+pub use writing::{flush, write_all, write_and_flush};

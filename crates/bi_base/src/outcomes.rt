@@ -1,15 +1,15 @@
-//! How the calls of a reader or a writer went.
+//! The outcomes of the calls of a reader or a writer.
 
 ghost use Rattle.std.specs.Prelude.{◌≡◌, ◌↔◌, IsTrue, IsFalse};
-ghost use Rattle.bi_base.specs.Outcomes.{TellsFailure, CountsInterruptions, HasToStop};
+ghost use Rattle.bi_base.specs.Traces.{RecordsFailure, CountsInterruptions, MustStop};
 
 use std::io::{self, ErrorKind};
 
-/// At this many interrupted calls in a row a call gives up; one fewer is passed over.
+/// How many interrupted calls in a row are a reason to stop. After fewer the call is made again.
 pub const MOST_INTERRUPTIONS: u32 = 1024;
 
-/// What is kept of the calls so far: whether the last one failed, by another error than an interruption, and how many in
-/// a row were interrupted, up to the last one.
+/// The outcome of the calls so far: whether the last one failed, by another error than an
+/// interruption, and how many in a row were interrupted, up to the last one.
 #[derive(Clone, Copy)]
 pub struct Outcome {
     pub failed: bool,
@@ -17,7 +17,7 @@ pub struct Outcome {
 }
 
 impl Outcome {
-    /// Before any call.
+    /// The outcome before any call.
     pub fn new() -> Outcome
         ensures not_failed { IsFalse result.failed }
         ensures not_interrupted { result.interruptions ≡ 0 }
@@ -28,10 +28,11 @@ impl Outcome {
         }
     }
 
-    /// After one more call, which gave this result.
+    /// The outcome after one more call with this result.
     pub fn after<T>(self, call: &io::Result<T>) -> Outcome
-        ensures failed { TellsFailure result.failed call.now }
-        ensures interruptions { CountsInterruptions self.interruptions result.interruptions call.now }
+        ensures failed { RecordsFailure result.failed call.now }
+        ensures interruptions { CountsInterruptions self.interruptions result.interruptions
+            call.now }
     {
         match call {
             Ok(_) => Outcome::new(),
@@ -46,9 +47,9 @@ impl Outcome {
         }
     }
 
-    /// Whether there is a reason to give up.
-    pub fn has_to_stop(self) -> bool
-        ensures { IsTrue result ↔ HasToStop self.failed self.interruptions }
+    /// Whether the last call is a reason to stop.
+    pub fn must_stop(self) -> bool
+        ensures { IsTrue result ↔ MustStop self.failed self.interruptions }
     {
         self.failed || self.interruptions >= MOST_INTERRUPTIONS
     }

@@ -1,5 +1,5 @@
-use Rattle.std.specs.Prelude.{◌≡◌, ℕ, ◌^◌, ◌<◌, List, [], ◌∷◌, ◌++◌, length, take, drop, ◌==◌}
-use Rattle.std.specs.List.{before_first}
+use Rattle.std.specs.Prelude.{◌≡◌, ℕ, ◌^◌, ◌<◌, List, [], ◌∷◌, ◌++◌, length, take, drop}
+use Rattle.bi_base.specs.Strings.{before_nul}
 use Rattle.bi_base.specs.Cells.{cell, slice, up4}
 use Rattle.bi_blob.specs.Tree.{HasNoZero}
 
@@ -77,4 +77,4 @@ pub record IsNameAt (strings : List ℕ) (offset : ℕ) (name : List ℕ) : Type
 -- The bytes from this offset to the first zero byte, or all of them where none is zero: the name
 -- of a node (5.4.1) or of a property (5.5).
 abbrev pub name_from : List ℕ → ℕ → List ℕ
-name_from bytes offset = before_first (λ byte. byte == 0) (drop offset bytes)
+name_from bytes offset = before_nul (drop offset bytes)

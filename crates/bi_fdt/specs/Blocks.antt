@@ -1,7 +1,8 @@
 use Rattle.std.specs.Prelude.{◌≡◌, ℕ, ◌+◌, ◌^◌, ◌<◌, ◌≤◌, List, [], ◌∷◌}
 use Rattle.bi_base.specs.Cells.{u32_at}
 use Rattle.bi_blob.specs.Blob.{TreeBlocks, IsReadable}
-use Rattle.bi_blob.specs.BlobFaults.{TokenCheck, IsWithinDepth, HasNodeName, MayNameNode, IsBeforeChildren, HasValue, HasPropertyName, MayNameProperty}
+use Rattle.bi_blob.specs.BlobFaults.{TokenCheck, IsWithinDepth, HasNodeName, MayNameNode}
+use Rattle.bi_blob.specs.BlobFaults.{IsBeforeChildren, HasValue, HasPropertyName, MayNameProperty}
 use Rattle.bi_fdt.specs.declared.blocks.Blocks.{Blocks}
 
 -- The blocks that hold a tree, as the definitions of blobs see them.

@@ -5,7 +5,8 @@ use Rattle.bi_blob.specs.Lookups.{Sibling}
 use Rattle.bi_blob.specs.Blob.{Reservation, totalsize, off_mem_rsvmap}
 use Rattle.bi_blob.specs.BlobFaults.{HasReservations}
 use Rattle.bi_fdt.specs.declared.table.Entry.{Entry}
-use Rattle.bi_fdt.specs.Table.{Item, NodeItem, PropertyItem, first_properties, nodes_of, items_of, item_of}
+use Rattle.bi_fdt.specs.Table.{Item, NodeItem, PropertyItem, first_properties, nodes_of, items_of}
+use Rattle.bi_fdt.specs.Table.{item_of}
 use Rattle.bi_fdt.specs.Reading.{IsTable}
 
 -- What a blob that was read holds.

@@ -1,7 +1,8 @@
 use Rattle.std.specs.Prelude.{◌≡◌, List, ℕ}
 use Rattle.bi_base.specs.Limits.{Bounds}
 use Rattle.bi_base.specs.declared.fault.Error.{Error}
-use Rattle.bi_base.specs.declared.fault.Error.TheVariants.{Refused, OutOfMemory, ReadFailed, WriteFailed}
+use Rattle.bi_base.specs.declared.fault.Error.TheVariants.{Refused, OutOfMemory, ReadFailed}
+use Rattle.bi_base.specs.declared.fault.Error.TheVariants.{WriteFailed}
 use Rattle.bi_base.specs.declared.fault.Fault.{Fault}
 use Rattle.bi_blob.specs.Blob.{IsBlobWithin}
 use Rattle.bi_blob.specs.BlobFaults.{HasNoFaultBeforeTree, IsBlobFault}

@@ -1,10 +1,13 @@
 //! Reading a devicetree blob.
 
-ghost use Rattle.std.specs.Prelude.{◌≡◌, ℕ, ◌<◌, ◌^◌, List, length, map, slice_get, IfOk, IfErr, OnOk};
+ghost use Rattle.std.specs.Prelude.{◌≡◌, ℕ, ◌<◌, ◌^◌, List, length, map, slice_get, IfOk};
+ghost use Rattle.std.specs.Prelude.{IfErr, OnOk};
 ghost use Rattle.bi_base.specs.declared.fault.Fault.{Fault};
 ghost use Rattle.bi_blob.specs.Tree.{Root, FileNode};
-ghost use Rattle.bi_blob.specs.Blob.{Reservation, totalsize, off_mem_rsvmap, tree_blocks as tree_blocks_of, IsBlob, IsBlobWithin, Header};
-ghost use Rattle.bi_blob.specs.BlobFaults.{HasNoHeaderFault, HasReservations, IsFaultBeforeTree, IsBlobFault};
+ghost use Rattle.bi_blob.specs.Blob.{Reservation, totalsize, off_mem_rsvmap};
+ghost use Rattle.bi_blob.specs.Blob.{tree_blocks as tree_blocks_of, IsBlob, IsBlobWithin, Header};
+ghost use Rattle.bi_blob.specs.BlobFaults.{HasNoHeaderFault, HasReservations};
+ghost use Rattle.bi_blob.specs.BlobFaults.{IsFaultBeforeTree, IsBlobFault};
 ghost use Rattle.bi_blob.specs.BlobLaws.{SameContent};
 ghost use Rattle.bi_fdt.specs.Blocks.{blocks_of};
 ghost use Rattle.bi_blob.specs.Lookups.{root_node};
@@ -84,8 +87,8 @@ impl<'a> Blob<'a> {
             → SameContent blob.cpu cpu blob.reservations reservations (root_of blob) root) }
         ensures no_fault { OnOk result ((fault : Fault)
             → ¬ (IsBlobFault limits file.entry.now fault)) }
-        ensures file { IfOk result (λ blob. blob.file ≡ file.entry.now) }
-        ensures total_size { IfOk result (λ blob. blob.total_size ≡ totalsize file.entry.now) }
+        ensures file { IfOk result (λ blob. (blob.file ≡ file.entry.now)
+            × (blob.total_size ≡ totalsize file.entry.now)) }
         ensures refused { IfErr result (IsRefused limits file.entry.now) }
     {
         let reservation_count = check_before_tree(file, limits)?;

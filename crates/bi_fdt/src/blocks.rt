@@ -1,18 +1,20 @@
 //! The blocks of a blob that hold its tree, and what a single token in them holds.
 
-ghost use Rattle.std.specs.Prelude.{◌≡◌, ◌+◌, ◌≤◌, List, [], ◌↔◌, length, IsTrue, IfOk, IfErr, OnOk};
+ghost use Rattle.std.specs.Prelude.{◌≡◌, ◌+◌, ◌≤◌, List, [], ◌↔◌, length, IsTrue, IfOk, IfErr};
+ghost use Rattle.std.specs.Prelude.{OnOk};
 ghost use Rattle.bi_base.specs.Cells.{u32_at, slice};
 ghost use Rattle.bi_base.specs.Checks.{IsFirstFault, HasNoFault};
 ghost use Rattle.bi_blob.specs.Tokens.{name_from};
 ghost use Rattle.bi_blob.specs.Stages.{OpenNode, BeforeRoot, Inside};
-ghost use Rattle.bi_blob.specs.BlobFaults.{TokenPasses, token_fault, HasTokenNumber, begin_checks, property_checks};
-ghost use Rattle.bi_fdt.specs.Blocks.{blocks_of, AreBlocks, node_name_checks, property_token_checks};
+ghost use Rattle.bi_blob.specs.BlobFaults.{TokenPasses, token_fault, HasTokenNumber, begin_checks};
+ghost use Rattle.bi_blob.specs.BlobFaults.{property_checks};
+ghost use Rattle.bi_fdt.specs.Blocks.{blocks_of, AreBlocks, node_name_checks};
+ghost use Rattle.bi_fdt.specs.Blocks.{property_token_checks};
 
 use crate::cells::cell_at;
 use crate::names::{is_child_name, name_at};
-use crate::refusal::refuse;
 use crate::table::Property;
-use bi_base::{Cause, Fault};
+use bi_base::{Cause, Fault, refuse};
 
 /// Where a file has its tree: the structure block, from `begin` to `end`, and the strings block
 /// (Devicetree Specification, 5.4, 5.5).

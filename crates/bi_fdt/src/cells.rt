@@ -1,7 +1,7 @@
-//! Cells and alignment, where a check has shown that the bytes are there.
+//! Cells, where a check has shown that the bytes are there.
 
-ghost use Rattle.std.specs.Prelude.{◌≡◌, ◌+◌, ◌^◌, ◌<◌, ◌≤◌, length};
-ghost use Rattle.bi_base.specs.Cells.{u32_at, u64_at, up4 as up4_of};
+ghost use Rattle.std.specs.Prelude.{◌≡◌, ◌+◌, ◌≤◌, length};
+ghost use Rattle.bi_base.specs.Cells.{u32_at, u64_at};
 
 use bi_base::{be32_at, be64_at};
 
@@ -19,12 +19,4 @@ pub(crate) fn two_cells_at(bytes: &[u8], at: usize) -> u64
     ensures { result ≡ u64_at bytes.now at }
 {
     be64_at(bytes, at).unwrap()
-}
-
-/// The least multiple of four that is at least `n`.
-pub(crate) fn up4(n: usize) -> usize
-    requires { n + 3 < 2 ^ 64 }
-    ensures { result ≡ up4_of n }
-{
-    (n + 3) / 4 * 4
 }

@@ -3,13 +3,14 @@
 
 ghost use Rattle.std.specs.Prelude.{◌≡◌, ◌≤◌, length, IfErr, OnOk};
 ghost use Rattle.bi_base.specs.Checks.{IsFirstFault, HasNoFault};
-ghost use Rattle.bi_blob.specs.Blob.{header_length as length_of_header, structure_end as end_of_structure};
-ghost use Rattle.bi_blob.specs.BlobFaults.{HasNoHeaderFault, HeaderPasses, header_fault, IsHeaderFault};
+ghost use Rattle.bi_blob.specs.Blob.{header_length as length_of_header};
+ghost use Rattle.bi_blob.specs.Blob.{structure_end as end_of_structure};
+ghost use Rattle.bi_blob.specs.BlobFaults.{HasNoHeaderFault, HeaderPasses, header_fault};
+ghost use Rattle.bi_blob.specs.BlobFaults.{IsHeaderFault};
 ghost use Rattle.bi_fdt.specs.Header.{place_checks};
 
 use crate::cells::cell_at;
-use crate::refusal::refuse;
-use bi_base::{Cause, Fault, Limits, be32_at};
+use bi_base::{Cause, Fault, Limits, be32_at, refuse};
 
 /// The number that a blob begins with.
 const MAGIC: u32 = 0xd00d_feed;

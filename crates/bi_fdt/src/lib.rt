@@ -9,7 +9,6 @@ mod header;
 mod names;
 mod node;
 mod properties;
-mod refusal;
 mod reservations;
 mod structure;
 mod table;

@@ -3,7 +3,8 @@
 ghost use Rattle.std.specs.Prelude.{◌≡◌, ◌<◌, ◌^◌, drop, length, slice_get, IsTrue};
 ghost use Rattle.std.specs.Option.{option_map};
 ghost use Rattle.bi_blob.specs.Tree.{properties_of};
-ghost use Rattle.bi_blob.specs.Lookups.{siblings, root_node, node_at, node_named, value_named, property_named};
+ghost use Rattle.bi_blob.specs.Lookups.{siblings, root_node, node_at, node_named, value_named};
+ghost use Rattle.bi_blob.specs.Lookups.{property_named};
 ghost use Rattle.bi_fdt.specs.Table.{file_property_of};
 ghost use Rattle.bi_fdt.specs.Content.{root_of, begins_with_node};
 

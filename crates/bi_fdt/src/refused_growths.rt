@@ -1,5 +1,5 @@
-//! Reading a blob with one of its growths refused. `rt test` reads with none refused; the script
-//! tests/refused_blob_growths.sh adds a test for each growth, and has it refused.
+//! Reading a blob with one of its allocations failing. `rt test` has none fail; the script
+//! tests/refused_growths.sh adds a test for each allocation, and has that one fail.
 
 use super::*;
 use bi_base::{Error, Limits};

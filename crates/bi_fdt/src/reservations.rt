@@ -4,8 +4,7 @@ ghost use Rattle.std.specs.Prelude.{◌≤◌, ◌<◌, ◌^◌, length, IfOk, I
 ghost use Rattle.bi_blob.specs.BlobFaults.{HasReservations, IsReservationsFault};
 
 use crate::cells::two_cells_at;
-use crate::refusal::refuse;
-use bi_base::{Cause, Fault};
+use bi_base::{Cause, Fault, refuse};
 
 /// The bytes of a reservation: two cells of its address and two of its size.
 pub(crate) const PAIR_SIZE: usize = 16;

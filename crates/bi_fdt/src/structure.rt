@@ -11,12 +11,10 @@ ghost use Rattle.bi_fdt.specs.Growth.{IsRefusal};
 ghost use Rattle.bi_fdt.specs.Reading.{IsReading, IsAfter, HasTable};
 
 use crate::blocks::{Blocks, number_at, root_name};
-use crate::cells::up4;
 use crate::growing::Growing;
-use crate::refusal::refuse;
 use crate::table::Entry;
 use crate::tokens::{BEGIN_NODE, END, NOP, Next, Reading, step};
-use bi_base::{Cause, Error, Fault};
+use bi_base::{Cause, Error, Fault, refuse, up4};
 use std::alloc::Global;
 
 /// The table of the tree that the structure block holds. The fault is that of the first check that

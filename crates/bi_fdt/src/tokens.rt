@@ -8,10 +8,9 @@ ghost use Rattle.bi_fdt.specs.Growth.{IsRefusal};
 ghost use Rattle.bi_fdt.specs.Reading.{IsReading, IsAhead};
 
 use crate::blocks::{Blocks, child_name, number_at, property_at};
-use crate::cells::up4;
 use crate::growing::{Ending, Growing};
 use crate::table::Entry;
-use bi_base::{Cause, Error, Fault};
+use bi_base::{Cause, Error, Fault, up4};
 use std::alloc::Global;
 
 pub(crate) const BEGIN_NODE: u32 = 1;

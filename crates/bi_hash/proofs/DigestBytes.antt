@@ -1,6 +1,6 @@
 use Rattle.std.proofs.Common.{◌≡◌, ℕ, zero, suc, ◌*◌, List, length, refl, arith, length-append}
 use Rattle.std.specs.Prelude.{slice_index}
-use Rattle.std.specs.Int.{to_be_bytes, w32, w64}
+use Rattle.std.specs.Int.{to_be_bytes, w32}
 use Rattle.bi_base.specs.Cells.{cell, AreBytes}
 use Rattle.bi_base.specs.Crc.{crc32}
 use Rattle.bi_base.proofs.CellLaws.{length-cell}
@@ -9,11 +9,12 @@ use Rattle.md5.proofs.StandardFacts.{length-md5}
 use Rattle.sha1.specs.Sha1.{sha1, digest_bytes as sha1_bytes}
 use Rattle.sha2.specs.Sha256.{sha256, digest_bytes as sha256_bytes}
 use Rattle.sha2.proofs.Facts256.{length-sha256}
-use Rattle.sha2.specs.Sha512.{sha512, digest_bytes as sha512_bytes}
+use Rattle.sha2.specs.Sha512.{sha384, sha512, digest_bytes as sha512_bytes}
+use Rattle.sha2.proofs.Facts512.{length-sha384, length-sha512}
 use Rattle.bi_hash.specs.declared.algo.Algo.{Algo}
-use Rattle.bi_hash.specs.declared.algo.Algo.TheVariants.{Crc32, Md5, Sha1, Sha256, Sha512}
+use Rattle.bi_hash.specs.declared.algo.Algo.TheVariants.{Crc32, Md5, Sha1, Sha256, Sha384, Sha512}
 use Rattle.bi_hash.specs.Digests.{digest_of, digest_size}
-use Rattle.bi_base.proofs.ByteLists.{AreBytes-none, AreBytes-append}
+use Rattle.bi_base.proofs.ByteLists.{AreBytes-none, AreBytes-append, AreBytes-take}
 use Rattle.bi_hash.proofs.Bytes.{AreBytes-be_word, AreBytes-le_word, AreBytes-be_long}
 
 -- The words of an MD5 hash value are written as bytes.
@@ -40,7 +41,7 @@ unfolding sha512_bytes
 AreBytes-sha512 h zero = AreBytes-none
 AreBytes-sha512 h (suc n) = AreBytes-append (sha512_bytes h n) _ (AreBytes-sha512 h n) (AreBytes-be_long (slice_index h n))
 
--- A SHA-1 hash value is written as four bytes for each word.
+-- A SHA-1 hash value has four bytes for each word.
 length-sha1 : (h : List ℕ) (n : ℕ) → length (sha1_bytes h n) ≡ n * 4
 unfolding sha1_bytes
 length-sha1 h zero = refl
@@ -48,28 +49,22 @@ length-sha1 h (suc n) =
     let last : length (to_be_bytes w32 (slice_index h n)) ≡ 4 = refl in
     omega (arith, length-sha1 h n, last, length-append (sha1_bytes h n) (to_be_bytes w32 (slice_index h n)))
 
--- A SHA-512 hash value is written as eight bytes for each word.
-length-sha512 : (h : List ℕ) (n : ℕ) → length (sha512_bytes h n) ≡ n * 8
-unfolding sha512_bytes
-length-sha512 h zero = refl
-length-sha512 h (suc n) =
-    let last : length (to_be_bytes w64 (slice_index h n)) ≡ 8 = refl in
-    omega (arith, length-sha512 h n, last, length-append (sha512_bytes h n) (to_be_bytes w64 (slice_index h n)))
-
--- A digest is bytes.
+-- A digest is a list of bytes.
 pub AreBytes-digest_of : (algo : Algo) (payload : List ℕ) → AreBytes (digest_of algo payload)
-unfolding digest_of cell md5 sha1 sha256 sha512
+unfolding digest_of cell md5 sha1 sha256 sha384 sha512
 AreBytes-digest_of Crc32 payload = AreBytes-be_word (crc32 payload)
 AreBytes-digest_of Md5 payload = AreBytes-md5 _ 4
 AreBytes-digest_of Sha1 payload = AreBytes-sha1 _ 5
 AreBytes-digest_of Sha256 payload = AreBytes-sha256 _ 8
+AreBytes-digest_of Sha384 payload = AreBytes-take 48 _ (AreBytes-sha512 _ 8)
 AreBytes-digest_of Sha512 payload = AreBytes-sha512 _ 8
 
--- A digest is as long as its algorithm says.
+-- A digest has the length that its algorithm gives.
 pub length-digest_of : (algo : Algo) (payload : List ℕ) → length (digest_of algo payload) ≡ digest_size algo
-unfolding digest_of sha1 sha512
+unfolding digest_of sha1
 length-digest_of Crc32 payload = length-cell (crc32 payload)
 length-digest_of Md5 payload = length-md5 payload
 length-digest_of Sha1 payload = length-sha1 _ 5
 length-digest_of Sha256 payload = length-sha256 payload
-length-digest_of Sha512 payload = length-sha512 _ 8
+length-digest_of Sha384 payload = length-sha384 payload
+length-digest_of Sha512 payload = length-sha512 payload

@@ -1,67 +1,68 @@
 use Rattle.std.proofs.Common.{◌≡◌, ℕ, Bool, true, false, cond, List, ◌∷◌, ◌++◌, Option, Some, None, refl, ap, ◌∙◌}
 use Rattle.std.proofs.lemmas.Slice.Eq.{bytes_eq-Decides}
 use Rattle.bi_hash.specs.declared.algo.Algo.{Algo}
-use Rattle.bi_hash.specs.declared.algo.Algo.TheVariants.{Crc32, Md5, Sha1, Sha256, Sha512}
+use Rattle.bi_hash.specs.declared.algo.Algo.TheVariants.{Crc32, Md5, Sha1, Sha256, Sha384, Sha512}
 use Rattle.bi_hash.specs.declared.verdicts.Verdict.TheVariants.{Good, Bad}
-use Rattle.bi_hash.specs.Algos.{name_of, algo_named}
+use Rattle.bi_hash.specs.Algos.{algorithm_name, find_algorithm}
 use Rattle.bi_hash.specs.Digests.{digest_of}
-use Rattle.bi_hash.specs.Verdicts.{HasItsDigest, text_of, verdict_of, verdict_named, verdict_under}
-use Rattle.bi_hash.proofs.Names.{algo_named-name_of, name_of-algo_named}
+use Rattle.bi_hash.specs.Verdicts.{HasItsDigest, text_before_nul, verdict_of, verdict_by_name, verdict_by_algorithm}
+use Rattle.bi_hash.proofs.Names.{find_algorithm-algorithm_name, algorithm_name-find_algorithm}
 use Rattle.bi_hash.proofs.Texts.{text_then_zero}
 
--- The name of an algorithm with a zero behind it is a text, whatever follows.
-text_of-name : (algo : Algo) (rest : List ℕ) → text_of (name_of algo ++ 0 ∷ rest) ≡ Some (name_of algo)
-unfolding text_of
-text_of-name Crc32 rest = refl
-text_of-name Md5 rest = refl
-text_of-name Sha1 rest = refl
-text_of-name Sha256 rest = refl
-text_of-name Sha512 rest = refl
+-- The text of an algorithm's name, a NUL and any bytes is the name.
+text_before_nul-name : (algo : Algo) (rest : List ℕ) → text_before_nul (algorithm_name algo ++ 0 ∷ rest) ≡ Some (algorithm_name algo)
+unfolding text_before_nul
+text_before_nul-name Crc32 rest = refl
+text_before_nul-name Md5 rest = refl
+text_before_nul-name Sha1 rest = refl
+text_before_nul-name Sha256 rest = refl
+text_before_nul-name Sha384 rest = refl
+text_before_nul-name Sha512 rest = refl
 
--- A value that is the digest of its payload is good.
+-- The verdict on a value that is the digest of its payload is Good.
 pub good-from_digest : (algo value payload : Option (List ℕ)) → HasItsDigest algo value payload
     → verdict_of algo value payload ≡ Good
 unfolding verdict_of
 good-from_digest algo value payload has =
     let same = (bytes_eq-Decides (digest_of has.algorithm has.bytes) (digest_of has.algorithm has.bytes)).1 refl in
-    rw (has.algo_is, has.value_is, has.payload_is, text_of-name has.algorithm has.rest, algo_named-name_of has.algorithm, same)
+    rw (has.algo_is, has.value_is, has.payload_is, text_before_nul-name has.algorithm has.rest, find_algorithm-algorithm_name has.algorithm, same)
     refl
 
--- What a choice between good and bad says of its test.
+-- Where a choice between Good and Bad is Good, its test holds.
 test_of_good : (b : Bool) → cond b Good Bad ≡ Good → b ≡ true
 test_of_good true e = refl
 test_of_good false e = cc
 
--- A good value is the digest of a payload under a known algorithm.
-digest_under : (found : Option Algo) (value : List ℕ) (payload : Option (List ℕ)) → verdict_under found value payload ≡ Good
+-- A value with the verdict Good is the digest of a payload by a known algorithm.
+digest_under : (found : Option Algo) (value : List ℕ) (payload : Option (List ℕ)) → verdict_by_algorithm found value payload ≡ Good
     → (algorithm : Algo) × (bytes : List ℕ) × (found ≡ Some algorithm) × (payload ≡ Some bytes) × (value ≡ digest_of algorithm bytes)
 digest_under None value payload e = cc
 digest_under (Some algorithm) value None e = cc
 digest_under (Some algorithm) value (Some bytes) e =
     (algorithm, bytes, refl, refl, (bytes_eq-Decides value (digest_of algorithm bytes)).0 (test_of_good _ e))
 
--- Where a value is good, there are a name and a value.
-value_named : (found value payload : Option (List ℕ)) → verdict_named found value payload ≡ Good
+-- Where the verdict is Good, there are a name and a value.
+value_named : (found value payload : Option (List ℕ)) → verdict_by_name found value payload ≡ Good
     → (name : List ℕ) × (given : List ℕ) × (found ≡ Some name) × (value ≡ Some given)
-    × (verdict_under (algo_named name) given payload ≡ Good)
+    × (verdict_by_algorithm (find_algorithm name) given payload ≡ Good)
 value_named None value payload e = cc
 value_named (Some name) None payload e = cc
 value_named (Some name) (Some given) payload e = (name, given, refl, refl, e)
 
--- Only a value that is the digest of its payload is good.
+-- The verdict is Good only on a value that is the digest of its payload.
 pub digest-from_good : (algo value payload : Option (List ℕ)) → verdict_of algo value payload ≡ Good
     → HasItsDigest algo value payload
 unfolding verdict_of
 digest-from_good None value payload e = cc
 digest-from_good (Some algo) value payload e =
-    let (name, given, text_is, value_is, under) = value_named (text_of algo) value payload e in
-    let (algorithm, bytes, found_is, payload_is, digest_is) = digest_under (algo_named name) given payload under in
+    let (name, given, text_is, value_is, under) = value_named (text_before_nul algo) value payload e in
+    let (algorithm, bytes, found_is, payload_is, digest_is) = digest_under (find_algorithm name) given payload under in
     let (rest, cut) = text_then_zero algo name text_is in
     record {
       algorithm = algorithm;
       rest = rest;
       bytes = bytes;
-      algo_is = ap Some (cut ∙ ap (λ text. text ++ 0 ∷ rest) (name_of-algo_named name algorithm found_is));
+      algo_is = ap Some (cut ∙ ap (λ text. text ++ 0 ∷ rest) (algorithm_name-find_algorithm name algorithm found_is));
       value_is = value_is ∙ ap Some digest_is;
       payload_is = payload_is;
     }

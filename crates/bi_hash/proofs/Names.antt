@@ -3,31 +3,32 @@ use Rattle.std.specs.List.{find}
 use Rattle.std.specs.Str.{bytes_eq}
 use Rattle.std.proofs.lemmas.Slice.Eq.{bytes_eq-Decides}
 use Rattle.bi_hash.specs.declared.algo.Algo.{Algo}
-use Rattle.bi_hash.specs.declared.algo.Algo.TheVariants.{Crc32, Md5, Sha1, Sha256, Sha512}
-use Rattle.bi_hash.specs.Algos.{name_of, all_algos, algo_named}
+use Rattle.bi_hash.specs.declared.algo.Algo.TheVariants.{Crc32, Md5, Sha1, Sha256, Sha384, Sha512}
+use Rattle.bi_hash.specs.Algos.{algorithm_name, all_algorithms, find_algorithm}
 
--- A choice between the first, where it passes, and the rest passes, if what the rest gives passes.
+-- The choice of the first element, where it passes, or else one of the rest that passes, passes.
 chosen_passes : (b : Bool) (p : Algo → Bool) (first : Algo) (rest : Option Algo) (x : Algo) → b ≡ p first
     → (rest ≡ Some x → p x ≡ true) → cond b (Some first) rest ≡ Some x → p x ≡ true
 chosen_passes true p first rest x is later e = let same : first ≡ x = cc in cc
 chosen_passes false p first rest x is later e = later e
 
--- What `find` finds passes its test.
+-- The element that `find` returns passes its test.
 find_passes : (p : Algo → Bool) (xs : List Algo) (x : Algo) → find p xs ≡ Some x → p x ≡ true
 find_passes p [] x e = cc
 find_passes p (y ∷ ys) x e = chosen_passes (p y) p y (find p ys) x refl (find_passes p ys x) e
 
--- The algorithm found by a name has that name.
-pub name_of-algo_named : (name : List ℕ) (algo : Algo) → algo_named name ≡ Some algo → name ≡ name_of algo
-unfolding algo_named
-name_of-algo_named name algo e =
-    sym ((bytes_eq-Decides (name_of algo) name).0 (find_passes (λ a. bytes_eq (name_of a) name) all_algos algo e))
+-- The algorithm that is found by a name has that name.
+pub algorithm_name-find_algorithm : (name : List ℕ) (algo : Algo) → find_algorithm name ≡ Some algo → name ≡ algorithm_name algo
+unfolding find_algorithm
+algorithm_name-find_algorithm name algo e =
+    sym ((bytes_eq-Decides (algorithm_name algo) name).0 (find_passes (λ a. bytes_eq (algorithm_name a) name) all_algorithms algo e))
 
 -- The name of an algorithm finds it.
-pub algo_named-name_of : (algo : Algo) → algo_named (name_of algo) ≡ Some algo
-unfolding algo_named
-algo_named-name_of Crc32 = refl
-algo_named-name_of Md5 = refl
-algo_named-name_of Sha1 = refl
-algo_named-name_of Sha256 = refl
-algo_named-name_of Sha512 = refl
+pub find_algorithm-algorithm_name : (algo : Algo) → find_algorithm (algorithm_name algo) ≡ Some algo
+unfolding find_algorithm
+find_algorithm-algorithm_name Crc32 = refl
+find_algorithm-algorithm_name Md5 = refl
+find_algorithm-algorithm_name Sha1 = refl
+find_algorithm-algorithm_name Sha256 = refl
+find_algorithm-algorithm_name Sha384 = refl
+find_algorithm-algorithm_name Sha512 = refl

@@ -1,46 +1,56 @@
-use Rattle.std.specs.Prelude.{◌≡◌, ◌↔◌, ℕ, ◌==◌, List, ◌∷◌, ◌++◌, Option, Some, None, if◌then◌else◌, option_and_then}
-use Rattle.std.specs.List.{list_any, before_first}
+use Rattle.std.specs.Prelude.{◌≡◌, ◌↔◌, ℕ, ◌==◌, List, ◌∷◌, ◌++◌, if◌then◌else◌}
+use Rattle.std.specs.Prelude.{Option, Some, None, option_and_then}
+use Rattle.std.specs.List.{list_any}
+use Rattle.bi_base.specs.Strings.{before_nul}
 use Rattle.std.specs.Str.{bytes_eq}
-use Rattle.bi_hash.specs.Algos.{name_of, algo_named}
+use Rattle.bi_hash.specs.Algos.{algorithm_name, find_algorithm}
 use Rattle.bi_hash.specs.Digests.{digest_of}
 use Rattle.bi_hash.specs.declared.algo.Algo.{Algo}
 use Rattle.bi_hash.specs.declared.verdicts.Verdict.{Verdict}
-use Rattle.bi_hash.specs.declared.verdicts.Verdict.TheVariants.{Malformed, UnknownAlgo, NoPayload, Good, Bad}
+use Rattle.bi_hash.specs.declared.verdicts.Verdict.TheVariants.{Malformed, UnknownAlgo}
+use Rattle.bi_hash.specs.declared.verdicts.Verdict.TheVariants.{NoPayload, Good, Bad}
 
--- The text that a property's value begins with: the bytes before its first zero, if it has one (Devicetree
--- Specification, 2.2.4.2: a string ends with a zero).
-unfoldable pub text_of : List ℕ → Option (List ℕ)
-text_of bytes =
-    if list_any (λ byte. byte == 0) bytes then Some (before_first (λ byte. byte == 0) bytes) else None
+-- The text of a property's value: the bytes before its first NUL. None where there is no NUL
+-- (Devicetree Specification, 2.2.4.2: a string is NUL-terminated).
+unfoldable pub text_before_nul : List ℕ → Option (List ℕ)
+text_before_nul value =
+    if list_any (λ byte. byte == 0) value
+    then Some (before_nul value)
+    else None
 
--- The verdict on a value under an algorithm, where there is a known one.
-abbrev pub verdict_under : Option Algo → List ℕ → Option (List ℕ) → Verdict
-verdict_under None value payload = UnknownAlgo
-verdict_under (Some algo) value None = NoPayload
-verdict_under (Some algo) value (Some payload) = if bytes_eq value (digest_of algo payload) then Good else Bad
+-- The verdict on a value, by the algorithm, if it is known, and the payload, if there is one.
+abbrev pub verdict_by_algorithm : Option Algo → List ℕ → Option (List ℕ) → Verdict
+verdict_by_algorithm None value payload = UnknownAlgo
+verdict_by_algorithm (Some algo) value None = NoPayload
+verdict_by_algorithm (Some algo) value (Some payload) =
+    if bytes_eq value (digest_of algo payload) then Good else Bad
 
--- The verdict on a value under the name of an algorithm, where there are both.
-abbrev pub verdict_named : Option (List ℕ) → Option (List ℕ) → Option (List ℕ) → Verdict
-verdict_named None value payload = Malformed
-verdict_named (Some name) None payload = Malformed
-verdict_named (Some name) (Some value) payload = verdict_under (algo_named name) value payload
+-- The verdict by the algorithm's name and the value, if there are both.
+abbrev pub verdict_by_name : Option (List ℕ) → Option (List ℕ) → Option (List ℕ) → Verdict
+verdict_by_name None value payload = Malformed
+verdict_by_name (Some name) None payload = Malformed
+verdict_by_name (Some name) (Some value) payload =
+    verdict_by_algorithm (find_algorithm name) value payload
 
--- The verdict on a hash node: its properties `algo` and `value` and the payload of its image, each where there is one
--- (Flattened Image Tree Specification, hash nodes; the verdicts and their order are the profile of this project).
+-- The verdict on a hash node, by its properties `algo` and `value` and the payload of its image.
+-- Each of the three may be missing (Flattened Image Tree Specification, hash nodes; the verdicts
+-- and their order are the profile of this project).
 unfoldable pub verdict_of : Option (List ℕ) → Option (List ℕ) → Option (List ℕ) → Verdict
-verdict_of algo value payload = verdict_named (option_and_then text_of algo) value payload
+verdict_of algo value payload =
+    verdict_by_name (option_and_then text_before_nul algo) value payload
 
--- A hash node with the digest of its payload: its algo is the name of an algorithm, a zero and anything after it, and
--- its value is the payload's digest by this algorithm.
+-- A hash node with the digest of its payload: `algo` is the name of an algorithm, a NUL and
+-- anything after it, and `value` is the payload's digest by this algorithm.
 pub record HasItsDigest (algo value payload : Option (List ℕ)) : Type 0 where
   pub algorithm : Algo
   pub rest : List ℕ
   pub bytes : List ℕ
-  pub algo_is : algo ≡ Some (name_of algorithm ++ 0 ∷ rest)
+  pub algo_is : algo ≡ Some (algorithm_name algorithm ++ 0 ∷ rest)
   pub value_is : value ≡ Some (digest_of algorithm bytes)
   pub payload_is : payload ≡ Some bytes
 
--- The law that a verdict is Good exactly on a hash node with the digest of its payload.
+-- The law that the verdict is Good exactly on a hash node with the digest of its payload.
 abbrev pub GoodMeansDigest : Type 0
 GoodMeansDigest =
-    (algo value payload : Option (List ℕ)) → (verdict_of algo value payload ≡ Good) ↔ HasItsDigest algo value payload
+    (algo value payload : Option (List ℕ))
+    → (verdict_of algo value payload ≡ Good) ↔ HasItsDigest algo value payload

@@ -4,6 +4,7 @@
 mod algo;
 mod hash_node;
 pub mod laws;
+mod pieces;
 mod verdicts;
 
 pub use algo::Algo;

@@ -1,11 +1,11 @@
-//! What can be said of a hash node.
+//! The verdicts on hash nodes.
 
-/// What is said of a hash node and the payload that it speaks of.
+/// The verdict on a hash node.
 #[derive(Clone, Copy, Debug, PartialEq, Eq)]
 pub enum Verdict {
-    /// The node has no algorithm, no value, or an algorithm that is no text.
+    /// The node has no algorithm, no value, or an algorithm that is not NUL-terminated.
     Malformed,
-    /// The algorithm's name is none that is known.
+    /// The algorithm is not a known one.
     UnknownAlgo,
     /// There is no payload to hash.
     NoPayload,

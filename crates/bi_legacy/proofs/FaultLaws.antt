@@ -7,16 +7,17 @@ use Rattle.bi_base.specs.Crc.{crc32}
 use Rattle.bi_base.specs.Limits.{Bounds}
 use Rattle.bi_base.specs.declared.fault.Fault.{Fault}
 use Rattle.bi_base.proofs.FirstFault.{one_fault, not_both, fault_or_none}
-use Rattle.bi_legacy.specs.Faults.{Check, IsWithinLimit, HasMagicCell, HasMagic, HasHeader, HasHeaderChecksum, HasData, HasDataChecksum, HasListEnd, HasPart, Passes, fault_of, checks, IsLegacyFault, HasNoLegacyFault, body_of, cells_of, summed_header}
+use Rattle.bi_legacy.specs.Faults.{Check, IsWithinLimit, HasMagicCell, HasMagic, HasHeader, HasHeaderChecksum, HasData, HasDataChecksum, InPartTable, Passes, fault_of, checks, IsLegacyFault, HasNoLegacyFault, body_of, header_without_checksum}
+use Rattle.bi_legacy.specs.PartTables.{TableCheck, HasTableEnd, HasPart, TablePasses, cells_of}
 use Rattle.bi_legacy.specs.File.{LegacyMeans}
 use Rattle.bi_legacy.specs.Meaning.{LegacyImage}
 use Rattle.bi_legacy.proofs.MeansNoFault.{means_no_fault}
-use Rattle.bi_legacy.proofs.SizeCells.{zero_within}
-use Rattle.bi_legacy.proofs.ZeroEnded.{zero_place}
+use Rattle.bi_legacy.proofs.TableCells.{zero_within}
+use Rattle.bi_base.proofs.NulLaws.{nul_index}
 
 -- A file has a meaning exactly where no check fails, and at most one fault.
 
--- A bound is kept or not.
+-- A number is at most another or not.
 bound_decided : (a b : ℕ) → (a ≤ b) ⊎ (¬ (a ≤ b))
 bound_decided a b = elim (cases_lt b a) [
   | inl above ↦ inr (λ within. omega arith)
@@ -25,36 +26,40 @@ bound_decided a b = elim (cases_lt b a) [
 
 -- Numbers contain a zero or not.
 zero_decided : (numbers : List ℕ) → Contains numbers 0 ⊎ (¬ (Contains numbers 0))
-zero_decided numbers = elim (cases_lt (zero_place numbers) (length numbers)) [
-  | inl within ↦ inl (subst (Contains numbers) (eqb-true _ _ (passes_at_first (λ number. number == 0) numbers 0 within)) (Contains-get_or numbers (zero_place numbers) 0 within))
+zero_decided numbers = elim (cases_lt (nul_index numbers) (length numbers)) [
+  | inl within ↦ inl (subst (Contains numbers) (eqb-true _ _ (passes_at_first (λ number. number == 0) numbers 0 within)) (Contains-get_or numbers (nul_index numbers) 0 within))
   | inr past ↦ inr (λ there. omega (arith, zero_within numbers there))
 ]
 
+-- Each check of a part table passes or fails.
+table_decided : (body : List ℕ) (check : TableCheck) → TablePasses body check ⊎ (¬ (TablePasses body check))
+table_decided body HasTableEnd = zero_decided (cells_of body)
+table_decided body (HasPart index end) = bound_decided end (length body)
+
 -- Each check passes or fails.
-check_decided : (file : List ℕ) (limits : Bounds) (check : Check) → Passes file limits check ⊎ (¬ (Passes file limits check))
+check_decided : (file : List ℕ) (limits : Bounds) (check : Check) → Passes limits file check ⊎ (¬ (Passes limits file check))
 check_decided file limits IsWithinLimit = bound_decided (length file) limits.file
 check_decided file limits HasMagicCell = bound_decided 4 (length file)
 check_decided file limits HasMagic = cases_eq (u32_at file 0) 0x27051956
 check_decided file limits HasHeader = bound_decided 64 (length file)
-check_decided file limits HasHeaderChecksum = cases_eq (u32_at file 4) (crc32 (summed_header file))
+check_decided file limits HasHeaderChecksum = cases_eq (u32_at file 4) (crc32 (header_without_checksum file))
 check_decided file limits HasData = bound_decided (64 + u32_at file 12) (length file)
 check_decided file limits HasDataChecksum = cases_eq (u32_at file 24) (crc32 (body_of file))
-check_decided file limits HasListEnd = zero_decided (cells_of (body_of file))
-check_decided file limits (HasPart index end) = bound_decided end (length (body_of file))
+check_decided file limits (InPartTable check) = table_decided (body_of file) check
 
 -- A file has no fault or some fault.
-pub fault_or_no_fault : (file : List ℕ) (limits : Bounds) → HasNoLegacyFault file limits ⊎ ((fault : Fault) × IsLegacyFault file limits fault)
-fault_or_no_fault file limits = fault_or_none (Passes file limits) (fault_of limits) (check_decided file limits) (checks file)
+pub fault_or_no_fault : (file : List ℕ) (limits : Bounds) → HasNoLegacyFault limits file ⊎ ((fault : Fault) × IsLegacyFault limits file fault)
+fault_or_no_fault file limits = fault_or_none (Passes limits file) (fault_of limits) (check_decided file limits) (checks file)
 
 -- A file has at most one fault.
-pub one_legacy_fault : (file : List ℕ) (limits : Bounds) (a b : Fault) → IsLegacyFault file limits a → IsLegacyFault file limits b → a ≡ b
-one_legacy_fault file limits a b is_a is_b = one_fault (Passes file limits) (fault_of limits) (checks file) a b is_a is_b
+pub one_legacy_fault : (file : List ℕ) (limits : Bounds) (a b : Fault) → IsLegacyFault limits file a → IsLegacyFault limits file b → a ≡ b
+one_legacy_fault file limits a b is_a is_b = one_fault (Passes limits file) (fault_of limits) (checks file) a b is_a is_b
 
 -- A file without a fault has no fault.
-pub no_fault_no_fault : (file : List ℕ) (limits : Bounds) (fault : Fault) → HasNoLegacyFault file limits → IsLegacyFault file limits fault → ⊥
-no_fault_no_fault file limits fault none is = not_both (Passes file limits) (fault_of limits) (checks file) fault none is
+pub no_fault_no_fault : (file : List ℕ) (limits : Bounds) (fault : Fault) → HasNoLegacyFault limits file → IsLegacyFault limits file fault → ⊥
+no_fault_no_fault file limits fault none is = not_both (Passes limits file) (fault_of limits) (checks file) fault none is
 
--- A file with a fault means nothing within the limits.
-pub fault_no_meaning : (file : List ℕ) (image : LegacyImage) (limits : Bounds) (fault : Fault) → IsLegacyFault file limits fault → LegacyMeans file image limits → ⊥
-fault_no_meaning file image limits fault is means =
+-- A file with a fault means no image within the limits.
+pub no_meaning_with_fault : (file : List ℕ) (image : LegacyImage) (limits : Bounds) (fault : Fault) → IsLegacyFault limits file fault → LegacyMeans limits file image → ⊥
+no_meaning_with_fault file image limits fault is means =
     no_fault_no_fault file limits fault (means_no_fault file image limits means) is

@@ -3,47 +3,47 @@ use Rattle.std.specs.List.{AllByRecursion}
 use Rattle.bi_base.specs.Cells.{up4, AreBytes}
 use Rattle.bi_base.proofs.CellLaws.{AreBytes-slice}
 use Rattle.bi_legacy.specs.File.{IsLegacyFile}
-use Rattle.bi_legacy.specs.Meaning.{LegacyImage, IsListedPart, AreParts, has_size_list}
-use Rattle.bi_legacy.specs.Parts.{IsSizeListed}
+use Rattle.bi_legacy.specs.Meaning.{LegacyImage, IsTablePart, AreParts, has_part_table}
+use Rattle.bi_legacy.specs.Parts.{HasPartTable}
 use Rattle.bi_legacy.specs.Text.{IsLegacyImage, legacy_text}
 use Rattle.bi_base.proofs.ByteLists.{AreBytes-left}
 use Rattle.bi_legacy.proofs.HeaderReads.{field_read, body_read, length-file}
-use Rattle.bi_legacy.proofs.HeldParts.{held_stands}
+use Rattle.bi_legacy.proofs.TableParts.{table_parts_at}
 use Rattle.bi_legacy.proofs.NormalLength.{length-normal_body, length-legacy_text, parts_end_in}
-use Rattle.bi_legacy.proofs.Standing.{StandFrom}
+use Rattle.bi_legacy.proofs.PartOffsets.{ArePartsAt}
 
--- What a file means is a meaning that a legacy image can have, and its normal text is no longer than the file.
+-- The image that a file means fits the format, and its normal text is no longer than the file.
 
--- Parts that stand in bytes are bytes.
-standing_bytes : (at : ℕ) (parts : List (List ℕ)) (body : List ℕ) → AreBytes body → StandFrom at parts body → AllByRecursion AreBytes parts
-standing_bytes at [] body bytes stand = tt
-standing_bytes at (part ∷ parts) body bytes stand =
-    (subst AreBytes stand.1 (AreBytes-slice body at (length part) bytes), standing_bytes (up4 (at + length part)) parts body bytes stand.2)
+-- Parts that are slices of bytes are bytes.
+parts_at-bytes : (at : ℕ) (parts : List (List ℕ)) (body : List ℕ) → AreBytes body → ArePartsAt at parts body → AllByRecursion AreBytes parts
+parts_at-bytes at [] body bytes at_offsets = tt
+parts_at-bytes at (part ∷ parts) body bytes at_offsets =
+    (subst AreBytes at_offsets.1 (AreBytes-slice body at (length part) bytes), parts_at-bytes (up4 (at + length part)) parts body bytes at_offsets.2)
 
--- The parts that data of bytes holds, with or without a list of sizes, are bytes.
-held_bytes : (is_listed : Bool) (parts : List (List ℕ)) (body : List ℕ) → AreBytes body → MatchBool is_listed (IsSizeListed parts body) (parts ≡ body ∷ []) → AllByRecursion AreBytes parts
-held_bytes true parts body bytes holds = standing_bytes _ parts body bytes (held_stands parts body holds)
-held_bytes false parts body bytes holds = rw holds (bytes, tt)
+-- The parts of data of bytes, with or without a part table, are bytes.
+body_parts_bytes : (has_table : Bool) (parts : List (List ℕ)) (body : List ℕ) → AreBytes body → MatchBool has_table (HasPartTable parts body) (parts ≡ body ∷ []) → AllByRecursion AreBytes parts
+body_parts_bytes true parts body bytes holds = parts_at-bytes _ parts body bytes (table_parts_at parts body holds)
+body_parts_bytes false parts body bytes holds = rw holds (bytes, tt)
 
--- The parts that data holds, with or without a list of sizes, are parts that such an image can have.
-held_parts : (is_listed : Bool) (parts : List (List ℕ)) (body : List ℕ) → MatchBool is_listed (IsSizeListed parts body) (parts ≡ body ∷ []) → MatchBool is_listed (AllByRecursion IsListedPart parts) (length parts ≡ 1)
-held_parts true parts body holds = holds.listed
-held_parts false parts body holds = ap length holds
+-- The parts of data, with or without a part table, are parts that such an image can have.
+body_parts : (has_table : Bool) (parts : List (List ℕ)) (body : List ℕ) → MatchBool has_table (HasPartTable parts body) (parts ≡ body ∷ []) → MatchBool has_table (AllByRecursion IsTablePart parts) (length parts ≡ 1)
+body_parts true parts body holds = holds.are_table_parts
+body_parts false parts body holds = ap length holds
 
--- The parts that a file means are parts that its type can have.
+-- The parts of the image of a file are parts that its type can have.
 parts_of_file : (file : List ℕ) (image : LegacyImage) (is : IsLegacyFile file image) → AreParts image.image_type image.parts
-parts_of_file file image is = held_parts (has_size_list image.image_type) image.parts is.body is.parts
+parts_of_file file image is = body_parts (has_part_table image.image_type) image.parts is.body is.parts
 
 -- The data of a file is bytes.
 body_bytes : (file : List ℕ) (image : LegacyImage) (is : IsLegacyFile file image) → AreBytes is.body
 body_bytes file image is = subst AreBytes (body_read file image is) (AreBytes-slice file 64 _ is.bytes)
 
--- The name that a file means is bytes.
+-- The name of the image of a file is bytes.
 name_bytes : (file : List ℕ) (image : LegacyImage) (is : IsLegacyFile file image) → AreBytes image.name
 name_bytes file image is =
-    AreBytes-left image.name is.name.padding (subst AreBytes (field_read file image is ∙ is.name.spelled) (AreBytes-slice file 32 32 is.bytes))
+    AreBytes-left image.name is.name.padding (subst AreBytes (field_read file image is ∙ is.name.field_is) (AreBytes-slice file 32 32 is.bytes))
 
--- What a file means is a meaning that a legacy image can have.
+-- The image that a file means fits the format.
 pub image_of_file : (file : List ℕ) (image : LegacyImage) → IsLegacyFile file image → IsLegacyImage image
 image_of_file file image is =
     let parts = parts_of_file file image is in
@@ -52,11 +52,11 @@ image_of_file file image is =
       name = is.name.is_name;
       name_bytes = name_bytes file image is;
       parts = parts;
-      parts_bytes = held_bytes (has_size_list image.image_type) image.parts is.body (body_bytes file image is) is.parts;
+      parts_bytes = body_parts_bytes (has_part_table image.image_type) image.parts is.body (body_bytes file image is) is.parts;
       size = omega (arith, length-normal_body image.image_type image.parts, parts_end_in image.image_type image.parts is.body is.parts, is.size);
     }
 
--- The normal text of what a file means is no longer than the file.
+-- The normal text of the image that a file means is no longer than the file.
 pub text_no_longer : (file : List ℕ) (image : LegacyImage) → IsLegacyFile file image → length (legacy_text image) ≤ length file
 text_no_longer file image is =
     omega (

@@ -1,24 +1,24 @@
-use Rattle.std.proofs.Common.{◌≡◌, ◌==◌, ℕ, List, length, drop, arith, sym, ◌∙◌, ap, take-append-drop, length-take}
-use Rattle.std.specs.List.{before_first}
+use Rattle.std.proofs.Common.{◌≡◌, ℕ, List, length, drop, arith, sym, ◌∙◌, ap, take-append-drop, length-take}
+use Rattle.bi_base.specs.Strings.{before_nul}
 use Rattle.bi_legacy.specs.File.{HoldsName}
-use Rattle.bi_legacy.proofs.ZeroEnded.{zero_place, before_zero_is, before_zero_nonzero, behind_first_zero}
+use Rattle.bi_base.proofs.NulLaws.{nul_index, before_nul-append, before_nul-nonzero, drop-nul_index}
 
--- The name that a header's 32 bytes hold.
+-- The name in the 32 bytes of its field.
 
--- Any 32 bytes hold the bytes before their first zero as a name.
-pub name_held : (field : List ℕ) → length field ≡ 32 → HoldsName field (before_first (λ byte. byte == 0) field)
-name_held field whole = record {
-  padding = drop (zero_place field) field;
-  spelled = sym (take-append-drop (zero_place field) field);
-  unused = behind_first_zero field;
+-- The bytes before the first zero are the name in 32 bytes.
+pub field_holds_name : (field : List ℕ) → length field ≡ 32 → HoldsName field (before_nul field)
+field_holds_name field whole = record {
+  padding = drop (nul_index field) field;
+  field_is = sym (take-append-drop (nul_index field) field);
+  padding_is = drop-nul_index field;
   whole = whole;
   is_name = record {
-    short = omega (arith, length-take (zero_place field) field);
-    no_zero = before_zero_nonzero field;
+    short = omega (arith, length-take (nul_index field) field);
+    no_zero = before_nul-nonzero field;
   };
 }
 
--- The name that 32 bytes hold is the bytes before their first zero.
-pub name_is : (field name : List ℕ) → HoldsName field name → before_first (λ byte. byte == 0) field ≡ name
-name_is field name holds =
-    ap (before_first (λ byte. byte == 0)) holds.spelled ∙ before_zero_is name holds.padding holds.is_name.no_zero holds.unused
+-- The name in 32 bytes is the bytes before the first zero.
+pub name_in_field : (field name : List ℕ) → HoldsName field name → before_nul field ≡ name
+name_in_field field name holds =
+    ap before_nul holds.field_is ∙ before_nul-append name holds.padding holds.is_name.no_zero holds.padding_is

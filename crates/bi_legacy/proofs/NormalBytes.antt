@@ -2,11 +2,11 @@ use Rattle.std.proofs.Common.{ℕ, Bool, true, false, List, ◌++◌, [], ◌∷
 use Rattle.std.specs.List.{AllByRecursion}
 use Rattle.bi_base.specs.Cells.{cell, AreBytes}
 use Rattle.bi_legacy.specs.File.{header}
-use Rattle.bi_legacy.specs.Meaning.{LegacyImage, FitsFields, has_size_list}
-use Rattle.bi_legacy.specs.Parts.{size_list}
-use Rattle.bi_legacy.specs.Text.{filled, joined, name_field, legacy_text, IsLegacyImage}
+use Rattle.bi_legacy.specs.Meaning.{LegacyImage, FitsFields, has_part_table}
+use Rattle.bi_legacy.specs.Parts.{part_table}
+use Rattle.bi_legacy.specs.Text.{padded, joined_parts, name_field, legacy_text, IsLegacyImage}
 use Rattle.bi_base.proofs.ByteLists.{AreBytes-none, AreBytes-cons, AreBytes-append, AreBytes-zeros, AreBytes-cell}
-use Rattle.bi_legacy.proofs.SizeCells.{size_list_is}
+use Rattle.bi_legacy.proofs.TableCells.{part_table-cells}
 
 -- The normal text is bytes.
 
@@ -16,21 +16,21 @@ cells_bytes [] = AreBytes-none
 cells_bytes (number ∷ numbers) =
     AreBytes-append (cell number) (flat_map cell numbers) (AreBytes-cell number) (cells_bytes numbers)
 
--- A list of sizes is bytes.
-size_list_bytes : (parts : List (List ℕ)) → AreBytes (size_list parts)
-size_list_bytes parts =
-    rw (size_list_is parts) (AreBytes-append (flat_map cell (map length parts)) (cell 0) (cells_bytes (map length parts)) (AreBytes-cell 0))
+-- A part table is bytes.
+part_table-bytes : (parts : List (List ℕ)) → AreBytes (part_table parts)
+part_table-bytes parts =
+    rw (part_table-cells parts) (AreBytes-append (flat_map cell (map length parts)) (cell 0) (cells_bytes (map length parts)) (AreBytes-cell 0))
 
--- Parts of bytes, one behind another, are bytes.
-joined_bytes : (parts : List (List ℕ)) → AllByRecursion AreBytes parts → AreBytes (joined parts)
+-- Joined parts of bytes are bytes.
+joined_bytes : (parts : List (List ℕ)) → AllByRecursion AreBytes parts → AreBytes (joined_parts parts)
 joined_bytes [] are = AreBytes-none
 joined_bytes (part ∷ []) are = are.0
 joined_bytes (part ∷ next ∷ later) are =
-    AreBytes-append (filled part) (joined (next ∷ later)) (AreBytes-append part _ are.0 (AreBytes-zeros _)) (joined_bytes (next ∷ later) are.1)
+    AreBytes-append (padded part) (joined_parts (next ∷ later)) (AreBytes-append part _ are.0 (AreBytes-zeros _)) (joined_bytes (next ∷ later) are.1)
 
--- The normal data of parts of bytes, with or without a list of sizes, is bytes.
-kind_bytes : (is_listed : Bool) (parts : List (List ℕ)) → AllByRecursion AreBytes parts → AreBytes (if is_listed then size_list parts ++ joined parts else joined parts)
-kind_bytes true parts are = AreBytes-append (size_list parts) (joined parts) (size_list_bytes parts) (joined_bytes parts are)
+-- The normal data of parts of bytes, with or without a part table, is bytes.
+kind_bytes : (has_table : Bool) (parts : List (List ℕ)) → AllByRecursion AreBytes parts → AreBytes (if has_table then part_table parts ++ joined_parts parts else joined_parts parts)
+kind_bytes true parts are = AreBytes-append (part_table parts) (joined_parts parts) (part_table-bytes parts) (joined_bytes parts are)
 kind_bytes false parts are = joined_bytes parts are
 
 -- The codes of an image and its name's field are bytes.
@@ -50,9 +50,9 @@ header_bytes image field body ranges are =
     cell_first _ _ (cell_first _ _ (cell_first _ _ (cell_first _ _ (cell_first _ _ (cell_first _ _ (cell_first _ _
     (codes_bytes image field ranges are)))))))
 
--- The normal text of a meaning that a legacy image can have is bytes.
+-- The normal text of an image that fits the format is bytes.
 pub legacy_text_bytes : (image : LegacyImage) → IsLegacyImage image → AreBytes (legacy_text image)
 unfolding legacy_text
 legacy_text_bytes image is =
     AreBytes-append _ _ (header_bytes image (name_field image.name) _ is.ranges (AreBytes-append image.name _ is.name_bytes (AreBytes-zeros _)))
-    (kind_bytes (has_size_list image.image_type) image.parts is.parts_bytes)
+    (kind_bytes (has_part_table image.image_type) image.parts is.parts_bytes)

@@ -1,24 +1,17 @@
-use Rattle.std.proofs.Common.{List, ℕ, Result, Ok, Err, IfOk}
+use Rattle.std.proofs.Common.{List, ℕ}
 use Rattle.bi_base.specs.Limits.{Bounds}
-use Rattle.bi_base.specs.declared.fault.Fault.{Fault}
 use Rattle.bi_legacy.specs.Meaning.{LegacyImage}
 use Rattle.bi_legacy.specs.File.{LegacyMeans}
 use Rattle.bi_legacy.specs.NormalForm.{HasNormalForm}
-use Rattle.bi_legacy.specs.Reading.{Told, IsTold}
 use Rattle.bi_legacy.proofs.ImageOfFile.{image_of_file}
 use Rattle.bi_legacy.proofs.NoEmitFault.{no_emit_fault}
 use Rattle.bi_legacy.proofs.TextMeans.{text_means_same, texts_differ}
 
--- What a file means has a normal form within the limits that the file is within.
-has_normal_form : (file : List ℕ) (image : LegacyImage) (limits : Bounds) → LegacyMeans file image limits → HasNormalForm image limits
+-- The image that a file means within the limits has a normal form within them.
+pub has_normal_form : (file : List ℕ) (image : LegacyImage) (limits : Bounds) → LegacyMeans limits file image → HasNormalForm limits image
 has_normal_form file image limits means = record {
   can_be_written = no_emit_fault file image limits means.is_file means.short;
-  accepted = text_means_same file image limits means;
-  told_apart = λ other_file other is_other same.
+  text_means_image = text_means_same file image limits means;
+  only_image = λ other_file other is_other same.
       texts_differ other image (image_of_file other_file other is_other) (image_of_file file image means.is_file) same;
 }
-
--- And so has what was read.
-pub normal_form_of : (file : List ℕ) (limits : Bounds) (r : Result Told Fault) → IfOk r (IsTold file limits) → IfOk r (λ told. HasNormalForm told.image limits)
-normal_form_of file limits (Ok told) is_told = has_normal_form file told.image limits is_told.means
-normal_form_of file limits (Err fault) is_told = tt

@@ -2,33 +2,33 @@ use Rattle.std.proofs.Common.{◌≡◌, ℕ, ◌-◌, Bool, true, false, List, 
 use Rattle.std.specs.List.{AllByRecursion}
 use Rattle.std.proofs.lemmas.List.{length-append}
 use Rattle.bi_base.specs.Cells.{up4}
-use Rattle.bi_legacy.specs.Meaning.{IsListedPart, AreParts, has_size_list}
-use Rattle.bi_legacy.specs.Parts.{size_list, HoldInTurn, IsSizeListed, HoldsParts}
-use Rattle.bi_legacy.specs.Text.{joined, normal_body}
-use Rattle.bi_legacy.proofs.NormalLength.{length-filled}
+use Rattle.bi_legacy.specs.Meaning.{IsTablePart, AreParts, has_part_table}
+use Rattle.bi_legacy.specs.Parts.{part_table, ArePaddedParts, HasPartTable, HoldsParts}
+use Rattle.bi_legacy.specs.Text.{joined_parts, normal_body}
+use Rattle.bi_legacy.proofs.NormalLength.{length-padded}
 
--- The normal data holds the parts that it is made of.
+-- The normal data of some parts holds them.
 
--- Joined parts hold the parts in turn.
-joined_turn : (parts : List (List ℕ)) → HoldInTurn parts (joined parts)
-joined_turn [] = tt
-joined_turn (part ∷ []) = ([], sym (append-nil part))
-joined_turn (part ∷ next ∷ later) =
+-- Joined parts are padded parts in order.
+joined_parts-padded : (parts : List (List ℕ)) → ArePaddedParts parts (joined_parts parts)
+joined_parts-padded [] = tt
+joined_parts-padded (part ∷ []) = ([], sym (append-nil part))
+joined_parts-padded (part ∷ next ∷ later) =
     let zeros : List ℕ = replicate (up4 (length part) - length part) 0 in (
       zeros,
-      joined (next ∷ later),
-      append_assoc part zeros (joined (next ∷ later)),
-      sym (length-append part zeros) ∙ length-filled part,
-      joined_turn (next ∷ later),
+      joined_parts (next ∷ later),
+      append_assoc part zeros (joined_parts (next ∷ later)),
+      sym (length-append part zeros) ∙ length-padded part,
+      joined_parts-padded (next ∷ later),
     )
 
--- The normal data of some parts, with or without a list of sizes, holds them.
-normal_holds : (is_listed : Bool) (parts : List (List ℕ)) → MatchBool is_listed (AllByRecursion IsListedPart parts) (length parts ≡ 1) → let body = if is_listed then size_list parts ++ joined parts else joined parts in MatchBool is_listed (IsSizeListed parts body) (parts ≡ body ∷ [])
+-- The normal data, with or without a part table, holds the parts.
+normal_holds : (has_table : Bool) (parts : List (List ℕ)) → MatchBool has_table (AllByRecursion IsTablePart parts) (length parts ≡ 1) → let body = if has_table then part_table parts ++ joined_parts parts else joined_parts parts in MatchBool has_table (HasPartTable parts body) (parts ≡ body ∷ [])
 normal_holds true parts are = record {
-  behind = joined parts;
-  list = refl;
-  listed = are;
-  in_turn = joined_turn parts;
+  rest = joined_parts parts;
+  body_is = refl;
+  are_table_parts = are;
+  padded_parts = joined_parts-padded parts;
 }
 normal_holds false [] are = absurd (omega arith)
 normal_holds false (part ∷ []) are = refl
@@ -36,4 +36,4 @@ normal_holds false (part ∷ next ∷ later) are = absurd (omega arith)
 
 -- The normal data holds the parts.
 pub normal_body_holds : (image_type : ℕ) (parts : List (List ℕ)) → AreParts image_type parts → HoldsParts image_type (normal_body image_type parts) parts
-normal_body_holds image_type parts are = normal_holds (has_size_list image_type) parts are
+normal_body_holds image_type parts are = normal_holds (has_part_table image_type) parts are

@@ -1,70 +1,39 @@
-use Rattle.std.proofs.Common.{◌≡◌, ℕ, ◌+◌, ◌<◌, ◌≤◌, List, [], ◌∷◌, length, drop, map, slice_get, Option, Some, None, zero, suc, arith, refl, sym, ap, ◌∙◌}
+use Rattle.std.proofs.Common.{◌≡◌, ℕ, ◌+◌, List, [], ◌∷◌, length, map, slice_get, Option, Some, None, refl, sym, ap, ◌∙◌}
 use Rattle.std.specs.Option.{option_map}
-use Rattle.std.proofs.lemmas.Option.{slice_get-map, slice_get_past}
-use Rattle.std.proofs.lemmas.List.{length-drop}
+use Rattle.std.proofs.lemmas.Option.{slice_get-map}
 use Rattle.bi_base.specs.Cells.{up4}
 use Rattle.bi_legacy.specs.declared.parts.Part.{Part}
 use Rattle.bi_legacy.specs.Meaning.{LegacyImage}
-use Rattle.bi_legacy.specs.Parts.{first_place}
-use Rattle.bi_legacy.specs.Pieces.{Piece, GivesPart, piece_of, placed_from, placed_parts}
-use Rattle.bi_legacy.specs.Reading.{file_places}
+use Rattle.bi_legacy.specs.Parts.{parts_start}
+use Rattle.bi_legacy.specs.PlacedParts.{PlacedPart, placed_part_of, placed_parts_from, placed_parts}
+use Rattle.bi_legacy.specs.Reading.{part_places}
 
--- The part of an index, found by handing out those before it.
+-- The bytes and the offset of the part with an index.
 
--- What is left begins with the item of the index that was come to.
-slice_get-drop : {X : Type 0} (items : List X) (i : ℕ) → slice_get items i ≡ slice_get (drop i items) 0
-slice_get-drop [] zero = refl
-slice_get-drop [] (suc i) = refl
-slice_get-drop (item ∷ items) zero = refl
-slice_get-drop (item ∷ items) (suc i) = slice_get-drop items i
-
--- One more handed out leaves one less.
-pub drop-one_more : {X : Type 0} (items later : List X) (item : X) (i : ℕ) → drop i items ≡ item ∷ later → drop (i + 1) items ≡ later
-drop-one_more [] later item zero e = absurd cc
-drop-one_more [] later item (suc i) e = absurd cc
-drop-one_more (first ∷ items) later item zero e = cc
-drop-one_more (first ∷ items) later item (suc i) e =
-    let one : suc i + 1 ≡ suc (i + 1) = omega arith in ap (λ n. drop n (first ∷ items)) one ∙ drop-one_more items later item i e
-
--- Where none are left there is none of a later index.
-pub slice_get-none_left : {X : Type 0} (items : List X) (i index : ℕ) → drop i items ≡ [] → i < index → slice_get items index ≡ None
-slice_get-none_left items i index e before =
-    let short : length items ≤ index = omega (arith, length-drop i items, ap length e) in slice_get_past items index short
-
--- The part that is handed out is the first that is left.
-pub GivesPart-first : (old new : List Piece) (result : Option Part) → GivesPart old result new → option_map piece_of result ≡ slice_get old 0
-GivesPart-first old new None gives = ap (λ items. slice_get items 0) (sym gives.0)
-GivesPart-first old new (Some part) gives = ap (λ items. slice_get items 0) (sym gives)
-
--- So it is that of the index that was come to.
-pub GivesPart-nth : (items old new : List Piece) (index : ℕ) (result : Option Part) → old ≡ drop index items → GivesPart old result new → option_map piece_of result ≡ slice_get items index
-GivesPart-nth items old new index result e gives =
-    GivesPart-first old new result gives ∙ ap (λ left. slice_get left 0) e ∙ sym (slice_get-drop items index)
-
--- The parts with their places are the parts.
-pub map-bytes : (at : ℕ) (parts : List (List ℕ)) → map (λ (piece : Piece). piece.bytes) (placed_from at parts) ≡ parts
+-- The bytes of the parts with their offsets are the parts.
+pub map-bytes : (at : ℕ) (parts : List (List ℕ)) → map (λ (part : PlacedPart). part.bytes) (placed_parts_from at parts) ≡ parts
 map-bytes at [] = refl
 map-bytes at (part ∷ parts) = ap (λ later. part ∷ later) (map-bytes (up4 (at + length part)) parts)
 
--- The bytes of what was found.
-found-bytes : (result : Option Part) → option_map (λ (piece : Piece). piece.bytes) (option_map piece_of result) ≡ option_map (λ (part : Part). part.bytes.now) result
+-- The bytes of a part that was found.
+found-bytes : (result : Option Part) → option_map (λ (part : PlacedPart). part.bytes) (option_map placed_part_of result) ≡ option_map (λ (part : Part). part.bytes.now) result
 found-bytes None = refl
 found-bytes (Some part) = refl
 
--- The place of what was found.
-found-place : (result : Option Part) → option_map (λ (piece : Piece). piece.place) (option_map piece_of result) ≡ option_map (λ (part : Part). part.place) result
+-- The offset of a part that was found.
+found-place : (result : Option Part) → option_map (λ (part : PlacedPart). part.place) (option_map placed_part_of result) ≡ option_map (λ (part : Part). part.place) result
 found-place None = refl
 found-place (Some part) = refl
 
--- What was found is the part of the index ..
-pub nth_bytes : (image : LegacyImage) (index : ℕ) (result : Option Part) → option_map piece_of result ≡ slice_get (placed_parts image) index → option_map (λ (part : Part). part.bytes.now) result ≡ slice_get image.parts index
+-- The bytes of the part with an index are those of this part of the image.
+pub nth_bytes : (image : LegacyImage) (index : ℕ) (result : Option Part) → option_map placed_part_of result ≡ slice_get (placed_parts image) index → option_map (λ (part : Part). part.bytes.now) result ≡ slice_get image.parts index
 nth_bytes image index result e =
-    sym (found-bytes result) ∙ ap (option_map (λ (piece : Piece). piece.bytes)) e
-    ∙ sym (slice_get-map (λ (piece : Piece). piece.bytes) (placed_parts image) index)
-    ∙ ap (λ (parts : List (List ℕ)). slice_get parts index) (map-bytes (first_place image.image_type image.parts) image.parts)
+    sym (found-bytes result) ∙ ap (option_map (λ (part : PlacedPart). part.bytes)) e
+    ∙ sym (slice_get-map (λ (part : PlacedPart). part.bytes) (placed_parts image) index)
+    ∙ ap (λ (parts : List (List ℕ)). slice_get parts index) (map-bytes (parts_start image.image_type image.parts) image.parts)
 
--- .. and its place is that of the index.
-pub nth_place : (image : LegacyImage) (index : ℕ) (result : Option Part) → option_map piece_of result ≡ slice_get (placed_parts image) index → option_map (λ (part : Part). part.place) result ≡ slice_get (file_places image) index
+-- The offset of the part with an index is that of this part of the image.
+pub nth_place : (image : LegacyImage) (index : ℕ) (result : Option Part) → option_map placed_part_of result ≡ slice_get (placed_parts image) index → option_map (λ (part : Part). part.place) result ≡ slice_get (part_places image) index
 nth_place image index result e =
-    sym (found-place result) ∙ ap (option_map (λ (piece : Piece). piece.place)) e
-    ∙ sym (slice_get-map (λ (piece : Piece). piece.place) (placed_parts image) index)
+    sym (found-place result) ∙ ap (option_map (λ (part : PlacedPart). part.place)) e
+    ∙ sym (slice_get-map (λ (part : PlacedPart). part.place) (placed_parts image) index)

@@ -1,30 +1,30 @@
-use Rattle.std.proofs.Common.{◌≡◌, ◌==◌, ℕ, ◌<◌, ◌^◌, Bool, true, false, List, [], ◌∷◌, length, slice_index, sym, ap, ap₂, ◌∙◌, MatchBool, if◌then◌else◌}
-use Rattle.std.specs.List.{before_first}
+use Rattle.std.proofs.Common.{◌≡◌, ℕ, ◌<◌, ◌^◌, Bool, true, false, List, [], ◌∷◌, length, slice_index, sym, ap, ap₂, ◌∙◌, MatchBool, if◌then◌else◌}
+use Rattle.bi_base.specs.Strings.{before_nul}
 use Rattle.bi_base.specs.Cells.{slice}
 use Rattle.bi_legacy.specs.Faults.{body_of}
 use Rattle.bi_legacy.specs.File.{IsLegacyFile}
-use Rattle.bi_legacy.specs.Meaning.{LegacyImage, has_size_list}
-use Rattle.bi_legacy.specs.Parts.{IsSizeListed}
-use Rattle.bi_legacy.specs.Walk.{read_image, parts_in}
+use Rattle.bi_legacy.specs.Meaning.{LegacyImage, has_part_table}
+use Rattle.bi_legacy.specs.Parts.{HasPartTable}
+use Rattle.bi_legacy.specs.ReadImage.{read_image, parts_of_body}
 use Rattle.bi_legacy.proofs.HeaderReads.{time_read, load_read, entry_read, os_read, arch_read, type_read, compression_read, field_read, body_read}
-use Rattle.bi_legacy.proofs.HeldParts.{listed_parts, held_listed_parts}
-use Rattle.bi_legacy.proofs.NameField.{name_is}
+use Rattle.bi_legacy.proofs.TableParts.{parts_in_table, table_parts_are}
+use Rattle.bi_legacy.proofs.NameField.{name_in_field}
 
--- A file means at most one image: what is read at the fields' places.
+-- A file means at most one image: the one that is read at the offsets of the fields.
 
--- The parts that data tells which holds some parts are these.
-parts_read : (is_listed : Bool) (parts : List (List ℕ)) (body : List ℕ) → length body < 2 ^ 32 → MatchBool is_listed (IsSizeListed parts body) (parts ≡ body ∷ []) → (if is_listed then listed_parts body else body ∷ []) ≡ parts
-parts_read true parts body fits holds = held_listed_parts parts body fits holds
+-- The parts that are read from data that holds some parts are these parts.
+parts_read : (has_table : Bool) (parts : List (List ℕ)) (body : List ℕ) → length body < 2 ^ 32 → MatchBool has_table (HasPartTable parts body) (parts ≡ body ∷ []) → (if has_table then parts_in_table body else body ∷ []) ≡ parts
+parts_read true parts body fits holds = table_parts_are parts body fits holds
 parts_read false parts body fits holds = sym holds
 
 -- A file that means an image reads as this image.
 pub image_read : (file : List ℕ) (image : LegacyImage) → IsLegacyFile file image → read_image file ≡ image
 image_read file image is =
-    let name : before_first (λ byte. byte == 0) (slice file 32 32) ≡ image.name =
-    ap (before_first (λ byte. byte == 0)) (field_read file image is) ∙ name_is is.field image.name is.name in
-    let parts : parts_in (slice_index file 30) (body_of file) ≡ image.parts =
-    ap₂ parts_in (type_read file image is) (body_read file image is)
-    ∙ parts_read (has_size_list image.image_type) image.parts is.body is.size is.parts in
+    let name : before_nul (slice file 32 32) ≡ image.name =
+    ap before_nul (field_read file image is) ∙ name_in_field is.field image.name is.name in
+    let parts : parts_of_body (slice_index file 30) (body_of file) ≡ image.parts =
+    ap₂ parts_of_body (type_read file image is) (body_read file image is)
+    ∙ parts_read (has_part_table image.image_type) image.parts is.body is.size is.parts in
     λ i. record {
       time = time_read file image is i;
       load = load_read file image is i;

@@ -2,37 +2,40 @@ use Rattle.std.proofs.Common.{◌≡◌, ℕ, ◌+◌, ◌*◌, List, [], ◌∷
 use Rattle.bi_base.specs.Cells.{up4}
 use Rattle.bi_base.specs.Limits.{Bounds}
 use Rattle.bi_base.specs.Checks.{HasNoFault}
-use Rattle.bi_legacy.specs.Faults.{Passes, HasNoLegacyFault, body_of, listed_sizes, size_list_checks}
-use Rattle.bi_legacy.specs.Meaning.{has_size_list}
-use Rattle.bi_legacy.specs.Parts.{size_list, end_from, parts_end}
-use Rattle.bi_legacy.specs.Walk.{pieces, parts_in, read_end, FitFrom, first_in, sizes_in}
-use Rattle.bi_legacy.proofs.HeldParts.{first_listed, listed_parts, length-size_list}
-use Rattle.bi_legacy.proofs.PartPieces.{length_pieces, ends_checked}
+use Rattle.bi_legacy.specs.Faults.{Passes, InPartTable, HasNoLegacyFault, body_of}
+use Rattle.bi_legacy.specs.PartTables.{TablePasses, table_sizes, table_checks}
+use Rattle.bi_legacy.specs.Meaning.{has_part_table}
+use Rattle.bi_legacy.specs.Parts.{part_table, parts_end_from, parts_end}
+use Rattle.bi_legacy.specs.PartRanges.{part_slices, FitWithin, first_part_offset, part_sizes}
+use Rattle.bi_legacy.specs.ReadImage.{parts_of_body, read_end}
+use Rattle.bi_legacy.proofs.CheckLists.{HasNoFault-unmap}
+use Rattle.bi_legacy.proofs.TableParts.{first_offset, parts_in_table, length-part_table}
+use Rattle.bi_legacy.proofs.PartSlices.{length-slices, ends_checked}
 
--- Where parts begin and end, as a walk over their sizes finds it.
+-- Where parts begin and end, by their sizes.
 
--- There is a piece for each size.
-pub length-pieces : (body : List ℕ) (at : ℕ) (sizes : List ℕ) → length (pieces body at sizes) ≡ length sizes
-length-pieces body at [] = refl
-length-pieces body at (size ∷ sizes) = ap suc (length-pieces body (up4 (at + size)) sizes)
+-- There is a slice for each size.
+pub length-part_slices : (body : List ℕ) (at : ℕ) (sizes : List ℕ) → length (part_slices body at sizes) ≡ length sizes
+length-part_slices body at [] = refl
+length-part_slices body at (size ∷ sizes) = ap suc (length-part_slices body (up4 (at + size)) sizes)
 
--- The lists of sizes that data tells and that its parts have are equally long.
-pub listed_first : (body : List ℕ) → FitFrom (length body) (first_listed body) (listed_sizes body) → length (size_list (listed_parts body)) ≡ first_listed body
-listed_first body ends =
-    length-size_list (listed_parts body) ∙ ap (λ n. 4 * (n + 1)) (length-pieces body (first_listed body) (listed_sizes body))
+-- The part table of the parts that are read is as long as the one in the data.
+pub first_offset_is : (body : List ℕ) → FitWithin (length body) (first_offset body) (table_sizes body) → length (part_table (parts_in_table body)) ≡ first_offset body
+first_offset_is body ends =
+    length-part_table (parts_in_table body) ∙ ap (λ n. 4 * (n + 1)) (length-part_slices body (first_offset body) (table_sizes body))
 
--- The last part that data tells ends where the walk over its sizes ends.
-pub listed_end : (body : List ℕ) → FitFrom (length body) (first_listed body) (listed_sizes body) → end_from (length (size_list (listed_parts body))) (map length (listed_parts body)) ≡ end_from (first_listed body) (listed_sizes body)
-listed_end body ends =
-    ap (λ at. end_from at (map length (listed_parts body))) (listed_first body ends)
-    ∙ ap (end_from (first_listed body)) (length_pieces body (first_listed body) (listed_sizes body) ends)
+-- The last part that is read ends where the sizes in the part table end.
+pub end_in_table : (body : List ℕ) → FitWithin (length body) (first_offset body) (table_sizes body) → parts_end_from (length (part_table (parts_in_table body))) (map length (parts_in_table body)) ≡ parts_end_from (first_offset body) (table_sizes body)
+end_in_table body ends =
+    ap (λ at. parts_end_from at (map length (parts_in_table body))) (first_offset_is body ends)
+    ∙ ap (parts_end_from (first_offset body)) (length-slices body (first_offset body) (table_sizes body) ends)
 
--- Where the last part of data of a kind with or without a list ends.
-end_found : (is_listed : Bool) (file : List ℕ) (limits : Bounds) → HasNoFault (Passes file limits) (if is_listed then size_list_checks (body_of file) else []) → let parts = if is_listed then listed_parts (body_of file) else body_of file ∷ [] in end_from (if is_listed then length (size_list parts) else 0) (map length parts) ≡ end_from (first_in is_listed (body_of file)) (sizes_in is_listed (body_of file))
-end_found true file limits none = listed_end (body_of file) (ends_checked file limits 0 _ _ none.1)
-end_found false file limits none = refl
+-- The same for data with or without a part table.
+end_found : (has_table : Bool) (body : List ℕ) → HasNoFault (TablePasses body) (if has_table then table_checks body else []) → let parts = if has_table then parts_in_table body else body ∷ [] in parts_end_from (if has_table then length (part_table parts) else 0) (map length parts) ≡ parts_end_from (first_part_offset has_table body) (part_sizes has_table body)
+end_found true body none = end_in_table body (ends_checked body 0 _ _ none.1)
+end_found false body none = refl
 
--- In a file that fails no check, the last part ends where the walk over the sizes that its data tells ends.
-pub told_end : (file : List ℕ) (limits : Bounds) → HasNoLegacyFault file limits → parts_end (slice_index file 30) (parts_in (slice_index file 30) (body_of file)) ≡ read_end file
-told_end file limits (short, (cell, (magic, (whole, (header_sum, (whole_data, (data_sum, parts))))))) =
-    end_found (has_size_list (slice_index file 30)) file limits parts
+-- In a file that fails no check, the last part ends where the sizes of the parts end.
+pub read_end_is : (file : List ℕ) (limits : Bounds) → HasNoLegacyFault limits file → parts_end (slice_index file 30) (parts_of_body (slice_index file 30) (body_of file)) ≡ read_end file
+read_end_is file limits (short, (cell, (magic, (whole, (header_sum, (whole_data, (data_sum, parts))))))) =
+    end_found (has_part_table (slice_index file 30)) (body_of file) (HasNoFault-unmap (Passes limits file) InPartTable _ parts)

@@ -1,6 +1,7 @@
 use Rattle.std.proofs.Common.{◌≡◌, ◌-◌, ℕ, List, ◌++◌, [], length, replicate, refl, sym, ap, arith, zero, suc, append-nil}
 use Rattle.bi_base.specs.Limits.{Bounds}
-use Rattle.bi_legacy.specs.File.{header, IsEmptyOrZeroLed, HoldsName, IsLegacyFile, LegacyMeans}
+use Rattle.bi_base.specs.Strings.{IsEmptyOrBeginsWithNul}
+use Rattle.bi_legacy.specs.File.{header, HoldsName, IsLegacyFile, LegacyMeans}
 use Rattle.bi_legacy.specs.Meaning.{LegacyImage, IsImageName}
 use Rattle.bi_legacy.specs.Text.{normal_body, name_field, legacy_text, IsLegacyImage}
 use Rattle.bi_legacy.proofs.ImageOfFile.{image_of_file, text_no_longer}
@@ -9,24 +10,24 @@ use Rattle.bi_legacy.proofs.NormalLength.{length-name_field}
 use Rattle.bi_legacy.proofs.NormalParts.{normal_body_holds}
 use Rattle.bi_legacy.proofs.OneMeaning.{one_meaning}
 
--- The normal text is a legacy image that means what it was made of.
+-- The normal text of an image is a file that means this image.
 
--- Zeros are nothing, or a zero and then anything.
-zeros_zero_led : (n : ℕ) → IsEmptyOrZeroLed (replicate n 0)
-zeros_zero_led zero = tt
-zeros_zero_led (suc n) = refl
+-- Zeros are empty or begin with a zero.
+zeros_begin_with_nul : (n : ℕ) → IsEmptyOrBeginsWithNul (replicate n 0)
+zeros_begin_with_nul zero = tt
+zeros_begin_with_nul (suc n) = refl
 
--- The name's normal field holds the name.
+-- The normal field of a name holds the name.
 name_field_holds : (name : List ℕ) → IsImageName name → HoldsName (name_field name) name
 name_field_holds name is = record {
   padding = replicate (32 - length name) 0;
-  spelled = refl;
-  unused = zeros_zero_led (32 - length name);
+  field_is = refl;
+  padding_is = zeros_begin_with_nul (32 - length name);
   whole = length-name_field name is.short;
   is_name = is;
 }
 
--- The normal text is a legacy image that means what it was made of.
+-- The normal text of an image is a file that means this image.
 pub text_means : (image : LegacyImage) → IsLegacyImage image → IsLegacyFile (legacy_text image) image
 unfolding legacy_text
 text_means image is =
@@ -35,7 +36,7 @@ text_means image is =
       field = name_field image.name;
       body = body;
       rest = [];
-      spelled = ap (λ list. header image (name_field image.name) body ++ list) (sym (append-nil body));
+      file_is = ap (λ list. header image (name_field image.name) body ++ list) (sym (append-nil body));
       ranges = is.ranges;
       name = name_field_holds image.name is.name;
       size = is.size;
@@ -43,13 +44,13 @@ text_means image is =
       bytes = legacy_text_bytes image is;
     }
 
--- The normal text of what a file means within the limits means the same within them.
-pub text_means_same : (file : List ℕ) (image : LegacyImage) (limits : Bounds) → LegacyMeans file image limits → LegacyMeans (legacy_text image) image limits
+-- The normal text of the image that a file means within the limits means it within them.
+pub text_means_same : (file : List ℕ) (image : LegacyImage) (limits : Bounds) → LegacyMeans limits file image → LegacyMeans limits (legacy_text image) image
 text_means_same file image limits means = record {
   is_file = text_means image (image_of_file file image means.is_file);
   short = omega (arith, text_no_longer file image means.is_file, means.short);
 }
 
--- Two meanings that legacy images can have and whose normal texts are one are one meaning.
+-- Two images that fit the format and have the same normal text are the same.
 pub texts_differ : (a b : LegacyImage) → IsLegacyImage a → IsLegacyImage b → legacy_text a ≡ legacy_text b → a ≡ b
 texts_differ a b is_a is_b same = one_meaning (legacy_text b) a b (rw (← same) (text_means a is_a)) (text_means b is_b)

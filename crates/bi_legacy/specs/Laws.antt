@@ -4,75 +4,92 @@ use Rattle.bi_base.specs.declared.fault.Fault.{Fault}
 use Rattle.bi_base.specs.Cells.{AreBytes}
 use Rattle.bi_base.specs.Limits.{Bounds}
 use Rattle.bi_legacy.specs.Meaning.{LegacyImage, FitsFields}
-use Rattle.bi_legacy.specs.File.{IsLegacyFile, LegacyMeans}
+use Rattle.bi_legacy.specs.File.{BeginsWithMagic, IsLegacyFile, LegacyMeans}
 use Rattle.bi_legacy.specs.Text.{legacy_text, IsLegacyImage}
 use Rattle.bi_legacy.specs.Faults.{IsLegacyFault, HasNoLegacyFault}
 use Rattle.bi_legacy.specs.Emitting.{HasNoEmitFault}
 
--- The laws of legacy images (U-Boot, include/image.h; profile of this project), each of which a function of `laws` proves.
+-- The laws of legacy images (U-Boot, include/image.h; profile of this project). A function of
+-- `laws` proves each of them.
 
 -- A file means at most one image.
 abbrev pub OneMeaning : Type 0
 OneMeaning = (file : List ℕ) (a b : LegacyImage) → IsLegacyFile file a → IsLegacyFile file b → a ≡ b
 
+-- A file that is shorter than four bytes, or does not begin with the magic number, means no image
+-- within any limits.
+abbrev pub NoMeaningWithoutMagic : Type 0
+NoMeaningWithoutMagic =
+    (file : List ℕ) (limits : Bounds) → ¬ (BeginsWithMagic file) →
+    (image : LegacyImage) → ¬ (LegacyMeans limits file image)
+
+-- A normal text begins with the magic number.
+abbrev pub TextBeginsWithMagic : Type 0
+TextBeginsWithMagic = (image : LegacyImage) → BeginsWithMagic (legacy_text image)
+
 -- Bytes mean an image within the limits exactly where no check fails.
 abbrev pub MeaningWithoutFault : Type 0
 MeaningWithoutFault =
     (file : List ℕ) (limits : Bounds) → AreBytes file →
-    ((image : LegacyImage) × LegacyMeans file image limits) ↔ HasNoLegacyFault file limits
+    ((image : LegacyImage) × LegacyMeans limits file image) ↔ HasNoLegacyFault limits file
 
 -- Bytes mean an image within the limits or have a fault.
 abbrev pub MeaningOrFault : Type 0
 MeaningOrFault =
     (file : List ℕ) (limits : Bounds) → AreBytes file →
-    ((image : LegacyImage) × LegacyMeans file image limits) ⊎ ((fault : Fault) × IsLegacyFault file limits fault)
+    ((image : LegacyImage) × LegacyMeans limits file image)
+    ⊎ ((fault : Fault) × IsLegacyFault limits file fault)
 
 -- A file with a fault means no image within the limits.
 abbrev pub NoMeaningWithFault : Type 0
 NoMeaningWithFault =
-    (file : List ℕ) (limits : Bounds) (fault : Fault) → IsLegacyFault file limits fault →
-    (image : LegacyImage) → ¬ (LegacyMeans file image limits)
+    (file : List ℕ) (limits : Bounds) (fault : Fault) → IsLegacyFault limits file fault →
+    (image : LegacyImage) → ¬ (LegacyMeans limits file image)
 
 -- A file has at most one fault.
 abbrev pub OneFault : Type 0
 OneFault =
-    (file : List ℕ) (limits : Bounds) (a b : Fault) → IsLegacyFault file limits a → IsLegacyFault file limits b → a ≡ b
+    (file : List ℕ) (limits : Bounds) (a b : Fault) →
+    IsLegacyFault limits file a → IsLegacyFault limits file b → a ≡ b
 
--- An image is one that a legacy image can hold exactly where some file means it.
+-- An image fits the format exactly where some file means it.
 abbrev pub ImagesOfFiles : Type 0
-ImagesOfFiles = (image : LegacyImage) → IsLegacyImage image ↔ ((file : List ℕ) × IsLegacyFile file image)
+ImagesOfFiles =
+    (image : LegacyImage) → IsLegacyImage image ↔ ((file : List ℕ) × IsLegacyFile file image)
 
 -- The normal text of an image that a file means within the limits means it within the same limits.
 abbrev pub TextMeansImage : Type 0
 TextMeansImage =
-    (file : List ℕ) (image : LegacyImage) (limits : Bounds) → LegacyMeans file image limits →
-    LegacyMeans (legacy_text image) image limits
+    (file : List ℕ) (image : LegacyImage) (limits : Bounds) → LegacyMeans limits file image →
+    LegacyMeans limits (legacy_text image) image
 
--- The normal text of what a file means is no longer than the file.
-abbrev pub TextNoLonger : Type 0
-TextNoLonger =
-    (file : List ℕ) (image : LegacyImage) → IsLegacyFile file image → length (legacy_text image) ≤ length file
+-- The normal text of the image that a file means is no longer than the file.
+abbrev pub TextIsNoLonger : Type 0
+TextIsNoLonger =
+    (file : List ℕ) (image : LegacyImage) → IsLegacyFile file image →
+    length (legacy_text image) ≤ length file
 
--- The normal text is its own normal text: what it means has no other.
-abbrev pub TextOfText : Type 0
-TextOfText =
+-- A normal text is its own normal text.
+abbrev pub TextIsItsOwnNormalForm : Type 0
+TextIsItsOwnNormalForm =
     (image other : LegacyImage) → IsLegacyImage image → IsLegacyFile (legacy_text image) other →
     legacy_text other ≡ legacy_text image
 
--- Two files have one normal text exactly where they mean one image.
+-- Two files have the same normal text exactly where they mean the same image.
 abbrev pub TextsDiffer : Type 0
 TextsDiffer =
     (f g : List ℕ) (a b : LegacyImage) → IsLegacyFile f a → IsLegacyFile g b →
     (legacy_text a ≡ legacy_text b) ↔ (a ≡ b)
 
--- What a file within the limit means can be written under the limit.
-abbrev pub MeantCanBeWritten : Type 0
-MeantCanBeWritten =
-    (file : List ℕ) (image : LegacyImage) (limits : Bounds) → LegacyMeans file image limits → HasNoEmitFault image limits
+-- An image that a file means within the limits can be written within them.
+abbrev pub MeaningCanBeWritten : Type 0
+MeaningCanBeWritten =
+    (file : List ℕ) (image : LegacyImage) (limits : Bounds) →
+    LegacyMeans limits file image → HasNoEmitFault limits image
 
--- What can be written under the limits means, once it is written, what was to be written.
-abbrev pub WrittenMeansImage : Type 0
-WrittenMeansImage =
+-- The normal text of an image that can be written within the limits means this image within them.
+abbrev pub WrittenTextMeansImage : Type 0
+WrittenTextMeansImage =
     (image : LegacyImage) (limits : Bounds) → FitsFields image → AreBytes image.name →
-    AllByRecursion AreBytes image.parts → limits.file < 2 ^ 32 → HasNoEmitFault image limits →
-    LegacyMeans (legacy_text image) image limits
+    AllByRecursion AreBytes image.parts → limits.file < 2 ^ 32 → HasNoEmitFault limits image →
+    LegacyMeans limits (legacy_text image) image

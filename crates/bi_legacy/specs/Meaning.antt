@@ -1,8 +1,9 @@
 use Rattle.std.specs.Prelude.{ℕ, ◌^◌, ◌<◌, ◌≤◌, ◌≢◌, ◌≡◌, ◌==◌, ◌||◌, Bool, List, length, MatchBool}
 use Rattle.std.specs.List.{AllByRecursion}
+use Rattle.bi_legacy.specs.declared.fields.Fields.{Fields}
 
--- What a legacy image says (U-Boot, include/image.h: struct legacy_img_hdr, and the list of sizes of a multi-file
--- image). Checksums and the data size are told by the rest, and are no part of it.
+-- The meaning of a legacy image (U-Boot, include/image.h: struct legacy_img_hdr, and the part table
+-- of a multi-file image). The checksums and the data size follow from these fields.
 pub record LegacyImage : Type 0 where
   pub time : ℕ
   pub load : ℕ
@@ -14,27 +15,44 @@ pub record LegacyImage : Type 0 where
   pub name : List ℕ
   pub parts : List (List ℕ)
 
--- Whether the data of this type is a list of sizes and then the parts: 4 is multi, 6 is script (U-Boot,
--- include/image.h: IH_TYPE_MULTI, IH_TYPE_SCRIPT).
-abbrev pub has_size_list : ℕ → Bool
-has_size_list image_type = (image_type == 4) || (image_type == 6)
+-- The image of these header fields and these parts.
+abbrev pub image_of : Fields → List (List ℕ) → LegacyImage
+image_of fields parts =
+    record {
+      time = fields.time;
+      load = fields.load;
+      entry = fields.entry;
+      os = fields.os;
+      arch = fields.arch;
+      image_type = fields.image_type;
+      compression = fields.compression;
+      name = fields.name.now;
+      parts = parts;
+    }
 
--- A name that the header can hold: at most 32 bytes, none of them zero (U-Boot, include/image.h: IH_NMLEN).
+-- Whether the data of this type begins with a part table, the list of the part sizes: 4 is multi, 6
+-- is script (U-Boot, include/image.h: IH_TYPE_MULTI, IH_TYPE_SCRIPT).
+abbrev pub has_part_table : ℕ → Bool
+has_part_table image_type = (image_type == 4) || (image_type == 6)
+
+-- A name that the header can hold: at most 32 bytes, none of them zero (U-Boot, include/image.h:
+-- IH_NMLEN).
 pub record IsImageName (name : List ℕ) : Type 0 where
   pub short : length name ≤ 32
   pub no_zero : AllByRecursion (λ byte. byte ≢ 0) name
 
--- A part that a list of sizes can tell: a size of zero ends the list (U-Boot, include/image.h).
-abbrev pub IsListedPart : List ℕ → Type 0
-IsListedPart part = 0 < length part
+-- A part that a part table can have: a size of zero ends the table (U-Boot, include/image.h).
+abbrev pub IsTablePart : List ℕ → Type 0
+IsTablePart part = 0 < length part
 
--- The parts that an image of this type can have: any number of listed parts, or else exactly one part, which may be empty
--- (U-Boot, include/image.h; that there may be none listed, and that the one may be empty, is profile of this project).
+-- The parts that an image of this type can have: any number of parts in a part table, or else
+-- exactly one part. That a part table may have no parts, and that the one part may be empty, is
+-- profile of this project.
 abbrev pub AreParts : ℕ → List (List ℕ) → Type 0
-AreParts image_type parts = MatchBool (has_size_list image_type) (AllByRecursion IsListedPart parts) (length parts ≡ 1)
+AreParts image_type parts =
+    MatchBool (has_part_table image_type) (AllByRecursion IsTablePart parts) (length parts ≡ 1)
 
--- Each number of the meaning is one that its field of the header can hold: any code may stand there (profile of this
--- project).
+-- Each number fits its field of the header. Any code is allowed (profile of this project).
 pub record FitsFields (image : LegacyImage) : Type 0 where
   pub time : image.time < 2 ^ 32
   pub load : image.load < 2 ^ 32

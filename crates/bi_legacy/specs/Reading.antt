@@ -1,41 +1,31 @@
 use Rattle.std.specs.Prelude.{ℕ, ◌+◌, ◌≡◌, List, length, map}
 use Rattle.bi_base.specs.Limits.{Bounds}
-use Rattle.bi_legacy.specs.declared.fields.Fields.{Fields}
 use Rattle.bi_legacy.specs.Meaning.{LegacyImage}
 use Rattle.bi_legacy.specs.Parts.{parts_end}
 use Rattle.bi_legacy.specs.File.{LegacyMeans}
-use Rattle.bi_legacy.specs.Pieces.{Piece, placed_parts, StandIn}
+use Rattle.bi_legacy.specs.Faults.{HasNoLegacyFault}
+use Rattle.bi_legacy.specs.NormalForm.{HasNormalForm}
+use Rattle.bi_legacy.specs.PlacedParts.{PlacedPart, placed_parts, AreAtOffsets}
 
--- What reading a legacy image gives (profile of this project).
+-- The result of reading a legacy image (profile of this project).
 
--- What an image of these header fields and these parts says.
-abbrev pub image_of : Fields → List (List ℕ) → LegacyImage
-image_of fields parts =
-    record {
-      time = fields.time;
-      load = fields.load;
-      entry = fields.entry;
-      os = fields.os;
-      arch = fields.arch;
-      image_type = fields.image_type;
-      compression = fields.compression;
-      name = fields.name.now;
-      parts = parts;
-    }
-
--- What a reader of a legacy image tells: what the image says, and how many bytes of the file follow the last part, or the
--- list of sizes where there are no parts.
-pub record Told : Type 0 where
+-- What reading returns: the image, and how many bytes of the file follow the last part, or the part
+-- table where there are no parts.
+pub record ParsedImage : Type 0 where
   pub image : LegacyImage
   pub unused : ℕ
 
--- Where the parts of an image begin in its file.
-abbrev pub file_places : LegacyImage → List ℕ
-file_places image = map (λ (piece : Piece). piece.place) (placed_parts image)
+-- The offsets of the parts of an image in its file.
+abbrev pub part_places : LegacyImage → List ℕ
+part_places image = map (λ (part : PlacedPart). part.place) (placed_parts image)
 
--- The file means this image; each part stands in it at its place; and so many of its bytes follow the last part, or the list
--- of sizes where there are no parts.
-pub record IsTold (file : List ℕ) (limits : Bounds) (told : Told) : Type 0 where
-  pub means : LegacyMeans file told.image limits
-  pub stand : StandIn file (placed_parts told.image)
-  pub unused : 64 + parts_end told.image.image_type told.image.parts + told.unused ≡ length file
+-- The file means this image and no other, each part is in it at its offset, and so many of its
+-- bytes follow the last part, or the part table where there are no parts. No check of the file
+-- fails, and the image has a normal form.
+pub record IsParsedImage (limits : Bounds) (file : List ℕ) (value : ParsedImage) : Type 0 where
+  pub means : LegacyMeans limits file value.image
+  pub only_meaning : (other : LegacyImage) → LegacyMeans limits file other → other ≡ value.image
+  pub at_offsets : AreAtOffsets file (placed_parts value.image)
+  pub unused : 64 + parts_end value.image.image_type value.image.parts + value.unused ≡ length file
+  pub no_fault : HasNoLegacyFault limits file
+  pub normal_form : HasNormalForm limits value.image

@@ -1,36 +1,41 @@
-use Rattle.std.specs.Prelude.{ℕ, ◌-◌, ◌^◌, ◌<◌, List, [], ◌∷◌, ◌++◌, length, replicate, if◌then◌else◌}
+use Rattle.std.specs.Prelude.{ℕ, ◌-◌, ◌^◌, ◌<◌, List, [], ◌∷◌, ◌++◌, length, replicate}
+use Rattle.std.specs.Prelude.{if◌then◌else◌}
 use Rattle.std.specs.List.{AllByRecursion}
 use Rattle.bi_base.specs.Cells.{up4, AreBytes}
-use Rattle.bi_legacy.specs.Meaning.{LegacyImage, FitsFields, IsImageName, AreParts, has_size_list}
-use Rattle.bi_legacy.specs.Parts.{size_list}
+use Rattle.bi_legacy.specs.Meaning.{LegacyImage, FitsFields, IsImageName, AreParts, has_part_table}
+use Rattle.bi_legacy.specs.Parts.{part_table}
 use Rattle.bi_legacy.specs.File.{header}
 
 -- The normal form of a legacy image (profile of this project).
 
--- These bytes, followed by zeros up to a multiple of four.
-abbrev pub filled : List ℕ → List ℕ
-filled bytes = bytes ++ replicate (up4 (length bytes) - length bytes) 0
+-- These bytes, and then zeros up to a multiple of four.
+abbrev pub padded : List ℕ → List ℕ
+padded bytes = bytes ++ replicate (up4 (length bytes) - length bytes) 0
 
--- The parts one behind another, each but the last filled.
-abbrev pub joined : List (List ℕ) → List ℕ
-joined [] = []
-joined (part ∷ []) = part
-joined (part ∷ next ∷ later) = filled part ++ joined (next ∷ later)
+-- The parts in order, each but the last padded.
+abbrev pub joined_parts : List (List ℕ) → List ℕ
+joined_parts [] = []
+joined_parts (part ∷ []) = part
+joined_parts (part ∷ next ∷ later) = padded part ++ joined_parts (next ∷ later)
 
--- The normal data: for multi and script images the list of sizes and the parts, else the one part.
+-- The normal data: for multi and script images the part table and the padded parts, else the one
+-- part.
 abbrev pub normal_body : ℕ → List (List ℕ) → List ℕ
-normal_body image_type parts = if has_size_list image_type then size_list parts ++ joined parts else joined parts
+normal_body image_type parts =
+    if has_part_table image_type then part_table parts ++ joined_parts parts else joined_parts parts
 
--- The name's 32 bytes: the name, and then zeros.
+-- The 32 bytes of the name: the name, and then zeros.
 abbrev pub name_field : List ℕ → List ℕ
 name_field name = name ++ replicate (32 - length name) 0
 
--- The normal text: header and normal data, and nothing behind them.
+-- The normal text: the header and the normal data, and nothing after them.
 unfoldable pub legacy_text : LegacyImage → List ℕ
 legacy_text image =
-    let body = normal_body image.image_type image.parts in header image (name_field image.name) body ++ body
+    let body = normal_body image.image_type image.parts in
+    header image (name_field image.name) body ++ body
 
--- A meaning that a legacy image can have: every number, the name and the parts are ones that the format can hold.
+-- The image is one that some legacy image means: its numbers, its name and its parts fit the
+-- format.
 pub record IsLegacyImage (image : LegacyImage) : Type 0 where
   pub ranges : FitsFields image
   pub name : IsImageName image.name

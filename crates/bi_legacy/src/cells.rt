@@ -1,22 +1,14 @@
-//! Cells and alignment, where a check has shown that the bytes are there.
+//! Cells at offsets that are known to be in range.
 
-ghost use Rattle.std.specs.Prelude.{◌≡◌, ◌+◌, ◌^◌, ◌<◌, ◌≤◌, length};
-ghost use Rattle.bi_base.specs.Cells.{u32_at, up4 as up4_of};
+ghost use Rattle.std.specs.Prelude.{◌≡◌, ◌+◌, ◌≤◌, length};
+ghost use Rattle.bi_base.specs.Cells.{u32_at};
 
 use bi_base::be32_at;
 
-/// The number whose cell stands at an offset of these bytes.
+/// The number whose cell is at offset `at` of these bytes.
 pub(crate) fn cell_at(bytes: &[u8], at: usize) -> u32
     requires { at + 4 ≤ length bytes.now }
     ensures { result ≡ u32_at bytes.now at }
 {
     be32_at(bytes, at).unwrap()
-}
-
-/// The least multiple of four that is at least `n`.
-pub(crate) fn up4(n: usize) -> usize
-    requires { n + 3 < 2 ^ 64 }
-    ensures { result ≡ up4_of n }
-{
-    (n + 3) / 4 * 4
 }

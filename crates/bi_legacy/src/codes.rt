@@ -1,11 +1,13 @@
-//! The names of the codes in a legacy header, as the commands of U-Boot spell them.
+//! The names of the codes in a legacy header, as U-Boot's commands print them.
 
 ghost use Rattle.std.specs.Prelude.{◌≡◌, option_map};
-ghost use Rattle.bi_legacy.specs.Codes.{name_in, os_names, arch_names, type_names, compression_names};
+ghost use Rattle.bi_legacy.specs.Codes.{name_of_code, os_names, arch_names, type_names};
+ghost use Rattle.bi_legacy.specs.Codes.{compression_names};
 
-/// The name of an operating system's code (U-Boot, include/image.h: `IH_OS_*`). None where the code has no name here.
+/// The name of an operating system's code (U-Boot, include/image.h: `IH_OS_*`). None where the code
+/// has no name here.
 pub fn os_name(code: u8) -> Option<&'static str>
-    ensures { option_map (λ name. name.now) result ≡ name_in os_names code }
+    ensures { option_map (λ name. name.now) result ≡ name_of_code os_names code }
 {
     match code {
         2 => Some("netbsd"),
@@ -16,9 +18,10 @@ pub fn os_name(code: u8) -> Option<&'static str>
     }
 }
 
-/// The name of a processor architecture's code (U-Boot, include/image.h: `IH_ARCH_*`). None where the code has no name here.
+/// The name of a processor architecture's code (U-Boot, include/image.h: `IH_ARCH_*`). None where
+/// the code has no name here.
 pub fn arch_name(code: u8) -> Option<&'static str>
-    ensures { option_map (λ name. name.now) result ≡ name_in arch_names code }
+    ensures { option_map (λ name. name.now) result ≡ name_of_code arch_names code }
 {
     match code {
         2 => Some("arm"),
@@ -32,9 +35,10 @@ pub fn arch_name(code: u8) -> Option<&'static str>
     }
 }
 
-/// The name of an image type's code (U-Boot, include/image.h: `IH_TYPE_*`). None where the code has no name here.
+/// The name of an image type's code (U-Boot, include/image.h: `IH_TYPE_*`). None where the code has
+/// no name here.
 pub fn type_name(code: u8) -> Option<&'static str>
-    ensures { option_map (λ name. name.now) result ≡ name_in type_names code }
+    ensures { option_map (λ name. name.now) result ≡ name_of_code type_names code }
 {
     match code {
         1 => Some("standalone"),
@@ -48,9 +52,10 @@ pub fn type_name(code: u8) -> Option<&'static str>
     }
 }
 
-/// The name of a compression's code (U-Boot, include/image.h: `IH_COMP_*`). None where the code has no name here.
+/// The name of a compression's code (U-Boot, include/image.h: `IH_COMP_*`). None where the code has
+/// no name here.
 pub fn compression_name(code: u8) -> Option<&'static str>
-    ensures { option_map (λ name. name.now) result ≡ name_in compression_names code }
+    ensures { option_map (λ name. name.now) result ≡ name_of_code compression_names code }
 {
     match code {
         0 => Some("none"),

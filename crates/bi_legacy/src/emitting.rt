@@ -1,57 +1,105 @@
 //! Writing a legacy image.
 
-ghost use Rattle.std.specs.Prelude.{◌≡◌, ◌⊎◌, ◌↔◌, ◌+◌, ◌*◌, ◌^◌, ◌<◌, ◌≤◌, length, map, IsTrue, OnOk, IfOk, IfErr, MatchOption, MatchBool, ⊤};
+ghost use Rattle.std.specs.Prelude.{◌≡◌, ◌↔◌, ◌+◌, ◌*◌, ◌^◌, ◌<◌, ◌≤◌, length, map, IsTrue};
+ghost use Rattle.std.specs.Prelude.{OnOk, IfOk, IfErr, IfSome, MatchOption, MatchBool, ⊤};
+ghost use Rattle.bi_base.specs.Crc.{crc32};
 ghost use Rattle.bi_base.specs.Checks.{IsFirstFault, HasNoFault};
-ghost use Rattle.bi_base.specs.Limits.{Bounds};
-ghost use Rattle.bi_base.specs.Sinks.{Wrote};
-ghost use Rattle.bi_base.specs.declared.fault.Fault.{Fault};
-ghost use Rattle.bi_legacy.specs.Meaning.{LegacyImage, IsImageName, has_size_list};
-ghost use Rattle.bi_legacy.specs.Parts.{end_from, first_place};
-ghost use Rattle.bi_legacy.specs.Text.{normal_body, legacy_text};
-ghost use Rattle.bi_legacy.specs.Emitting.{Passes, fault_of, part_checks, IsEmitFault, HasNoEmitFault, bytes_of, image_of_parts};
+ghost use Rattle.bi_legacy.specs.Meaning.{IsImageName, has_part_table};
+ghost use Rattle.bi_legacy.specs.Parts.{parts_end_from, parts_start};
+ghost use Rattle.bi_legacy.specs.Text.{normal_body};
+ghost use Rattle.bi_legacy.specs.Emitting.{EmitPartPasses, emit_part_fault, emit_part_checks};
+ghost use Rattle.bi_legacy.specs.Emitting.{IsEmitFault};
+ghost use Rattle.bi_legacy.specs.Emitting.{HasNoEmitFault, WroteImage, bytes_of, image_of_parts};
 
-use crate::cells::up4;
-use crate::fields::{Fields, has_size_list};
+use crate::fields::{Fields, has_part_table};
 use crate::header::{HEADER_SIZE, NAME_SIZE};
-use crate::refusal::refuse;
-use crate::size_list::size_place;
-use crate::text::put_text;
-use bi_base::{Cause, Error, Fault, Limits, Sink};
+use crate::legacy::Legacy;
+use crate::part_table::table_offset;
+use crate::text::{DataSummary, data_checksum, put_image};
+use bi_base::{Cause, Error, Fault, Limits, Sink, refuse, up4};
 
-/// Appends the normal form of a legacy image with these fields and parts (U-Boot, include/image.h): the header, its name
-/// filled with zeros; for multi and script images the sizes of the parts, a size of zero, and the parts, each but the
-/// last followed by zeros up to a multiple of four bytes; else the one part.
+/// Appends the normal text of a legacy image with these fields and parts (U-Boot, include/image.h).
 ///
-/// It is refused by the first of these, before anything is appended: BadField at 32 where the name is longer than 32
-/// bytes or has a zero; BadField at 30 where the image is neither multi nor script and the number of parts is not one;
-/// TooLarge at `limits.file()` where the text would be longer than that; EmptyPart at `64 + 4 * index` for the first empty
-/// part of a multi or script image. Any other error is one that the sink names, and a prefix of the text was appended
-/// then. It takes no memory but what the sink takes, and time linear in the parts' number and length.
+/// The text is the header, with zeros after the name, and the data. The data of multi and script
+/// images is the part table, the size of each part and a size of zero, and then the parts, each but
+/// the last padded with zeros to a multiple of four bytes. Any other image has one part, which is
+/// the data.
+///
+/// Fails with the first of these faults, and then appends nothing:
+///
+/// - BadField at 32, where the name is longer than 32 bytes or has a zero byte;
+/// - BadField at 30, where the image is neither multi nor script and does not have exactly one
+///   part;
+/// - TooLarge at `limits.file()`, where the text is longer than that;
+/// - EmptyPart at `64 + 4 * index`, for the first empty part of a multi or script image.
+///
+/// Otherwise it fails only as the sink does. It allocates nothing itself, and takes time linear in
+/// the number and the length of the parts.
 pub fn emit<S: Sink>(
     fields: Fields<'_>,
     parts: &[&[u8]],
     limits: Limits,
     sink: &mut S,
 ) -> Result<(), Error>
-    ensures refused { let image = image_of_parts fields.entry parts.now in
-        (fault : Fault) → IsEmitFault image limits fault →
-        (result ≡ Err (Error.Refused fault)) × (sink.new ≡ sink.old) }
-    ensures written { let image = image_of_parts fields.entry parts.now in
-        HasNoEmitFault image limits →
-        Wrote S.appends S.names sink.old (legacy_text image) result sink.new }
-    ensures refused_or_written { let image = image_of_parts fields.entry parts.now in
-        HasNoEmitFault image limits ⊎ ((fault : Fault) × IsEmitFault image limits fault) }
+    ensures { let image = image_of_parts fields.entry parts.now in
+        WroteImage S.appends S.fails limits image sink.old result sink.new }
 {
-    let data_size = check_image(fields, parts, limits)?;
-    put_text(fields, parts, data_size, sink)
+    emit_with(fields, parts, None, limits, sink)
 }
 
-/// Makes the checks, and tells the size of the normal data.
+/// Appends the normal text of an image that was read, as `emit` does for its fields and parts.
+///
+/// `parts` are the parts of the image. The CRC-32 of the data is not computed again where the data
+/// is the one part: it was checked when the image was read.
+///
+/// Fails with the same faults as `emit`, and then appends nothing. Otherwise it fails only as the
+/// sink does.
+pub fn emit_image<S: Sink>(
+    image: &Legacy<'_>,
+    parts: &[&[u8]],
+    limits: Limits,
+    sink: &mut S,
+) -> Result<(), Error>
+    requires { bytes_of parts.now ≡ image.now.image.parts }
+    ensures { WroteImage S.appends S.fails limits image.now.image sink.old result sink.new }
+{
+    emit_with(
+        image.fields(),
+        parts,
+        image.normal_data_checksum(),
+        limits,
+        sink,
+    )
+}
+
+/// Appends the normal text of an image with these fields and parts, whose normal data may have a
+/// known CRC-32.
+fn emit_with<S: Sink>(
+    fields: Fields<'_>,
+    parts: &[&[u8]],
+    known_checksum: Option<u32>,
+    limits: Limits,
+    sink: &mut S,
+) -> Result<(), Error>
+    requires { IfSome known_checksum (λ checksum.
+        checksum ≡ crc32 (normal_body fields.image_type (bytes_of parts.now))) }
+    ensures { let image = image_of_parts fields.entry parts.now in
+        WroteImage S.appends S.fails limits image sink.old result sink.new }
+{
+    let size = check_image(fields, parts, limits)?;
+    let checksum = match known_checksum {
+        Some(checksum) => checksum,
+        None => data_checksum(fields.image_type, parts),
+    };
+    put_image(fields, parts, DataSummary { size, checksum }, sink)
+}
+
+/// Checks an image to be written, and returns the size of its normal data.
 fn check_image(fields: Fields<'_>, parts: &[&[u8]], limits: Limits) -> Result<u32, Fault>
-    ensures ok { OnOk result (HasNoEmitFault (image_of_parts fields.entry parts.now) limits) }
+    ensures ok { OnOk result (HasNoEmitFault limits (image_of_parts fields.entry parts.now)) }
     ensures size { IfOk result (λ size.
         size ≡ length (normal_body fields.entry.image_type (bytes_of parts.now))) }
-    ensures fault { IfErr result (IsEmitFault (image_of_parts fields.entry parts.now) limits) }
+    ensures fault { IfErr result (IsEmitFault limits (image_of_parts fields.entry parts.now)) }
 {
     if !is_image_name(fields.name) {
         return refuse(Cause::BadField, 32);
@@ -63,13 +111,13 @@ fn check_image(fields: Fields<'_>, parts: &[&[u8]], limits: Limits) -> Result<u3
     let Some(size) = data_size(fields.image_type, parts, most) else {
         return refuse(Cause::TooLarge, limits.file());
     };
-    if has_size_list(fields.image_type) {
+    if has_part_table(fields.image_type) {
         check_parts(parts)?;
     }
     Ok(size)
 }
 
-/// Whether a header can hold this name.
+/// Whether this name fits a header.
 fn is_image_name(name: &[u8]) -> bool
     ensures { IsTrue result ↔ IsImageName name.now }
 {
@@ -78,38 +126,38 @@ fn is_image_name(name: &[u8]) -> bool
 
 /// Whether an image of this type can have so many parts.
 fn can_have_parts(image_type: u8, part_count: usize) -> bool
-    ensures { IsTrue result ↔ MatchBool (has_size_list image_type) ⊤ (part_count ≡ 1) }
+    ensures { IsTrue result ↔ MatchBool (has_part_table image_type) ⊤ (part_count ≡ 1) }
 {
-    has_size_list(image_type) || part_count == 1
+    has_part_table(image_type) || part_count == 1
 }
 
 /// The size of the normal data. None exactly where it is more than `most`.
 fn data_size(image_type: u8, parts: &[&[u8]], most: u32) -> Option<u32>
     ensures { let size = length (normal_body image_type (bytes_of parts.now)) in
-        MatchOption result (most < size) (λ told. (told ≡ size) × (told ≤ most)) }
+        MatchOption result (most < size) (λ n. (n ≡ size) × (n ≤ most)) }
 {
     let start = start_of_parts(image_type, parts);
     let end = end_within(start, parts, most as usize)?;
     Some(end as u32)
 }
 
-/// Where the first of these parts begins in the normal data.
+/// The offset of the first of these parts in the normal data.
 fn start_of_parts(image_type: u8, parts: &[&[u8]]) -> usize
-    ensures { result ≡ first_place image_type (bytes_of parts.now) }
+    ensures { result ≡ parts_start image_type (bytes_of parts.now) }
 {
-    if has_size_list(image_type) {
+    if has_part_table(image_type) {
         4 * (parts.len() + 1)
     } else {
         0
     }
 }
 
-/// Where the last of these parts ends, of which the first begins at `start` and each later one at the next multiple of
-/// four. None exactly where that is after `most`.
+/// The end of the last of these parts. The first begins at `start`, and each later one at the next
+/// multiple of four. None exactly where the end is after `most`.
 fn end_within(start: usize, parts: &[&[u8]], most: usize) -> Option<usize>
     requires { most < 2 ^ 32 }
-    ensures { let end = end_from start (map length (bytes_of parts.now)) in
-        MatchOption result (most < end) (λ told. (told ≡ end) × (told ≤ most)) }
+    ensures { let end = parts_end_from start (map length (bytes_of parts.now)) in
+        MatchOption result (most < end) (λ n. (n ≡ end) × (n ≤ most)) }
 {
     let mut end = start;
     for part in parts {
@@ -121,17 +169,16 @@ fn end_within(start: usize, parts: &[&[u8]], most: usize) -> Option<usize>
     if end > most { None } else { Some(end) }
 }
 
-/// EmptyPart at `64 + 4 * index` for the first part that is empty.
+/// Fails with EmptyPart at `64 + 4 * index` for the first part that is empty.
 fn check_parts(parts: &[&[u8]]) -> Result<(), Fault>
     requires { 64 + 4 * length parts.now < 2 ^ 32 }
-    ensures ok { OnOk result ((image : LegacyImage) (limits : Bounds) →
-        HasNoFault (Passes image limits) (part_checks 0 (bytes_of parts.now))) }
-    ensures fault { IfErr result (λ fault. (image : LegacyImage) (limits : Bounds) →
-        IsFirstFault (Passes image limits) (fault_of limits) (part_checks 0 (bytes_of parts.now)) fault) }
+    ensures ok { OnOk result (HasNoFault EmitPartPasses (emit_part_checks 0 (bytes_of parts.now))) }
+    ensures fault { let checks = emit_part_checks 0 (bytes_of parts.now) in
+        IfErr result (IsFirstFault EmitPartPasses emit_part_fault checks) }
 {
     for (index, part) in parts.iter().enumerate() {
         if part.is_empty() {
-            return refuse(Cause::EmptyPart, size_place(index));
+            return refuse(Cause::EmptyPart, table_offset(index));
         }
     }
     Ok(())

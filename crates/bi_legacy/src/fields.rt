@@ -1,7 +1,7 @@
 //! The fields of a legacy header.
 
 ghost use Rattle.std.specs.Prelude.{◌≡◌};
-ghost use Rattle.bi_legacy.specs.Meaning.{has_size_list as is_size_listed};
+ghost use Rattle.bi_legacy.specs.Meaning.{has_part_table as is_part_table_type};
 
 /// The code of a multi-file image.
 const MULTI: u8 = 4;
@@ -9,8 +9,8 @@ const MULTI: u8 = 4;
 /// The code of a script.
 const SCRIPT: u8 = 6;
 
-/// The fields of a legacy header that carry meaning (U-Boot, include/image.h). Checksums and the data size follow from
-/// these and the parts.
+/// The fields of a legacy header (U-Boot, include/image.h), but for the checksums and the data
+/// size, which follow from these and the parts.
 #[derive(Clone, Copy, Debug, PartialEq, Eq)]
 pub struct Fields<'a> {
     /// The time of creation, in seconds since 1970.
@@ -23,7 +23,8 @@ pub struct Fields<'a> {
     pub os: u8,
     /// The code of the processor architecture.
     pub arch: u8,
-    /// The code of the image type: 4 is multi and 6 is script, whose data is a list of sizes and then the parts.
+    /// The code of the image type. The data of multi (4) and script (6) images begins with a part
+    /// table.
     pub image_type: u8,
     /// The code of the compression.
     pub compression: u8,
@@ -31,9 +32,9 @@ pub struct Fields<'a> {
     pub name: &'a [u8],
 }
 
-/// Whether the data of an image of this type is a list of sizes and then the parts.
-pub(crate) fn has_size_list(image_type: u8) -> bool
-    ensures { result ≡ is_size_listed image_type }
+/// Whether the data of an image of this type begins with a part table.
+pub(crate) fn has_part_table(image_type: u8) -> bool
+    ensures { result ≡ is_part_table_type image_type }
 {
     image_type == MULTI || image_type == SCRIPT
 }

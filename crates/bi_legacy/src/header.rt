@@ -1,27 +1,27 @@
-//! The header's layout, and the checks of the header and data checksums.
+//! The layout of the header, and its checks.
 
 ghost use Rattle.std.specs.Prelude.{◌≡◌, ◌≤◌, length, OnOk, IfErr};
 ghost use Rattle.bi_base.specs.Crc.{crc32 as crc32_of};
 ghost use Rattle.bi_base.specs.Checks.{IsFirstFault, HasNoFault};
-ghost use Rattle.bi_legacy.specs.Faults.{Passes, fault_of, header_checks, summed_header};
+ghost use Rattle.bi_legacy.specs.Faults.{Passes, fault_of, header_checks, header_without_checksum};
 
 use crate::cells::cell_at;
-use crate::refusal::refuse;
-use bi_base::{Cause, Crc32, Fault, Limits, be32_at, crc32};
+use bi_base::{Cause, Crc32, Fault, Limits, be32_at, crc32, refuse};
 
 /// The magic number of a legacy image (U-Boot, include/image.h: `IH_MAGIC`).
 pub const MAGIC: u32 = 0x2705_1956;
 
-/// The bytes of a header.
+/// The size of a header in bytes.
 pub(crate) const HEADER_SIZE: usize = 64;
 
-/// The bytes of the name's field in a header.
+/// The size of the name's field in bytes.
 pub(crate) const NAME_SIZE: usize = 32;
 
-/// Checks header and data checksum, in the order of the format's checks.
+/// Checks the header and the data checksum of a file.
 pub(crate) fn check_header(file: &[u8], limits: Limits) -> Result<(), Fault>
-    ensures ok { OnOk result (HasNoFault (Passes file.now limits) header_checks) }
-    ensures fault { IfErr result (IsFirstFault (Passes file.now limits) (fault_of limits) header_checks) }
+    ensures ok { OnOk result (HasNoFault (Passes limits file.now) header_checks) }
+    ensures fault { IfErr result
+        (IsFirstFault (Passes limits file.now) (fault_of limits) header_checks) }
 {
     if file.len() > limits.file() as usize {
         return refuse(Cause::TooLarge, limits.file());
@@ -48,10 +48,10 @@ pub(crate) fn check_header(file: &[u8], limits: Limits) -> Result<(), Fault>
     Ok(())
 }
 
-/// The CRC-32 of the header with zeros in the place of its checksum.
+/// The CRC-32 of the header of a file, with zeros in place of its checksum.
 fn header_checksum(file: &[u8]) -> u32
     requires { 64 ≤ length file.now }
-    ensures { result ≡ crc32_of (summed_header file.now) }
+    ensures { result ≡ crc32_of (header_without_checksum file.now) }
 {
     let mut sum = Crc32::new();
     sum.update(&file[..4]);

@@ -1,11 +1,26 @@
-//! The laws of legacy images. Each function does nothing, and what it ensures is a law.
+//! The laws of legacy images. Each function does nothing; its contract is the law.
 
-ghost use Rattle.bi_legacy.specs.Laws.{OneMeaning, MeaningWithoutFault, MeaningOrFault, NoMeaningWithFault, OneFault, ImagesOfFiles, TextMeansImage, TextNoLonger, TextOfText, TextsDiffer, MeantCanBeWritten, WrittenMeansImage};
-ghost use Rattle.bi_legacy.specs.Vectors.{KernelText, MultiText};
+ghost use Rattle.bi_legacy.specs.Laws.{OneMeaning, NoMeaningWithoutMagic, TextBeginsWithMagic};
+ghost use Rattle.bi_legacy.specs.Laws.{MeaningWithoutFault, MeaningOrFault, NoMeaningWithFault};
+ghost use Rattle.bi_legacy.specs.Laws.{OneFault, ImagesOfFiles, TextMeansImage, TextIsNoLonger};
+ghost use Rattle.bi_legacy.specs.Laws.{TextIsItsOwnNormalForm, TextsDiffer, MeaningCanBeWritten};
+ghost use Rattle.bi_legacy.specs.Laws.{WrittenTextMeansImage};
+ghost use Rattle.bi_legacy.specs.KnownImages.{HasKernelText, HasMultiText};
 
 /// A file means at most one image.
 pub fn one_meaning()
     ensures { OneMeaning }
+{}
+
+/// A file that is shorter than four bytes, or does not begin with the magic number, means no image
+/// within any limits.
+pub fn no_meaning_without_magic()
+    ensures { NoMeaningWithoutMagic }
+{}
+
+/// A normal text begins with the magic number.
+pub fn text_begins_with_magic()
+    ensures { TextBeginsWithMagic }
 {}
 
 /// A file means an image within the limits exactly where no check fails.
@@ -28,7 +43,7 @@ pub fn one_fault()
     ensures { OneFault }
 {}
 
-/// The images that a legacy image can hold are those that some file means.
+/// An image fits the format exactly where some file means it.
 pub fn images_of_files()
     ensures { ImagesOfFiles }
 {}
@@ -38,37 +53,37 @@ pub fn text_means_image()
     ensures { TextMeansImage }
 {}
 
-/// The normal text of what a file means is no longer than the file.
+/// The normal text of the image that a file means is no longer than the file.
 pub fn text_no_longer()
-    ensures { TextNoLonger }
+    ensures { TextIsNoLonger }
 {}
 
-/// The normal text is its own normal text.
+/// A normal text is its own normal text.
 pub fn text_is_its_own_normal_form()
-    ensures { TextOfText }
+    ensures { TextIsItsOwnNormalForm }
 {}
 
-/// Two files have one normal text exactly where they mean one image.
+/// Two files have the same normal text exactly where they mean the same image.
 pub fn texts_differ()
     ensures { TextsDiffer }
 {}
 
-/// What a file within the limit means can be written under the limit.
-pub fn meant_can_be_written()
-    ensures { MeantCanBeWritten }
+/// An image that a file means within the limits can be written within them.
+pub fn meaning_can_be_written()
+    ensures { MeaningCanBeWritten }
 {}
 
-/// What can be written under the limits means, once it is written, what was to be written.
-pub fn written_means_image()
-    ensures { WrittenMeansImage }
+/// The normal text of an image that can be written within the limits means this image within them.
+pub fn written_text_means_image()
+    ensures { WrittenTextMeansImage }
 {}
 
-/// The normal text of a kernel image is what `mkimage` writes for it.
+/// The normal text of a kernel image is the file that `mkimage` writes for it.
 pub fn kernel_text()
-    ensures { KernelText }
+    ensures { HasKernelText }
 {}
 
-/// The normal text of a multi-file image is what `mkimage` writes for it.
+/// The normal text of a multi-file image is the file that `mkimage` writes for it.
 pub fn multi_text()
-    ensures { MultiText }
+    ensures { HasMultiText }
 {}

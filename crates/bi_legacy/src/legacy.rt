@@ -1,139 +1,156 @@
 //! Reading a legacy image.
 
-ghost use Rattle.std.specs.Prelude.{◌≡◌, ◌==◌, ◌+◌, ◌-◌, ◌≤◌, ◌↔◌, length, map, slice_get, IsOk, OnOk, IfOk, IfErr};
+ghost use Rattle.std.specs.Prelude.{◌≡◌, ◌+◌, ◌-◌, ◌≤◌, ◌↔◌, length, map, slice_get, IsOk, OnOk};
+ghost use Rattle.std.specs.Prelude.{IfOk, IfErr, IfSome};
 ghost use Rattle.std.specs.Option.{option_map};
-ghost use Rattle.std.specs.List.{before_first};
 ghost use Rattle.bi_base.specs.Cells.{u32_at};
-ghost use Rattle.bi_base.specs.declared.fault.Fault.{Fault};
-ghost use Rattle.bi_legacy.specs.Meaning.{LegacyImage, has_size_list};
+ghost use Rattle.bi_base.specs.Crc.{crc32};
+ghost use Rattle.bi_legacy.specs.Meaning.{LegacyImage, image_of};
 ghost use Rattle.bi_legacy.specs.File.{LegacyMeans};
-ghost use Rattle.bi_legacy.specs.Faults.{IsLegacyFault, HasNoLegacyFault, body_of};
-ghost use Rattle.bi_legacy.specs.NormalForm.{HasNormalForm};
-ghost use Rattle.bi_legacy.specs.Pieces.{piece_of, placed_parts};
-ghost use Rattle.bi_legacy.specs.Reading.{Told, IsTold, image_of, file_places};
-ghost use Rattle.bi_legacy.specs.Walk.{IsExtent, parts_in, read_image, read_end};
+ghost use Rattle.bi_legacy.specs.Faults.{IsLegacyFault, IsOnlyLegacyFault, HasNoLegacyFault};
+ghost use Rattle.bi_legacy.specs.Faults.{body_of};
+ghost use Rattle.bi_legacy.specs.PlacedParts.{placed_parts};
+ghost use Rattle.bi_legacy.specs.Text.{normal_body};
+ghost use Rattle.bi_legacy.specs.Reading.{ParsedImage, IsParsedImage, part_places};
+ghost use Rattle.bi_legacy.specs.ReadImage.{IsReaderState, parts_of_body, read_image, read_end};
 
 use crate::cells::cell_at;
-use crate::fields::{Fields, has_size_list};
+use crate::fields::{Fields, has_part_table};
 use crate::header::{HEADER_SIZE, check_header};
-use crate::parts::{Part, Parts};
-use crate::size_list::extent_of;
-use bi_base::{Fault, Limits};
+use crate::part_table::{PartTable, find_parts};
+use crate::parts::Parts;
+use bi_base::{Fault, Limits, before_nul};
 use std::marker::Model;
 
-/// A legacy image that was read. It holds slices of its file, and makes no list of the parts.
+/// A legacy image that was read. It borrows the file, and allocates nothing.
 #[derive(Drop)]
 pub struct Legacy<'a> {
     fields: Fields<'a>,
     body: &'a [u8],
-    part_count: usize,
+    table: PartTable,
+    data_checksum: u32,
     unused: u32,
 }
 
 impl<'a> Model for Legacy<'a> {
-    ghost Value = { Told };
+    ghost Value = { ParsedImage };
 
     ghost view = { λ legacy. record {
-      image = image_of legacy.fields (parts_in legacy.fields.image_type legacy.body.now);
+      image = image_of legacy.fields (parts_of_body legacy.fields.image_type legacy.body.now);
       unused = legacy.unused;
     } };
 
-    ghost invariant = { λ legacy. IsExtent (has_size_list legacy.fields.image_type) legacy.body.now legacy.part_count };
+    ghost invariant = { λ legacy. IsReaderState
+        legacy.fields.image_type legacy.body.now legacy.table legacy.data_checksum };
 }
 
 impl<'a> Legacy<'a> {
     /// Reads a legacy image (U-Boot, include/image.h). The file may be longer than the image.
     ///
-    /// Ok exactly where the file, of at most `limits.file()` bytes, is a legacy image. Else the fault of the first check
-    /// that fails: TooLarge at the limit; Truncated at 0; BadMagic at 0; Truncated at 0 for less than a header;
-    /// BadHeaderCrc at 4; Truncated at 12 where the data ends after the file; BadDataCrc at 24; for multi and script
-    /// images BadPartTable at 64, and BadPart at `64 + 4 * k` for the first part k that ends after the data.
+    /// Ok exactly where the file is a legacy image of at most `limits.file()` bytes. Otherwise it
+    /// fails with the fault of the first check that fails:
+    ///
+    /// - TooLarge at `limits.file()`, where the file is longer;
+    /// - Truncated at 0, where the file is shorter than the magic number;
+    /// - BadMagic at 0;
+    /// - Truncated at 0, where the file is shorter than a header;
+    /// - BadHeaderCrc at 4;
+    /// - Truncated at 12, where the data ends after the file;
+    /// - BadDataCrc at 24;
+    /// - BadPartTable at 64, for a multi or script image whose part table has no end;
+    /// - BadPart at `64 + 4 * k`, for the first part k of such an image that ends after the data.
     pub fn read(file: &'a [u8], limits: Limits) -> Result<Legacy<'a>, Fault>
-        ensures accepts { IsOk result ↔ ((image : LegacyImage) × LegacyMeans file.entry.now image limits) }
-        ensures told { IfOk result (IsTold file.entry.now limits) }
-        ensures one_meaning { IfOk result (λ told. (image : LegacyImage) → LegacyMeans file.entry.now image limits → image ≡ told.image) }
-        ensures normal_form { IfOk result (λ told. HasNormalForm told.image limits) }
-        ensures no_fault { OnOk result (HasNoLegacyFault file.entry.now limits) }
-        ensures fault { IfErr result (IsLegacyFault file.entry.now limits) }
-        ensures one_fault { IfErr result (λ fault. (other : Fault) → IsLegacyFault file.entry.now limits other → other ≡ fault) }
+        ensures accepts { let file = file.entry.now in
+            IsOk result ↔ ((image : LegacyImage) × LegacyMeans limits file image) }
+        ensures parsed { IfOk result (IsParsedImage limits file.entry.now) }
+        ensures fault { IfErr result (IsOnlyLegacyFault limits file.entry.now) }
     {
-        examine(file, limits)
+        parse(file, limits)
     }
 
-    /// The fields of the header that carry meaning.
+    /// The fields of the header.
     pub fn fields(&self) -> Fields<'a>
         ensures { image_of result self.now.image.parts ≡ self.now.image }
     {
         self.fields
     }
 
-    /// The number of the parts: one, but for multi and script images.
+    /// The number of parts. It is 1 for any image that is neither multi nor script.
     pub fn part_count(&self) -> usize
         ensures { result ≡ length self.now.image.parts }
     {
-        self.part_count
+        self.table.part_count
     }
 
-    /// The parts in their order, each with its place. Going over all of them takes time linear in their number.
+    /// The parts in their order, with their offsets. Iterating over all of them takes time linear
+    /// in their number.
     pub fn parts(&self) -> Parts<'a>
-        ensures placed { result ≡ placed_parts self.now.image }
-        ensures bytes { map (λ piece. piece.bytes) result ≡ self.now.image.parts }
+        ensures parts { result ≡ placed_parts self.now.image }
+        ensures bytes { map (λ part. part.bytes) result ≡ self.now.image.parts }
     {
         Parts::new(
             self.body,
-            has_size_list(self.fields.image_type),
-            self.part_count,
+            has_part_table(self.fields.image_type),
+            self.table,
         )
     }
 
-    /// Part `index`, from 0. None exactly where there is no such part. It goes over the sizes of the parts before it.
+    /// Part `index`, counted from 0. None exactly where there is no such part. Takes time linear in
+    /// `index`.
     pub fn part(&self, index: usize) -> Option<&'a [u8]>
         ensures { option_map (λ part. part.now) result ≡ slice_get self.now.image.parts index }
     {
-        Some(self.nth_part(index)?.bytes)
+        Some(self.parts().nth(index)?.bytes)
     }
 
-    /// The offset in the file of the first byte of part `index`, from 0. None exactly where there is no such part.
+    /// The offset in the file of the first byte of part `index`, counted from 0. None exactly where
+    /// there is no such part. Takes time linear in `index`.
     pub fn part_place(&self, index: usize) -> Option<u32>
-        ensures { result ≡ slice_get (file_places self.now.image) index }
+        ensures { result ≡ slice_get (part_places self.now.image) index }
     {
-        Some(self.nth_part(index)?.place)
+        Some(self.parts().nth(index)?.place)
     }
 
-    /// The number of bytes of the file after the end of the last part, or of the list of sizes where there are no parts.
+    /// The CRC-32 of the normal data, where the data of the file is its own normal data, and the
+    /// header has it.
+    pub(crate) fn normal_data_checksum(&self) -> Option<u32>
+        ensures { let image = self.now.image in IfSome result (λ checksum.
+            checksum ≡ crc32 (normal_body image.image_type image.parts)) }
+    {
+        if has_part_table(self.fields.image_type) {
+            None
+        } else {
+            Some(self.data_checksum)
+        }
+    }
+
+    /// The number of bytes of the file after the last part, or after the part table where there are
+    /// no parts.
     pub fn unused(&self) -> u32
         ensures { result ≡ self.now.unused }
     {
         self.unused
     }
-
-    fn nth_part(&self, index: usize) -> Option<Part<'a>>
-        ensures { option_map piece_of result ≡ slice_get (placed_parts self.now.image) index }
-    {
-        let mut parts = self.parts();
-        for _ in 0..index {
-            parts.next()?;
-        }
-        parts.next()
-    }
 }
 
-/// Makes the checks, and finds what they were passed with.
-fn examine<'a>(file: &'a [u8], limits: Limits) -> Result<Legacy<'a>, Fault>
-    ensures no_fault { OnOk result (HasNoLegacyFault file.entry.now limits) }
-    ensures image { IfOk result (λ told. told.image ≡ read_image file.entry.now) }
-    ensures unused { IfOk result (λ told. told.unused ≡ length file.entry.now - (64 + read_end file.entry.now)) }
-    ensures fault { IfErr result (IsLegacyFault file.entry.now limits) }
+/// Checks a file, and reads the image and the number of unused bytes.
+fn parse<'a>(file: &'a [u8], limits: Limits) -> Result<Legacy<'a>, Fault>
+    ensures no_fault { OnOk result (HasNoLegacyFault limits file.entry.now) }
+    ensures image { IfOk result (λ value. value.image ≡ read_image file.entry.now) }
+    ensures unused { let file = file.entry.now in
+        IfOk result (λ value. value.unused ≡ length file - (64 + read_end file)) }
+    ensures fault { IfErr result (IsLegacyFault limits file.entry.now) }
 {
     check_header(file, limits)?;
     let fields = fields_of(file);
     let body = body_at(file);
-    let extent = extent_of(fields.image_type, body)?;
-    let unused = (file.len() - HEADER_SIZE - extent.end) as u32;
+    let table = find_parts(fields.image_type, body)?;
+    let unused = (file.len() - HEADER_SIZE - table.end) as u32;
     Ok(Legacy {
         fields,
         body,
-        part_count: extent.part_count,
+        table,
+        data_checksum: cell_at(file, 24),
         unused,
     })
 }
@@ -161,18 +178,6 @@ fn fields_of<'a>(file: &'a [u8]) -> Fields<'a>
         arch: file[29],
         image_type: file[30],
         compression: file[31],
-        name: name_in(&file[32..HEADER_SIZE]),
+        name: before_nul(&file[32..HEADER_SIZE]),
     }
-}
-
-/// The name that a field holds: the bytes before its first zero.
-fn name_in<'a>(field: &'a [u8]) -> &'a [u8]
-    ensures { result.now ≡ before_first (λ byte. byte == 0) field.entry.now }
-{
-    for (index, byte) in field.iter().enumerate() {
-        if *byte == 0 {
-            return &field[..index];
-        }
-    }
-    field
 }

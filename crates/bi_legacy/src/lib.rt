@@ -1,4 +1,5 @@
-//! Legacy images of U-Boot, the format of `mkimage` without a tree: reading them, and writing their normal form.
+//! Legacy images of U-Boot, the format of `mkimage` without a tree: reading them, and writing their
+//! normal form.
 #![tactic(auto)]
 
 mod cells;
@@ -8,12 +9,12 @@ mod fields;
 mod header;
 pub mod laws;
 mod legacy;
+mod part_ranges;
+mod part_table;
 mod parts;
-mod refusal;
-mod size_list;
 mod text;
 
-pub use emitting::emit;
+pub use emitting::{emit, emit_image};
 pub use fields::Fields;
 pub use header::MAGIC;
 pub use legacy::Legacy;

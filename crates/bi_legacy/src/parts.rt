@@ -1,12 +1,15 @@
 //! The parts of an image, in their order.
 
-ghost use Rattle.std.specs.Prelude.{◌≡◌, ◌+◌, ◌^◌, ◌<◌, ◌≤◌, List, ◌∷◌, length, drop};
-ghost use Rattle.std.specs.Iterator.{at_most};
-ghost use Rattle.bi_legacy.specs.Pieces.{Piece, GivesPart};
-ghost use Rattle.bi_legacy.specs.Walk.{IsPartsState, cut_from, sizes_in, first_in, FitFrom};
+ghost use Rattle.std.specs.Prelude.{◌≡◌, ◌^◌, ◌<◌, List, length, map};
+ghost use Rattle.std.specs.Iterator.{YieldsFirstBy, at_most};
+ghost use Rattle.std.specs.List.{AllByRecursion};
+ghost use Rattle.bi_legacy.specs.PartRanges.{IsPartTable, EndsWithin, placed_slice, placed_slices};
+ghost use Rattle.bi_legacy.specs.PartRanges.{part_sizes, first_part_offset};
+ghost use Rattle.bi_legacy.specs.PlacedParts.{PlacedPart, placed_part_of};
 
-use crate::cells::{cell_at, up4};
 use crate::header::HEADER_SIZE;
+use crate::part_ranges::PartRanges;
+use crate::part_table::PartTable;
 use std::marker::Model;
 
 /// A part of a legacy image.
@@ -14,44 +17,37 @@ use std::marker::Model;
 pub struct Part<'a> {
     /// The offset of the part's first byte in the file.
     pub place: u32,
-    /// The part.
+    /// The bytes of the part.
     pub bytes: &'a [u8],
 }
 
-/// The parts of a legacy image that are left, in their order.
+/// An iterator over the parts of a legacy image, in their order.
 #[derive(Drop)]
 pub struct Parts<'a> {
     body: &'a [u8],
-    is_listed: bool,
-    part_count: usize,
-    index: usize,
-    place: usize,
+    ranges: PartRanges<'a>,
 }
 
 impl<'a> Model for Parts<'a> {
-    ghost Value = { List Piece };
+    ghost Value = { List PlacedPart };
 
-    ghost view = { λ parts. cut_from parts.body.now parts.place (drop parts.index (sizes_in parts.is_listed parts.body.now)) };
+    ghost view = { λ parts. map (placed_slice parts.body.now) parts.ranges };
 
-    ghost invariant = { λ parts. IsPartsState parts.is_listed parts.body.now parts.part_count parts.index parts.place };
+    ghost invariant = { λ parts. let size = length parts.body.now in
+        AllByRecursion (EndsWithin size) parts.ranges × size < 2 ^ 31 };
 }
 
 impl<'a> Parts<'a> {
-    /// The parts of some data: those that its list of sizes tells, or the whole as the one part.
-    pub(crate) fn new(body: &'a [u8], is_listed: bool, part_count: usize) -> Parts<'a>
-        requires count { part_count ≡ length (sizes_in is_listed body.now) }
-        requires room { first_in is_listed body.now ≤ length body.now }
-        requires fit { FitFrom (length body.now) (first_in is_listed body.now) (sizes_in is_listed body.now) }
-        requires small { length body.now < 2 ^ 31 }
-        ensures { result ≡ cut_from body.entry.now (first_in is_listed body.entry.now) (sizes_in is_listed body.entry.now) }
+    /// The parts of some data: those in its part table, or the whole as the one part.
+    pub(crate) fn new(body: &'a [u8], has_table: bool, table: PartTable) -> Parts<'a>
+        requires { IsPartTable has_table body.now table }
+        ensures { let body = body.entry.now in
+            let first = first_part_offset has_table body in
+            result ≡ placed_slices body first (part_sizes has_table body) }
     {
-        let place = if is_listed { 4 * (part_count + 1) } else { 0 };
         Parts {
             body,
-            is_listed,
-            part_count,
-            index: 0,
-            place,
+            ranges: PartRanges::new(body, has_table, table.part_count),
         }
     }
 }
@@ -59,34 +55,15 @@ impl<'a> Parts<'a> {
 impl<'a> Iterator for Parts<'a> {
     type Item = Part<'a>;
 
-    ghost next_gives = { GivesPart };
+    ghost next_gives = { YieldsFirstBy placed_part_of (λ parts. parts) };
 
     ghost remaining = { λ parts. at_most (length parts) };
 
     fn next(&mut self) -> Option<Part<'a>> {
-        if self.index == self.part_count {
-            return None;
-        }
-        let size = size_at(self.body, self.is_listed, self.index);
-        let place = self.place;
-        self.index += 1;
-        self.place = up4(place + size);
+        let range = self.ranges.next()?;
         Some(Part {
-            place: (HEADER_SIZE + place) as u32,
-            bytes: &self.body[place..place + size],
+            place: (HEADER_SIZE + range.start) as u32,
+            bytes: &self.body[range.start..range.start + range.size],
         })
-    }
-}
-
-/// The size of a part: what the list of sizes tells, or that of the whole data.
-fn size_at(body: &[u8], is_listed: bool, index: usize) -> usize
-    requires within { index < length (sizes_in is_listed body.now) }
-    requires room { first_in is_listed body.now ≤ length body.now }
-    ensures { drop index (sizes_in is_listed body.now) ≡ result ∷ drop (index + 1) (sizes_in is_listed body.now) }
-{
-    if is_listed {
-        cell_at(body, 4 * index) as usize
-    } else {
-        body.len()
     }
 }

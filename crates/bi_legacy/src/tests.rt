@@ -1,3 +1,6 @@
+ghost use Rattle.std.specs.Prelude.{◌≡◌, IfOk};
+ghost use Rattle.bi_legacy.specs.Emitting.{bytes_of};
+
 use super::*;
 use bi_base::{Cause, Error, Fault, Limits, VecSink, WriteSink};
 use scripted_io::{Script, ScriptedWriter, Turn};
@@ -9,16 +12,16 @@ const KERNEL: [u8; 73] = *b"\x27\x05\x19\x56\x9d\xf3\xaf\xdb\x00\x00\x00\x00\x00
     \x00\x00\x80\x00\x00\x00\x80\x00\xcb\xf4\x39\x26\x05\x02\x02\x00\
     k\0\0\0\0\0\0\0\0\0\0\0\0\0\0\0\0\0\0\0\0\0\0\0\0\0\0\0\0\0\0\0123456789";
 
-/// A multi-file image of two parts, else as the kernel, as U-Boot's mkimage writes it.
+/// A multi-file image of two parts, otherwise like the kernel, as U-Boot's mkimage writes it.
 const MULTI: [u8; 87] = *b"\x27\x05\x19\x56\xa5\x23\x36\xb6\x00\x00\x00\x00\x00\x00\x00\x17\
     \x00\x00\x80\x00\x00\x00\x80\x00\x27\xb3\x9b\x78\x05\x02\x04\x00\
     k\0\0\0\0\0\0\0\0\0\0\0\0\0\0\0\0\0\0\0\0\0\0\0\0\0\0\0\0\0\0\0\
     \x00\x00\x00\x05\x00\x00\x00\x03\x00\x00\x00\x00hello\x00\x00\x00abc";
 
-/// The name's field of these images.
+/// The name field of these images.
 const NAME: [u8; 32] = *b"k\0\0\0\0\0\0\0\0\0\0\0\0\0\0\0\0\0\0\0\0\0\0\0\0\0\0\0\0\0\0\0";
 
-/// The fields of an image of this type and name, else as the kernel.
+/// The fields of an image of this type and name, otherwise those of the kernel.
 fn fields<'a>(image_type: u8, name: &'a [u8]) -> Fields<'a> {
     Fields {
         time: 0,
@@ -32,7 +35,7 @@ fn fields<'a>(image_type: u8, name: &'a [u8]) -> Fields<'a> {
     }
 }
 
-/// A file with these checksums, else as the kernel but for its type, the name's field and the data.
+/// A file with these checksums, type, name field and data, otherwise like the kernel.
 fn file_of(
     alloc: Global,
     checksums: [u32; 2],
@@ -53,7 +56,7 @@ fn file_of(
     Ok(file)
 }
 
-/// These bytes with the lowest bit of one of them changed.
+/// These bytes with the lowest bit of the one at `at` changed.
 fn changed(alloc: Global, bytes: &[u8], at: usize) -> Result<Vec<u8>, Fail> {
     let mut all = Vec::new(alloc);
     for (index, byte) in bytes.iter().enumerate() {
@@ -62,23 +65,21 @@ fn changed(alloc: Global, bytes: &[u8], at: usize) -> Result<Vec<u8>, Fail> {
     Ok(all)
 }
 
-/// The most that any call may take in.
-fn ample() -> Limits {
-    Limits::new(0x7fff_ffff, 64).unwrap()
-}
+/// The highest limit on the size of a file.
+const AMPLE: u32 = 0x7fff_ffff;
 
-/// What a limit of this many bytes allows.
-fn limit(file: u32) -> Result<Limits, Fail> {
+/// Limits of this many bytes for a file.
+fn limits(file: u32) -> Result<Limits, Fail> {
     Ok(Limits::new(file, 64).ok_or("a limit out of range")?)
 }
 
-/// The fault that a file is refused with.
+/// The cause and the offset of the fault that reading a file fails with.
 fn fault_of(file: &[u8], limits: Limits) -> Option<(Cause, u32)> {
     let fault = Legacy::read(file, limits).err()?;
     Some((fault.cause, fault.offset))
 }
 
-/// What emitting appends to an empty sink.
+/// The bytes that `emit` appends to an empty sink, and its result.
 fn emitted(
     alloc: Global,
     fields: Fields<'_>,
@@ -86,25 +87,34 @@ fn emitted(
     limits: Limits,
 ) -> (Vec<u8>, Result<(), Error>) {
     let mut sink = VecSink::new(alloc);
-    let answer = emit(fields, parts, limits, &mut sink);
-    (sink.into_vec(), answer)
+    let result = emit(fields, parts, limits, &mut sink);
+    (sink.into_vec(), result)
 }
 
-/// The normal form of what a file says.
-fn normal_form(alloc: Global, file: &[u8]) -> Result<Vec<u8>, Fail> {
-    let image = Legacy::read(file, ample())?;
-    let mut parts = Vec::new(alloc);
+/// The parts of an image, in their order.
+fn parts_of<'a>(alloc: Global, image: &Legacy<'a>) -> Result<Vec<&'a [u8]>, Fail>
+    ensures { let parts_of_image = image.now.image.parts in
+        IfOk result (λ parts. bytes_of parts.items ≡ parts_of_image) }
+{
+    let mut parts = Vec::with_capacity(alloc, image.part_count())?;
     for part in image.parts() {
         parts.push(part.bytes)?;
     }
+    Ok(parts)
+}
+
+/// The normal text of the image in a file.
+fn normal_form(alloc: Global, file: &[u8]) -> Result<Vec<u8>, Fail> {
+    let image = Legacy::read(file, limits(AMPLE)?)?;
+    let parts = parts_of(alloc, &image)?;
     let mut sink = VecSink::new(alloc);
-    emit(image.fields(), &parts, ample(), &mut sink)?;
+    emit_image(&image, &parts, limits(AMPLE)?, &mut sink)?;
     Ok(sink.into_vec())
 }
 
 #[test]
 fn a_kernel_is_read_and_written(rt: HostRuntime) -> Result<(), Fail> {
-    let image = Legacy::read(&KERNEL, ample())?;
+    let image = Legacy::read(&KERNEL, limits(AMPLE)?)?;
     assert_eq!(rt; image.fields(), fields(2, b"k"));
     assert_eq!(rt; image.part_count(), 1);
     assert_eq!(rt; image.part(0), Some(b"123456789".as_slice()));
@@ -120,7 +130,7 @@ fn a_kernel_is_read_and_written(rt: HostRuntime) -> Result<(), Fail> {
 }
 
 #[test]
-fn a_spoiled_kernel_is_refused(rt: HostRuntime) -> Result<(), Fail> {
+fn a_corrupt_kernel_is_refused(rt: HostRuntime) -> Result<(), Fail> {
     let load = changed(rt.alloc(), &KERNEL, 19)?;
     let data = changed(rt.alloc(), &KERNEL, 70)?;
     for (file, fault) in [
@@ -132,16 +142,16 @@ fn a_spoiled_kernel_is_refused(rt: HostRuntime) -> Result<(), Fail> {
         (&[], (Cause::Truncated, 0)),
         (b"\x01\x02\x03\x04", (Cause::BadMagic, 0)),
     ] {
-        assert_eq!(rt; fault_of(file, ample()), Some(fault));
+        assert_eq!(rt; fault_of(file, limits(AMPLE)?), Some(fault));
     }
-    assert_eq!(rt; fault_of(&KERNEL, limit(72)?), Some((Cause::TooLarge, 72)));
-    assert_eq!(rt; fault_of(&KERNEL, limit(73)?), None);
+    assert_eq!(rt; fault_of(&KERNEL, limits(72)?), Some((Cause::TooLarge, 72)));
+    assert_eq!(rt; fault_of(&KERNEL, limits(73)?), None);
     Ok(())
 }
 
 // The checksums are those of Python's zlib.
 #[test]
-fn bytes_without_meaning_are_not_kept(rt: HostRuntime) -> Result<(), Fail> {
+fn bytes_without_meaning_are_dropped(rt: HostRuntime) -> Result<(), Fail> {
     let mut name = [0xff; 32];
     name[0] = b'k';
     name[1] = 0;
@@ -152,8 +162,8 @@ fn bytes_without_meaning_are_not_kept(rt: HostRuntime) -> Result<(), Fail> {
         &name,
         b"123456789",
     )?;
-    file.extend_from_slice(b"behind!")?;
-    let image = Legacy::read(&file, ample())?;
+    file.extend_from_slice(b"trailer")?;
+    let image = Legacy::read(&file, limits(AMPLE)?)?;
     assert_eq!(rt; image.fields(), fields(2, b"k"));
     assert_eq!(rt; image.unused(), 7);
     assert_eq!(rt;
@@ -167,7 +177,7 @@ fn bytes_without_meaning_are_not_kept(rt: HostRuntime) -> Result<(), Fail> {
 #[test]
 fn a_part_may_be_empty_where_it_is_the_whole_data(rt: HostRuntime) -> Result<(), Fail> {
     let file = file_of(rt.alloc(), [0x3e64_1161, 0], 2, &NAME, b"")?;
-    let image = Legacy::read(&file, ample())?;
+    let image = Legacy::read(&file, limits(AMPLE)?)?;
     assert_eq!(rt; image.part_count(), 1);
     assert_eq!(rt; image.part(0), Some([].as_slice()));
     assert_eq!(rt; image.unused(), 0);
@@ -180,7 +190,7 @@ fn a_part_may_be_empty_where_it_is_the_whole_data(rt: HostRuntime) -> Result<(),
 fn padding_between_parts_becomes_zeros(rt: HostRuntime) -> Result<(), Fail> {
     let data = b"\x00\x00\x00\x05\x00\x00\x00\x03\x00\x00\x00\x00hello\xff\xff\xffabc";
     let file = file_of(rt.alloc(), [0xbf75_09a7, 0xd716_f1c9], 4, &NAME, data)?;
-    let image = Legacy::read(&file, ample())?;
+    let image = Legacy::read(&file, limits(AMPLE)?)?;
     assert_eq!(rt; image.part_count(), 2);
     assert_eq!(rt; image.part(0), Some(b"hello".as_slice()));
     assert_eq!(rt; image.part(1), Some(b"abc".as_slice()));
@@ -197,7 +207,7 @@ fn padding_between_parts_becomes_zeros(rt: HostRuntime) -> Result<(), Fail> {
 
 // The checksums are those of Python's zlib.
 #[test]
-fn a_list_of_sizes_has_to_end_and_to_fit(rt: HostRuntime) -> Result<(), Fail> {
+fn a_part_table_must_end_and_its_parts_must_fit(rt: HostRuntime) -> Result<(), Fail> {
     let long_second = b"\x00\x00\x00\x05\x00\x00\x00\x04\x00\x00\x00\x00hello\xff\xff\xffabc";
     for (checksums, data, fault) in [
         (
@@ -222,16 +232,16 @@ fn a_list_of_sizes_has_to_end_and_to_fit(rt: HostRuntime) -> Result<(), Fail> {
         ),
     ] {
         let file = file_of(rt.alloc(), checksums, 4, &NAME, data)?;
-        assert_eq!(rt; fault_of(&file, ample()), Some(fault));
+        assert_eq!(rt; fault_of(&file, limits(AMPLE)?), Some(fault));
     }
     Ok(())
 }
 
 // The checksums are those of Python's zlib.
 #[test]
-fn a_list_of_sizes_may_be_empty(rt: HostRuntime) -> Result<(), Fail> {
+fn a_part_table_may_be_empty(rt: HostRuntime) -> Result<(), Fail> {
     let file = file_of(rt.alloc(), [0xd534_5a6e, 0x2144_df1c], 4, &NAME, &[0; 4])?;
-    let image = Legacy::read(&file, ample())?;
+    let image = Legacy::read(&file, limits(AMPLE)?)?;
     assert_eq!(rt; image.part_count(), 0);
     assert_eq!(rt; image.part(0), None);
     assert_eq!(rt; image.unused(), 0);
@@ -240,52 +250,51 @@ fn a_list_of_sizes_may_be_empty(rt: HostRuntime) -> Result<(), Fail> {
 }
 
 #[test]
-fn what_cannot_be_written_is_refused(rt: HostRuntime) -> Result<(), Fail> {
+fn an_image_that_cannot_be_written_is_refused(rt: HostRuntime) -> Result<(), Fail> {
     let long_name = [b'n'; 33];
     let two = [b"hello".as_slice(), b"abc"];
     let with_empty = [b"hello".as_slice(), b""];
     for (image_type, name, parts, file, cause, offset) in [
-        (
-            6,
-            long_name.as_slice(),
-            two,
-            0x7fff_ffff,
-            Cause::BadField,
-            32,
-        ),
-        (4, b"a\0b".as_slice(), two, 0x7fff_ffff, Cause::BadField, 32),
-        (2, b"k".as_slice(), two, 0x7fff_ffff, Cause::BadField, 30),
+        (6, long_name.as_slice(), two, AMPLE, Cause::BadField, 32),
+        (4, b"a\0b".as_slice(), two, AMPLE, Cause::BadField, 32),
+        (2, b"k".as_slice(), two, AMPLE, Cause::BadField, 30),
         (4, b"k".as_slice(), two, 86, Cause::TooLarge, 86),
         (4, b"k".as_slice(), with_empty, 83, Cause::TooLarge, 83),
         (4, b"k".as_slice(), with_empty, 84, Cause::EmptyPart, 68),
     ] {
-        let (bytes, answer) = emitted(rt.alloc(), fields(image_type, name), &parts, limit(file)?);
-        assert_eq!(rt; answer, Err(Error::Refused(Fault { cause, offset })));
+        let (bytes, result) = emitted(rt.alloc(), fields(image_type, name), &parts, limits(file)?);
+        assert_eq!(rt; result, Err(Error::Refused(Fault { cause, offset })));
         assert_eq!(rt; bytes.len(), 0);
     }
-    let (bytes, answer) = emitted(rt.alloc(), fields(4, b"k"), &two, limit(87)?);
-    assert_eq!(rt; answer, Ok(()));
+    let (bytes, result) = emitted(rt.alloc(), fields(4, b"k"), &two, limits(87)?);
+    assert_eq!(rt; result, Ok(()));
     assert_eq!(rt; bytes.as_slice(), MULTI.as_slice());
     Ok(())
 }
 
 #[test]
-fn a_failed_write_leaves_a_first_part(rt: HostRuntime) -> Result<(), Fail> {
+fn a_failed_write_leaves_a_prefix(rt: HostRuntime) -> Result<(), Fail> {
     for count in [0, 1, 27, 28, 32, 33, 50, 64, 76, 81, 84, 86] {
         let writing = Script::failing_among(count, Turn::Takes(1));
         let mut writer = ScriptedWriter::new(rt.alloc(), writing, Script::always(Turn::TakesAll));
         let mut sink = WriteSink::new(&mut writer);
-        let answer = emit(fields(4, b"k"), &[b"hello", b"abc"], ample(), &mut sink);
-        assert_eq!(rt; answer, Err(Error::WriteFailed), "after {count} bytes");
+        let result = emit(
+            fields(4, b"k"),
+            &[b"hello", b"abc"],
+            limits(AMPLE)?,
+            &mut sink,
+        );
+        assert_eq!(rt; result, Err(Error::WriteFailed), "after {count} bytes");
         assert_eq!(rt; Some(writer.held.as_slice()), MULTI.get(..count as usize));
     }
     Ok(())
 }
 
-/// Parts of one byte, so many that going over them again for each would take minutes.
+/// A number of parts so large that quadratic time would be minutes.
 const MANY: u32 = 200_000;
 
-/// The data of an image of these parts, whose bytes count up from 0 to 250 and again from 0.
+/// The data of an image of so many parts of one byte, which count up from 0 to 250 and again from
+/// 0.
 fn many_parts(alloc: Global) -> Result<Vec<u8>, Fail> {
     let mut data = Vec::new(alloc);
     for _ in 0..MANY {
@@ -300,10 +309,10 @@ fn many_parts(alloc: Global) -> Result<Vec<u8>, Fail> {
 
 // The checksums are those of Python's zlib.
 #[test]
-fn many_parts_are_gone_over_in_a_moment(rt: HostRuntime) -> Result<(), Fail> {
+fn many_parts_are_read_in_linear_time(rt: HostRuntime) -> Result<(), Fail> {
     let data = many_parts(rt.alloc())?;
     let file = file_of(rt.alloc(), [0x660d_2937, 0xc8fc_c950], 4, &NAME, &data)?;
-    let image = Legacy::read(&file, ample())?;
+    let image = Legacy::read(&file, limits(AMPLE)?)?;
     let mut index = 0u32;
     for part in image.parts() {
         assert_eq!(rt; part.bytes, [(index % 251) as u8].as_slice());

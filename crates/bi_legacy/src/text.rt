@@ -1,47 +1,46 @@
-//! The normal text of an image, header and data, put to a sink.
+//! Writing the normal text of an image, header and data, to a sink.
 
 ghost use Rattle.std.specs.Prelude.{◌≡◌, ◌^◌, ◌<◌, ◌≤◌, [], length};
 ghost use Rattle.bi_base.specs.Crc.{crc32};
 ghost use Rattle.bi_base.specs.Sinks.{Wrote};
 ghost use Rattle.bi_legacy.specs.File.{header_cells};
-ghost use Rattle.bi_legacy.specs.Parts.{size_list};
-ghost use Rattle.bi_legacy.specs.Reading.{image_of};
-ghost use Rattle.bi_legacy.specs.Text.{filled, joined, normal_body, name_field, legacy_text};
+ghost use Rattle.bi_legacy.specs.Parts.{part_table};
+ghost use Rattle.bi_legacy.specs.Meaning.{image_of};
+ghost use Rattle.bi_legacy.specs.Text.{padded, joined_parts, normal_body, name_field, legacy_text};
 ghost use Rattle.bi_legacy.specs.Emitting.{bytes_of, image_of_parts};
 
-use crate::fields::{Fields, has_size_list};
+use crate::fields::{Fields, has_part_table};
 use crate::header::{MAGIC, NAME_SIZE};
 use bi_base::{Crc32, Error, Sink, put_cell, put_cells};
 
-/// What a header tells of the data: its length in bytes, and its CRC-32.
+/// The size of the data in bytes, and its CRC-32.
 #[derive(Clone, Copy)]
-struct DataSummary {
-    size: u32,
-    checksum: u32,
+pub(crate) struct DataSummary {
+    pub(crate) size: u32,
+    pub(crate) checksum: u32,
 }
 
-/// Appends the normal text of an image with these fields and parts, whose data has this size.
-pub(crate) fn put_text<S: Sink>(
+/// Appends the normal text of an image with these fields and parts, whose normal data has this size
+/// and checksum.
+pub(crate) fn put_image<S: Sink>(
     fields: Fields<'_>,
     parts: &[&[u8]],
-    data_size: u32,
+    summary: DataSummary,
     sink: &mut S,
 ) -> Result<(), Error>
     requires name { length fields.name.now ≤ 32 }
-    requires size { data_size ≡ length (normal_body fields.image_type (bytes_of parts.now)) }
+    requires size { summary.size ≡ length (normal_body fields.image_type (bytes_of parts.now)) }
+    requires checksum { let body = normal_body fields.image_type (bytes_of parts.now) in
+        summary.checksum ≡ crc32 body }
     ensures { let image = image_of_parts fields.entry parts.now in
-        Wrote S.appends S.names sink.old (legacy_text image) result sink.new }
+        Wrote S.appends S.fails sink.old (legacy_text image) result sink.new }
 {
-    let summary = DataSummary {
-        size: data_size,
-        checksum: data_checksum(fields.image_type, parts),
-    };
-    put_header(fields, header_checksum(fields, summary), summary, sink)?;
+    put_header(fields, checksum_to_write(fields, summary), summary, sink)?;
     put_data(fields.image_type, parts, sink)
 }
 
 /// The CRC-32 of the normal data.
-fn data_checksum(image_type: u8, parts: &[&[u8]]) -> u32
+pub(crate) fn data_checksum(image_type: u8, parts: &[&[u8]]) -> u32
     requires { length (normal_body image_type (bytes_of parts.now)) < 2 ^ 32 }
     ensures { result ≡ crc32 (normal_body image_type (bytes_of parts.now)) }
 {
@@ -50,18 +49,19 @@ fn data_checksum(image_type: u8, parts: &[&[u8]]) -> u32
     sum.finish()
 }
 
-/// The CRC-32 of the header with zeros in the place of its checksum.
-fn header_checksum(fields: Fields<'_>, summary: DataSummary) -> u32
+/// The header checksum to be written: the CRC-32 of the header with zeros in place of its checksum.
+fn checksum_to_write(fields: Fields<'_>, summary: DataSummary) -> u32
     requires { length fields.name.now ≤ 32 }
     ensures { let field = name_field fields.entry.name.now in
-        result ≡ crc32 (header_cells 0 summary.size summary.checksum (image_of fields.entry []) field) }
+        let image = image_of fields.entry [] in
+        result ≡ crc32 (header_cells 0 summary.size summary.checksum image field) }
 {
     let mut sum = Crc32::new();
     put_header(fields, 0, summary, &mut sum).unwrap();
     sum.finish()
 }
 
-/// Appends a header with these fields, and with this number as its checksum.
+/// Appends a header with these fields and this header checksum.
 fn put_header<S: Sink>(
     fields: Fields<'_>,
     checksum: u32,
@@ -70,7 +70,7 @@ fn put_header<S: Sink>(
 ) -> Result<(), Error>
     requires { length fields.name.now ≤ 32 }
     ensures { let field = name_field fields.entry.name.now in
-        Wrote S.appends S.names sink.old
+        Wrote S.appends S.fails sink.old
         (header_cells checksum summary.size summary.checksum (image_of fields.entry []) field)
         result sink.new }
 {
@@ -96,7 +96,7 @@ fn put_header<S: Sink>(
 /// Appends a name, and zeros up to the end of its field.
 fn put_name<S: Sink>(name: &[u8], sink: &mut S) -> Result<(), Error>
     requires { length name.now ≤ 32 }
-    ensures { Wrote S.appends S.names sink.old (name_field name.now) result sink.new }
+    ensures { Wrote S.appends S.fails sink.old (name_field name.now) result sink.new }
 {
     sink.put(name)?;
     sink.put(&[0; NAME_SIZE][name.len()..])
@@ -106,18 +106,18 @@ fn put_name<S: Sink>(name: &[u8], sink: &mut S) -> Result<(), Error>
 fn put_data<S: Sink>(image_type: u8, parts: &[&[u8]], sink: &mut S) -> Result<(), Error>
     requires { length (normal_body image_type (bytes_of parts.now)) < 2 ^ 32 }
     ensures { let body = normal_body image_type (bytes_of parts.now) in
-        Wrote S.appends S.names sink.old body result sink.new }
+        Wrote S.appends S.fails sink.old body result sink.new }
 {
-    if has_size_list(image_type) {
-        put_sizes(parts, sink)?;
+    if has_part_table(image_type) {
+        put_part_table(parts, sink)?;
     }
-    put_joined(parts, sink)
+    put_joined_parts(parts, sink)
 }
 
-/// Appends the list of the parts' sizes.
-fn put_sizes<S: Sink>(parts: &[&[u8]], sink: &mut S) -> Result<(), Error>
-    requires { length (joined (bytes_of parts.now)) < 2 ^ 32 }
-    ensures { Wrote S.appends S.names sink.old (size_list (bytes_of parts.now)) result sink.new }
+/// Appends the part table.
+fn put_part_table<S: Sink>(parts: &[&[u8]], sink: &mut S) -> Result<(), Error>
+    requires { length (joined_parts (bytes_of parts.now)) < 2 ^ 32 }
+    ensures { Wrote S.appends S.fails sink.old (part_table (bytes_of parts.now)) result sink.new }
 {
     for part in parts {
         put_cell(sink, part.len() as u32)?;
@@ -125,22 +125,22 @@ fn put_sizes<S: Sink>(parts: &[&[u8]], sink: &mut S) -> Result<(), Error>
     put_cell(sink, 0)
 }
 
-/// Appends the parts, each but the last filled up to a multiple of four bytes.
-fn put_joined<S: Sink>(parts: &[&[u8]], sink: &mut S) -> Result<(), Error>
-    ensures { Wrote S.appends S.names sink.old (joined (bytes_of parts.now)) result sink.new }
+/// Appends the parts, each but the last padded with zeros to a multiple of four bytes.
+fn put_joined_parts<S: Sink>(parts: &[&[u8]], sink: &mut S) -> Result<(), Error>
+    ensures { Wrote S.appends S.fails sink.old (joined_parts (bytes_of parts.now)) result sink.new }
 {
     let Some((last, before)) = parts.split_last() else {
         return Ok(());
     };
     for part in before {
-        put_filled(part, sink)?;
+        put_padded(part, sink)?;
     }
     sink.put(last)
 }
 
 /// Appends some bytes, and zeros up to a multiple of four bytes.
-fn put_filled<S: Sink>(bytes: &[u8], sink: &mut S) -> Result<(), Error>
-    ensures { Wrote S.appends S.names sink.old (filled bytes.now) result sink.new }
+fn put_padded<S: Sink>(bytes: &[u8], sink: &mut S) -> Result<(), Error>
+    ensures { Wrote S.appends S.fails sink.old (padded bytes.now) result sink.new }
 {
     sink.put(bytes)?;
     sink.put(&[0; 3][..(4 - bytes.len() % 4) % 4])

@@ -7,17 +7,17 @@ use Rattle.std.proofs.lemmas.List.{append-nil}
 use Rattle.bi_base.specs.Cells.{cell}
 use Rattle.bootimg.specs.Shown.{digits_of_byte}
 
--- The last `places` hexadecimal digits of a number, zeros in front included, and then `later`.
+-- The last `places` hexadecimal digits of a number, with leading zeros, and then `later`.
 abbrev glyphs : Bool → ℕ → ℕ → List ℕ → List ℕ
 glyphs upper zero n later = later
 glyphs upper (suc places) n later = glyphs upper places (n / 16) (digit_glyph upper (n % 16) ∷ later)
 
--- The number has at most so many hexadecimal digits.
+-- The number has at most this many hexadecimal digits.
 abbrev HasPlaces : ℕ → ℕ → Type 0
 HasPlaces zero n = n ≡ 0
 HasPlaces (suc places) n = HasPlaces places (n / 16)
 
--- A zero moves from behind some zeros to before them.
+-- A zero after some zeros is a zero before them.
 zeros_snoc : (count : ℕ) (later : List ℕ) → replicate count 48 ++ (48 ∷ later) ≡ 48 ∷ (replicate count 48 ++ later)
 zeros_snoc zero later = refl
 zeros_snoc (suc count) later = ap (λ xs. 48 ∷ xs) (zeros_snoc count later)
@@ -27,20 +27,20 @@ glyphs-zero : (upper : Bool) (places : ℕ) (later : List ℕ) → glyphs upper 
 glyphs-zero upper zero later = refl
 glyphs-zero upper (suc places) later = glyphs-zero upper places (48 ∷ later) ∙ zeros_snoc places later
 
--- What is written of a number before `later`: its last digit, and before it the digits of the rest unless that is zero.
+-- The digits of a number before `later`: its last digit, and before it the digits of the rest unless the rest is zero.
 digits_onto-suc : (upper : Bool) (fuel n : ℕ) (later : List ℕ) (is_last : Bool) → eqb (n / 16) 0 ≡ is_last →
     digits_onto (suc fuel) 16 upper n later
     ≡ cond is_last (digit_glyph upper (n % 16) ∷ later) (digits_onto fuel 16 upper (n / 16) (digit_glyph upper (n % 16) ∷ later))
 digits_onto-suc upper fuel n later is_last e =
     ap (λ b. cond b (digit_glyph upper (n % 16) ∷ later) (digits_onto fuel 16 upper (n / 16) (digit_glyph upper (n % 16) ∷ later))) e
 
--- These digits of a number before `later`, filled with some zeros, are as many last digits as there are places.
+-- The digits of a number before `later`, padded with zeros, are as many last digits as there are places.
 record Filled (upper : Bool) (places n : ℕ) (later written : List ℕ) : Type 0 where
   count : ℕ
   counted : count + length written ≡ places + length later
   spelled : replicate count 48 ++ written ≡ glyphs upper places n later
 
--- A number of one digit, filled with zeros.
+-- A number of one digit, padded with zeros.
 filled_digit : (upper : Bool) (places fuel n : ℕ) (later : List ℕ) → eqb (n / 16) 0 ≡ true → n / 16 ≡ 0 →
     Filled upper (suc places) n later (digits_onto (suc fuel) 16 upper n later)
 filled_digit upper places fuel n later is_last rest_is_zero =
@@ -53,7 +53,7 @@ filled_digit upper places fuel n later is_last rest_is_zero =
           ∙ ap (λ m. glyphs upper places m glyph) (sym rest_is_zero);
     }
 
--- Digits without zeros in front, filled with zeros up to some places.
+-- Digits without leading zeros, padded with zeros to some places.
 filled_digits : (upper : Bool) (places fuel n : ℕ) (later : List ℕ) → places ≤ fuel → HasPlaces (suc places) n →
     Filled upper (suc places) n later (digits_onto (suc fuel) 16 upper n later)
 filled_digits upper zero fuel n later enough fits =
@@ -67,22 +67,22 @@ filled_digits upper (suc places) (suc fuel) n later enough fits =
       | inr more ↦
           let written : digits_onto (suc (suc fuel)) 16 upper n later ≡ digits_onto (suc fuel) 16 upper (n / 16) glyph =
           digits_onto-suc upper (suc fuel) n later false more.0 in
-          let filled = filled_digits upper places fuel (n / 16) glyph (omega arith) fits in
+          let padded = filled_digits upper places fuel (n / 16) glyph (omega arith) fits in
           record {
-            count = filled.count;
-            counted = omega (arith, ap length written, filled.counted);
-            spelled = ap (λ xs. replicate filled.count 48 ++ xs) written ∙ filled.spelled;
+            count = padded.count;
+            counted = omega (arith, ap length written, padded.counted);
+            spelled = ap (λ xs. replicate padded.count 48 ++ xs) written ∙ padded.spelled;
           }
     ]
 
--- A numeral of at most eight digits, as `{:08}` fills it with zeros.
+-- At most eight digits, as `{:08}` pads them with zeros.
 padded_to_eight : (numeral : List ℕ) → padded_integral (format_spec 32 0 4 8 (2 ^ 64 - 1)) false [] numeral ≡ replicate (8 - length numeral) 48 ++ numeral
 unfolding padded_integral char_count
 padded_to_eight numeral =
     ap (λ xs. replicate (8 - length numeral - 0 - 0) 48 ++ xs) (append-nil numeral)
     ∙ ap (λ k. replicate k 48 ++ numeral) (omega arith)
 
--- The eight last digits of a number of 32 bits are those of the bytes of its cell.
+-- The last eight digits of a number of 32 bits are those of the bytes of its cell.
 glyphs-cell : (n : ℕ) → n < 2 ^ 32 → glyphs false 8 n [] ≡ flat_map (digits_of_byte false) (cell n)
 unfolding cell
 glyphs-cell n small =
@@ -96,21 +96,21 @@ glyphs-cell n small =
     let eighth : n % 16 ≡ n % 256 % 16 = omega arith in
     cc
 
--- The digits of a number, as they are made one after another.
+-- The digits of a number, as they are computed one after the other.
 digits-onto : (n : ℕ) → digits 16 false n ≡ digits_onto 64 16 false n []
 unfolding digits
 digits-onto n = refl
 
--- Digits of a number that eight places have room for, as `{:08}` fills them with zeros.
+-- The digits of a number that fits eight places, as `{:08}` pads them with zeros.
 padded_digits : (n : ℕ) (written : List ℕ) → Filled false 8 n [] written →
     padded_integral (format_spec 32 0 4 8 (2 ^ 64 - 1)) false [] written ≡ glyphs false 8 n []
-padded_digits n written filled =
-    let zeros : 8 - length written ≡ filled.count = omega (arith, filled.counted) in
-    padded_to_eight written ∙ ap (λ count. replicate count 48 ++ written) zeros ∙ filled.spelled
+padded_digits n written padded =
+    let zeros : 8 - length written ≡ padded.count = omega (arith, padded.counted) in
+    padded_to_eight written ∙ ap (λ count. replicate count 48 ++ written) zeros ∙ padded.spelled
 
--- What `{:08x}` writes of a number of 32 bits: the two digits of each byte of its cell.
+-- What `{:08x}` writes for a number of 32 bits: the two digits of each byte of its cell.
 pub hex_cell : (n : ℕ) → n < 2 ^ 32 →
     padded_integral (format_spec 32 0 4 8 (2 ^ 64 - 1)) false [] (digits 16 false n) ≡ flat_map (digits_of_byte false) (cell n)
 hex_cell n small =
-    let filled = subst (Filled false 8 n []) (sym (digits-onto n)) (filled_digits false 7 63 n [] (omega arith) (omega arith)) in
-    padded_digits n (digits 16 false n) filled ∙ glyphs-cell n small
+    let padded = subst (Filled false 8 n []) (sym (digits-onto n)) (filled_digits false 7 63 n [] (omega arith) (omega arith)) in
+    padded_digits n (digits 16 false n) padded ∙ glyphs-cell n small

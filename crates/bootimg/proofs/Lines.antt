@@ -2,13 +2,13 @@ use Rattle.std.proofs.Common.{◌≡◌, ℕ, List, [], ◌∷◌, ◌++◌, ◌
 use Rattle.std.specs.Fmt.{AppendsText, ◌++?◌, decimal, digits, digits_output, styled_digits_output, format_spec}
 use Rattle.std.specs.List.{flat_map}
 use Rattle.bi_base.specs.Cells.{cell}
-use Rattle.bi_legacy.specs.Codes.{Named, name_in}
+use Rattle.bi_legacy.specs.Codes.{CodeName, name_of_code}
 use Rattle.bootimg.specs.Listing.{code_word}
 use Rattle.bootimg.specs.Shown.{line, hexadecimal, digits_of_byte}
 use Rattle.bootimg.proofs.Hexadecimal.{hex_cell}
 use Rattle.bootimg.proofs.ShownBytes.{styled_hex}
 
--- Four pieces that were appended one after another.
+-- Four pieces that were appended one after the other.
 pub four_appended : (start a b c d one two three four : List ℕ) → one ≡ start ++ a → two ≡ one ++ b → three ≡ two ++ c →
     four ≡ three ++ d → four ≡ start ++ (a ++ (b ++ (c ++ d)))
 four_appended start a b c d one two three four first second third fourth =
@@ -16,12 +16,12 @@ four_appended start a b c d one two three four first second third fourth =
     ∙ simp append_assoc refl
 
 -- The line of a code, whose name was looked up.
-pub code_line_of : (label old new : List ℕ) (names : List Named) (code : ℕ) (name : Option (List ℕ)) → name ≡ name_in names code →
+pub code_line_of : (label old new : List ℕ) (names : List CodeName) (code : ℕ) (name : Option (List ℕ)) → name ≡ name_of_code names code →
     new ≡ old ++ line (label ∷ unwrap_or name (decimal code) ∷ []) → new ≡ old ++ line (label ∷ code_word names code ∷ [])
 code_line_of label old new names code name named appended =
     subst (λ found. new ≡ old ++ line (label ∷ unwrap_or found (decimal code) ∷ [])) named appended
 
--- What `{} 0x{:08x}` appends of a label and a number of 32 bits.
+-- What `{} 0x{:08x}` appends for a label and a number of 32 bits.
 pub address_line_of : {E : Type 0} (result : Result (Unit {0}) E) (d : _) (s : _) (label old new : List ℕ) (number : ℕ) →
     number < 2 ^ 32 → digits_output d ≡ Some (digits 16 false number) → s ≡ format_spec 32 0 4 8 (2 ^ 64 - 1) →
     OnOk result (AppendsText old new (Some label ++? Some (codes " 0x") ++? styled_digits_output d s ++? Some (10 ∷ []))) →

@@ -4,7 +4,7 @@ use Rattle.std.specs.Fmt.{AppendsText, ◌++?◌, digits, digits_output, styled_
 use Rattle.std.proofs.lemmas.Fmt.{hex_byte}
 use Rattle.bootimg.specs.Shown.{digits_of_byte, is_plain, shown_byte}
 
--- What a hole with hexadecimal digits and no `#` writes, where it is known how the digits are padded.
+-- What a placeholder for hexadecimal digits without `#` writes, by how the digits are padded.
 pub styled_hex : (d : _) (s : _) (upper : Bool) (n width : ℕ) (out : List ℕ) → digits_output d ≡ Some (digits 16 upper n) →
     s ≡ format_spec 32 0 4 width (2 ^ 64 - 1) →
     padded_integral (format_spec 32 0 4 width (2 ^ 64 - 1)) false [] (digits 16 upper n) ≡ out →
@@ -14,7 +14,7 @@ styled_hex d s upper n width out digits_are style_is padded_is =
     ∙ ap (option_map (padded_integral (format_spec 32 0 4 width (2 ^ 64 - 1)) false [])) digits_are
     ∙ ap Some padded_is
 
--- What `%{:02X}` appends of a byte that is not shown as itself.
+-- What `%{:02X}` appends for a byte that is not printed unchanged.
 pub appended_escape : {E : Type 0} (result : Result (Unit {0}) E) (d : _) (s : _) (old new : List ℕ) (byte : ℕ) → byte < 256 →
     is_plain byte ≡ false → digits_output d ≡ Some (digits 16 true byte) → s ≡ format_spec 32 0 4 2 (2 ^ 64 - 1) →
     OnOk result (AppendsText old new (Some (codes "%") ++? styled_digits_output d s)) →

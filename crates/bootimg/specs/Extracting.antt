@@ -1,53 +1,49 @@
 use Rattle.std.specs.Prelude.{ℕ, ◌≤◌, ◌≡◌, ⊤, List, Some, length, slice_get}
-use Rattle.bi_base.specs.declared.fault.Error.TheVariants.{Refused, OutOfMemory, ReadFailed, WriteFailed}
 use Rattle.bi_base.specs.Limits.{Bounds}
-use Rattle.bi_legacy.specs.Meaning.{LegacyImage}
-use Rattle.bi_legacy.specs.File.{LegacyMeans}
+use Rattle.bi_norm.specs.Meaning.{Meaning, OfLegacy, Means}
+use Rattle.bi_norm.specs.NormalForm.{IsOpenError, IsStreamError}
 use Rattle.bootimg.specs.declared.extract.Select.{Select}
 use Rattle.bootimg.specs.declared.extract.Select.TheVariants.{Part, Image}
 use Rattle.bootimg.specs.declared.extract.ExtractError.{ExtractError}
 use Rattle.bootimg.specs.declared.extract.ExtractError.TheVariants.{Failed, WrongKind, NoPart}
-use Rattle.bootimg.specs.Normalising.{IsFileFault, MeansNothing}
 
 -- What `extract` writes (profile of this project).
 
--- Of a legacy image the selection chooses these bytes: those of the part of that index. The name of an image node chooses
--- nothing of it.
-abbrev pub Chooses : Select → LegacyImage → List ℕ → Type 0
-Chooses (Part index) image bytes = slice_get image.parts index ≡ Some bytes
-Chooses (Image name) image bytes = ⊥
+-- The selection chooses these bytes: of a legacy image those of the part with that index.
+abbrev pub Chooses : Select → Meaning → List ℕ → Type 0
+Chooses (Part index) (OfLegacy image) bytes = slice_get image.parts index ≡ Some bytes
+Chooses (Image name) (OfLegacy image) bytes = ⊥
 
--- The file means a legacy image, of which the selection chooses these bytes.
+-- The selection is one of another kind of image.
+abbrev pub IsOfOtherKind : Select → Meaning → Type 0
+IsOfOtherKind (Part index) (OfLegacy image) = ⊥
+IsOfOtherKind (Image name) (OfLegacy image) = ⊤
+
+-- The selection is a part that the image does not have.
+abbrev pub IsPastParts : Select → Meaning → Type 0
+IsPastParts (Part index) (OfLegacy image) = length image.parts ≤ index
+IsPastParts (Image name) (OfLegacy image) = ⊥
+
+-- The file means something, of which the selection chooses these bytes.
 pub record IsChosen (select : Select) (limits : Bounds) (file bytes : List ℕ) : Type 0 where
-  pub image : LegacyImage
-  pub means : LegacyMeans file image limits
-  pub chosen : Chooses select image bytes
+  pub meaning : Meaning
+  pub means : Means limits file meaning
+  pub chosen : Chooses select meaning bytes
 
--- The file means a legacy image, and the selection is one of another kind of image.
-abbrev pub IsOfOtherKind : Select → Bounds → List ℕ → Type 0
-IsOfOtherKind (Part index) limits file = ⊥
-IsOfOtherKind (Image name) limits file = (image : LegacyImage) × LegacyMeans file image limits
+-- The file means something of which this holds.
+pub record MeansSuch (limits : Bounds) (file : List ℕ) (Holds : Meaning → Type 0) : Type 0 where
+  pub meaning : Meaning
+  pub means : Means limits file meaning
+  pub holds : Holds meaning
 
--- The file means a legacy image, and the selection is a part that it does not have.
-abbrev pub IsPastParts : Select → Bounds → List ℕ → Type 0
-IsPastParts (Part index) limits file = (image : LegacyImage) × LegacyMeans file image limits × (length image.parts ≤ index)
-IsPastParts (Image name) limits file = ⊥
+-- The error that extracting from a file in memory can have.
+abbrev pub IsExtractError : Select → Bounds → List ℕ → ExtractError → Type 0
+IsExtractError select limits file (Failed error) = IsOpenError limits file error
+IsExtractError select limits file WrongKind = MeansSuch limits file (IsOfOtherKind select)
+IsExtractError select limits file NoPart = MeansSuch limits file (IsPastParts select)
 
--- What an error says of a file in memory and the selection, where nothing is read or written and no memory is wanted: a refusal
--- is the file's first fault, and the file means nothing.
-abbrev pub IsExtractRefusal : Select → Bounds → List ℕ → ExtractError → Type 0
-IsExtractRefusal select limits file (Failed (Refused fault)) = IsFileFault file limits fault × MeansNothing file limits
-IsExtractRefusal select limits file (Failed OutOfMemory) = ⊥
-IsExtractRefusal select limits file (Failed ReadFailed) = ⊥
-IsExtractRefusal select limits file (Failed WriteFailed) = ⊥
-IsExtractRefusal select limits file WrongKind = IsOfOtherKind select limits file
-IsExtractRefusal select limits file NoPart = IsPastParts select limits file
-
--- The same of a file that is read and written through: want of memory and failed reads and writes say nothing of it.
-abbrev pub IsStreamExtractRefusal : Select → Bounds → List ℕ → ExtractError → Type 0
-IsStreamExtractRefusal select limits file (Failed (Refused fault)) = IsExtractRefusal select limits file (Failed (Refused fault))
-IsStreamExtractRefusal select limits file (Failed OutOfMemory) = ⊤
-IsStreamExtractRefusal select limits file (Failed ReadFailed) = ⊤
-IsStreamExtractRefusal select limits file (Failed WriteFailed) = ⊤
-IsStreamExtractRefusal select limits file WrongKind = IsExtractRefusal select limits file WrongKind
-IsStreamExtractRefusal select limits file NoPart = IsExtractRefusal select limits file NoPart
+-- The same of a file that comes from a reader, with bytes that go to a writer.
+abbrev pub IsStreamExtractError : Select → Bounds → List ℕ → ExtractError → Type 0
+IsStreamExtractError select limits file (Failed error) = IsStreamError (IsOpenError limits) file
+    error
+IsStreamExtractError select limits file error = IsExtractError select limits file error

@@ -1,29 +1,31 @@
 use Rattle.std.specs.Prelude.{◌++◌, ℕ, List, codes}
 use Rattle.std.specs.Fmt.{decimal}
 use Rattle.bi_base.specs.declared.fault.Error.{Error}
-use Rattle.bi_base.specs.declared.fault.Error.TheVariants.{Refused, OutOfMemory, ReadFailed, WriteFailed}
+use Rattle.bi_base.specs.declared.fault.Error.TheVariants.{Refused, OutOfMemory, ReadFailed}
+use Rattle.bi_base.specs.declared.fault.Error.TheVariants.{WriteFailed}
 use Rattle.bi_base.specs.Causes.{name_of}
 use Rattle.bootimg.specs.declared.extract.ExtractError.{ExtractError}
 use Rattle.bootimg.specs.declared.extract.ExtractError.TheVariants as extract
 use Rattle.bootimg.specs.declared.failure.Failure.{Failure}
-use Rattle.bootimg.specs.declared.failure.Failure.TheVariants.{Call, WrongKind, NoPart, NoSelection, BadValue}
+use Rattle.bootimg.specs.declared.failure.Failure.TheVariants.{Call, WrongKind, NoPart, NoSelection}
+use Rattle.bootimg.specs.declared.failure.Failure.TheVariants.{BadValue}
 
--- How the program fails, and what it says then (profile of this project).
+-- The failures of the program, and the text of each (profile of this project).
 
--- How it fails where an extraction does.
+-- The failure of an extraction.
 abbrev pub failure_of : ExtractError → Failure
 failure_of (extract.Failed error) = Call error
 failure_of extract.WrongKind = WrongKind
 failure_of extract.NoPart = NoPart
 
--- What it says of an error.
+-- The text of an error.
 abbrev pub error_text : Error → List ℕ
 error_text (Refused fault) = name_of fault.cause ++ (codes " at " ++ decimal fault.offset)
 error_text OutOfMemory = codes "out of memory"
 error_text ReadFailed = codes "read failed"
 error_text WriteFailed = codes "write failed"
 
--- What it says of a failure.
+-- The text of a failure.
 abbrev pub failure_text : Failure → List ℕ
 failure_text (Call error) = error_text error
 failure_text WrongKind = codes "the selection does not fit this kind of image"

@@ -1,17 +1,18 @@
 use Rattle.std.specs.Prelude.{ℕ, ◌+◌, ◌≡◌, List, [], ◌∷◌, ◌++◌, length, codes, unwrap_or}
 use Rattle.std.specs.Fmt.{decimal}
 use Rattle.bi_base.specs.Limits.{Bounds}
-use Rattle.bi_legacy.specs.Codes.{Named, os_names, arch_names, type_names, compression_names, name_in}
+use Rattle.bi_legacy.specs.Codes.{CodeName, os_names, arch_names, type_names, compression_names}
+use Rattle.bi_legacy.specs.Codes.{name_of_code}
 use Rattle.bi_legacy.specs.Meaning.{LegacyImage}
-use Rattle.bi_legacy.specs.Pieces.{Piece, placed_parts}
-use Rattle.bi_legacy.specs.Reading.{Told, IsTold}
+use Rattle.bi_legacy.specs.PlacedParts.{PlacedPart, placed_parts}
+use Rattle.bi_legacy.specs.Reading.{ParsedImage, IsParsedImage}
 use Rattle.bootimg.specs.Shown.{line, hexadecimal, shown}
 
 -- The text that `list` writes (profile of this project).
 
--- The word for a code: its name, or its number where it has none.
-abbrev pub code_word : List Named → ℕ → List ℕ
-code_word names code = unwrap_or (name_in names code) (decimal code)
+-- The word for a code: its name, or its number if it has none.
+abbrev pub code_word : List CodeName → ℕ → List ℕ
+code_word names code = unwrap_or (name_of_code names code) (decimal code)
 
 -- The lines of the name and the numbers of a header.
 abbrev pub field_lines : LegacyImage → List ℕ
@@ -30,31 +31,33 @@ code_lines image =
     ++ line (codes "compression" ∷ code_word compression_names image.compression ∷ [])))
 
 -- The line of a part.
-abbrev pub part_line : ℕ → Piece → List ℕ
-part_line index piece =
-    line (codes "part" ∷ decimal index ∷ codes "size" ∷ decimal (length piece.bytes) ∷ codes "at" ∷ decimal piece.place ∷ [])
+abbrev pub part_line : ℕ → PlacedPart → List ℕ
+part_line index placed =
+    line (codes "part" ∷ decimal index ∷ codes "size" ∷ decimal (length placed.bytes) ∷ codes "at"
+    ∷ decimal placed.place ∷ [])
 
 -- The lines of these parts, the first of which is part `index`.
-abbrev pub part_lines : ℕ → List Piece → List ℕ
+abbrev pub part_lines : ℕ → List PlacedPart → List ℕ
 part_lines index [] = []
-part_lines index (piece ∷ later) = part_line index piece ++ part_lines (index + 1) later
+part_lines index (placed ∷ later) = part_line index placed ++ part_lines (index + 1) later
 
--- The lines that tell how many parts there are, and each part's size and the offset of its first byte in the file.
+-- The lines with the number of parts, and with each part's size and the offset of its first byte
+-- in the file.
 abbrev pub parts_lines : LegacyImage → List ℕ
 parts_lines image =
     line (codes "parts" ∷ decimal (length image.parts) ∷ []) ++ part_lines 0 (placed_parts image)
 
 -- The listing of a legacy image.
-abbrev pub legacy_listing : Told → List ℕ
-legacy_listing told =
+abbrev pub legacy_listing : ParsedImage → List ℕ
+legacy_listing parsed =
     line (codes "kind" ∷ codes "legacy" ∷ [])
-    ++ (field_lines told.image
-    ++ (code_lines told.image
-    ++ (parts_lines told.image
-    ++ line (codes "unused" ∷ decimal told.unused ∷ []))))
+    ++ (field_lines parsed.image
+    ++ (code_lines parsed.image
+    ++ (parts_lines parsed.image
+    ++ line (codes "unused" ∷ decimal parsed.unused ∷ []))))
 
 -- The text is the listing of the file.
 pub record IsListing (limits : Bounds) (file text : List ℕ) : Type 0 where
-  pub told : Told
-  pub is_told : IsTold file limits told
-  pub is : text ≡ legacy_listing told
+  pub parsed : ParsedImage
+  pub is_parsed : IsParsedImage limits file parsed
+  pub is : text ≡ legacy_listing parsed

@@ -1,15 +1,16 @@
-use Rattle.std.specs.Prelude.{ℕ, ◌/◌, ◌%◌, ◌==◌, ◌&&◌, Bool, false, true, not, nat_le, List, [], ◌∷◌, ◌++◌, codes, bytes_eq, if◌then◌else◌}
+use Rattle.std.specs.Prelude.{ℕ, ◌/◌, ◌%◌, ◌==◌, ◌&&◌, Bool, false, true, not, nat_le, List, []}
+use Rattle.std.specs.Prelude.{◌∷◌, ◌++◌, codes, bytes_eq, if◌then◌else◌}
 use Rattle.std.specs.Fmt.{digit_glyph}
 use Rattle.std.specs.List.{join_with_byte, flat_map}
 use Rattle.bi_base.specs.Cells.{cell}
 
--- How the program's texts show lines, numbers and names (profile of this project).
+-- How lines, numbers and names are printed (profile of this project).
 
--- A line: its words, a space between each two, and a newline.
+-- A line: words, with a space between each two, and a newline.
 abbrev pub line : List (List ℕ) → List ℕ
 line words = join_with_byte 32 words ++ 10 ∷ []
 
--- The two hexadecimal digits of a byte, with letters in upper case or not.
+-- The two hexadecimal digits of a byte, in upper or lower case.
 abbrev pub digits_of_byte : Bool → ℕ → List ℕ
 digits_of_byte upper byte = digit_glyph upper (byte / 16) ∷ digit_glyph upper (byte % 16) ∷ []
 
@@ -17,15 +18,17 @@ digits_of_byte upper byte = digit_glyph upper (byte / 16) ∷ digit_glyph upper 
 abbrev pub hexadecimal : ℕ → List ℕ
 hexadecimal number = codes "0x" ++ flat_map (digits_of_byte false) (cell number)
 
--- Whether a byte of a name is shown as itself: a graphic ASCII character other than `%`.
+-- Whether a byte of a name is printed unchanged: a graphic ASCII character other than `%`.
 abbrev pub is_plain : ℕ → Bool
 is_plain byte = nat_le 0x21 byte && nat_le byte 0x7e && not (byte == 37)
 
--- How a byte of a name is shown: as itself, or as `%` and two hexadecimal digits in upper case.
+-- A byte of a name as it is printed: unchanged, or as `%` and two hexadecimal digits in upper
+-- case.
 abbrev pub shown_byte : ℕ → List ℕ
 shown_byte byte = if is_plain byte then byte ∷ [] else 37 ∷ digits_of_byte true byte
 
--- How a name is shown: byte by byte. The empty name is `-`, so the name `-` is `%2D`.
+-- A name as it is printed, byte by byte. The empty name is `-`, so the name `-` is `%2D`.
 abbrev pub shown : List ℕ → List ℕ
 shown name =
-    if bytes_eq name [] then codes "-" else if bytes_eq name (codes "-") then codes "%2D" else flat_map shown_byte name
+    if bytes_eq name [] then codes "-" else if bytes_eq name (codes "-") then codes "%2D" else
+    flat_map shown_byte name

@@ -1,18 +1,23 @@
 //! Extracting a part of a boot image.
 
-ghost use Rattle.std.specs.Prelude.{◌≡◌, ◌≢◌, ◌+◌, false, IfOk, OnOk, IfErr, IfSome, IsErrOf};
-ghost use Rattle.std.specs.Io.KnownBytes.{Keeps};
-ghost use Rattle.bi_base.specs.declared.fault.Error.TheVariants.{Refused, OutOfMemory, ReadFailed, WriteFailed};
-ghost use Rattle.bi_base.specs.Outcomes.{HasToStop, CannotGoOn, GoesWell, IsFlushed};
+ghost use Rattle.std.specs.Prelude.{◌≡◌, ◌+◌, ℕ, List, IfOk, OnOk, IfErr, IsErrOf};
+ghost use Rattle.bi_base.specs.declared.fault.Error.TheVariants.{Refused, OutOfMemory, ReadFailed};
+ghost use Rattle.bi_base.specs.declared.fault.Error.TheVariants.{WriteFailed};
+ghost use Rattle.bi_base.specs.Limits.{Bounds};
 ghost use Rattle.bi_base.specs.Reading.{TakesAtMost};
+ghost use Rattle.bi_base.specs.Traces.{ReadsWell, WritesWell};
+ghost use Rattle.bi_base.specs.Transfers.{Moved, MoveFailed, Transferred, TransferFailed};
+ghost use Rattle.bi_base.specs.Transfers.{SameStreams};
+ghost use Rattle.bi_legacy.specs.Reading.{IsParsedImage};
 ghost use Rattle.bootimg.specs.declared.extract.ExtractError.TheVariants.{Failed};
-ghost use Rattle.bootimg.specs.Extracting.{IsChosen, IsExtractRefusal, IsStreamExtractRefusal};
-ghost use Rattle.bootimg.specs.Streams.{Streamed, StreamedPrefix};
+ghost use Rattle.bootimg.specs.Extracting.{IsChosen, IsExtractError, IsStreamExtractError};
 
-use crate::open::read_legacy;
 use bi_base::{
-    Error, Fault, Limits, ReaderSource, Source, Target, WriterTarget, read_source, write_text,
+    Error, Limits, TracedRead, TracedReader, TracedWrite, TracedWriter, read_all_traced,
+    write_and_flush,
 };
+use bi_legacy::Legacy;
+use bi_norm::BootImage;
 use std::alloc::Global;
 use std::io::{Read, Write};
 
@@ -47,81 +52,80 @@ impl From<Error> for ExtractError {
     }
 }
 
-impl From<Fault> for ExtractError {
-    ghost from_gives = { λ fault extract_error. extract_error ≡ Failed (Refused fault) };
-
-    fn from(fault: Fault) -> ExtractError {
-        ExtractError::Failed(Error::Refused(fault))
+/// Returns the bytes of a boot image that are selected.
+///
+/// Errors, the first that applies: Failed with the error of `BootImage::read`; WrongKind; NoPart.
+pub fn extract<'a>(
+    alloc: Global,
+    file: &'a [u8],
+    select: Select,
+    limits: Limits,
+) -> Result<&'a [u8], ExtractError>
+    ensures chosen { IfOk result (λ bytes. IsChosen select.entry limits file.entry.now bytes.now) }
+    ensures failed { IfErr result (IsExtractError select.entry limits file.entry.now) }
+{
+    match BootImage::read(alloc, file, limits)? {
+        BootImage::Legacy(image) => extract_part(&image, select),
     }
 }
 
-/// The bytes of a boot image that are selected.
-///
-/// Errors, the first that applies: Failed with the refusal of the file, which is TooLarge at the limit, where the file is
-/// longer, Truncated at 0 below four bytes, BadMagic at 0, for a legacy image one of those of `Legacy::read`, and Unsupported at
-/// 0 for a flattened image tree; WrongKind; NoPart.
-pub fn extract<'a>(file: &'a [u8], select: Select, limits: Limits) -> Result<&'a [u8], ExtractError>
-    ensures chooses { IfOk result (λ bytes. IsChosen select.entry limits file.entry.now bytes.now) }
-    ensures refused_with_the_first_reason { IfErr result (IsExtractRefusal select.entry limits file.entry.now) }
+/// Returns the part of a legacy image that is selected.
+fn extract_part<'a>(image: &Legacy<'a>, select: Select) -> Result<&'a [u8], ExtractError>
+    ensures chosen { (limits : Bounds) (file : List ℕ) → IsParsedImage limits file image.now →
+        IfOk result (λ bytes. IsChosen select.entry limits file bytes.now) }
+    ensures failed { (limits : Bounds) (file : List ℕ) → IsParsedImage limits file image.now →
+        IfErr result (IsExtractError select.entry limits file) }
 {
-    let image = read_legacy(file, limits)?;
     match select {
         Select::Part(index) => image.part(index as usize).ok_or(ExtractError::NoPart),
         Select::Image(_) => Err(ExtractError::WrongKind),
     }
 }
 
-/// Reads a boot image to its end, and writes the bytes of it that are selected and flushes: as `extract`, from a reader to a
-/// writer that each tell the outcome of their calls.
+/// Reads a boot image to its end, writes the bytes of it that are selected, and flushes: `extract`
+/// from a reader to a writer that record the outcome of their calls.
 ///
-/// Failed with ReadFailed comes only after a read that failed by another error than an interruption, or after 1,024
-/// interrupted reads in a row; Failed with WriteFailed only after a write or flush that failed so, a write that took none of
-/// the bytes that were left, or 1,024 interruptions in a row, and only where no other error applies. No other answer comes
-/// after these. After Failed with WriteFailed a prefix of the bytes was written, all of them where only the flush failed;
-/// after any other error nothing was written. Failed with OutOfMemory may stand in place of any answer that is given after
-/// memory was asked for.
-pub fn extract_through<S: Source, T: Target>(
+/// Failed with ReadFailed comes after a read that failed by another error than an interruption, or
+/// after 1,024 interrupted reads in a row; Failed with WriteFailed after a write or flush that
+/// failed so, after a write that wrote none of the remaining bytes, or after 1,024 interruptions in
+/// a row, and only where no other error applies. No such failure is ignored. After Failed with
+/// WriteFailed a prefix of the bytes was written, all of them where the flush failed; after any
+/// other error nothing was written. A call that allocates may return Failed with OutOfMemory.
+pub fn extract_traced<S: TracedRead, T: TracedWrite>(
     alloc: Global,
     source: &mut S,
     target: &mut T,
     select: Select,
     limits: Limits,
 ) -> Result<(), ExtractError>
-    ensures extracts { OnOk result (Streamed (S.left source.old) (S.left source.new)
-        (T.contents target.old) (T.contents target.new) (IsChosen select.entry limits)) }
-    ensures refused_with_the_first_reason { IfErr result (λ error.
-        IfSome (S.left source.old) (λ file. IsStreamExtractRefusal select.entry limits file error)) }
-    ensures writes_a_prefix { IsErrOf result (ExtractError.Failed Error.WriteFailed) →
-        StreamedPrefix (S.left source.old) (S.left source.new)
-        (T.contents target.old) (T.contents target.new) (T.flushing target.new) (IsChosen select.entry limits) }
-    ensures else_writes_nothing { IfErr result (λ error.
-        error ≢ ExtractError.Failed Error.WriteFailed → Keeps (T.contents target.old) (T.contents target.new)) }
-    ensures flushed { OnOk result (IsFlushed (T.flushing target.new) (T.failed target.new) (T.interruptions target.new)) }
-    ensures takes_at_most_one_byte_more { TakesAtMost (S.left source.old) (S.left source.new) (limits.file + 1) }
-    ensures why_read_failed { IsErrOf result (ExtractError.Failed Error.ReadFailed) →
-        HasToStop (S.failed source.new) (S.interruptions source.new) }
-    ensures why_write_failed { IsErrOf result (ExtractError.Failed Error.WriteFailed) →
-        CannotGoOn (T.failed target.new) (T.stalled target.new) (T.interruptions target.new) }
-    ensures no_failed_read_is_passed_over { GoesWell (S.stopped source.old) (S.interruptions source.old) →
-        (IsErrOf result (ExtractError.Failed Error.ReadFailed) → ⊥) → GoesWell (S.stopped source.new) (S.interruptions source.new) }
-    ensures no_failed_write_is_passed_over { GoesWell (T.stopped target.old) (T.interruptions target.old) →
-        (IsErrOf result (ExtractError.Failed Error.WriteFailed) → ⊥) → GoesWell (T.stopped target.new) (T.interruptions target.new) }
-    ensures same_reader { S.reader source.new ≡ S.reader source.old }
-    ensures same_writer { T.writer target.new ≡ T.writer target.old }
+    ensures done { OnOk result (Transferred (S.trace source.old) (S.trace source.new)
+        (T.trace target.old) (T.trace target.new) (IsChosen select.entry limits)) }
+    ensures failed { IfErr result (λ error. TransferFailed (S.trace source.old) (S.trace source.new)
+        (T.trace target.old) (T.trace target.new) (IsChosen select.entry limits)
+        (λ file. IsStreamExtractError select.entry limits file error)
+        (error ≡ Failed ReadFailed) (error ≡ Failed WriteFailed)) }
+    ensures takes_at_most_one_byte_more { let old = S.trace source.old in
+        TakesAtMost old.remaining (S.trace source.new).remaining (limits.file + 1) }
+    ensures no_failed_read_ignored { ReadsWell (S.trace source.old) →
+        (IsErrOf result (Failed ReadFailed) → ⊥) → ReadsWell (S.trace source.new) }
+    ensures no_failed_write_ignored { WritesWell (T.trace target.old) →
+        (IsErrOf result (Failed WriteFailed) → ⊥) → WritesWell (T.trace target.new) }
+    ensures same_streams { SameStreams (S.trace source.old) (S.trace source.new)
+        (T.trace target.old) (T.trace target.new) }
 {
-    let file = read_source(alloc, source, limits)?;
-    let bytes = extract(&file, select, limits)?;
-    write_text(target, bytes)?;
+    let file = read_all_traced(alloc, source, limits)?;
+    let bytes = extract(alloc, &file, select, limits)?;
+    write_and_flush(target, bytes)?;
     Ok(())
 }
 
-/// Reads a boot image to its end, and writes the bytes of it that are selected and flushes: as `extract`, from a reader to a
-/// writer.
+/// Reads a boot image to its end, writes the bytes of it that are selected, and flushes:
+/// `extract_traced` over a plain reader and a plain writer.
 ///
-/// The errors are those of `extract_through`. A plain reader or writer tells nothing of a failed call, so no clause here
-/// says why Failed with ReadFailed and Failed with WriteFailed come. After Failed with WriteFailed a prefix of the bytes was
-/// written; after any other error nothing was written. Failed with OutOfMemory may stand in place of any answer that is
-/// given after memory was asked for.
+/// The errors are those of `extract_traced`. A plain reader or writer does not record a failed
+/// call, so no clause here says why Failed with ReadFailed and Failed with WriteFailed come. After
+/// Failed with WriteFailed a prefix of the bytes was written; after any other error nothing was
+/// written.
 pub fn extract_to<R: Read, W: Write>(
     alloc: Global,
     reader: &mut R,
@@ -129,20 +133,19 @@ pub fn extract_to<R: Read, W: Write>(
     select: Select,
     limits: Limits,
 ) -> Result<(), ExtractError>
-    ensures extracts { OnOk result (Streamed (R.remaining reader.old) (R.remaining reader.new)
+    ensures done { OnOk result (Moved (R.remaining reader.old) (R.remaining reader.new)
         (W.contents writer.old) (W.contents writer.new) (IsChosen select.entry limits)) }
-    ensures refused_with_the_first_reason { IfErr result (λ error.
-        IfSome (R.remaining reader.old) (λ file. IsStreamExtractRefusal select.entry limits file error)) }
-    ensures writes_a_prefix { IsErrOf result (ExtractError.Failed Error.WriteFailed) →
-        StreamedPrefix (R.remaining reader.old) (R.remaining reader.new)
-        (W.contents writer.old) (W.contents writer.new) false (IsChosen select.entry limits) }
-    ensures else_writes_nothing { IfErr result (λ error.
-        error ≢ ExtractError.Failed Error.WriteFailed → Keeps (W.contents writer.old) (W.contents writer.new)) }
-    ensures takes_at_most_one_byte_more { TakesAtMost (R.remaining reader.old) (R.remaining reader.new) (limits.file + 1) }
+    ensures failed { IfErr result (λ error. MoveFailed
+        (R.remaining reader.old) (R.remaining reader.new)
+        (W.contents writer.old) (W.contents writer.new) ⊥ (IsChosen select.entry limits)
+        (λ file. IsStreamExtractError select.entry limits file error)
+        (error ≡ Failed WriteFailed)) }
+    ensures takes_at_most_one_byte_more { TakesAtMost (R.remaining reader.old)
+        (R.remaining reader.new) (limits.file + 1) }
 {
-    let mut source = ReaderSource::new(reader);
-    let mut target = WriterTarget::new(writer);
-    extract_through(alloc, &mut source, &mut target, select, limits)
+    let mut source = TracedReader::new(reader);
+    let mut target = TracedWriter::new(writer);
+    extract_traced(alloc, &mut source, &mut target, select, limits)
 }
 
 #[cfg(test)]

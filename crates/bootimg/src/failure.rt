@@ -1,4 +1,4 @@
-//! Why the program did not do what it was asked to do, and how it says so.
+//! The failures of the program, and the text of each.
 
 ghost use Rattle.std.specs.Prelude.{◌≡◌, Some};
 ghost use Rattle.bootimg.specs.declared.failure.Failure.TheVariants.{Call};
@@ -8,18 +8,18 @@ use crate::extract::ExtractError;
 use bi_base::{Error, Fault};
 use std::fmt;
 
-/// Why the program did not do what it was asked to do. Its `Display` is what the program says of it.
+/// Why the program failed. Its `Display` is the text that the program prints after `bootimg: `.
 #[derive(Clone, Copy, Debug, PartialEq, Eq)]
 pub enum Failure {
-    /// The image is refused, or reading, writing or memory failed.
+    /// The image is refused, memory ran out, or a read or write failed.
     Call(Error),
-    /// What was selected is of another kind of image.
+    /// The selection is for another kind of image.
     WrongKind,
-    /// The image has no part of this number.
+    /// The image has no part with this index.
     NoPart,
-    /// `extract` was not given exactly one selection.
+    /// `extract` needs exactly one selection.
     NoSelection,
-    /// An option has a value that it cannot have.
+    /// The value of an option is malformed or out of range.
     BadValue,
 }
 

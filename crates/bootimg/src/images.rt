@@ -1,6 +1,7 @@
-//! Boot images, whose checksums are those of Python's zlib, and the listings of two of them.
+//! Boot images for tests, and the listings of two of them. The checksums were computed by Python's
+//! zlib.
 
-/// A kernel image of the name `k`, whose data are the digits from 1 to 9.
+/// A kernel image with the name `k`, whose data is `123456789`.
 #[rattlefmt::skip]
 pub const KERNEL: &[u8; 73] =
     b"\x27\x05\x19\x56\x9d\xf3\xaf\xdb\x00\x00\x00\x00\x00\x00\x00\x09\
@@ -23,7 +24,7 @@ pub const KERNEL_LISTING: &[u8] = b"kind legacy\n\
     part 0 size 9 at 64\n\
     unused 0\n";
 
-/// The same image with other bytes behind its name and behind its data.
+/// The same image with other bytes after its name and after its data.
 #[rattlefmt::skip]
 pub const PADDED_KERNEL: &[u8; 80] =
     b"\x27\x05\x19\x56\x3f\x03\x0c\xe3\x00\x00\x00\x00\x00\x00\x00\x09\
@@ -40,7 +41,7 @@ pub const EMPTY_KERNEL: &[u8; 64] =
       k\x00\x00\x00\x00\x00\x00\x00\x00\x00\x00\x00\x00\x00\x00\x00\
       \x00\x00\x00\x00\x00\x00\x00\x00\x00\x00\x00\x00\x00\x00\x00\x00";
 
-/// A multi image of the parts `hello` and `abc`, with other bytes than zeros between the two.
+/// A multi-file image of the parts `hello` and `abc`, with padding between them that is not zero.
 #[rattlefmt::skip]
 pub const PADDED_PARTS: &[u8; 87] =
     b"\x27\x05\x19\x56\xbf\x75\x09\xa7\x00\x00\x00\x00\x00\x00\x00\x17\
@@ -75,7 +76,7 @@ pub const PARTS: &[u8; 87] =
       \x00\x00\x00\x05\x00\x00\x00\x03\x00\x00\x00\x00hell\
       o\x00\x00\x00abc";
 
-/// A multi image without parts.
+/// A multi-file image without parts.
 #[rattlefmt::skip]
 pub const NO_PARTS: &[u8; 68] =
     b"\x27\x05\x19\x56\xd5\x34\x5a\x6e\x00\x00\x00\x00\x00\x00\x00\x04\
@@ -84,7 +85,7 @@ pub const NO_PARTS: &[u8; 68] =
       \x00\x00\x00\x00\x00\x00\x00\x00\x00\x00\x00\x00\x00\x00\x00\x00\
       \x00\x00\x00\x00";
 
-/// A script image of the one part `abc`.
+/// A script image with one part, `abc`.
 #[rattlefmt::skip]
 pub const SCRIPT: &[u8; 75] =
     b"\x27\x05\x19\x56\x08\xdf\xb5\x75\x00\x00\x00\x00\x00\x00\x00\x0b\
@@ -93,7 +94,7 @@ pub const SCRIPT: &[u8; 75] =
       \x00\x00\x00\x00\x00\x00\x00\x00\x00\x00\x00\x00\x00\x00\x00\x00\
       \x00\x00\x00\x03\x00\x00\x00\x00abc";
 
-/// A multi image whose list of sizes has no end.
+/// A multi-file image whose list of sizes has no end.
 #[rattlefmt::skip]
 pub const NO_END_OF_SIZES: &[u8; 68] =
     b"\x27\x05\x19\x56\x5c\x76\x75\x54\x00\x00\x00\x00\x00\x00\x00\x04\
@@ -102,7 +103,7 @@ pub const NO_END_OF_SIZES: &[u8; 68] =
       \x00\x00\x00\x00\x00\x00\x00\x00\x00\x00\x00\x00\x00\x00\x00\x00\
       \x00\x00\x00\x05";
 
-/// A multi image whose data are shorter than a size.
+/// A multi-file image whose data is shorter than a size.
 #[rattlefmt::skip]
 pub const LESS_THAN_A_SIZE: &[u8; 67] =
     b"\x27\x05\x19\x56\x56\xc4\x99\xd4\x00\x00\x00\x00\x00\x00\x00\x03\
@@ -111,7 +112,7 @@ pub const LESS_THAN_A_SIZE: &[u8; 67] =
       \x00\x00\x00\x00\x00\x00\x00\x00\x00\x00\x00\x00\x00\x00\x00\x00\
       \x01\x02\x03";
 
-/// A multi image whose second part ends behind the data.
+/// A multi-file image whose second part ends after the data.
 #[rattlefmt::skip]
 pub const SECOND_PART_TOO_LONG: &[u8; 87] =
     b"\x27\x05\x19\x56\xe7\xb6\x47\xd6\x00\x00\x00\x00\x00\x00\x00\x17\
@@ -121,7 +122,7 @@ pub const SECOND_PART_TOO_LONG: &[u8; 87] =
       \x00\x00\x00\x05\x00\x00\x00\x04\x00\x00\x00\x00hell\
       o\xff\xff\xffabc";
 
-/// A multi image whose first part ends behind the data.
+/// A multi-file image whose first part ends after the data.
 #[rattlefmt::skip]
 pub const FIRST_PART_TOO_LONG: &[u8; 72] =
     b"\x27\x05\x19\x56\x52\x9d\x58\x85\x00\x00\x00\x00\x00\x00\x00\x08\

@@ -1,106 +1,117 @@
-//! The listing of a boot image: the text that tells what the image is and where its parts stand.
+//! The listing of a boot image: a text with what the image is and where its parts are.
 
-ghost use Rattle.std.specs.Prelude.{◌≡◌, ◌≢◌, ◌+◌, ◌∷◌, [], ◌++◌, false, IfOk, OnOk, IfErr, IfSome, IsErrOf, option_map, unwrap_or, string_bytes};
+ghost use Rattle.std.specs.Prelude.{◌≡◌, ◌+◌, ℕ, List, ◌∷◌, [], ◌++◌, IfOk, OnOk, IfErr, IsErrOf};
+ghost use Rattle.std.specs.Prelude.{option_map, unwrap_or, string_bytes};
 ghost use Rattle.std.specs.Fmt.{decimal};
-ghost use Rattle.std.specs.Io.KnownBytes.{Keeps};
-ghost use Rattle.bi_base.specs.Outcomes.{HasToStop, CannotGoOn, GoesWell, IsFlushed};
+ghost use Rattle.bi_base.specs.Limits.{Bounds};
 ghost use Rattle.bi_base.specs.Reading.{TakesAtMost};
-ghost use Rattle.bi_legacy.specs.Pieces.{piece_of};
-ghost use Rattle.bootimg.specs.Normalising.{IsRefusalOf, IsStreamRefusalOf};
-ghost use Rattle.bootimg.specs.Listing.{IsListing, legacy_listing as listing_of, field_lines, code_lines, parts_lines, part_line};
+ghost use Rattle.bi_base.specs.Traces.{ReadsWell, WritesWell};
+ghost use Rattle.bi_base.specs.Transfers.{Moved, MoveFailed, Transferred, TransferFailed};
+ghost use Rattle.bi_base.specs.Transfers.{SameStreams};
+ghost use Rattle.bi_legacy.specs.PlacedParts.{placed_part_of};
+ghost use Rattle.bi_norm.specs.NormalForm.{IsOpenError, IsStreamError};
+ghost use Rattle.bi_legacy.specs.Reading.{IsParsedImage};
+ghost use Rattle.bootimg.specs.Listing.{IsListing, legacy_listing as listing_of, field_lines};
+ghost use Rattle.bootimg.specs.Listing.{code_lines, parts_lines, part_line};
 ghost use Rattle.bootimg.specs.Shown.{line, hexadecimal};
-ghost use Rattle.bootimg.specs.Streams.{Streamed, StreamedPrefix};
 
-use crate::open::read_legacy;
 use crate::shown::shown_name;
-use bi_base::{Error, Limits, ReaderSource, Source, Target, WriterTarget, read_source, write_text};
+use bi_base::{
+    Error, Limits, TracedRead, TracedReader, TracedWrite, TracedWriter, read_all_traced,
+    write_and_flush,
+};
 use bi_legacy::codes::{arch_name, compression_name, os_name, type_name};
 use bi_legacy::{Legacy, Part};
+use bi_norm::BootImage;
 use std::alloc::{AllocError, Global};
 use std::fmt::Write as _;
 use std::io::{Read, Write};
 
-/// The listing of a boot image.
+/// Returns the listing of a boot image.
 ///
-/// Refusals, the first that applies: TooLarge at the limit, where the file is longer; Truncated at 0 below four bytes;
-/// BadMagic at 0; for a legacy image those of `Legacy::read`; Unsupported at 0 for a flattened image tree. OutOfMemory stands
-/// in place of a listing alone: a file is refused before memory is asked for.
+/// Errors, the first that applies: TooLarge at the limit, where the file is longer; Truncated at 0
+/// below four bytes; BadMagic at 0; for a legacy image those of `Legacy::read`; Unsupported at 0
+/// for a flattened image tree. A file in memory is refused without an allocation, so OutOfMemory
+/// comes only for a file that means something.
 pub fn listing(alloc: Global, file: &[u8], limits: Limits) -> Result<String, Error>
     ensures lists { IfOk result (λ text. IsListing limits file.now (string_bytes text)) }
-    ensures refused_with_the_first_fault { IfErr result (IsRefusalOf file.now limits) }
+    ensures failed { IfErr result (IsOpenError limits file.now) }
 {
-    let image = read_legacy(file, limits)?;
-    let text = legacy_listing(alloc, &image)?;
+    match BootImage::read(alloc, file, limits)? {
+        BootImage::Legacy(image) => list_legacy(alloc, &image),
+    }
+}
+
+/// Returns the listing of a legacy image that was read.
+fn list_legacy(alloc: Global, image: &Legacy) -> Result<String, Error>
+    ensures lists { (limits : Bounds) (file : List ℕ) → IsParsedImage limits file image.now →
+        IfOk result (λ text. IsListing limits file (string_bytes text)) }
+    ensures failed { (limits : Bounds) (file : List ℕ) → IsParsedImage limits file image.now →
+        IfErr result (IsOpenError limits file) }
+{
+    let text = legacy_listing(alloc, image)?;
     Ok(text)
 }
 
-/// Reads a boot image to its end, and writes its listing and flushes: as `listing`, from a reader to a writer that each tell
-/// the outcome of their calls.
+/// Reads a boot image to its end, writes its listing, and flushes: `listing` from a reader to a
+/// writer that record the outcome of their calls.
 ///
-/// ReadFailed comes only after a read that failed by another error than an interruption, or after 1,024 interrupted reads in
-/// a row; WriteFailed only after a write or flush that failed so, a write that took none of the bytes that were left, or
-/// 1,024 interruptions in a row. No other answer comes after these. After WriteFailed a prefix of the listing was written,
-/// the whole of it where only the flush failed; after any other error nothing was written. OutOfMemory may stand in place of
-/// any answer that is given after memory was asked for.
-pub fn list_through<S: Source, T: Target>(
+/// ReadFailed comes after a read that failed by another error than an interruption, or after 1,024
+/// interrupted reads in a row; WriteFailed after a write or flush that failed so, after a write
+/// that wrote none of the remaining bytes, or after 1,024 interruptions in a row. No such failure
+/// is ignored. After WriteFailed a prefix of the listing was written, the whole of it where the
+/// flush failed; after any other error nothing was written. A call that allocates may return
+/// OutOfMemory.
+pub fn list_traced<S: TracedRead, T: TracedWrite>(
     alloc: Global,
     source: &mut S,
     target: &mut T,
     limits: Limits,
 ) -> Result<(), Error>
-    ensures lists { OnOk result (Streamed (S.left source.old) (S.left source.new)
-        (T.contents target.old) (T.contents target.new) (IsListing limits)) }
-    ensures refused_with_the_first_fault { IfErr result (λ error.
-        IfSome (S.left source.old) (λ file. IsStreamRefusalOf file limits error)) }
-    ensures writes_a_prefix { IsErrOf result Error.WriteFailed →
-        StreamedPrefix (S.left source.old) (S.left source.new)
-        (T.contents target.old) (T.contents target.new) (T.flushing target.new) (IsListing limits) }
-    ensures else_writes_nothing { IfErr result (λ error.
-        error ≢ Error.WriteFailed → Keeps (T.contents target.old) (T.contents target.new)) }
-    ensures flushed { OnOk result (IsFlushed (T.flushing target.new) (T.failed target.new) (T.interruptions target.new)) }
-    ensures takes_at_most_one_byte_more { TakesAtMost (S.left source.old) (S.left source.new) (limits.file + 1) }
-    ensures why_read_failed { IsErrOf result Error.ReadFailed →
-        HasToStop (S.failed source.new) (S.interruptions source.new) }
-    ensures why_write_failed { IsErrOf result Error.WriteFailed →
-        CannotGoOn (T.failed target.new) (T.stalled target.new) (T.interruptions target.new) }
-    ensures no_failed_read_is_passed_over { GoesWell (S.stopped source.old) (S.interruptions source.old) →
-        (IsErrOf result Error.ReadFailed → ⊥) → GoesWell (S.stopped source.new) (S.interruptions source.new) }
-    ensures no_failed_write_is_passed_over { GoesWell (T.stopped target.old) (T.interruptions target.old) →
-        (IsErrOf result Error.WriteFailed → ⊥) → GoesWell (T.stopped target.new) (T.interruptions target.new) }
-    ensures same_reader { S.reader source.new ≡ S.reader source.old }
-    ensures same_writer { T.writer target.new ≡ T.writer target.old }
+    ensures done { OnOk result (Transferred (S.trace source.old) (S.trace source.new)
+        (T.trace target.old) (T.trace target.new) (IsListing limits)) }
+    ensures failed { IfErr result (λ error. TransferFailed (S.trace source.old) (S.trace source.new)
+        (T.trace target.old) (T.trace target.new) (IsListing limits)
+        (λ file. IsStreamError (IsOpenError limits) file error)
+        (error ≡ Error.ReadFailed) (error ≡ Error.WriteFailed)) }
+    ensures takes_at_most_one_byte_more { let old = S.trace source.old in
+        TakesAtMost old.remaining (S.trace source.new).remaining (limits.file + 1) }
+    ensures no_failed_read_ignored { ReadsWell (S.trace source.old) →
+        (IsErrOf result Error.ReadFailed → ⊥) → ReadsWell (S.trace source.new) }
+    ensures no_failed_write_ignored { WritesWell (T.trace target.old) →
+        (IsErrOf result Error.WriteFailed → ⊥) → WritesWell (T.trace target.new) }
+    ensures same_streams { SameStreams (S.trace source.old) (S.trace source.new)
+        (T.trace target.old) (T.trace target.new) }
 {
-    let file = read_source(alloc, source, limits)?;
+    let file = read_all_traced(alloc, source, limits)?;
     let text = listing(alloc, &file, limits)?;
-    write_text(target, text.as_bytes())?;
-    Ok(())
+    write_and_flush(target, text.as_bytes())
 }
 
-/// Reads a boot image to its end, and writes its listing and flushes: as `listing`, from a reader to a writer.
+/// Reads a boot image to its end, writes its listing, and flushes: `list_traced` over a plain
+/// reader and a plain writer.
 ///
-/// The errors are those of `list_through`. A plain reader or writer tells nothing of a failed call, so no clause here says
-/// why ReadFailed and WriteFailed come. After WriteFailed a prefix of the listing was written; after any other error nothing
-/// was written. OutOfMemory may stand in place of any answer that is given after memory was asked for.
+/// The errors are those of `list_traced`. A plain reader or writer does not record a failed call,
+/// so no clause here says why ReadFailed and WriteFailed come. After WriteFailed a prefix of the
+/// listing was written; after any other error nothing was written.
 pub fn list_to<R: Read, W: Write>(
     alloc: Global,
     reader: &mut R,
     writer: &mut W,
     limits: Limits,
 ) -> Result<(), Error>
-    ensures lists { OnOk result (Streamed (R.remaining reader.old) (R.remaining reader.new)
+    ensures done { OnOk result (Moved (R.remaining reader.old) (R.remaining reader.new)
         (W.contents writer.old) (W.contents writer.new) (IsListing limits)) }
-    ensures refused_with_the_first_fault { IfErr result (λ error.
-        IfSome (R.remaining reader.old) (λ file. IsStreamRefusalOf file limits error)) }
-    ensures writes_a_prefix { IsErrOf result Error.WriteFailed →
-        StreamedPrefix (R.remaining reader.old) (R.remaining reader.new)
-        (W.contents writer.old) (W.contents writer.new) false (IsListing limits) }
-    ensures else_writes_nothing { IfErr result (λ error.
-        error ≢ Error.WriteFailed → Keeps (W.contents writer.old) (W.contents writer.new)) }
-    ensures takes_at_most_one_byte_more { TakesAtMost (R.remaining reader.old) (R.remaining reader.new) (limits.file + 1) }
+    ensures failed { IfErr result (λ error. MoveFailed
+        (R.remaining reader.old) (R.remaining reader.new)
+        (W.contents writer.old) (W.contents writer.new) ⊥ (IsListing limits)
+        (λ file. IsStreamError (IsOpenError limits) file error) (error ≡ Error.WriteFailed)) }
+    ensures takes_at_most_one_byte_more { TakesAtMost (R.remaining reader.old)
+        (R.remaining reader.new) (limits.file + 1) }
 {
-    let mut source = ReaderSource::new(reader);
-    let mut target = WriterTarget::new(writer);
-    list_through(alloc, &mut source, &mut target, limits)
+    let mut source = TracedReader::new(reader);
+    let mut target = TracedWriter::new(writer);
+    list_traced(alloc, &mut source, &mut target, limits)
 }
 
 /// The listing of a legacy image.
@@ -118,7 +129,8 @@ fn legacy_listing(alloc: Global, image: &Legacy) -> Result<String, AllocError>
 
 /// Appends the lines of the name and the numbers of the header.
 fn put_fields(alloc: Global, text: &mut String, image: &Legacy) -> Result<(), AllocError>
-    ensures { OnOk result (string_bytes text.new ≡ string_bytes text.old ++ field_lines image.now.image) }
+    ensures { OnOk result (string_bytes text.new ≡ string_bytes text.old
+        ++ field_lines image.now.image) }
 {
     let fields = image.fields();
     let name = shown_name(alloc, fields.name)?;
@@ -131,7 +143,8 @@ fn put_fields(alloc: Global, text: &mut String, image: &Legacy) -> Result<(), Al
 
 /// Appends the lines of the codes of the header.
 fn put_codes(text: &mut String, image: &Legacy) -> Result<(), AllocError>
-    ensures { OnOk result (string_bytes text.new ≡ string_bytes text.old ++ code_lines image.now.image) }
+    ensures { OnOk result (string_bytes text.new ≡ string_bytes text.old
+        ++ code_lines image.now.image) }
 {
     let fields = image.fields();
     put_code(text, "os", os_name(fields.os), fields.os)?;
@@ -153,7 +166,8 @@ fn put_codes(text: &mut String, image: &Legacy) -> Result<(), AllocError>
 
 /// Appends the line that tells how many parts there are, and a line for each part.
 fn put_parts(text: &mut String, image: &Legacy) -> Result<(), AllocError>
-    ensures { OnOk result (string_bytes text.new ≡ string_bytes text.old ++ parts_lines image.now.image) }
+    ensures { OnOk result (string_bytes text.new ≡ string_bytes text.old
+        ++ parts_lines image.now.image) }
 {
     put_number(text, "parts", image.part_count() as u64)?;
     for (index, part) in image.parts().enumerate() {
@@ -164,7 +178,8 @@ fn put_parts(text: &mut String, image: &Legacy) -> Result<(), AllocError>
 
 /// Appends the line of a part.
 fn put_part(text: &mut String, index: usize, part: &Part) -> Result<(), AllocError>
-    ensures { OnOk result (string_bytes text.new ≡ string_bytes text.old ++ part_line index (piece_of part.now)) }
+    ensures { OnOk result (string_bytes text.new ≡ string_bytes text.old
+        ++ part_line index (placed_part_of part.now)) }
 {
     let (size, place) = (part.bytes.len(), part.place);
     writeln!(text, "part {index} size {size} at {place}")
@@ -173,7 +188,8 @@ fn put_part(text: &mut String, index: usize, part: &Part) -> Result<(), AllocErr
 /// Appends the line of a code: its name, or its number where it has none.
 fn put_code(text: &mut String, label: &str, name: Option<&str>, code: u8) -> Result<(), AllocError>
     ensures { OnOk result (string_bytes text.new ≡ string_bytes text.old
-        ++ line (label.now ∷ unwrap_or (option_map (λ name. name.now) name.entry) (decimal code) ∷ [])) }
+        ++ line (label.now ∷ unwrap_or (option_map (λ name. name.now) name.entry) (decimal code)
+        ∷ [])) }
 {
     match name {
         Some(name) => put_word(text, label, name),
@@ -183,7 +199,8 @@ fn put_code(text: &mut String, label: &str, name: Option<&str>, code: u8) -> Res
 
 /// Appends the line of a word.
 fn put_word(text: &mut String, label: &str, word: &str) -> Result<(), AllocError>
-    ensures { OnOk result (string_bytes text.new ≡ string_bytes text.old ++ line (label.now ∷ word.now ∷ [])) }
+    ensures { OnOk result (string_bytes text.new ≡ string_bytes text.old
+        ++ line (label.now ∷ word.now ∷ [])) }
 {
     writeln!(text, "{label} {word}")
 }

@@ -1,4 +1,4 @@
-//! `bootimg`: reads, lists, extracts from and normalises U-Boot's boot images.
+//! `bootimg` normalises, lists and extracts from U-Boot's boot images.
 #![tactic(auto)]
 
 mod command_line;
@@ -6,11 +6,10 @@ mod extract;
 mod failure;
 #[cfg(test)]
 mod images;
-mod kind;
 mod listing;
-mod normalise;
+#[cfg(test)]
+mod normal_forms;
 mod numbers;
-mod open;
 #[cfg(test)]
 mod refused_growths;
 mod run;
@@ -30,17 +29,18 @@ fn main(rt: HostRuntime) -> ExitCode {
     }
 }
 
-/// Runs the program over the standard streams. An error where the words cannot be had.
+/// Runs the program over the standard streams, and returns its exit status. Fails where memory is
+/// refused, or an argument is not UTF-8.
 fn run_streams(rt: &HostRuntime) -> io::Result<u8> {
     let alloc = rt.alloc();
-    let args: Vec<String> = std::env::args(rt)?.skip(1).collect(alloc)?;
-    let mut words = Vec::with_capacity(alloc, args.len())?;
-    for word in &args {
-        words.push(word.as_str())?;
+    let strings: Vec<String> = std::env::args(rt)?.skip(1).collect(alloc)?;
+    let mut arguments = Vec::with_capacity(alloc, strings.len())?;
+    for string in &strings {
+        arguments.push(string.as_str())?;
     }
     Ok(run(
         alloc,
-        &words,
+        &arguments,
         &mut rt.stdin(),
         &mut rt.stdout(),
         &mut rt.stderr(),

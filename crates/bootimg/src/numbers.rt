@@ -1,11 +1,12 @@
-//! The numbers of the command line.
+//! Numbers on the command line.
 
 ghost use Rattle.std.specs.Prelude.{◌≡◌, ◌≤◌, ◌<◌, ◌^◌, ℕ, Some, IfSome};
 ghost use Rattle.bootimg.specs.Numbers.{IsNumber, AreDigitsOf};
 
-/// The number that a word of the command line is: one or more decimal digits, or `0x` and one or more hexadecimal digits of
-/// either case, with any number of zeros before them. None exactly where the word is no such number, or it is over
-/// 0xffffffff: no sign, no `_`, no `0X`, no digit of another alphabet, and not the empty word.
+/// Parses a number: one or more decimal digits, or `0x` and one or more hexadecimal digits of
+/// either case. Leading zeros are allowed. Returns None exactly for any other text, and for a
+/// number over 0xffffffff: a sign, `_`, `0X`, a digit of another alphabet and the empty text are
+/// not allowed.
 pub fn parse_number(word: &str) -> Option<u32>
     ensures some { IfSome result (IsNumber word.now) }
     ensures exactly { (number : ℕ) → IsNumber word.now number → result ≡ Some number }
@@ -16,12 +17,15 @@ pub fn parse_number(word: &str) -> Option<u32>
     }
 }
 
-/// The number that these digits are in this base, likewise.
+/// Parses the digits of a number in this base. Returns None exactly for any other text, and for a
+/// number over 0xffffffff.
 fn number_of(digits: &str, base: u32) -> Option<u32>
     requires least_base { 2 ≤ base }
     requires most_base { base ≤ 36 }
-    ensures some { IfSome result (λ number. AreDigitsOf base number digits.now × (number < 2 ^ 32)) }
-    ensures exactly { (number : ℕ) → AreDigitsOf base number digits.now → number < 2 ^ 32 → result ≡ Some number }
+    ensures some { IfSome result (λ number. AreDigitsOf base number digits.now
+        × (number < 2 ^ 32)) }
+    ensures exactly { (number : ℕ) → AreDigitsOf base number digits.now → number < 2 ^ 32 → result
+        ≡ Some number }
 {
     if digits.starts_with('+') {
         return None;

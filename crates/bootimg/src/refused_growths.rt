@@ -1,21 +1,22 @@
-//! The calls that take memory, each with one of its growths refused. `rt test` runs each with none refused; the script
-//! tests/refused_growths.sh adds a test for each growth of each call, and has it refused.
+//! Calls with one of their allocations refused. `rt test` runs each call with none refused. The
+//! script tests/refused_growths.sh adds a test for each allocation of each call, which has this
+//! one refused.
 
 use crate::extract::{ExtractError, Select, extract_to};
 use crate::images::{PADDED_PARTS, PARTS, PARTS_LISTING};
 use crate::listing::list_to;
-use crate::normalise::{Form, normalise, normalise_to};
 use crate::run::run;
 use bi_base::{Error, Limits, Sink, VecSink, read_all};
+use bi_norm::{Form, normalise, normalise_into, normalise_to};
 use scripted_io::{Script, ScriptedReader, Turn};
 use std::alloc::Global;
 use std::process::Abort;
 use std::test::Fail;
 
-/// The number of the allocation that the script has refused in each test.
+/// The number of the allocation that the script has refused in each test, from 1.
 const REFUSED: u64 = 1000;
 
-/// Takes memory and gives it back, so many times. True where it was refused once.
+/// Allocates and frees so many times. Returns whether an allocation was refused.
 fn is_refused(alloc: Global, times: u64) -> bool {
     let mut refused = false;
     for _ in 0..times {
@@ -24,28 +25,29 @@ fn is_refused(alloc: Global, times: u64) -> bool {
     refused
 }
 
-/// A call of which one growth is to be refused.
+/// A call of which one allocation is to be refused.
 #[derive(Clone, Copy)]
 struct Trial {
     alloc: Global,
-    growth: u64,
+    number: u64,
     is_over: bool,
 }
 
 impl Trial {
-    /// Before the call: of the allocations that follow, the one of this number, from 1, is refused. None where it is 0.
-    fn new(alloc: Global, growth: u64) -> Trial {
-        let is_over = is_refused(alloc, REFUSED.saturating_sub(growth));
+    /// Made before the call. The allocation of this number, from 1, is refused of those that
+    /// follow. None is where it is 0.
+    fn new(alloc: Global, number: u64) -> Trial {
+        let is_over = is_refused(alloc, REFUSED.saturating_sub(number));
         Trial {
             alloc,
-            growth,
+            number,
             is_over,
         }
     }
 
-    /// After the call: whether it was one of the call's growths.
-    fn is_met(self) -> bool {
-        self.growth != 0 && !self.is_over && !is_refused(self.alloc, self.growth)
+    /// Whether the call made the allocation that was refused. For use after the call.
+    fn was_refused(self) -> bool {
+        self.number != 0 && !self.is_over && !is_refused(self.alloc, self.number)
     }
 }
 
@@ -56,103 +58,118 @@ fn limits() -> Result<Limits, Fail> {
     }
 }
 
-/// The first bytes of a buffer, up to what a writer to it has left.
+/// The bytes that were written to a buffer, of which so many bytes are left.
 fn written(buffer: &[u8; 1024], left: usize) -> &[u8] {
     &buffer[..1024usize.saturating_sub(left)]
 }
 
-/// True where the growth was met. The answer has to be that of ample memory then, or OutOfMemory with nothing written, and
-/// else that of ample memory.
-fn judge(rt: &impl Abort, is_met: bool, is_ample: bool, is_refusal: bool) -> bool {
-    assert!(rt; is_ample || (is_met && is_refusal));
-    is_met
+/// Checks that the call succeeded, or failed as it may after a refused allocation. Returns whether
+/// one was refused.
+fn check(rt: &impl Abort, was_refused: bool, succeeded: bool, failed: bool) -> bool {
+    assert!(rt; succeeded || (was_refused && failed));
+    was_refused
 }
 
-fn reads(rt: &(impl Abort + AllocGlobal), growth: u64) -> Result<bool, Fail> {
+fn reads(rt: &(impl Abort + AllocGlobal), number: u64) -> Result<bool, Fail> {
     let limits = limits()?;
     let input = [0x5a; 600];
     let mut reader = ScriptedReader::new(&input, Script::always(Turn::Takes(5)));
-    let trial = Trial::new(rt.alloc(), growth);
-    let answer = read_all(rt.alloc(), &mut reader, limits);
-    let is_ample = match &answer {
+    let trial = Trial::new(rt.alloc(), number);
+    let result = read_all(rt.alloc(), &mut reader, limits);
+    let was_refused = trial.was_refused();
+    let succeeded = match &result {
         Ok(bytes) => bytes.as_slice() == input.as_slice(),
         Err(_) => false,
     };
-    let is_refusal = answer.err() == Some(Error::OutOfMemory);
-    Ok(judge(rt, trial.is_met(), is_ample, is_refusal))
+    let failed = result.err() == Some(Error::OutOfMemory);
+    Ok(check(rt, was_refused, succeeded, failed))
 }
 
-fn puts(rt: &(impl Abort + AllocGlobal), growth: u64) -> Result<bool, Fail> {
-    let trial = Trial::new(rt.alloc(), growth);
+fn appends(rt: &(impl Abort + AllocGlobal), number: u64) -> Result<bool, Fail> {
+    let trial = Trial::new(rt.alloc(), number);
     let mut sink = VecSink::new(rt.alloc());
-    let answer = sink.put(b"hello");
+    let result = sink.put(b"hello");
     let bytes = sink.into_vec();
-    let is_ample = answer.is_ok() && bytes.as_slice() == b"hello".as_slice();
-    let is_refusal = answer == Err(Error::OutOfMemory) && bytes.is_empty();
-    Ok(judge(rt, trial.is_met(), is_ample, is_refusal))
+    let was_refused = trial.was_refused();
+    let succeeded = result.is_ok() && bytes.as_slice() == b"hello".as_slice();
+    let failed = result == Err(Error::OutOfMemory) && bytes.is_empty();
+    Ok(check(rt, was_refused, succeeded, failed))
 }
 
-fn normalises(rt: &(impl Abort + AllocGlobal), growth: u64) -> Result<bool, Fail> {
+fn normalises(rt: &(impl Abort + AllocGlobal), number: u64) -> Result<bool, Fail> {
     let limits = limits()?;
-    let trial = Trial::new(rt.alloc(), growth);
-    let answer = normalise(rt.alloc(), PADDED_PARTS, Form::Embedded, limits);
-    let is_ample = match &answer {
+    let trial = Trial::new(rt.alloc(), number);
+    let result = normalise(rt.alloc(), PADDED_PARTS, Form::Embedded, limits);
+    let was_refused = trial.was_refused();
+    let succeeded = match &result {
         Ok(text) => text.as_slice() == PARTS.as_slice(),
         Err(_) => false,
     };
-    let is_refusal = answer.err() == Some(Error::OutOfMemory);
-    Ok(judge(rt, trial.is_met(), is_ample, is_refusal))
+    let failed = result.err() == Some(Error::OutOfMemory);
+    Ok(check(rt, was_refused, succeeded, failed))
 }
 
-fn normalises_through(rt: &(impl Abort + AllocGlobal), growth: u64) -> Result<bool, Fail> {
+/// A sink in memory that cannot grow fails after a prefix of the normal form.
+fn normalises_into(rt: &(impl Abort + AllocGlobal), number: u64) -> Result<bool, Fail> {
+    let limits = limits()?;
+    let trial = Trial::new(rt.alloc(), number);
+    let mut sink = VecSink::new(rt.alloc());
+    let result = normalise_into(rt.alloc(), PADDED_PARTS, Form::Embedded, limits, &mut sink);
+    let text = sink.into_vec();
+    let was_refused = trial.was_refused();
+    let succeeded = result == Ok(0) && text.as_slice() == PARTS.as_slice();
+    let failed = result == Err(Error::OutOfMemory) && PARTS.starts_with(&text);
+    Ok(check(rt, was_refused, succeeded, failed))
+}
+
+fn normalises_to(rt: &(impl Abort + AllocGlobal), number: u64) -> Result<bool, Fail> {
     let limits = limits()?;
     let mut reader = PADDED_PARTS.as_slice();
     let mut buffer = [0u8; 1024];
     let mut writer = buffer.as_mut_slice();
-    let trial = Trial::new(rt.alloc(), growth);
-    let answer = normalise_to(rt.alloc(), &mut reader, &mut writer, Form::Embedded, limits);
+    let trial = Trial::new(rt.alloc(), number);
+    let result = normalise_to(rt.alloc(), &mut reader, &mut writer, Form::Embedded, limits);
+    let was_refused = trial.was_refused();
     let left = writer.len();
     let text = written(&buffer, left);
-    let is_ample = answer == Ok(0) && text == PARTS.as_slice();
-    let is_refusal = answer == Err(Error::OutOfMemory) && text.is_empty();
-    Ok(judge(rt, trial.is_met(), is_ample, is_refusal))
+    let succeeded = result == Ok(0) && text == PARTS.as_slice();
+    let failed = result == Err(Error::OutOfMemory) && text.is_empty();
+    Ok(check(rt, was_refused, succeeded, failed))
 }
 
-fn lists(rt: &(impl Abort + AllocGlobal), growth: u64) -> Result<bool, Fail> {
+fn lists_to(rt: &(impl Abort + AllocGlobal), number: u64) -> Result<bool, Fail> {
     let limits = limits()?;
     let mut reader = PADDED_PARTS.as_slice();
     let mut buffer = [0u8; 1024];
     let mut writer = buffer.as_mut_slice();
-    let trial = Trial::new(rt.alloc(), growth);
-    let answer = list_to(rt.alloc(), &mut reader, &mut writer, limits);
+    let trial = Trial::new(rt.alloc(), number);
+    let result = list_to(rt.alloc(), &mut reader, &mut writer, limits);
+    let was_refused = trial.was_refused();
     let left = writer.len();
     let text = written(&buffer, left);
-    let is_ample = answer == Ok(()) && text == PARTS_LISTING;
-    let is_refusal = answer == Err(Error::OutOfMemory) && text.is_empty();
-    Ok(judge(rt, trial.is_met(), is_ample, is_refusal))
+    let succeeded = result == Ok(()) && text == PARTS_LISTING;
+    let failed = result == Err(Error::OutOfMemory) && text.is_empty();
+    Ok(check(rt, was_refused, succeeded, failed))
 }
 
-fn extracts(rt: &(impl Abort + AllocGlobal), growth: u64) -> Result<bool, Fail> {
+fn extracts_to(rt: &(impl Abort + AllocGlobal), number: u64) -> Result<bool, Fail> {
     let limits = limits()?;
     let mut reader = PADDED_PARTS.as_slice();
     let mut buffer = [0u8; 1024];
     let mut writer = buffer.as_mut_slice();
-    let trial = Trial::new(rt.alloc(), growth);
-    let answer = extract_to(
-        rt.alloc(),
-        &mut reader,
-        &mut writer,
-        Select::Part(1),
-        limits,
-    );
+    let trial = Trial::new(rt.alloc(), number);
+    let select = Select::Part(1);
+    let result = extract_to(rt.alloc(), &mut reader, &mut writer, select, limits);
+    let was_refused = trial.was_refused();
     let left = writer.len();
-    let text = written(&buffer, left);
-    let is_ample = answer == Ok(()) && text == b"abc".as_slice();
-    let is_refusal = answer == Err(ExtractError::Failed(Error::OutOfMemory)) && text.is_empty();
-    Ok(judge(rt, trial.is_met(), is_ample, is_refusal))
+    let bytes = written(&buffer, left);
+    let succeeded = result == Ok(()) && bytes == b"abc".as_slice();
+    let failed = result == Err(ExtractError::Failed(Error::OutOfMemory)) && bytes.is_empty();
+    Ok(check(rt, was_refused, succeeded, failed))
 }
 
-/// What a run of the program did: its status, and what it wrote and said, with the room that is left behind each.
+/// What a run of the program did: its exit status, and what it wrote to standard output and
+/// standard error, each with how many bytes of the buffer are left.
 #[derive(Clone, Copy, PartialEq, Eq)]
 struct Outcome {
     status: u8,
@@ -162,16 +179,16 @@ struct Outcome {
     errors_left: usize,
 }
 
-/// Runs the program with these words.
-fn run_with<'a>(alloc: Global, words: &'a [&'a str]) -> Outcome {
+/// Runs the program with these arguments.
+fn run_with<'a>(alloc: Global, args: &'a [&'a str]) -> Outcome {
     let mut reader = PADDED_PARTS.as_slice();
     let mut output = [0u8; 1024];
     let mut errors = [0u8; 1024];
     let mut writer = output.as_mut_slice();
-    let mut teller = errors.as_mut_slice();
-    let status = run(alloc, words, &mut reader, &mut writer, &mut teller);
+    let mut error_writer = errors.as_mut_slice();
+    let status = run(alloc, args, &mut reader, &mut writer, &mut error_writer);
     let output_left = writer.len();
-    let errors_left = teller.len();
+    let errors_left = error_writer.len();
     Outcome {
         status,
         output,
@@ -181,67 +198,64 @@ fn run_with<'a>(alloc: Global, words: &'a [&'a str]) -> Outcome {
     }
 }
 
-/// The program with these words, whose answer with ample memory ends with this status.
-fn runs<'a>(
-    rt: &(impl Abort + AllocGlobal),
-    growth: u64,
-    words: &'a [&'a str],
-    status: u8,
-) -> bool {
-    let trial = Trial::new(rt.alloc(), growth);
-    let answer = run_with(rt.alloc(), words);
-    let is_met = trial.is_met();
-    let ample = run_with(rt.alloc(), words);
-    assert_eq!(rt; ample.status, status);
-    let said = written(&answer.errors, answer.errors_left);
-    let is_refusal = answer.status == 2
-        && answer.output_left == 1024
-        && said == b"bootimg: out of memory\n".as_slice();
-    judge(rt, is_met, answer == ample, is_refusal)
+/// Runs the program with these arguments, which ends with this status where no allocation is
+/// refused.
+fn runs<'a>(rt: &(impl Abort + AllocGlobal), number: u64, args: &'a [&'a str], status: u8) -> bool {
+    let trial = Trial::new(rt.alloc(), number);
+    let outcome = run_with(rt.alloc(), args);
+    let was_refused = trial.was_refused();
+    let wanted = run_with(rt.alloc(), args);
+    assert_eq!(rt; wanted.status, status);
+    let text = written(&outcome.errors, outcome.errors_left);
+    let failed = outcome.status == 2
+        && outcome.output_left == 1024
+        && text == b"bootimg: out of memory\n".as_slice();
+    check(rt, was_refused, outcome == wanted, failed)
 }
 
-fn runs_normalise(rt: &(impl Abort + AllocGlobal), growth: u64) -> Result<bool, Fail> {
-    Ok(runs(rt, growth, &["normalise", "--limit", "100"], 0))
+fn runs_normalise(rt: &(impl Abort + AllocGlobal), number: u64) -> Result<bool, Fail> {
+    Ok(runs(rt, number, &["normalise", "--limit", "100"], 0))
 }
 
-fn runs_list(rt: &(impl Abort + AllocGlobal), growth: u64) -> Result<bool, Fail> {
-    Ok(runs(rt, growth, &["list"], 0))
+fn runs_list(rt: &(impl Abort + AllocGlobal), number: u64) -> Result<bool, Fail> {
+    Ok(runs(rt, number, &["list"], 0))
 }
 
-fn runs_extract(rt: &(impl Abort + AllocGlobal), growth: u64) -> Result<bool, Fail> {
-    Ok(runs(rt, growth, &["extract", "--part", "1"], 0))
+fn runs_extract(rt: &(impl Abort + AllocGlobal), number: u64) -> Result<bool, Fail> {
+    Ok(runs(rt, number, &["extract", "--part", "1"], 0))
 }
 
-fn runs_help(rt: &(impl Abort + AllocGlobal), growth: u64) -> Result<bool, Fail> {
-    Ok(runs(rt, growth, &["help", "extract"], 0))
+fn runs_help(rt: &(impl Abort + AllocGlobal), number: u64) -> Result<bool, Fail> {
+    Ok(runs(rt, number, &["help", "extract"], 0))
 }
 
-fn runs_version(rt: &(impl Abort + AllocGlobal), growth: u64) -> Result<bool, Fail> {
-    Ok(runs(rt, growth, &["--version"], 0))
+fn runs_version(rt: &(impl Abort + AllocGlobal), number: u64) -> Result<bool, Fail> {
+    Ok(runs(rt, number, &["--version"], 0))
 }
 
-fn runs_unknown_word(rt: &(impl Abort + AllocGlobal), growth: u64) -> Result<bool, Fail> {
-    Ok(runs(rt, growth, &["normalise", "--external"], 2))
+fn runs_unknown_argument(rt: &(impl Abort + AllocGlobal), number: u64) -> Result<bool, Fail> {
+    Ok(runs(rt, number, &["normalise", "--external"], 2))
 }
 
-fn runs_no_selection(rt: &(impl Abort + AllocGlobal), growth: u64) -> Result<bool, Fail> {
-    Ok(runs(rt, growth, &["extract"], 2))
+fn runs_no_selection(rt: &(impl Abort + AllocGlobal), number: u64) -> Result<bool, Fail> {
+    Ok(runs(rt, number, &["extract"], 2))
 }
 
 #[test]
-fn each_call_has_its_ample_answer(rt: HostRuntime) -> Result<(), Fail> {
+fn each_call_succeeds_where_no_allocation_is_refused(rt: HostRuntime) -> Result<(), Fail> {
     assert!(rt; !reads(&rt, 0)?);
-    assert!(rt; !puts(&rt, 0)?);
+    assert!(rt; !appends(&rt, 0)?);
     assert!(rt; !normalises(&rt, 0)?);
-    assert!(rt; !normalises_through(&rt, 0)?);
-    assert!(rt; !lists(&rt, 0)?);
-    assert!(rt; !extracts(&rt, 0)?);
+    assert!(rt; !normalises_into(&rt, 0)?);
+    assert!(rt; !normalises_to(&rt, 0)?);
+    assert!(rt; !lists_to(&rt, 0)?);
+    assert!(rt; !extracts_to(&rt, 0)?);
     assert!(rt; !runs_normalise(&rt, 0)?);
     assert!(rt; !runs_list(&rt, 0)?);
     assert!(rt; !runs_extract(&rt, 0)?);
     assert!(rt; !runs_help(&rt, 0)?);
     assert!(rt; !runs_version(&rt, 0)?);
-    assert!(rt; !runs_unknown_word(&rt, 0)?);
+    assert!(rt; !runs_unknown_argument(&rt, 0)?);
     assert!(rt; !runs_no_selection(&rt, 0)?);
     Ok(())
 }

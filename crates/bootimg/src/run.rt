@@ -2,40 +2,40 @@
 
 ghost use Rattle.std.specs.Prelude.{◌≡◌, ◌⊎◌};
 
-use crate::command_line::{Answer, Request, Task, read_words};
+use crate::command_line::{Outcome, Request, Task, parse_arguments};
 use crate::extract::extract_to;
 use crate::failure::Failure;
 use crate::listing::list_to;
-use crate::normalise::{Form, normalise_to};
-use bi_base::{Error, WriterTarget, write_text};
+use bi_base::{Error, TracedWriter, write_and_flush};
+use bi_norm::{Form, normalise_to};
 use std::alloc::Global;
 use std::io::{Read, Write};
 
-/// The exit status where all was done.
+/// The exit status after success.
 const DONE: u8 = 0;
 
-/// The exit status after a refusal or a fault.
+/// The exit status after any failure.
 const FAILED: u8 = 2;
 
-/// Does what these words ask for, which follow the program's name, and answers the exit status: 0 where it was done, 2 after
-/// a refusal or a fault.
+/// Runs the program with these arguments, without its own name, and returns the exit status: 0
+/// after success, 2 after any failure.
 ///
-/// The image is read from `reader` only once the words are accepted. `writer` takes what was asked for, also help and the
-/// version, and `errors` one line on each failure, or clap's text on a fault of the words. Where `errors` fails, nothing
-/// is said.
+/// The image is read from `reader`, once the arguments are parsed. The output, help and the
+/// version are written to `writer`. A failure is written to `errors`: one line, or clap's text
+/// where it rejects the arguments. A failed write to `errors` is ignored.
 pub fn run<'a, R: Read, W: Write, E: Write>(
     alloc: Global,
-    words: &'a [&'a str],
+    arguments: &'a [&'a str],
     reader: &mut R,
     writer: &mut W,
     errors: &mut E,
 ) -> u8
     ensures status { (result ≡ 0) ⊎ (result ≡ 2) }
 {
-    let outcome = match read_words(alloc, words) {
+    let result = match parse_arguments(alloc, arguments) {
         Ok(request) => perform(alloc, &request, reader, writer),
-        Err(Answer::Failure(failure)) => Err(failure),
-        Err(Answer::Text(text)) => {
+        Err(Outcome::Failure(failure)) => Err(failure),
+        Err(Outcome::Text(text)) => {
             if text.use_stderr() {
                 let _ = write!(errors, "{text}");
                 return FAILED;
@@ -43,7 +43,7 @@ pub fn run<'a, R: Read, W: Write, E: Write>(
             show(alloc, &text, writer)
         }
     };
-    match outcome {
+    match result {
         Ok(()) => DONE,
         Err(failure) => {
             let _ = writeln!(errors, "bootimg: {failure}");
@@ -52,7 +52,7 @@ pub fn run<'a, R: Read, W: Write, E: Write>(
     }
 }
 
-/// Does a task.
+/// Runs a command.
 fn perform<R: Read, W: Write>(
     alloc: Global,
     request: &Request<'_>,
@@ -70,11 +70,11 @@ fn perform<R: Read, W: Write>(
     Ok(())
 }
 
-/// Writes help or the version.
+/// Writes help or the version, and flushes.
 fn show<W: Write>(alloc: Global, text: &clap::Error, writer: &mut W) -> Result<(), Failure> {
     let text = format!(in alloc; "{text}").map_err(Error::from)?;
-    let mut target = WriterTarget::new(writer);
-    write_text(&mut target, text.as_bytes())?;
+    let mut target = TracedWriter::new(writer);
+    write_and_flush(&mut target, text.as_bytes())?;
     Ok(())
 }
 

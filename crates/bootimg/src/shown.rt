@@ -1,4 +1,4 @@
-//! How names are shown in the program's texts.
+//! How names are printed.
 
 ghost use Rattle.std.specs.Prelude.{◌≡◌, ◌++◌, OnOk, IfOk, string_bytes};
 ghost use Rattle.std.specs.List.{flat_map};
@@ -7,10 +7,11 @@ ghost use Rattle.bootimg.specs.Shown.{shown, shown_byte, is_plain as is_plain_by
 use std::alloc::{AllocError, Global};
 use std::fmt::Write;
 
-/// A name as the program's texts show it: graphic ASCII characters other than `%` stand for themselves, every other byte
-/// is `%` and its two hexadecimal digits in upper case. The empty name is `-`, and the name `-` is `%2D`.
+/// Returns a name as it is printed: a graphic ASCII character other than `%` is unchanged, and
+/// every other byte is `%` and two hexadecimal digits in upper case. The empty name is `-`, and
+/// the name `-` is `%2D`.
 ///
-/// The only error is that memory is refused.
+/// Fails only where memory is refused.
 pub fn shown_name(alloc: Global, name: &[u8]) -> Result<String, AllocError>
     ensures { IfOk result (λ text. string_bytes text ≡ shown name.now) }
 {
@@ -23,9 +24,10 @@ pub fn shown_name(alloc: Global, name: &[u8]) -> Result<String, AllocError>
     Ok(text)
 }
 
-/// Appends the bytes of a name, each as it is shown.
+/// Appends the bytes of a name as they are printed.
 fn put_bytes(text: &mut String, name: &[u8]) -> Result<(), AllocError>
-    ensures { OnOk result (string_bytes text.new ≡ string_bytes text.old ++ flat_map shown_byte name.now) }
+    ensures { OnOk result (string_bytes text.new ≡ string_bytes text.old
+        ++ flat_map shown_byte name.now) }
 {
     for byte in name {
         put_byte(text, *byte)?;
@@ -33,7 +35,7 @@ fn put_bytes(text: &mut String, name: &[u8]) -> Result<(), AllocError>
     Ok(())
 }
 
-/// Appends a byte of a name as it is shown.
+/// Appends a byte of a name as it is printed.
 fn put_byte(text: &mut String, byte: u8) -> Result<(), AllocError>
     ensures { OnOk result (string_bytes text.new ≡ string_bytes text.old ++ shown_byte byte) }
 {
@@ -44,7 +46,7 @@ fn put_byte(text: &mut String, byte: u8) -> Result<(), AllocError>
     }
 }
 
-/// Whether a byte of a name is shown as itself.
+/// Returns whether a byte of a name is printed unchanged.
 fn is_plain(byte: u8) -> bool
     ensures { result ≡ is_plain_byte byte }
 {

@@ -13,6 +13,6 @@ bytes_left reader = reader.bytes.now
 abbrev pub script_of : ScriptedReader → Script
 script_of reader = reader.script
 
--- The byte that a reader without end gives.
+-- The byte of a reader without end.
 abbrev pub byte_of : EndlessReader → ℕ
 byte_of reader = reader.byte

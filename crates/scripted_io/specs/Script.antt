@@ -1,4 +1,5 @@
-use Rattle.std.specs.Prelude.{◌≡◌, ℕ, ◌+◌, ◌-◌, ◌^◌, ◌%◌, ◌&&◌, if◌then◌else◌, nat_lt, nat_le, Option, Some, None, Result, IsErrAnd}
+use Rattle.std.specs.Prelude.{◌≡◌, ℕ, ◌+◌, ◌-◌, ◌^◌, ◌%◌, ◌&&◌, if◌then◌else◌, nat_lt, nat_le}
+use Rattle.std.specs.Prelude.{Option, Some, None, Result, IsErrAnd}
 use Rattle.std.specs.Int.NonZero.{non_zero_u64_get}
 use Rattle.std.specs.IoError.{error_kind}
 use Rattle.std.specs.declared.io.Error.{Error}
@@ -7,26 +8,30 @@ use Rattle.std.specs.declared.io.ErrorKind.TheVariants.{Interrupted, BrokenPipe}
 use Rattle.std.specs.declared.num.NonZeroU64.{NonZeroU64}
 use Rattle.scripted_io.specs.declared.script.Script.{Script}
 use Rattle.scripted_io.specs.declared.script.Turn.{Turn}
-use Rattle.scripted_io.specs.declared.script.Turn.TheVariants.{TakesAll, Takes, IsInterrupted, Fails}
+use Rattle.scripted_io.specs.declared.script.Turn.TheVariants.{TakesAll, Takes, IsInterrupted}
+use Rattle.scripted_io.specs.declared.script.Turn.TheVariants.{Fails}
 
 -- What the calls of a reader or a writer do in tests, by a script (profile of this project).
 
--- How many calls come before this one since the script last began.
+-- The number of calls before this one since the script last began.
 abbrev pub place_in : Option NonZeroU64 → ℕ → ℕ
 place_in None number = number
 place_in (Some period) number = number % non_zero_u64_get period
 
--- The turn of the call of this number, the first call's being 0: one turn for some calls in a row, another for all others.
+-- The turn of the call of this number, counted from 0: one turn for some calls in a row, another
+-- for all others.
 abbrev pub turn_at : Script → ℕ → Turn
 turn_at script number =
     let place = place_in script.period number in
-    if nat_le script.first place && nat_lt place (script.first + script.calls) then script.turn else script.others
+    if nat_le script.first place && nat_lt place (script.first + script.calls) then script.turn else
+    script.others
 
--- A call gave an error of this kind.
+-- A call returned an error of this kind.
 abbrev pub FailsBy : {T : Type 0} → ErrorKind → Result T Error → Type 0
 FailsBy kind result = IsErrAnd result (λ error. error_kind error ≡ kind)
 
--- A call gave what its turn says: what it gives where it may take this many bytes at most, or the turn's error.
+-- A call followed its turn: it returned what it returns if it may read or write at most this many
+-- bytes, or the turn's error.
 abbrev pub Follows : {T : Type 0} → Turn → (ℕ → Type 0) → Result T Error → Type 0
 Follows TakesAll GivesWith result = GivesWith (2 ^ 64 - 1)
 Follows (Takes most) GivesWith result = GivesWith most

@@ -16,7 +16,8 @@ writing_of writer = writer.writing
 abbrev pub flushing_of : ScriptedWriter → Script
 flushing_of writer = writer.flushing
 
--- A write took this many bytes, or it found no memory for them, as may be only where the vector has no room for them.
+-- A write wrote this many bytes, or ran out of memory, which is possible only if the vector has no
+-- room for them.
 abbrev pub TakesOrLacksMemory : Vec ℕ Global → ℕ → Result ℕ Error → Type 0
 TakesOrLacksMemory held wanted result =
     MatchResult result

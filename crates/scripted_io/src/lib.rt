@@ -1,5 +1,5 @@
-//! Readers and writers for tests, over memory: each of their calls does what a script says, and they count what they
-//! did.
+//! Readers and writers for tests, over memory. Each call follows a script, and the calls are
+//! counted.
 #![tactic(auto)]
 
 mod reader;

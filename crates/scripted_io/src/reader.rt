@@ -1,27 +1,28 @@
-//! Readers.
+//! Readers that follow scripts.
 
-ghost use Rattle.std.specs.Prelude.{◌≡◌, ◌+◌, ◌-◌, ◌^◌, min, max, length, replicate, Some, None, MatchResult};
+ghost use Rattle.std.specs.Prelude.{◌≡◌, ◌+◌, ◌-◌, ◌^◌, min, max, length, replicate, Some, None};
+ghost use Rattle.std.specs.Prelude.{MatchResult};
 ghost use Rattle.std.specs.Io.{ReadsAtMost};
 ghost use Rattle.std.specs.Io.KnownBytes.{ReadConsumes};
 
 use crate::script::Script;
 use std::io::{self, Read};
 
-/// A reader of bytes in memory, each of whose calls does what its script says.
+/// A reader of bytes in memory. Each read follows its script.
 #[derive(Drop)]
 pub struct ScriptedReader<'a> {
     bytes: &'a [u8],
     script: Script,
-    /// How many reads there were.
+    /// The number of reads so far.
     pub reads: u64,
-    /// How many bytes they took.
+    /// The number of bytes that were read so far.
     pub taken: u64,
 }
 
 impl<'a> ScriptedReader<'a> {
     ghost use Rattle.scripted_io.specs.Reader.{bytes_left, script_of};
 
-    /// A reader of these bytes.
+    /// Returns a reader of these bytes.
     pub fn new(bytes: &'a [u8], script: Script) -> ScriptedReader<'a>
         ensures bytes { bytes_left result ≡ bytes.now }
         ensures script { script_of result ≡ script }
@@ -45,9 +46,12 @@ impl<'a> Read for ScriptedReader<'a> {
 
     fn read(&mut self, buffer: &mut [u8]) -> io::Result<usize>
         ensures bound { ReadsAtMost result buffer.new }
-        ensures bytes { ReadConsumes (Some (bytes_left self.old)) (Some (bytes_left self.new)) result buffer.new }
+        ensures bytes { ReadConsumes (Some (bytes_left self.old)) (Some (bytes_left self.new))
+            result buffer.new }
         ensures turn { Follows (turn_at (script_of self.old) self.old.reads)
-            (λ most. result ≡ Ok (min (max most 1) (min (length buffer.old) (length (bytes_left self.old))))) result }
+            (λ most. result
+            ≡ Ok (min (max most 1)
+            (min (length buffer.old) (length (bytes_left self.old))))) result }
         ensures script { script_of self.new ≡ script_of self.old }
         ensures reads { self.new.reads ≡ min (self.old.reads + 1) (2 ^ 64 - 1) }
         ensures taken { MatchResult result
@@ -63,18 +67,18 @@ impl<'a> Read for ScriptedReader<'a> {
     }
 }
 
-/// A reader without end: each of its calls fills the buffer with one byte, again and again.
+/// A reader without end. Each read fills the whole buffer with the same byte.
 #[derive(Drop)]
 pub struct EndlessReader {
     byte: u8,
-    /// How many bytes were taken.
+    /// The number of bytes that were read so far.
     pub taken: u64,
 }
 
 impl EndlessReader {
     ghost use Rattle.scripted_io.specs.Reader.{byte_of};
 
-    /// A reader of this byte.
+    /// Returns a reader of this byte.
     pub fn new(byte: u8) -> EndlessReader
         ensures byte { byte_of result ≡ byte }
         ensures taken { result.taken ≡ 0 }
@@ -91,7 +95,8 @@ impl Read for EndlessReader {
         ensures bytes { ReadConsumes None None result buffer.new }
         ensures count { result ≡ Ok (length buffer.old) }
         ensures filled { buffer.new ≡ replicate (length buffer.old) (byte_of self.old) }
-        ensures state { self.new ≡ record self.old { taken = min (self.old.taken + length buffer.old) (2 ^ 64 - 1) } }
+        ensures state { self.new
+            ≡ record self.old { taken = min (self.old.taken + length buffer.old) (2 ^ 64 - 1) } }
     {
         self.taken = self.taken.saturating_add(buffer.len() as u64);
         buffer.fill(self.byte);

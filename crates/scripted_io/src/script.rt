@@ -1,4 +1,4 @@
-//! What the calls of a reader or a writer do, in their order.
+//! Scripts: what each call of a reader or a writer does.
 
 ghost use Rattle.std.specs.Prelude.{◌≡◌, ◌≢◌, ◌+◌, ◌%◌, ◌<◌, ◌≤◌, ℕ};
 
@@ -8,18 +8,19 @@ use std::num::NonZeroU64;
 /// What one call does.
 #[derive(Clone, Copy, Debug, PartialEq, Eq)]
 pub enum Turn {
-    /// It takes all the bytes that it can.
+    /// It reads or writes as many bytes as it can.
     TakesAll,
-    /// It takes this many bytes, or all where there are fewer. A read takes one at least, while any is left.
+    /// It reads or writes this many bytes, or all if there are fewer. A read returns at least one
+    /// byte before the end.
     Takes(usize),
-    /// It is interrupted, and takes none.
+    /// It is interrupted, and reads or writes nothing.
     IsInterrupted,
-    /// It fails, as on a broken pipe, and takes none.
+    /// It fails, as on a broken pipe, and reads or writes nothing.
     Fails,
 }
 
-/// What each call does: some calls do one thing, and the others another. A script with a period begins again after that
-/// many calls.
+/// What each call does: one turn for some calls in a row, and another turn for all others. A
+/// script with a period begins again after that many calls.
 #[derive(Clone, Copy, Debug, PartialEq, Eq)]
 pub struct Script {
     first: u64,
@@ -32,7 +33,7 @@ pub struct Script {
 impl Script {
     ghost use Rattle.scripted_io.specs.Script.{turn_at, Follows};
 
-    /// Each call does this.
+    /// Returns the script of which each call has this turn.
     pub fn always(turn: Turn) -> Script
         ensures { (number : ℕ) → turn_at result number ≡ turn }
     {
@@ -45,7 +46,8 @@ impl Script {
         }
     }
 
-    /// The call of this number, the first call's being 0, fails, and each other call does this.
+    /// Returns the script of which the call of this number, counted from 0, fails, and each other
+    /// call has this turn.
     pub fn failing_among(number: u64, others: Turn) -> Script
         ensures fails { turn_at result number ≡ Turn.Fails }
         ensures others { (other : ℕ) → other ≢ number → turn_at result other ≡ others }
@@ -59,7 +61,8 @@ impl Script {
         }
     }
 
-    /// As many calls as `calls` do `turn`, and each call after them does `then`.
+    /// Returns the script of which the first `calls` calls have the turn `turn`, and each call
+    /// after them has `then`.
     pub fn first(calls: u64, turn: Turn, then: Turn) -> Script
         ensures turn { (number : ℕ) → number < calls → turn_at result number ≡ turn }
         ensures then { (number : ℕ) → calls ≤ number → turn_at result number ≡ then }
@@ -73,7 +76,8 @@ impl Script {
         }
     }
 
-    /// As many calls as `calls` do `turn`, the next one does `then`, and so again from the beginning.
+    /// Returns the script of which `calls` calls have the turn `turn` and the next one has `then`,
+    /// again and again.
     pub fn repeated(calls: u32, turn: Turn, then: Turn) -> Script
         ensures turn { (number : ℕ) → number % (calls + 1) < calls → turn_at result number ≡ turn }
         ensures then { (number : ℕ) → number % (calls + 1) ≡ calls → turn_at result number ≡ then }
@@ -87,7 +91,7 @@ impl Script {
         }
     }
 
-    /// What the call of this number does, the first call's being 0.
+    /// Returns the turn of the call of this number, counted from 0.
     fn turn(self, number: u64) -> Turn
         ensures { result ≡ turn_at self number }
     {
@@ -102,7 +106,8 @@ impl Script {
         }
     }
 
-    /// How many bytes the call of this number may take, or the error that it gives.
+    /// Returns how many bytes the call of this number may read or write, or fails as that call
+    /// does.
     pub(crate) fn most(self, number: u64) -> io::Result<usize>
         ensures { Follows (turn_at self number) (λ most. result ≡ Ok most) result }
     {

@@ -66,13 +66,13 @@ fn too_many_interruptions_in_a_row_are_a_failure(rt: HostRuntime) {
 }
 
 #[test]
-fn a_failed_read_is_told_wherever_it_comes(rt: HostRuntime) -> Result<(), Fail> {
+fn no_read_follows_a_failed_one(rt: HostRuntime) -> Result<(), Fail> {
     // Five reads take a byte each, and the sixth finds the end.
     for number in 0..6 {
         let script = Script::failing_among(number, Turn::Takes(1));
         let mut reader = ScriptedReader::new(b"abcde", script);
-        let answer = read_all(rt.alloc(), &mut reader, small());
-        assert_eq!(rt; answer.err(), Some(Error::ReadFailed), "at read {number}");
+        let result = read_all(rt.alloc(), &mut reader, small());
+        assert_eq!(rt; result.err(), Some(Error::ReadFailed), "at read {number}");
         assert_eq!(rt; reader.taken, number);
     }
     let mut reader = ScriptedReader::new(b"abcde", Script::failing_among(6, Turn::Takes(1)));

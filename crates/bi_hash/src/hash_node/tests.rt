@@ -5,6 +5,14 @@ use super::*;
 /// The CRC-32 of "abc".
 const SUM_OF_ABC: &[u8] = &[0x35, 0x24, 0x41, 0xc2];
 
+/// The SHA-384 of "abc" (examples of FIPS 180-4).
+#[rattlefmt::skip]
+const SHA384_OF_ABC: [u8; 48] = [
+    0xcb, 0x00, 0x75, 0x3f, 0x45, 0xa3, 0x5e, 0x8b, 0xb5, 0xa0, 0x3d, 0x69, 0x9a, 0xc6, 0x50, 0x07,
+    0x27, 0x2c, 0x32, 0xab, 0x0e, 0xde, 0xd1, 0x63, 0x1a, 0x8b, 0x60, 0x5a, 0x43, 0xff, 0x5b, 0xed,
+    0x80, 0x86, 0x07, 0x2b, 0xa1, 0xe7, 0xcc, 0x23, 0x58, 0xba, 0xec, 0xa1, 0x34, 0xc8, 0x25, 0xa7,
+];
+
 #[test]
 fn the_digest_of_the_payload_is_good(rt: HostRuntime) {
     let abc = Some(b"abc".as_slice());
@@ -15,7 +23,7 @@ fn the_digest_of_the_payload_is_good(rt: HostRuntime) {
     assert_eq!(rt;
         verdict(Some(b"crc32\0x"), Some(SUM_OF_ABC), abc),
         Verdict::Good,
-        "bytes behind the zero"
+        "bytes after the NUL"
     );
     assert_eq!(rt;
         verdict(Some(b"crc32\0"), Some(&[0; 4]), Some(b"")),
@@ -55,7 +63,7 @@ fn unknown_algorithms_come_before_a_missing_payload(rt: HostRuntime) {
         Verdict::UnknownAlgo
     );
     assert_eq!(rt;
-        verdict(Some(b"sha384\0"), value, None),
+        verdict(Some(b"sha224\0"), value, None),
         Verdict::UnknownAlgo,
         "no payload"
     );
@@ -87,11 +95,24 @@ fn nodes_without_algo_or_value_are_malformed(rt: HostRuntime) {
     assert_eq!(rt;
         verdict(Some(b"crc32"), Some(SUM_OF_ABC), abc),
         Verdict::Malformed,
-        "no zero in algo"
+        "no NUL in algo"
     );
     assert_eq!(rt;
-        verdict(Some(b"sha384\0"), None, None),
+        verdict(Some(b"sha224\0"), None, None),
         Verdict::Malformed,
         "no value, unknown algorithm"
     );
+}
+
+#[test]
+fn sha384_is_judged_by_all_its_48_bytes(rt: HostRuntime) {
+    let abc = Some(b"abc".as_slice());
+    let algo = Some(b"sha384\0".as_slice());
+    assert_eq!(rt; verdict(algo, Some(&SHA384_OF_ABC), abc), Verdict::Good);
+    assert_eq!(rt;
+        verdict(algo, Some(&SHA384_OF_ABC[..47]), abc),
+        Verdict::Bad,
+        "the first 47 bytes"
+    );
+    assert_eq!(rt; verdict(algo, Some(b"any value"), None), Verdict::NoPayload);
 }

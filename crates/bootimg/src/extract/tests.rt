@@ -1,6 +1,6 @@
 use super::*;
 use crate::images::{KERNEL, PADDED_KERNEL, PADDED_PARTS, TREE};
-use bi_base::Cause;
+use bi_base::{Cause, Fault};
 use scripted_io::{Script, ScriptedReader, ScriptedWriter, Turn};
 use std::test::Fail;
 
@@ -30,25 +30,25 @@ fn each_part_is_extracted(rt: HostRuntime) -> Result<(), Fail> {
 }
 
 #[test]
-fn no_part_is_extracted_that_is_not_there(rt: HostRuntime) {
+fn a_missing_part_is_a_failure(rt: HostRuntime) {
     for (file, index) in [
         (KERNEL.as_slice(), 1),
         (PADDED_PARTS.as_slice(), 2),
         (PADDED_PARTS.as_slice(), u32::MAX),
     ] {
-        let answer = extract_of(rt.alloc(), file, Select::Part(index));
-        assert_eq!(rt; answer.err(), Some(ExtractError::NoPart), "of part {index}");
+        let result = extract_of(rt.alloc(), file, Select::Part(index));
+        assert_eq!(rt; result.err(), Some(ExtractError::NoPart), "of part {index}");
     }
 }
 
 #[test]
 fn a_legacy_image_has_no_named_images(rt: HostRuntime) {
-    let answer = extract_of(rt.alloc(), KERNEL.as_slice(), Select::Image(b"a"));
-    assert_eq!(rt; answer.err(), Some(ExtractError::WrongKind));
+    let result = extract_of(rt.alloc(), KERNEL.as_slice(), Select::Image(b"a"));
+    assert_eq!(rt; result.err(), Some(ExtractError::WrongKind));
 }
 
 #[test]
-fn a_refused_file_is_told_before_the_selection_is_judged(rt: HostRuntime) {
+fn the_file_is_checked_before_the_selection(rt: HostRuntime) {
     for (file, cause, offset) in [
         (TREE.as_slice(), Cause::Unsupported, 0),
         (b"\x01\x02\x03\x04".as_slice(), Cause::BadMagic, 0),
@@ -62,19 +62,19 @@ fn a_refused_file_is_told_before_the_selection_is_judged(rt: HostRuntime) {
 }
 
 #[test]
-fn a_failed_write_leaves_a_first_part_of_the_bytes(rt: HostRuntime) {
+fn a_failed_write_leaves_a_prefix_of_the_bytes(rt: HostRuntime) {
     for taken in [0, 1, 8] {
         let mut file = KERNEL.as_slice();
         let writes = Script::failing_among(1, Turn::Takes(taken));
         let mut writer = ScriptedWriter::new(rt.alloc(), writes, Script::always(Turn::TakesAll));
-        let answer = extract_to(
+        let result = extract_to(
             rt.alloc(),
             &mut file,
             &mut writer,
             Select::Part(0),
             limits(),
         );
-        assert_eq!(rt; answer, Err(ExtractError::Failed(Error::WriteFailed)));
+        assert_eq!(rt; result, Err(ExtractError::Failed(Error::WriteFailed)));
         assert_eq!(rt; writer.held.as_slice(), &b"123456789"[..taken]);
     }
 }
@@ -84,14 +84,14 @@ fn a_failed_flush_leaves_all_the_bytes(rt: HostRuntime) {
     let mut file = KERNEL.as_slice();
     let flushes = Script::failing_among(0, Turn::TakesAll);
     let mut writer = ScriptedWriter::new(rt.alloc(), Script::always(Turn::TakesAll), flushes);
-    let answer = extract_to(
+    let result = extract_to(
         rt.alloc(),
         &mut file,
         &mut writer,
         Select::Part(0),
         limits(),
     );
-    assert_eq!(rt; answer, Err(ExtractError::Failed(Error::WriteFailed)));
+    assert_eq!(rt; result, Err(ExtractError::Failed(Error::WriteFailed)));
     assert_eq!(rt; writer.held.as_slice(), b"123456789".as_slice());
 }
 
@@ -101,14 +101,14 @@ fn a_failed_read_writes_nothing(rt: HostRuntime) {
         let reads = Script::failing_among(number, Turn::Takes(1));
         let mut reader = ScriptedReader::new(KERNEL.as_slice(), reads);
         let mut bytes = Vec::new(rt.alloc());
-        let answer = extract_to(
+        let result = extract_to(
             rt.alloc(),
             &mut reader,
             &mut bytes,
             Select::Part(0),
             limits(),
         );
-        assert_eq!(rt; answer, Err(ExtractError::Failed(Error::ReadFailed)));
+        assert_eq!(rt; result, Err(ExtractError::Failed(Error::ReadFailed)));
         assert!(rt; bytes.is_empty());
     }
 }

@@ -62,7 +62,7 @@ fn a_kernel_image_is_listed(rt: HostRuntime) -> Result<(), Fail> {
 }
 
 #[test]
-fn each_part_is_listed_with_its_place_in_the_file(rt: HostRuntime) -> Result<(), Fail> {
+fn each_part_is_listed_with_its_offset_in_the_file(rt: HostRuntime) -> Result<(), Fail> {
     let text = list_of(rt.alloc(), PADDED_PARTS.as_slice())?;
     assert_eq!(rt; text.as_slice(), PARTS_LISTING);
     Ok(())
@@ -79,7 +79,7 @@ fn an_image_without_parts_is_listed(rt: HostRuntime) -> Result<(), Fail> {
 }
 
 #[test]
-fn bytes_behind_the_last_part_are_counted(rt: HostRuntime) -> Result<(), Fail> {
+fn unused_bytes_after_the_last_part_are_counted(rt: HostRuntime) -> Result<(), Fail> {
     let text = list_of(rt.alloc(), PADDED_KERNEL.as_slice())?;
     assert!(rt;
         text.as_slice()
@@ -127,7 +127,7 @@ fn codes_without_names_are_listed_as_numbers(rt: HostRuntime) -> Result<(), Fail
 }
 
 #[test]
-fn files_that_are_no_legacy_images_are_not_listed(rt: HostRuntime) {
+fn files_that_are_not_legacy_images_are_refused(rt: HostRuntime) {
     for (file, cause, offset) in [
         (TREE.as_slice(), Cause::Unsupported, 0),
         (b"\x01\x02\x03\x04".as_slice(), Cause::BadMagic, 0),
@@ -143,13 +143,13 @@ fn files_that_are_no_legacy_images_are_not_listed(rt: HostRuntime) {
 }
 
 #[test]
-fn a_failed_write_leaves_a_first_part_of_the_listing(rt: HostRuntime) -> Result<(), Fail> {
+fn a_failed_write_leaves_a_prefix_of_the_listing(rt: HostRuntime) -> Result<(), Fail> {
     for taken in [0, 1, 50, 140] {
         let mut file = KERNEL.as_slice();
         let writes = Script::failing_among(1, Turn::Takes(taken));
         let mut writer = ScriptedWriter::new(rt.alloc(), writes, Script::always(Turn::TakesAll));
-        let answer = list_to(rt.alloc(), &mut file, &mut writer, limits());
-        assert_eq!(rt; answer, Err(Error::WriteFailed));
+        let result = list_to(rt.alloc(), &mut file, &mut writer, limits());
+        assert_eq!(rt; result, Err(Error::WriteFailed));
         assert_eq!(rt; writer.held.as_slice(), &KERNEL_LISTING[..taken]);
     }
     Ok(())
@@ -160,8 +160,8 @@ fn a_failed_flush_leaves_the_whole_listing(rt: HostRuntime) {
     let mut file = KERNEL.as_slice();
     let flushes = Script::failing_among(0, Turn::TakesAll);
     let mut writer = ScriptedWriter::new(rt.alloc(), Script::always(Turn::Takes(7)), flushes);
-    let answer = list_to(rt.alloc(), &mut file, &mut writer, limits());
-    assert_eq!(rt; answer, Err(Error::WriteFailed));
+    let result = list_to(rt.alloc(), &mut file, &mut writer, limits());
+    assert_eq!(rt; result, Err(Error::WriteFailed));
     assert_eq!(rt; writer.held.as_slice(), KERNEL_LISTING);
 }
 
@@ -171,8 +171,8 @@ fn a_failed_read_writes_nothing(rt: HostRuntime) {
         let reads = Script::failing_among(number, Turn::Takes(1));
         let mut reader = ScriptedReader::new(KERNEL.as_slice(), reads);
         let mut text = Vec::new(rt.alloc());
-        let answer = list_to(rt.alloc(), &mut reader, &mut text, limits());
-        assert_eq!(rt; answer, Err(Error::ReadFailed));
+        let result = list_to(rt.alloc(), &mut reader, &mut text, limits());
+        assert_eq!(rt; result, Err(Error::ReadFailed));
         assert!(rt; text.is_empty());
     }
 }

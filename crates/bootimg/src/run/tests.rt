@@ -9,36 +9,37 @@ use std::alloc::Global;
 use std::process::Abort;
 use std::test::Fail;
 
-/// The commands, each with the words that it needs, and what they write for `PADDED_PARTS`.
+/// The commands, each with its arguments, and what it writes for `PADDED_PARTS`.
 const COMMANDS: [(&[&str], &[u8]); 3] = [
     (&["normalise"], PARTS),
     (&["list"], PARTS_LISTING),
     (&["extract", "--part", "0"], b"hello"),
 ];
 
-/// What a run has to read and write with.
+/// The scripts of the streams of a run.
 #[derive(Clone, Copy)]
 struct Streams {
     reading: Script,
     writing: Script,
     flushing: Script,
-    telling: Script,
+    error_writing: Script,
 }
 
 impl Streams {
     /// Streams that never fail.
-    fn sound() -> Streams {
+    fn succeeding() -> Streams {
         let all = Script::always(Turn::TakesAll);
         Streams {
             reading: all,
             writing: all,
             flushing: all,
-            telling: all,
+            error_writing: all,
         }
     }
 }
 
-/// How a run went.
+/// What a run did: its exit status, what it wrote to standard output and standard error, and how
+/// often it read.
 #[derive(Drop)]
 struct Outcome {
     status: u8,
@@ -47,13 +48,13 @@ struct Outcome {
     reads: u64,
 }
 
-/// Runs the program with these words on this input.
-fn run_on<'a>(alloc: Global, words: &'a [&'a str], input: &[u8], streams: Streams) -> Outcome {
-    let quiet = Script::always(Turn::TakesAll);
+/// Runs the program with these arguments on this input.
+fn run_on<'a>(alloc: Global, args: &'a [&'a str], input: &[u8], streams: Streams) -> Outcome {
+    let all = Script::always(Turn::TakesAll);
     let mut reader = ScriptedReader::new(input, streams.reading);
     let mut writer = ScriptedWriter::new(alloc, streams.writing, streams.flushing);
-    let mut errors = ScriptedWriter::new(alloc, streams.telling, quiet);
-    let status = run(alloc, words, &mut reader, &mut writer, &mut errors);
+    let mut errors = ScriptedWriter::new(alloc, streams.error_writing, all);
+    let status = run(alloc, args, &mut reader, &mut writer, &mut errors);
     Outcome {
         status,
         output: writer.held,
@@ -62,31 +63,38 @@ fn run_on<'a>(alloc: Global, words: &'a [&'a str], input: &[u8], streams: Stream
     }
 }
 
-/// The program does what these words ask for, writes this and says nothing.
-fn gives<'a>(rt: &(impl Abort + AllocGlobal), words: &'a [&'a str], input: &[u8], wanted: &[u8]) {
-    let got = run_on(rt.alloc(), words, input, Streams::sound());
-    assert_eq!(rt; got.status, 0, "{words:?}");
-    assert_eq!(rt; got.output.as_slice(), wanted, "{words:?}");
-    assert_eq!(rt; got.errors.len(), 0, "{words:?}");
+/// With these arguments the program ends with status 0, writes this, and writes nothing to
+/// standard error.
+fn writes<'a>(rt: &(impl Abort + AllocGlobal), args: &'a [&'a str], input: &[u8], wanted: &[u8]) {
+    let got = run_on(rt.alloc(), args, input, Streams::succeeding());
+    assert_eq!(rt; got.status, 0, "{args:?}");
+    assert_eq!(rt; got.output.as_slice(), wanted, "{args:?}");
+    assert_eq!(rt; got.errors.len(), 0, "{args:?}");
 }
 
-/// The program ends with status 2, writes nothing and says this.
-fn says<'a>(rt: &(impl Abort + AllocGlobal), words: &'a [&'a str], input: &[u8], wanted: &str) {
-    let got = run_on(rt.alloc(), words, input, Streams::sound());
-    assert_eq!(rt; got.status, 2, "{words:?}");
-    assert_eq!(rt; got.output.len(), 0, "{words:?}");
-    assert_eq!(rt; got.errors.as_slice(), wanted.as_bytes(), "{words:?}");
+/// With these arguments the program ends with status 2, writes nothing, and writes this to
+/// standard error.
+fn fails_with<'a>(
+    rt: &(impl Abort + AllocGlobal),
+    args: &'a [&'a str],
+    input: &[u8],
+    wanted: &str,
+) {
+    let got = run_on(rt.alloc(), args, input, Streams::succeeding());
+    assert_eq!(rt; got.status, 2, "{args:?}");
+    assert_eq!(rt; got.output.len(), 0, "{args:?}");
+    assert_eq!(rt; got.errors.as_slice(), wanted.as_bytes(), "{args:?}");
 }
 
 #[test]
 fn normal_forms_are_written(rt: HostRuntime) {
-    gives(&rt, &["normalise"], KERNEL, KERNEL);
-    gives(&rt, &["normalise"], PADDED_KERNEL, KERNEL);
-    gives(&rt, &["normalise"], EMPTY_KERNEL, EMPTY_KERNEL);
-    gives(&rt, &["normalise"], PADDED_PARTS, PARTS);
-    gives(&rt, &["normalise"], PARTS, PARTS);
-    gives(&rt, &["normalise"], NO_PARTS, NO_PARTS);
-    gives(&rt, &["normalise"], SCRIPT, SCRIPT);
+    writes(&rt, &["normalise"], KERNEL, KERNEL);
+    writes(&rt, &["normalise"], PADDED_KERNEL, KERNEL);
+    writes(&rt, &["normalise"], EMPTY_KERNEL, EMPTY_KERNEL);
+    writes(&rt, &["normalise"], PADDED_PARTS, PARTS);
+    writes(&rt, &["normalise"], PARTS, PARTS);
+    writes(&rt, &["normalise"], NO_PARTS, NO_PARTS);
+    writes(&rt, &["normalise"], SCRIPT, SCRIPT);
 }
 
 #[test]
@@ -97,10 +105,10 @@ fn a_changed_bit_is_refused(rt: HostRuntime) {
     data[72] ^= 1;
     let mut magic = *KERNEL;
     magic[0] ^= 1;
-    for (words, _) in COMMANDS {
-        says(&rt, words, &header, "bootimg: BadHeaderCrc at 4\n");
-        says(&rt, words, &data, "bootimg: BadDataCrc at 24\n");
-        says(&rt, words, &magic, "bootimg: BadMagic at 0\n");
+    for (args, _) in COMMANDS {
+        fails_with(&rt, args, &header, "bootimg: BadHeaderCrc at 4\n");
+        fails_with(&rt, args, &data, "bootimg: BadDataCrc at 24\n");
+        fails_with(&rt, args, &magic, "bootimg: BadMagic at 0\n");
     }
 }
 
@@ -112,25 +120,25 @@ fn a_cut_file_is_refused(rt: HostRuntime) {
         } else {
             "bootimg: Truncated at 12\n"
         };
-        for (words, _) in COMMANDS {
-            says(&rt, words, &KERNEL[..length], wanted);
+        for (args, _) in COMMANDS {
+            fails_with(&rt, args, &KERNEL[..length], wanted);
         }
     }
-    for (words, _) in COMMANDS {
-        says(&rt, words, &[1, 2, 3, 4], "bootimg: BadMagic at 0\n");
+    for (args, _) in COMMANDS {
+        fails_with(&rt, args, &[1, 2, 3, 4], "bootimg: BadMagic at 0\n");
     }
 }
 
 #[test]
 fn bad_parts_are_refused(rt: HostRuntime) {
-    for (words, _) in COMMANDS {
+    for (args, _) in COMMANDS {
         for (image, wanted) in [
             (NO_END_OF_SIZES.as_slice(), "bootimg: BadPartTable at 64\n"),
             (LESS_THAN_A_SIZE.as_slice(), "bootimg: BadPartTable at 64\n"),
             (SECOND_PART_TOO_LONG.as_slice(), "bootimg: BadPart at 68\n"),
             (FIRST_PART_TOO_LONG.as_slice(), "bootimg: BadPart at 64\n"),
         ] {
-            says(&rt, words, image, wanted);
+            fails_with(&rt, args, image, wanted);
         }
     }
 }
@@ -138,11 +146,11 @@ fn bad_parts_are_refused(rt: HostRuntime) {
 #[test]
 fn a_tree_is_not_supported_yet(rt: HostRuntime) {
     let wanted = "bootimg: Unsupported at 0\n";
-    says(&rt, &["normalise"], TREE, wanted);
-    says(&rt, &["list"], TREE, wanted);
-    says(&rt, &["extract", "--part", "0"], TREE, wanted);
-    says(&rt, &["extract", "--image", "a"], TREE, wanted);
-    says(
+    fails_with(&rt, &["normalise"], TREE, wanted);
+    fails_with(&rt, &["list"], TREE, wanted);
+    fails_with(&rt, &["extract", "--part", "0"], TREE, wanted);
+    fails_with(&rt, &["extract", "--image", "a"], TREE, wanted);
+    fails_with(
         &rt,
         &["normalise", "--limit", "87"],
         TREE,
@@ -160,18 +168,18 @@ fn the_limit_bounds_the_input(rt: HostRuntime) {
         "2147483647",
         "0x7FFFffff",
     ] {
-        gives(&rt, &["normalise", "--limit", limit], KERNEL, KERNEL);
+        writes(&rt, &["normalise", "--limit", limit], KERNEL, KERNEL);
     }
-    gives(
+    writes(
         &rt,
         &["normalise", "--limit=64"],
         EMPTY_KERNEL,
         EMPTY_KERNEL,
     );
     let wanted = "bootimg: TooLarge at 72\n";
-    says(&rt, &["normalise", "--limit", "72"], KERNEL, wanted);
-    says(&rt, &["list", "--limit", "72"], KERNEL, wanted);
-    says(
+    fails_with(&rt, &["normalise", "--limit", "72"], KERNEL, wanted);
+    fails_with(&rt, &["list", "--limit", "72"], KERNEL, wanted);
+    fails_with(
         &rt,
         &["extract", "--part", "0", "--limit", "72"],
         KERNEL,
@@ -201,9 +209,9 @@ fn values_that_an_option_cannot_have_are_refused(rt: HostRuntime) {
         "٧٣",
     ] {
         let wanted = "bootimg: usage: bad value\n";
-        says(&rt, &["normalise", "--limit", value], KERNEL, wanted);
-        says(&rt, &["list", "--limit", value], KERNEL, wanted);
-        says(
+        fails_with(&rt, &["normalise", "--limit", value], KERNEL, wanted);
+        fails_with(&rt, &["list", "--limit", value], KERNEL, wanted);
+        fails_with(
             &rt,
             &["extract", "--part", "0", "--limit", value],
             KERNEL,
@@ -212,29 +220,29 @@ fn values_that_an_option_cannot_have_are_refused(rt: HostRuntime) {
     }
     for value in ["", "0x", "x", "+0", "0_0", "4294967296"] {
         let wanted = "bootimg: usage: bad value\n";
-        says(&rt, &["extract", "--part", value], KERNEL, wanted);
+        fails_with(&rt, &["extract", "--part", value], KERNEL, wanted);
     }
 }
 
 #[test]
 fn images_are_listed(rt: HostRuntime) {
-    gives(&rt, &["list"], KERNEL, KERNEL_LISTING);
-    gives(&rt, &["list"], PADDED_PARTS, PARTS_LISTING);
+    writes(&rt, &["list"], KERNEL, KERNEL_LISTING);
+    writes(&rt, &["list"], PADDED_PARTS, PARTS_LISTING);
 }
 
 #[test]
 fn parts_are_extracted(rt: HostRuntime) {
-    gives(&rt, &["extract", "--part", "0"], KERNEL, b"123456789");
-    gives(&rt, &["extract", "--part", "0"], PADDED_PARTS, b"hello");
-    gives(&rt, &["extract", "--part", "1"], PADDED_PARTS, b"abc");
-    gives(&rt, &["extract", "--part=0x1"], PARTS, b"abc");
-    gives(&rt, &["extract", "--part", "0"], EMPTY_KERNEL, b"");
+    writes(&rt, &["extract", "--part", "0"], KERNEL, b"123456789");
+    writes(&rt, &["extract", "--part", "0"], PADDED_PARTS, b"hello");
+    writes(&rt, &["extract", "--part", "1"], PADDED_PARTS, b"abc");
+    writes(&rt, &["extract", "--part=0x1"], PARTS, b"abc");
+    writes(&rt, &["extract", "--part", "0"], EMPTY_KERNEL, b"");
     let no_part = "bootimg: no such part\n";
-    says(&rt, &["extract", "--part", "1"], KERNEL, no_part);
-    says(&rt, &["extract", "--part", "2"], PARTS, no_part);
-    says(&rt, &["extract", "--part", "0"], NO_PARTS, no_part);
-    says(&rt, &["extract", "--part", "4294967295"], PARTS, no_part);
-    says(
+    fails_with(&rt, &["extract", "--part", "1"], KERNEL, no_part);
+    fails_with(&rt, &["extract", "--part", "2"], PARTS, no_part);
+    fails_with(&rt, &["extract", "--part", "0"], NO_PARTS, no_part);
+    fails_with(&rt, &["extract", "--part", "4294967295"], PARTS, no_part);
+    fails_with(
         &rt,
         &["extract", "--image", "a"],
         KERNEL,
@@ -245,16 +253,16 @@ fn parts_are_extracted(rt: HostRuntime) {
 #[test]
 fn extract_takes_one_selection(rt: HostRuntime) {
     let wanted = "bootimg: usage: give one of --part, --image, --config\n";
-    says(&rt, &["extract"], KERNEL, wanted);
-    says(
+    fails_with(&rt, &["extract"], KERNEL, wanted);
+    fails_with(
         &rt,
         &["extract", "--part", "0", "--image", "a"],
         KERNEL,
         wanted,
     );
     // It comes before a value that an option cannot have.
-    says(&rt, &["extract", "--limit", "63"], KERNEL, wanted);
-    says(
+    fails_with(&rt, &["extract", "--limit", "63"], KERNEL, wanted);
+    fails_with(
         &rt,
         &["extract", "--part", "x", "--image", "a"],
         KERNEL,
@@ -262,25 +270,35 @@ fn extract_takes_one_selection(rt: HostRuntime) {
     );
 }
 
-/// The streams of a run, one of which fails.
-fn failing(reading: Script, writing: Script, flushing: Script, telling: Script) -> Streams {
+/// The streams with these scripts.
+fn streams_of(
+    reading: Script,
+    writing: Script,
+    flushing: Script,
+    error_writing: Script,
+) -> Streams {
     Streams {
         reading,
         writing,
         flushing,
-        telling,
+        error_writing,
     }
 }
 
 #[test]
-fn a_failed_write_is_told(rt: HostRuntime) {
-    let sound = Streams::sound();
-    for (words, wanted) in COMMANDS {
+fn a_failed_write_is_a_failure(rt: HostRuntime) {
+    let succeeding = Streams::succeeding();
+    for (args, wanted) in COMMANDS {
         for number in 0..wanted.len() {
             let writing = Script::failing_among(number as u64, Turn::Takes(1));
-            let streams = failing(sound.reading, writing, sound.flushing, sound.telling);
-            let got = run_on(rt.alloc(), words, PADDED_PARTS, streams);
-            assert_eq!(rt; got.status, 2, "{words:?} at {number}");
+            let streams = streams_of(
+                succeeding.reading,
+                writing,
+                succeeding.flushing,
+                succeeding.error_writing,
+            );
+            let got = run_on(rt.alloc(), args, PADDED_PARTS, streams);
+            assert_eq!(rt; got.status, 2, "{args:?} at {number}");
             assert_eq!(rt;
                 got.errors.as_slice(),
                 b"bootimg: write failed\n".as_slice()
@@ -289,7 +307,12 @@ fn a_failed_write_is_told(rt: HostRuntime) {
         }
     }
     let writing = Script::first(1, Turn::Takes(50), Turn::Fails);
-    let streams = failing(sound.reading, writing, sound.flushing, sound.telling);
+    let streams = streams_of(
+        succeeding.reading,
+        writing,
+        succeeding.flushing,
+        succeeding.error_writing,
+    );
     let got = run_on(rt.alloc(), &["normalise"], PADDED_KERNEL, streams);
     assert_eq!(rt; got.status, 2);
     assert_eq!(rt;
@@ -300,30 +323,40 @@ fn a_failed_write_is_told(rt: HostRuntime) {
 }
 
 #[test]
-fn a_failed_flush_is_told(rt: HostRuntime) {
-    let sound = Streams::sound();
+fn a_failed_flush_is_a_failure(rt: HostRuntime) {
+    let succeeding = Streams::succeeding();
     let fails = Script::always(Turn::Fails);
-    let streams = failing(sound.reading, sound.writing, fails, sound.telling);
-    for (words, wanted) in COMMANDS {
-        let got = run_on(rt.alloc(), words, PADDED_PARTS, streams);
-        assert_eq!(rt; got.status, 2, "{words:?}");
+    let streams = streams_of(
+        succeeding.reading,
+        succeeding.writing,
+        fails,
+        succeeding.error_writing,
+    );
+    for (args, wanted) in COMMANDS {
+        let got = run_on(rt.alloc(), args, PADDED_PARTS, streams);
+        assert_eq!(rt; got.status, 2, "{args:?}");
         assert_eq!(rt;
             got.errors.as_slice(),
             b"bootimg: write failed\n".as_slice()
         );
-        assert_eq!(rt; got.output.as_slice(), wanted, "{words:?}");
+        assert_eq!(rt; got.output.as_slice(), wanted, "{args:?}");
     }
 }
 
 #[test]
-fn a_failed_read_is_told(rt: HostRuntime) {
-    let sound = Streams::sound();
-    for (words, _) in COMMANDS {
+fn a_failed_read_is_a_failure(rt: HostRuntime) {
+    let succeeding = Streams::succeeding();
+    for (args, _) in COMMANDS {
         for number in 0..=KERNEL.len() {
             let reading = Script::failing_among(number as u64, Turn::Takes(1));
-            let streams = failing(reading, sound.writing, sound.flushing, sound.telling);
-            let got = run_on(rt.alloc(), words, KERNEL, streams);
-            assert_eq!(rt; got.status, 2, "{words:?} at {number}");
+            let streams = streams_of(
+                reading,
+                succeeding.writing,
+                succeeding.flushing,
+                succeeding.error_writing,
+            );
+            let got = run_on(rt.alloc(), args, KERNEL, streams);
+            assert_eq!(rt; got.status, 2, "{args:?} at {number}");
             assert_eq!(rt; got.errors.as_slice(), b"bootimg: read failed\n".as_slice());
             assert_eq!(rt; got.output.len(), 0);
         }
@@ -331,64 +364,87 @@ fn a_failed_read_is_told(rt: HostRuntime) {
 }
 
 #[test]
-fn what_cannot_be_said_is_left_out(rt: HostRuntime) {
-    let sound = Streams::sound();
+fn a_failed_write_to_standard_error_is_ignored(rt: HostRuntime) {
+    let succeeding = Streams::succeeding();
     let fails = Script::always(Turn::Fails);
-    let streams = failing(sound.reading, sound.writing, sound.flushing, fails);
-    for words in [["normalise"].as_slice(), ["nothing"].as_slice()] {
-        let got = run_on(rt.alloc(), words, TREE, streams);
-        assert_eq!(rt; got.status, 2, "{words:?}");
+    let streams = streams_of(
+        succeeding.reading,
+        succeeding.writing,
+        succeeding.flushing,
+        fails,
+    );
+    for args in [["normalise"].as_slice(), ["nothing"].as_slice()] {
+        let got = run_on(rt.alloc(), args, TREE, streams);
+        assert_eq!(rt; got.status, 2, "{args:?}");
         assert_eq!(rt; got.output.len(), 0);
         assert_eq!(rt; got.errors.len(), 0);
     }
 }
 
-/// The program reads nothing and ends with this status. It writes a text with this in it and says nothing where the status
-/// is 0, and else it says the text and writes nothing.
+/// With these arguments the program reads nothing and ends with this status. It writes a text that
+/// contains this, to standard output where the status is 0, else to standard error, and nothing to
+/// the other.
 fn shows<'a>(
     rt: &(impl Abort + AllocGlobal),
-    words: &'a [&'a str],
+    args: &'a [&'a str],
     status: u8,
     wanted: &str,
 ) -> Result<(), Fail> {
-    let got = run_on(rt.alloc(), words, KERNEL, Streams::sound());
-    assert_eq!(rt; (got.status, got.reads), (status, 0), "{words:?}");
+    let got = run_on(rt.alloc(), args, KERNEL, Streams::succeeding());
+    assert_eq!(rt; (got.status, got.reads), (status, 0), "{args:?}");
     let (text, rest) = if status == 0 {
         (got.output, got.errors)
     } else {
         (got.errors, got.output)
     };
-    assert!(rt; rest.is_empty(), "{words:?}");
+    assert!(rt; rest.is_empty(), "{args:?}");
     let text = String::from_utf8(text)?;
-    assert!(rt; text.as_str().contains(wanted), "{words:?}: {text}");
+    assert!(rt; text.as_str().contains(wanted), "{args:?}: {text}");
     Ok(())
 }
 
+/// The usage line of each command, which says where the image comes from.
+const USAGES: [(&str, &str); 3] = [
+    (
+        "normalise",
+        "Usage: bootimg normalise [OPTIONS] < IMAGE > NORMAL\n",
+    ),
+    ("list", "Usage: bootimg list [OPTIONS] < IMAGE\n"),
+    (
+        "extract",
+        "Usage: bootimg extract --part <N> [OPTIONS] < IMAGE > PART\n",
+    ),
+];
+
 #[test]
-fn help_is_shown_where_it_is_asked_for(rt: HostRuntime) -> Result<(), Fail> {
+fn help_is_written_to_standard_output(rt: HostRuntime) -> Result<(), Fail> {
     for word in ["help", "--help", "-h"] {
         shows(&rt, &[word], 0, "Usage: bootimg <COMMAND>\n")?;
     }
-    for command in ["normalise", "list", "extract"] {
-        let usage = format!(in rt.alloc(); "Usage: bootimg {command} [OPTIONS]\n")?;
-        shows(&rt, &["help", command], 0, usage.as_str())?;
-        shows(&rt, &[command, "--help"], 0, usage.as_str())?;
-        shows(&rt, &[command, "-h"], 0, usage.as_str())?;
+    for (command, usage) in USAGES {
+        shows(&rt, &["help", command], 0, usage)?;
+        shows(&rt, &[command, "--help"], 0, usage)?;
+        shows(&rt, &[command, "-h"], 0, usage)?;
     }
     Ok(())
 }
 
 #[test]
-fn the_version_is_shown(rt: HostRuntime) {
-    gives(&rt, &["--version"], KERNEL, b"bootimg 0.1.0\n");
-    gives(&rt, &["-V"], KERNEL, b"bootimg 0.1.0\n");
+fn the_version_is_written_to_standard_output(rt: HostRuntime) {
+    writes(&rt, &["--version"], KERNEL, b"bootimg 0.1.0\n");
+    writes(&rt, &["-V"], KERNEL, b"bootimg 0.1.0\n");
 }
 
 #[test]
 fn help_that_cannot_be_written_is_a_failure(rt: HostRuntime) {
-    let sound = Streams::sound();
+    let succeeding = Streams::succeeding();
     let fails = Script::first(1, Turn::Takes(5), Turn::Fails);
-    let streams = failing(sound.reading, fails, sound.flushing, sound.telling);
+    let streams = streams_of(
+        succeeding.reading,
+        fails,
+        succeeding.flushing,
+        succeeding.error_writing,
+    );
     for word in ["help", "--version"] {
         let got = run_on(rt.alloc(), &[word], KERNEL, streams);
         assert_eq!(rt; (got.status, got.output.len(), got.reads), (2, 5, 0));
@@ -400,7 +456,7 @@ fn help_that_cannot_be_written_is_a_failure(rt: HostRuntime) {
 }
 
 #[test]
-fn unknown_words_are_refused(rt: HostRuntime) -> Result<(), Fail> {
+fn unknown_arguments_are_refused(rt: HostRuntime) -> Result<(), Fail> {
     shows(&rt, &[], 2, "Usage: bootimg <COMMAND>\n")?;
     for command in [
         "verify",
@@ -418,28 +474,20 @@ fn unknown_words_are_refused(rt: HostRuntime) -> Result<(), Fail> {
         2,
         "Usage: bootimg <COMMAND>\n",
     )?;
-    for word in ["--external", "-x", "--part", "image", "--version"] {
-        shows(
-            &rt,
-            &["normalise", word],
-            2,
-            "Usage: bootimg normalise [OPTIONS]\n",
-        )?;
-        shows(&rt, &["list", word], 2, "Usage: bootimg list [OPTIONS]\n")?;
+    for (command, usage) in USAGES {
+        for word in ["--external", "-x", "--config", "--key", "image"] {
+            shows(&rt, &[command, word], 2, usage)?;
+        }
     }
-    for word in ["--config", "--key", "--index", "image"] {
-        shows(
-            &rt,
-            &["extract", word, "a"],
-            2,
-            "Usage: bootimg extract [OPTIONS]\n",
-        )?;
+    for word in ["--part", "--version"] {
+        shows(&rt, &["normalise", word], 2, USAGES[0].1)?;
+        shows(&rt, &["list", word], 2, USAGES[1].1)?;
     }
     Ok(())
 }
 
 #[test]
-fn options_need_a_value_and_come_once(rt: HostRuntime) -> Result<(), Fail> {
+fn options_need_a_value_and_are_given_once(rt: HostRuntime) -> Result<(), Fail> {
     shows(
         &rt,
         &["normalise", "--limit"],
@@ -484,13 +532,13 @@ fn options_need_a_value_and_come_once(rt: HostRuntime) -> Result<(), Fail> {
 }
 
 #[test]
-fn nothing_is_read_before_the_words_are_accepted(rt: HostRuntime) {
-    for words in [
+fn nothing_is_read_before_the_arguments_are_accepted(rt: HostRuntime) {
+    for args in [
         ["normalise", "--limit", "63"].as_slice(),
         ["extract", "--part", "x"].as_slice(),
         ["extract"].as_slice(),
     ] {
-        let got = run_on(rt.alloc(), words, KERNEL, Streams::sound());
-        assert_eq!(rt; got.reads, 0, "{words:?}");
+        let got = run_on(rt.alloc(), args, KERNEL, Streams::succeeding());
+        assert_eq!(rt; got.reads, 0, "{args:?}");
     }
 }

@@ -1,15 +1,17 @@
 use Rattle.std.proofs.Common.{◌≡◌, ◌<◌, ◌≤◌, IsFalse}
 use Rattle.std.specs.Io.KnownBytes.{Keeps}
-use Rattle.bi_base.specs.Outcomes.{GoesWell}
+use Rattle.bi_base.specs.Traces.{WritesWell}
 use Rattle.bi_base.proofs.writing.write_some.Given as goal
 
--- Each call before this one was interrupted, and took nothing.
+-- Each call before this one was interrupted, and wrote nothing.
 abbrev pub invariant-loop : goal.invariant-loop
-invariant-loop g l = record {
-  kept : Keeps (g.T.Target.contents l.initial.target) (g.T.Target.contents l.target);
-  counted : l.counter ≤ g.T.Target.interruptions l.target;
-  not_stopped : GoesWell (g.T.Target.stopped l.initial.target) (g.T.Target.interruptions l.initial.target) →
-      l.counter < 1024 → IsFalse (g.T.Target.stopped l.target) × (g.T.Target.interruptions l.target ≡ l.counter);
-  last : 0 < l.counter → IsFalse (g.T.Target.flushing l.target);
-  same_writer : g.T.Target.writer l.target ≡ g.T.Target.writer l.initial.target;
-}
+invariant-loop g l =
+    let old = g.T.TracedWrite.trace l.initial.target in
+    let new = g.T.TracedWrite.trace l.target in
+    record {
+      kept : Keeps old.contents new.contents;
+      counted : l.counter ≤ new.interruptions;
+      not_stopped : WritesWell old → l.counter < 1024 → IsFalse new.stopped × (new.interruptions ≡ l.counter);
+      last : 0 < l.counter → IsFalse new.flushing;
+      same_writer : new.writer ≡ old.writer;
+    }

@@ -1,4 +1,4 @@
-use Rattle.bi_legacy.proofs.VectorFacts.{kernel_text}
+use Rattle.bi_legacy.proofs.KnownImages.{kernel_text}
 use Rattle.bi_legacy.proofs.laws.kernel_text.Goals as goal
 
 pub returns : goal.returns

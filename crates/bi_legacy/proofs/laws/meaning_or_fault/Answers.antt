@@ -1,7 +1,7 @@
 use Rattle.std.proofs.Common.{inl, inr}
 use Rattle.bi_legacy.proofs.FaultLaws.{fault_or_no_fault}
 use Rattle.bi_legacy.proofs.NoFaultMeans.{no_fault_means}
-use Rattle.bi_legacy.specs.Walk.{read_image}
+use Rattle.bi_legacy.specs.ReadImage.{read_image}
 use Rattle.bi_legacy.proofs.laws.meaning_or_fault.Goals as goal
 
 pub returns : goal.returns

@@ -1,6 +1,6 @@
 use Rattle.bi_legacy.proofs.MeansNoFault.{means_no_fault}
 use Rattle.bi_legacy.proofs.NoFaultMeans.{no_fault_means}
-use Rattle.bi_legacy.specs.Walk.{read_image}
+use Rattle.bi_legacy.specs.ReadImage.{read_image}
 use Rattle.bi_legacy.proofs.laws.meaning_without_fault.Goals as goal
 
 pub returns : goal.returns

@@ -1,4 +1,4 @@
-use Rattle.bi_legacy.proofs.VectorFacts.{multi_text}
+use Rattle.bi_legacy.proofs.KnownImages.{multi_text}
 use Rattle.bi_legacy.proofs.laws.multi_text.Goals as goal
 
 pub returns : goal.returns

@@ -1,4 +1,4 @@
-use Rattle.bi_legacy.proofs.PutSums.{sum_of_put}
+use Rattle.bi_legacy.proofs.SinkChecksums.{sum_of_put}
 use Rattle.bi_legacy.proofs.text.data_checksum.Goals as goal
 
 pub returns : goal.returns

@@ -1,6 +1,6 @@
 use Rattle.std.proofs.Common.{◌≡◌, ◌<◌, ◌^◌, ◌++◌, length, string_bytes, refl, ap, ◌∙◌, inl, arith}
 use Rattle.std.specs.Iterator.Adapters.{enumerate_source, enumerate_count}
-use Rattle.bi_legacy.specs.Pieces.{placed_parts}
+use Rattle.bi_legacy.specs.PlacedParts.{placed_parts}
 use Rattle.bootimg.specs.Listing.{part_lines}
 use Rattle.bootimg.proofs.PartLines.{length-placed_parts}
 use Rattle.bootimg.proofs.listing.put_parts.Goals as goal
@@ -11,7 +11,7 @@ loop-index-init c =
     let from_first : enumerate_count iterator ≡ 0 =
     ap enumerate_count c.into_iter-index-iterator.ensures.into_iter_gives ∙ c.enumerate-index-items.ensures.count in
     let all_left : enumerate_source iterator ≡ placed_parts c.args.image.now.image =
-    ap enumerate_source c.into_iter-index-iterator.ensures.into_iter_gives ∙ c.enumerate-index-items.ensures.source ∙ c.parts.ensures.placed in
+    ap enumerate_source c.into_iter-index-iterator.ensures.into_iter_gives ∙ c.enumerate-index-items.ensures.source ∙ c.parts.ensures.parts in
     let counted : length (enumerate_source iterator) < 2 ^ 64 =
     omega (arith, ap length all_left, length-placed_parts c.args.image.now.image, c.part_count.ensures, c.part_count.type_inv) in
     let all_lines : part_lines 0 (placed_parts c.args.image.now.image) ≡ part_lines (enumerate_count iterator) (enumerate_source iterator) =

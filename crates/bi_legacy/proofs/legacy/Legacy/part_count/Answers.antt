@@ -1,9 +1,9 @@
 use Rattle.std.proofs.Common.{◌∙◌, ap, sym, length}
-use Rattle.bi_legacy.specs.Reading.{Told}
-use Rattle.bi_legacy.proofs.PlacedParts.{length-parts_in}
+use Rattle.bi_legacy.specs.Reading.{ParsedImage}
+use Rattle.bi_legacy.proofs.PlacedPartLists.{length-parts_of_body}
 use Rattle.bi_legacy.proofs.legacy.Legacy.part_count.Goals as goal
 
 pub returns : goal.returns
 returns c =
-    c.self.invariant.counted ∙ sym (length-parts_in c.self.inside.fields.image_type c.self.inside.body.now)
-    ∙ ap (λ (told : Told). length told.image.parts) c.self.view_is
+    c.self.invariant.is_table.count ∙ sym (length-parts_of_body c.self.inside.fields.image_type c.self.inside.body.now)
+    ∙ ap (λ (value : ParsedImage). length value.image.parts) c.self.view_is

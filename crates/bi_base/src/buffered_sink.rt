@@ -1,0 +1,95 @@
+//! A sink that writes to a writer in large pieces.
+
+ghost use Rattle.std.specs.Prelude.{◌≡◌, [], IsFalse, OnOk};
+ghost use Rattle.bi_base.specs.Sinks.{Wrote};
+ghost use Rattle.bi_base.specs.Writing.{WroteAndFlushed, WriteOrFlushStopped};
+
+use crate::fault::Error;
+use crate::sinks::Sink;
+use crate::traced_write::TracedWrite;
+use crate::writing::{flush, write_all};
+use arrayvec::ArrayVec;
+
+/// How many bytes a `BufferedSink` holds back at most.
+const BUFFER_SIZE: usize = 8192;
+
+/// A sink that writes the bytes to a writer whose calls are traced, and which it borrows. It holds
+/// up to 8 KiB of them back, so that small pieces are not a write each; a piece that is longer than
+/// that is written without a copy. On average a write has 4 KiB at least. What is held back is
+/// written by `finish`, and lost where the sink is dropped before.
+#[derive(Drop)]
+pub struct BufferedSink<'a, T> {
+    target: &'a mut T,
+    held: ArrayVec<u8, BUFFER_SIZE>,
+}
+
+impl<'a, T: TracedWrite> BufferedSink<'a, T> {
+    ghost use Rattle.bi_base.specs.BufferedSinks.{buffered};
+
+    /// Returns a sink of this writer that holds nothing back yet.
+    pub fn new(target: &'a mut T) -> BufferedSink<'a, T>
+        ensures same_borrow { (buffered T.trace result).borrow ≡ target.entry.ghost_name }
+        ensures same_trace { (buffered T.trace result).trace ≡ T.trace target.old }
+        ensures none_held { (buffered T.trace result).held ≡ [] }
+    {
+        BufferedSink {
+            target,
+            held: ArrayVec::new(),
+        }
+    }
+
+    /// Writes what is held back, and flushes the writer.
+    ///
+    /// The only error is `WriteFailed`, and a prefix of what is held back was written then, all of
+    /// it where the flush failed. It comes after a write or flush that failed by another error than
+    /// an interruption, after a write that wrote none of some bytes, or after 1,024 interruptions
+    /// in a row. No failure is ignored. After an error of `put` or `finish` the sink is not to be
+    /// used.
+    pub fn finish(&mut self) -> Result<(), Error>
+        ensures finished { let old = buffered T.trace self.old in
+            let new = buffered T.trace self.new in
+            Wrote WroteAndFlushed WriteOrFlushStopped old.trace old.held result new.trace }
+        ensures none_held { OnOk result ((buffered T.trace self.new).held ≡ []) }
+        ensures same_borrow { (buffered T.trace self.new).borrow
+            ≡ (buffered T.trace self.old).borrow }
+    {
+        write_all(self.target, self.held.as_slice())?;
+        self.held.clear();
+        flush(self.target)
+    }
+}
+
+impl<'a, T: TracedWrite> Sink for BufferedSink<'a, T> {
+    ghost use Rattle.bi_base.specs.BufferedSinks.{BufferAppends, BufferFails};
+    ghost use Rattle.bi_base.specs.BufferedSinks.{buffer_appends_nothing, buffer_appends_in_turn};
+    ghost use Rattle.bi_base.specs.BufferedSinks.{buffer_fails_after, buffer_fails_before};
+
+    ghost appends = { BufferAppends T.trace };
+
+    ghost fails = { BufferFails T.trace };
+
+    /// Appends these bytes: some are written, and up to 8 KiB are held back. The only error is
+    /// `WriteFailed`, and a prefix of what was held back and these bytes was written then.
+    fn put(&mut self, bytes: &[u8]) -> Result<(), Error> {
+        if self.held.try_extend_from_slice(bytes).is_ok() {
+            return Ok(());
+        }
+        write_all(self.target, self.held.as_slice())?;
+        self.held.clear();
+        if self.held.try_extend_from_slice(bytes).is_ok() {
+            return Ok(());
+        }
+        write_all(self.target, bytes)
+    }
+
+    ghost appends_nothing = { buffer_appends_nothing T.trace };
+
+    ghost appends_in_turn = { buffer_appends_in_turn T.trace };
+
+    ghost fails_after = { buffer_fails_after T.trace };
+
+    ghost fails_before = { buffer_fails_before T.trace };
+}
+
+#[cfg(test)]
+mod tests;

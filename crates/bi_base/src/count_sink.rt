@@ -1,0 +1,88 @@
+//! A sink that counts the bytes.
+
+ghost use Rattle.std.specs.Prelude.{◌≡◌, ℕ};
+ghost use Rattle.bi_base.specs.CountSinks.{Counts, counts_nothing, counts_in_turn};
+
+use crate::fault::Error;
+use crate::sinks::Sink;
+use std::marker::Model;
+
+/// A sink that keeps no bytes, and counts them up to the greatest u64. Contracts see it as the
+/// count.
+#[derive(Clone, Copy, Debug, PartialEq, Eq)]
+pub struct CountSink {
+    count: u64,
+}
+
+impl Model for CountSink {
+    ghost Value = { ℕ };
+
+    ghost view = { λ sink. sink.count };
+
+    ghost inverse = { λ count. record { count = count } };
+}
+
+impl CountSink {
+    /// Returns a sink that has counted no bytes.
+    pub fn new() -> CountSink
+        ensures { result ≡ 0 }
+    {
+        CountSink { count: 0 }
+    }
+
+    /// Returns how many bytes were appended, or the greatest u64 if they were more than that.
+    pub fn count(&self) -> u64
+        ensures { result ≡ self.now }
+    {
+        self.count
+    }
+}
+
+impl Sink for CountSink {
+    ghost appends = { Counts };
+
+    ghost fails = { λ _ _ _ _. ⊥ };
+
+    /// Counts these bytes. It never fails.
+    fn put(&mut self, bytes: &[u8]) -> Result<(), Error> {
+        self.count = self.count.saturating_add(bytes.len() as u64);
+        Ok(())
+    }
+
+    ghost appends_nothing = { counts_nothing };
+
+    ghost appends_in_turn = { counts_in_turn };
+
+    ghost fails_after = { λ _ _ _ _ _ _ _ failed. failed };
+
+    ghost fails_before = { λ _ _ _ _ _ failed. failed };
+}
+
+#[cfg(test)]
+mod tests {
+    use super::*;
+    use std::test::Fail;
+
+    #[test]
+    fn bytes_are_counted(rt: HostRuntime) -> Result<(), Fail> {
+        let mut sink = CountSink::new();
+        assert_eq!(rt; sink.count(), 0);
+        sink.put(b"12345")?;
+        sink.put(b"")?;
+        sink.put(b"678")?;
+        assert_eq!(rt; sink.count(), 8);
+        Ok(())
+    }
+
+    #[test]
+    fn the_count_stops_at_the_greatest_number(rt: HostRuntime) -> Result<(), Fail> {
+        let mut sink = CountSink {
+            count: u64::MAX - 2,
+        };
+        sink.put(b"12")?;
+        assert_eq!(rt; sink.count(), u64::MAX);
+        sink.put(b"3")?;
+        assert_eq!(rt; sink.count(), u64::MAX);
+        Ok(())
+    }
+}

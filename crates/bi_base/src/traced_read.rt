@@ -1,0 +1,64 @@
+//! Readers that record the outcome of their calls.
+
+ghost use Rattle.std.specs.Prelude.{◌≡◌, IsFalse};
+ghost use Rattle.std.specs.Io.{ReadsAtMost};
+ghost use Rattle.bi_base.specs.Traces.{ReadTrace, IsReadCall, ReadsWell};
+
+use crate::outcomes::Outcome;
+use std::io::{self, Read};
+
+/// A reader that records the outcome of each of its calls.
+pub trait TracedRead {
+    // The reader after the calls so far.
+    ghost trace: { Self → ReadTrace };
+
+    /// Reads once into the first bytes of `buffer`, and returns how many: 0 only at the end of the
+    /// input, or where `buffer` is empty. An error is that of the reader, an interruption too, and
+    /// no byte is lost then.
+    fn read_once(&mut self, buffer: &mut [u8]) -> io::Result<usize>
+        ensures bound { ReadsAtMost result buffer.new }
+        ensures call { IsReadCall (trace self.old) (trace self.new) result buffer.new };
+}
+
+/// A `TracedRead` of any reader, which it borrows.
+#[derive(Drop)]
+pub struct TracedReader<'a, R> {
+    reader: &'a mut R,
+    outcome: Outcome,
+    stopped: bool,
+}
+
+impl<'a, R: Read> TracedReader<'a, R> {
+    /// Traces this reader, with no call so far.
+    pub fn new(reader: &'a mut R) -> TracedReader<'a, R>
+        ensures same_reader { (⟦<TracedReader<'a, R> as TracedRead>⟧.trace result).reader
+            ≡ reader.entry.ghost_name }
+        ensures remaining { (⟦<TracedReader<'a, R> as TracedRead>⟧.trace result).remaining
+            ≡ R.remaining reader.old }
+        ensures not_failed { IsFalse (⟦<TracedReader<'a, R> as TracedRead>⟧.trace result).failed }
+        ensures well { ReadsWell (⟦<TracedReader<'a, R> as TracedRead>⟧.trace result) }
+    {
+        TracedReader {
+            reader,
+            outcome: Outcome::new(),
+            stopped: false,
+        }
+    }
+}
+
+impl<'a, R: Read> TracedRead for TracedReader<'a, R> {
+    ghost trace = { λ traced. record {
+      reader = traced.reader.ghost_name;
+      remaining = R.remaining traced.reader.now;
+      failed = traced.outcome.failed;
+      interruptions = traced.outcome.interruptions;
+      stopped = traced.stopped;
+    } };
+
+    fn read_once(&mut self, buffer: &mut [u8]) -> io::Result<usize> {
+        let call = self.reader.read(buffer);
+        self.outcome = self.outcome.after(&call);
+        self.stopped = self.stopped || self.outcome.must_stop();
+        call
+    }
+}

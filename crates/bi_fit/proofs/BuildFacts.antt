@@ -1,0 +1,91 @@
+use Rattle.std.proofs.Common.{◌≡◌, ℕ, zero, suc, List, [], ◌∷◌, ◌++◌, length, get_or, codes, refl, sym, ap, ap₂, ◌∙◌, nat_cmp, arith}
+use Rattle.std.specs.Cmp.Lexicographic.{slice_cmp}
+use Rattle.std.specs.FinMap.{entries, from_entries, put, entries-insert}
+use Rattle.std.proofs.lemmas.Cmp.{nat_list_cmp_total}
+use Rattle.bi_base.specs.Cells.{cell, cell8, u32_at}
+use Rattle.bi_blob.specs.Tree.{none, node, Property}
+use Rattle.bi_blob.specs.Blob.{off_dt_strings, size_dt_struct, size_dt_strings}
+use Rattle.bi_blob.specs.Layout.{text_of_tree, text_of_events, text_of_blocks}
+use Rattle.bi_hash.specs.Digests.{digest_of}
+use Rattle.bi_hash.specs.declared.algo.Algo.TheVariants.{Sha256}
+use Rattle.bi_hash.proofs.DigestBytes.{length-digest_of}
+use Rattle.bi_fit.specs.declared.form.Form.TheVariants.{Embedded}
+use Rattle.bi_fit.specs.Names.{data_name, default_name}
+use Rattle.bi_fit.specs.Text.{normal_tree}
+use Rattle.bi_fit.specs.Building.{text_value, root_properties, image_properties, hash_properties, configuration_name, configuration_properties, built}
+use Rattle.bi_fit.specs.KnownBuilds.{known_head, known_kernel, known_ramdisk, known_tree, known_text, BuiltIsKnown}
+use Rattle.bi_fit.proofs.FileFacts.{no_entries}
+
+-- What the definitions compute for a small built tree.
+
+-- Properties put in order one by one.
+abbrev put_in_order : List Property → List Property
+put_in_order [] = []
+put_in_order (property ∷ later) = put (slice_cmp nat_cmp) property.0 property.1 (put_in_order later)
+
+-- Properties by name are in this order.
+in_order : (properties : List Property) → entries (from_entries {R = slice_cmp nat_cmp} properties) ≡ put_in_order properties
+in_order [] = no_entries
+in_order (property ∷ later) =
+    entries-insert nat_list_cmp_total (from_entries later) property.0 property.1
+    ∙ ap (put (slice_cmp nat_cmp) property.0 property.1) (in_order later)
+
+-- Both digests.
+abbrev hello_digest : List ℕ
+hello_digest = digest_of Sha256 (codes "hello")
+
+abbrev abc_digest : List ℕ
+abc_digest = digest_of Sha256 (codes "abc")
+
+known_is_tree : normal_tree Embedded (built known_head (known_kernel ∷ known_ramdisk ∷ [])) ≡ known_tree hello_digest abc_digest
+known_is_tree =
+    λ i. record {
+      own = in_order (root_properties known_head) i;
+      children = node (codes "images") (no_entries i)
+          (node (codes "kernel-1") (in_order ((data_name, codes "hello") ∷ image_properties known_head known_kernel) i)
+          (node (codes "hash-1") (in_order (hash_properties (codes "hello")) i) none none)
+          (node (codes "ramdisk-1") (in_order ((data_name, codes "abc") ∷ image_properties known_head known_ramdisk) i)
+          (node (codes "hash-1") (in_order (hash_properties (codes "abc")) i) none none)
+          none))
+          (node (codes "configurations") (in_order ((default_name, text_value configuration_name) ∷ []) i)
+          (node (codes "conf-1") (in_order (configuration_properties known_head (known_kernel ∷ known_ramdisk ∷ [])) i) none none)
+          none);
+    }
+
+-- The text of the tree with these digests.
+abbrev text_with : List ℕ → List ℕ → List ℕ
+text_with kernel_digest ramdisk_digest = text_of_tree 0 [] (known_tree kernel_digest ramdisk_digest) ++ []
+
+-- As many elements of a list, from an index on.
+abbrev elements : List ℕ → ℕ → ℕ → List ℕ
+elements bytes from zero = []
+elements bytes from (suc n) = get_or bytes from 0 ∷ elements bytes (suc from) n
+
+-- Elements of a longer list are those of the shorter one, one further.
+elements-cons : (byte : ℕ) (bytes : List ℕ) (from n : ℕ) → elements (byte ∷ bytes) (suc from) n ≡ elements bytes from n
+elements-cons byte bytes from zero = refl
+elements-cons byte bytes from (suc n) = ap (λ l. get_or bytes from 0 ∷ l) (elements-cons byte bytes (suc from) n)
+
+-- A list has its elements.
+all_elements : (n : ℕ) (bytes : List ℕ) → length bytes ≡ n → bytes ≡ elements bytes 0 n
+all_elements zero [] e = refl
+all_elements zero (byte ∷ bytes) e = absurd (omega arith)
+all_elements (suc n) [] e = absurd (omega arith)
+all_elements (suc n) (byte ∷ bytes) e =
+    ap (λ l. byte ∷ l) (all_elements n bytes (omega arith) ∙ sym (elements-cons byte bytes 0 n))
+
+-- The text, with the elements of the digests.
+known_is_text : known_text ≡ text_with (elements hello_digest 0 32) (elements abc_digest 0 32)
+known_is_text =
+    ap (λ root. text_of_tree 0 [] root ++ []) known_is_tree
+    ∙ ap₂ text_with (all_elements 32 hello_digest (length-digest_of Sha256 (codes "hello"))) (all_elements 32 abc_digest (length-digest_of Sha256 (codes "abc")))
+
+pub built_is_known : BuiltIsKnown
+unfolding text_of_events text_of_blocks cell cell8 u32_at
+built_is_known = record {
+  is_tree = known_is_tree;
+  is_length = ap length known_is_text;
+  structure_size = ap size_dt_struct known_is_text;
+  strings_begin = ap off_dt_strings known_is_text;
+  strings_size = ap size_dt_strings known_is_text;
+}

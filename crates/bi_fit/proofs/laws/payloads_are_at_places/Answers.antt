@@ -1,0 +1,5 @@
+use Rattle.bi_fit.proofs.Values.{payloads_are_at_places}
+use Rattle.bi_fit.proofs.laws.payloads_are_at_places.Goals as goal
+
+pub returns : goal.returns
+returns c = payloads_are_at_places

@@ -1,0 +1,5 @@
+use Rattle.bi_fit.proofs.TextLaws.{same_text_same_judgement}
+use Rattle.bi_fit.proofs.laws.same_text_same_judgement.Goals as goal
+
+pub returns : goal.returns
+returns c = same_text_same_judgement

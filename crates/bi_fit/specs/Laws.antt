@@ -1,0 +1,208 @@
+use Rattle.std.specs.Prelude.{◌≡◌, ◌⊎◌, ◌↔◌, ℕ, ◌+◌, ◌%◌, ◌≤◌, List, ◌++◌, Option, Some, length}
+use Rattle.std.specs.Prelude.{map, [], ◌∷◌, nat_eq, IsTrue, filter}
+use Rattle.std.specs.List.{AllByRecursion, AllZip, ends_with}
+use Rattle.bi_base.specs.declared.fault.Fault.{Fault}
+use Rattle.bi_base.specs.Cells.{AreBytes}
+use Rattle.bi_base.specs.Limits.{Bounds}
+use Rattle.bi_hash.specs.declared.algo.Algo.TheVariants.{Sha256}
+use Rattle.bi_hash.specs.declared.verdicts.Verdict.TheVariants.{Good}
+use Rattle.bi_hash.specs.Algos.{algorithm_name}
+use Rattle.bi_hash.specs.Digests.{digest_of}
+use Rattle.bi_blob.specs.Tree.{HasNoZero, depth_of}
+use Rattle.bi_blob.specs.Blob.{magic, blob_magic}
+use Rattle.bi_blob.specs.Layout.{strings_of, longest_text}
+use Rattle.bi_fit.specs.declared.key.Key.{Key}
+use Rattle.bi_fit.specs.declared.form.Form.{Form}
+use Rattle.bi_fit.specs.declared.form.Form.TheVariants.{External}
+use Rattle.bi_fit.specs.ImageTree.{ImageTree, IsImageTree, each_own}
+use Rattle.bi_fit.specs.Payloads.{source_of, payload_place, IsAtPlace}
+use Rattle.bi_fit.specs.File.{IsFitFile, FitMeans}
+use Rattle.bi_fit.specs.Faults.{IsFitFault}
+use Rattle.bi_fit.specs.Text.{blob_of, payloads_end, payload_places, fit_text}
+use Rattle.bi_fit.specs.Judgement.{judgement, CheckedHash, verdicts_of, Listed, NoKey}
+use Rattle.bi_fit.specs.Judgement.{ListedImages, listed_names, listed_of, default_of}
+use Rattle.bi_fit.specs.Building.{FitHead, ImageSpecification, CanBeBuilt, hash_node_name, built}
+use Rattle.bi_fit.specs.Building.{configuration_name, is_under}
+
+-- Laws of what a flattened image tree is (Flattened Image Tree Specification), and of its faults
+-- and texts (profile of this project). Each is the contract of a function in `laws`.
+
+-- A file is a flattened image tree of at most one meaning.
+abbrev pub OneMeaning : Type 0
+OneMeaning = (file : List ℕ) (one other : ImageTree) → IsFitFile file one → IsFitFile file other
+    → one ≡ other
+
+-- A flattened image tree begins with the magic number of a blob: a file that begins with another
+-- is none.
+abbrev pub BeginsWithMagic : Type 0
+BeginsWithMagic = (file : List ℕ) (tree : ImageTree) → IsFitFile file tree
+    → magic file ≡ blob_magic
+
+-- A file that is a flattened image tree within limits has no fault under them.
+abbrev pub MeaningHasNoFault : Type 0
+MeaningHasNoFault =
+    (bounds : Bounds) (file : List ℕ) (tree : ImageTree) (fault : Fault)
+    → FitMeans bounds file tree → ¬ (IsFitFault bounds file fault)
+
+-- A file has at most one fault under limits.
+abbrev pub OneFault : Type 0
+OneFault =
+    (bounds : Bounds) (file : List ℕ) (one other : Fault)
+    → IsFitFault bounds file one → IsFitFault bounds file other → one ≡ other
+
+-- A file of bytes is a flattened image tree within limits, or it has a fault under them.
+abbrev pub MeaningOrFault : Type 0
+MeaningOrFault =
+    (bounds : Bounds) (file : List ℕ) → AreBytes file
+    → ((tree : ImageTree) × FitMeans bounds file tree)
+    ⊎ ((fault : Fault) × IsFitFault bounds file fault)
+
+-- A file of bytes is a flattened image tree within limits exactly where it has no fault under
+-- them.
+abbrev pub MeaningWhereNoFault : Type 0
+MeaningWhereNoFault =
+    (bounds : Bounds) (file : List ℕ) → AreBytes file
+    → ((tree : ImageTree) × FitMeans bounds file tree)
+    ↔ ((fault : Fault) → ¬ (IsFitFault bounds file fault))
+
+-- The payload of each image node is in the file at its place.
+abbrev pub PayloadsAreAtPlaces : Type 0
+PayloadsAreAtPlaces =
+    (file : List ℕ) (tree : ImageTree) (is : IsFitFile file tree)
+    → AllZip
+    (λ own payload. IsAtPlace file (payload_place file (source_of own)) payload)
+    (each_own is.images) tree.payloads
+
+-- What a file means is an image tree.
+abbrev pub FileMeansImageTree : Type 0
+FileMeansImageTree = (file : List ℕ) (tree : ImageTree) → IsFitFile file tree → IsImageTree tree
+
+-- A file means an image tree within limits, and has no fault under them.
+pub record IsAcceptedAs (bounds : Bounds) (file : List ℕ) (tree : ImageTree) : Type 0 where
+  pub means : FitMeans bounds file tree
+  pub no_fault : (fault : Fault) → ¬ (IsFitFault bounds file fault)
+
+-- The text of an image tree is accepted under limits that hold it, and means the tree.
+abbrev pub TextIsAccepted : Type 0
+TextIsAccepted =
+    (bounds : Bounds) (form : Form) (tree : ImageTree) → IsImageTree tree
+    → depth_of tree.root ≤ bounds.depth → length (fit_text form tree) ≤ bounds.file
+    → bounds.file ≤ longest_text
+    → IsAcceptedAs bounds (fit_text form tree) tree
+
+-- The normal text of a file is accepted under the same limits and means the same, if it is no
+-- longer than the limit.
+abbrev pub NormalTextIsAccepted : Type 0
+NormalTextIsAccepted =
+    (bounds : Bounds) (form : Form) (file : List ℕ) (tree : ImageTree) → FitMeans bounds file tree
+    → length (fit_text form tree) ≤ bounds.file → bounds.file ≤ longest_text
+    → IsAcceptedAs bounds (fit_text form tree) tree
+
+-- Two image trees have the same text in one form exactly where they are the same, if one of the
+-- texts is not too long.
+abbrev pub SameTextSameTree : Type 0
+SameTextSameTree =
+    (form : Form) (one other : ImageTree) → IsImageTree one → IsImageTree other
+    → length (fit_text form one) ≤ longest_text
+    → (fit_text form one ≡ fit_text form other) ↔ (one ≡ other)
+
+-- The normal text of a file has the verdicts, configurations, default and signatures of the file.
+abbrev pub TextKeepsJudgement : Type 0
+TextKeepsJudgement =
+    (form : Form) (file : List ℕ) (tree other : ImageTree) → IsFitFile file tree
+    → length (fit_text form tree) ≤ longest_text → IsFitFile (fit_text form tree) other
+    → judgement other ≡ judgement tree
+
+-- Files with the same normal text have the same verdicts, configurations, default and signatures.
+abbrev pub SameTextSameJudgement : Type 0
+SameTextSameJudgement =
+    (form : Form) (file other_file : List ℕ) (tree other : ImageTree) → IsFitFile file tree
+    → IsFitFile other_file other
+    → length (fit_text form tree) ≤ longest_text → fit_text form tree ≡ fit_text form other
+    → judgement tree ≡ judgement other
+
+-- The length of an external text follows from the length of its blob and the sizes of its
+-- payloads. The blob ends at a multiple of four.
+pub record HasExternalLength (tree : ImageTree) : Type 0 where
+  pub is_length : length (fit_text External tree)
+      ≡ length (blob_of External tree) + payloads_end 0 tree.payloads
+  pub blob_is_whole : length (blob_of External tree) % 4 ≡ 0
+
+-- Each external text is that long.
+abbrev pub EachExternalTextHasItsLength : Type 0
+EachExternalTextHasItsLength = (tree : ImageTree) → HasExternalLength tree
+
+-- Payloads end where some of the first of them do or after: a text is too long as soon as some of
+-- its payloads are.
+abbrev pub PayloadsEndLater : Type 0
+PayloadsEndLater =
+    (first later : List (Option (List ℕ))) → payloads_end 0 first ≤ payloads_end 0 (first ++ later)
+
+-- The payloads of an external text are where the layout has them.
+abbrev pub ExternalPayloadsArePlaced : Type 0
+ExternalPayloadsArePlaced =
+    (tree : ImageTree) → length (fit_text External tree) ≤ longest_text
+    → (is : IsFitFile (fit_text External tree) tree)
+    → AllZip
+    (λ own place. payload_place (fit_text External tree) (source_of own) ≡ place)
+    (each_own is.images) (payload_places (length (blob_of External tree)) 0 tree.payloads)
+
+-- The text of a built tree, in either form, is accepted under limits that hold it and four open
+-- nodes, and means the tree.
+abbrev pub BuiltIsAccepted : Type 0
+BuiltIsAccepted =
+    (bounds : Bounds) (form : Form) (head : FitHead) (images : List ImageSpecification)
+    → CanBeBuilt head images
+    → 4 ≤ bounds.depth → length (fit_text form (built head images)) ≤ bounds.file
+    → bounds.file ≤ longest_text
+    → IsAcceptedAs bounds (fit_text form (built head images)) (built head images)
+
+-- The hash node of a built image: it has the SHA-256 of the payload, and its verdict is Good.
+abbrev pub good_hash : ImageSpecification → CheckedHash
+good_hash image = record {
+  image = image.name;
+  node_name = hash_node_name;
+  algo = Some (algorithm_name Sha256);
+  value = Some (digest_of Sha256 image.payload);
+  verdict = Good;
+}
+
+-- The payloads of a built tree are those of its images in their order, and each image has one hash
+-- node, whose verdict is Good.
+pub record HasGoodPayloads (head : FitHead) (images : List ImageSpecification) : Type 0 where
+  pub payloads : (built head images).payloads ≡ map (λ image. Some image.payload) images
+  pub verdicts : verdicts_of (built head images) ≡ map good_hash images
+
+-- Each built tree does.
+abbrev pub BuiltHasGoodPayloads : Type 0
+BuiltHasGoodPayloads = (head : FitHead) (images : List ImageSpecification)
+    → HasGoodPayloads head images
+
+-- How a value lists names: each name is followed by a zero. Where the last byte of a value is a
+-- zero, all of it is names.
+pub record ReadsNames : Type 0 where
+  pub listed : (names : List (List ℕ)) → AllByRecursion HasNoZero names
+      → listed_names (strings_of names) ≡ names
+  pub whole : (value : List ℕ) → IsTrue (ends_with nat_eq value (0 ∷ []))
+      → strings_of (listed_names value) ≡ value
+  pub no_zero : (value : List ℕ) → AllByRecursion HasNoZero (listed_names value)
+
+-- What a list of these images is: none where there is no image.
+abbrev pub list_of : List ImageSpecification → Listed
+list_of [] = NoKey
+list_of (image ∷ later) =
+    ListedImages
+    (map (λ image. record { name = image.name; payload = Some image.payload }) (image ∷ later))
+
+-- The configuration of a built tree lists the images of each key in their order, and it is the
+-- default.
+pub record HasConfiguration (head : FitHead) (images : List ImageSpecification) : Type 0 where
+  pub listed : (key : Key) → listed_of (built head images) configuration_name key
+      ≡ list_of (filter (λ image. is_under key image.key) images)
+  pub default : default_of (built head images) ≡ Some configuration_name
+
+-- Each tree that can be built has.
+abbrev pub BuiltHasConfiguration : Type 0
+BuiltHasConfiguration =
+    (head : FitHead) (images : List ImageSpecification) → CanBeBuilt head images
+    → HasConfiguration head images

@@ -1,0 +1,13 @@
+pub mod Names
+pub mod ImageTree
+pub mod Payloads
+pub mod File
+pub mod Faults
+pub mod Text
+pub mod Judgement
+pub mod Building
+pub mod Laws
+pub mod KnownFiles
+pub mod KnownFaults
+pub mod KnownJudgements
+pub mod KnownBuilds

@@ -1,0 +1,94 @@
+//! Small flattened image trees whose meanings, texts and faults are known. Their functions do
+//! nothing: what each of them ensures is a fact about the definitions.
+
+ghost use Rattle.bi_fit.specs.KnownFiles.{SmallestIsFit, OffsetIsFromAlignedEnd};
+ghost use Rattle.bi_fit.specs.KnownFiles.{PositionIsBeforeData, NoneIsNotEmpty};
+ghost use Rattle.bi_fit.specs.KnownFiles.{ThreeImagesHaveTexts, SharedRegionIsRepeated};
+ghost use Rattle.bi_fit.specs.KnownFiles.{ChildrenKeepOrder, OnlyImagesHavePayloads};
+ghost use Rattle.bi_fit.specs.KnownFiles.{UnusedHaveNoMeaning};
+ghost use Rattle.bi_fit.specs.KnownFaults.{WithoutImages, RegionsHaveFaults, FirstFaultCounts};
+ghost use Rattle.bi_fit.specs.KnownJudgements.{ListsAreRead, HashesAreJudged};
+ghost use Rattle.bi_fit.specs.KnownBuilds.{BuiltIsKnown};
+
+/// A file of 88 bytes with a root and its child `images` is a flattened image tree, and is its own
+/// text in both forms.
+pub fn smallest_is_fit()
+    ensures smallest { SmallestIsFit }
+{}
+
+/// `data-offset` is counted from the first multiple of four that is not before the end of the
+/// blob: the payload of a file whose `totalsize` is 157 begins at 160.
+pub fn offset_is_from_aligned_end()
+    ensures offset { OffsetIsFromAlignedEnd }
+{}
+
+/// `data-position` gives the payload also where there is `data`.
+pub fn position_is_before_data()
+    ensures position { PositionIsBeforeData }
+{}
+
+/// An image without a payload is not one with an empty payload.
+pub fn none_is_not_empty()
+    ensures none { NoneIsNotEmpty }
+{}
+
+/// Three images with payloads of 5, 0 and 1 bytes have texts of 180 and 253 bytes. In the external
+/// one the payloads are at offsets 0, 8 and 8 from the end of the blob.
+pub fn three_images_have_texts()
+    ensures three { ThreeImagesHaveTexts }
+{}
+
+/// Three images that share a region of 1,000 bytes in a file of 1,244 bytes have texts of 3,168
+/// and 3,244 bytes.
+pub fn shared_region_is_repeated()
+    ensures shared { SharedRegionIsRepeated }
+{}
+
+/// The children of a node stay in their order in a text.
+pub fn children_keep_order()
+    ensures order { ChildrenKeepOrder }
+{}
+
+/// The properties that hold payloads in image nodes are ordinary ones in all other nodes, and
+/// nodes `images` below another node than the root are ordinary nodes.
+pub fn only_images_have_payloads()
+    ensures others { OnlyImagesHavePayloads }
+{}
+
+/// Of the four properties of an image node, those that do not give its payload have no meaning.
+pub fn unused_have_no_meaning()
+    ensures unused { UnusedHaveNoMeaning }
+{}
+
+/// Files without image nodes have the fault NoImages at the token of the root.
+pub fn without_images()
+    ensures images { WithoutImages }
+{}
+
+/// Files with a region that cannot be read have known faults: each check is the first that fails
+/// in one of them.
+pub fn regions_have_faults()
+    ensures regions { RegionsHaveFaults }
+{}
+
+/// Of two checks that fail, the first in their order gives the fault.
+pub fn first_fault_counts()
+    ensures first { FirstFaultCounts }
+{}
+
+/// The lists of small configurations are read as the images that they name, or refused for the
+/// first reason that applies.
+pub fn lists_are_read()
+    ensures lists { ListsAreRead }
+{}
+
+/// Hash nodes of small images have known verdicts.
+pub fn hashes_are_judged()
+    ensures hashes { HashesAreJudged }
+{}
+
+/// The tree that is built of a small kernel and a small ramdisk has known nodes and properties,
+/// and a text of 824 bytes.
+pub fn built_is_known()
+    ensures built { BuiltIsKnown }
+{}

@@ -1,0 +1,132 @@
+//! Laws of flattened image trees. Their functions do nothing: what each of them ensures is the
+//! law.
+
+ghost use Rattle.bi_fit.specs.Laws.{OneMeaning, BeginsWithMagic, MeaningHasNoFault, OneFault};
+ghost use Rattle.bi_fit.specs.Laws.{MeaningOrFault, MeaningWhereNoFault, FileMeansImageTree};
+ghost use Rattle.bi_fit.specs.Laws.{TextIsAccepted, NormalTextIsAccepted, SameTextSameTree};
+ghost use Rattle.bi_fit.specs.Laws.{TextKeepsJudgement, SameTextSameJudgement};
+ghost use Rattle.bi_fit.specs.Laws.{EachExternalTextHasItsLength, PayloadsEndLater};
+ghost use Rattle.bi_fit.specs.Laws.{ExternalPayloadsArePlaced, PayloadsAreAtPlaces};
+ghost use Rattle.bi_fit.specs.Laws.{BuiltIsAccepted, BuiltHasGoodPayloads, ReadsNames};
+ghost use Rattle.bi_fit.specs.Laws.{BuiltHasConfiguration};
+
+/// A file is a flattened image tree of at most one meaning.
+pub fn one_meaning()
+    ensures { OneMeaning }
+{}
+
+/// A flattened image tree begins with the magic number of a blob, 0xd00dfeed. So no file that
+/// begins with another number, as a legacy image does, is one.
+pub fn begins_with_magic()
+    ensures { BeginsWithMagic }
+{}
+
+/// A file that is a flattened image tree within limits has no fault under them.
+pub fn meaning_has_no_fault()
+    ensures { MeaningHasNoFault }
+{}
+
+/// A file has at most one fault under limits.
+pub fn one_fault()
+    ensures { OneFault }
+{}
+
+/// A file of bytes is a flattened image tree within limits, or it has a fault under them.
+pub fn meaning_or_fault()
+    ensures { MeaningOrFault }
+{}
+
+/// A file of bytes is a flattened image tree within limits exactly where it has no fault under
+/// them.
+pub fn meaning_where_no_fault()
+    ensures { MeaningWhereNoFault }
+{}
+
+/// The payload of each image node is in the file at its place: the value of `data` at the offset
+/// after the three cells of its token, and a region of the file at the offset that its properties
+/// name.
+pub fn payloads_are_at_places()
+    ensures { PayloadsAreAtPlaces }
+{}
+
+/// What a file means as a flattened image tree can be laid out as a text: numbers, names and
+/// values are in their ranges, and each image node has one payload or none, apart from its
+/// properties.
+pub fn file_means_image_tree()
+    ensures { FileMeansImageTree }
+{}
+
+/// The text of an image tree in either form, if it is no longer than the limit on files, is
+/// accepted under limits that are no less than the depth of the tree, and means the tree. The
+/// limit on files is at most 0x7fffffff.
+pub fn text_is_accepted()
+    ensures { TextIsAccepted }
+{}
+
+/// The normal text of a file in either form, if it is no longer than the limit on files, is
+/// accepted under the limits under which the file is, and means what the file means.
+pub fn normal_text_is_accepted()
+    ensures { NormalTextIsAccepted }
+{}
+
+/// Two texts in one form, one of which has at most 0x7fffffff bytes, are the same exactly where
+/// they are of one image tree: the same boot processor, memory reservations, nodes in order,
+/// properties by name and payloads.
+pub fn same_text_same_tree()
+    ensures { SameTextSameTree }
+{}
+
+/// The normal text of a file in either form, if it has at most 0x7fffffff bytes, has the verdicts,
+/// configurations, default and signatures of the file.
+pub fn text_keeps_judgement()
+    ensures { TextKeepsJudgement }
+{}
+
+/// Two files with the same normal text in one form, which has at most 0x7fffffff bytes, have the
+/// same verdicts, configurations, default and signatures.
+pub fn same_text_same_judgement()
+    ensures { SameTextSameJudgement }
+{}
+
+/// An external text is as long as its blob and, after it, its payloads: the length depends on the
+/// length of the blob and the sizes of the payloads alone.
+pub fn each_external_text_has_its_length()
+    ensures { EachExternalTextHasItsLength }
+{}
+
+/// Payloads that follow a blob end no earlier than some of the first of them. So a text is too
+/// long as soon as its blob and some of its payloads are.
+pub fn payloads_end_later()
+    ensures { PayloadsEndLater }
+{}
+
+/// Each payload of an external text is at the offset that the layout gives it: the first multiple
+/// of four after the blob and the payloads before it. The text has at most 0x7fffffff bytes.
+pub fn external_payloads_are_placed()
+    ensures { ExternalPayloadsArePlaced }
+{}
+
+/// The text of a built tree in either form, if it is no longer than the limit on files, is
+/// accepted under limits that allow four open nodes, and means the tree that was to be built. The
+/// limit on files is at most 0x7fffffff.
+pub fn built_is_accepted()
+    ensures { BuiltIsAccepted }
+{}
+
+/// The payloads of a built tree are those of its images in their order. Each image has one hash
+/// node, with the SHA-256 of its payload, and the verdict on it is Good.
+pub fn built_has_good_payloads()
+    ensures { BuiltHasGoodPayloads }
+{}
+
+/// The value of a key lists names, each followed by a zero: names without zeros are listed as they
+/// are, and all of a value whose last byte is a zero is names.
+pub fn reads_names()
+    ensures names { ReadsNames }
+{}
+
+/// The configuration of a built tree lists, under each key, the images of that key in their order.
+/// It is the default.
+pub fn built_has_configuration()
+    ensures { BuiltHasConfiguration }
+{}

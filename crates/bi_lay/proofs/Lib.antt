@@ -1,0 +1,11 @@
+pub mod NameOffsets
+pub mod Growing
+pub mod UsedNames
+pub mod Consistent
+pub mod Scanning
+pub mod Chains
+pub mod TokenBytes
+pub mod BlockBytes
+pub mod Texts
+pub mod Closed
+pub mod Building

@@ -1,0 +1,61 @@
+use Rattle.std.proofs.Common.{◌≡◌, ℕ, ◌+◌, ◌-◌, ◌/◌, ◌%◌, ◌^◌, suc, List, [], ◌∷◌, ◌++◌, length, replicate, flat_map, refl, sym, ap, ◌∙◌, arith, append_assoc, length-append}
+use Rattle.bi_base.specs.Cells.{cell, up4}
+use Rattle.bi_blob.specs.Tokens.{BeginNode, Prop, token_bytes}
+use Rattle.bi_blob.specs.Layout.{encoding, padding_to_4}
+use Rattle.bi_base.proofs.CellLaws.{length-cell}
+use Rattle.bi_blob.proofs.Texts.TokenEncoding.{length_unpadded-prop}
+
+-- The bytes of tokens, put together of the pieces that are written.
+
+-- The token that begins a node: its number, the name, and one to four zeros.
+pub begin_bytes : (name : List ℕ) → (cell 1 ++ name) ++ replicate (4 - length name % 4) 0 ≡ encoding (BeginNode name)
+begin_bytes name =
+    ap (λ n. (cell 1 ++ name) ++ replicate n 0) one_more
+    ∙ sym (append_assoc (cell 1 ++ name) (0 ∷ []) padding)
+    ∙ ap (λ l. l ++ padding) (append_assoc (cell 1) name (0 ∷ []))
+  where
+    padding : List ℕ
+    padding = padding_to_4 (length (token_bytes (BeginNode name)))
+
+    is_length : length (token_bytes (BeginNode name)) ≡ length name + 5
+    is_length = length-append (cell 1) (name ++ 0 ∷ []) ∙ omega (arith, length-cell 1, length-append name (0 ∷ []))
+
+    one_more : 4 - length name % 4 ≡ suc (up4 (length (token_bytes (BeginNode name))) - length (token_bytes (BeginNode name)))
+    one_more = omega (arith, is_length)
+
+-- A cell has the low 32 bits of a number.
+pub cell-low : (n : ℕ) → cell (n % 2 ^ 32) ≡ cell n
+unfolding cell
+cell-low n = λ j. first j ∷ second j ∷ third j ∷ fourth j ∷ []
+  where
+    first : n % 2 ^ 32 / 16777216 % 256 ≡ n / 16777216 % 256
+    first = omega arith
+
+    second : n % 2 ^ 32 / 65536 % 256 ≡ n / 65536 % 256
+    second = omega arith
+
+    third : n % 2 ^ 32 / 256 % 256 ≡ n / 256 % 256
+    third = omega arith
+
+    fourth : n % 2 ^ 32 % 256 ≡ n % 256
+    fourth = omega arith
+
+-- The cells of a property and its value are its token without the padding.
+property_cells : (size offset : ℕ) (value : List ℕ) → flat_map cell (3 ∷ size ∷ offset ∷ []) ++ value ≡ cell 3 ++ (cell size ++ (cell offset ++ value))
+unfolding cell
+property_cells size offset value = refl
+
+-- The token of a property: three cells, the value, and the padding of the value.
+pub property_bytes : (offset : ℕ) (value : List ℕ) (size low_size low_offset : ℕ) → size ≡ length value → low_size ≡ size % 2 ^ 32 → low_offset ≡ offset % 2 ^ 32 → (flat_map cell (3 ∷ low_size ∷ low_offset ∷ []) ++ value) ++ padding_to_4 size ≡ encoding (Prop offset value)
+property_bytes offset value size low_size low_offset is_size is_low_size is_low_offset =
+    ap (λ l. l ++ padding_to_4 size) (property_cells low_size low_offset value ∙ (λ j. cell 3 ++ (same_size j ++ (same_offset j ++ value))))
+    ∙ ap (λ n. token_bytes (Prop offset value) ++ replicate n 0) same_padding
+  where
+    same_size : cell low_size ≡ cell (length value)
+    same_size = ap cell is_low_size ∙ cell-low size ∙ ap cell is_size
+
+    same_offset : cell low_offset ≡ cell offset
+    same_offset = ap cell is_low_offset ∙ cell-low offset
+
+    same_padding : up4 size - size ≡ up4 (length (token_bytes (Prop offset value))) - length (token_bytes (Prop offset value))
+    same_padding = omega (arith, is_size, length_unpadded-prop offset value)

@@ -1,0 +1,6 @@
+pub mod Contents
+pub mod Names
+pub mod Items
+pub mod Documents
+pub mod Siblings
+pub mod Laws

@@ -1,0 +1,214 @@
+//! A document: a devicetree blob in the making.
+
+ghost use Rattle.std.specs.Prelude.{◌≡◌, ◌+◌, ◌<◌, ◌≤◌, ◌↔◌, length, IsTrue, OnOk, IfOk};
+ghost use Rattle.std.specs.Prelude.{IfErr, MatchOption};
+ghost use Rattle.bi_base.specs.Sinks.{Wrote};
+ghost use Rattle.bi_base.specs.declared.fault.Error.TheVariants.{OutOfMemory};
+
+use crate::conditions::{is_child_name, is_property_name};
+use crate::items::{Item, Property, Value};
+use crate::names::Names;
+use crate::siblings::is_new_child;
+use crate::sizes::BlockSizes;
+use crate::text::{Parts, put_text};
+use bi_base::{Error, Sink};
+use std::alloc::Global;
+use std::marker::Model;
+
+/// The most nodes that can be open at once, the root included.
+const MAX_DEPTH: usize = 64;
+
+/// A devicetree blob in the making: the boot processor, the memory reservations, and the events of
+/// a tree, which come in the order of the structure block (Devicetree Specification, 5.4.2). Names
+/// and values are borrowed and not copied.
+///
+/// Each call but `may_begin` takes constant time, apart from the growth of memory and the hash of
+/// a property's name.
+#[derive(Drop)]
+pub struct Doc<'a> {
+    boot_cpu: u32,
+    reservations: Vec<(u64, u64)>,
+    items: Vec<Item<'a>>,
+    depth: usize,
+    names: Names<'a>,
+}
+
+impl<'a> Model for Doc<'a> {
+    ghost use Rattle.bi_lay.specs.Contents.{Content};
+
+    ghost Value = { Content };
+
+    ghost use Rattle.bi_lay.specs.Documents.{content_of, IsConsistent};
+
+    ghost view = { content_of };
+
+    ghost invariant = { IsConsistent };
+}
+
+impl<'a> Doc<'a> {
+    ghost use Rattle.bi_blob.specs.Events.{NodeStart, NodeProperty, NodeEnd};
+    ghost use Rattle.bi_blob.specs.Stages.{AfterRoot};
+    ghost use Rattle.bi_blob.specs.Following.{stage_of_events, most_open_nodes};
+    ghost use Rattle.bi_blob.specs.Following.{MayBegin, MayHaveNextProperty, MayEnd};
+    ghost use Rattle.bi_blob.specs.Layout.{longest_text};
+    ghost use Rattle.bi_blob.specs.TextLaws.{HasOneNormalTree};
+    ghost use Rattle.bi_lay.specs.Contents.{empty_content, text_of, with_reservation, with_event};
+    ghost use Rattle.bi_lay.specs.Items.{value_bytes};
+
+    /// A document for this boot processor, without reservations, in which no node was begun. The
+    /// only error is `OutOfMemory`.
+    pub fn new(alloc: Global, boot_cpu: u32) -> Result<Doc<'a>, Error>
+        ensures empty { IfOk result (λ doc. doc ≡ empty_content boot_cpu) }
+        ensures refused { IfErr result (λ error. error ≡ OutOfMemory) }
+    {
+        Ok(Doc {
+            boot_cpu,
+            reservations: Vec::new(alloc),
+            items: Vec::new(alloc),
+            depth: 0,
+            names: Names::new(alloc),
+        })
+    }
+
+    /// Adds a memory reservation (Devicetree Specification, 5.3): `size` bytes from `address` on,
+    /// which are not both zero.
+    ///
+    /// The only error is `OutOfMemory`, and the document is unchanged then.
+    pub fn reserve(&mut self, address: u64, size: u64) -> Result<(), Error>
+        requires { 0 < address + size }
+        ensures reserved { OnOk result (self.new ≡ with_reservation self.old address size) }
+        ensures refused { IfErr result (λ error. (error ≡ OutOfMemory) × (self.new ≡ self.old)) }
+    {
+        self.reservations.push((address, size))?;
+        Ok(())
+    }
+
+    /// Begins a node of this name, as a child of the innermost open node, or as the root, whose
+    /// name is empty. It may only be called where `may_begin` is true.
+    ///
+    /// The only error is `OutOfMemory`, and the document is unchanged then.
+    pub fn begin(&mut self, name: &'a [u8]) -> Result<(), Error>
+        requires { MayBegin most_open_nodes name.now (stage_of_events self.old.events) }
+        ensures begun { OnOk result (self.new ≡ with_event self.old (NodeStart name.entry.now)) }
+        ensures refused { IfErr result (λ error. (error ≡ OutOfMemory) × (self.new ≡ self.old)) }
+    {
+        self.items.reserve(self.depth + 2)?;
+        self.items.push(Item::Begin(name)).unwrap();
+        self.depth += 1;
+        Ok(())
+    }
+
+    /// Gives the innermost open node a property. It may only be called where `may_property` is
+    /// true.
+    ///
+    /// The only error is `OutOfMemory`, and the document is unchanged then.
+    pub fn property(&mut self, name: &'a [u8], value: Value<'a>) -> Result<(), Error>
+        requires { MayHaveNextProperty name.now (stage_of_events self.old.events) }
+        ensures added { let event = NodeProperty (name.entry.now, value_bytes value.entry) in
+            OnOk result (self.new ≡ with_event self.old event) }
+        ensures refused { IfErr result (λ error. (error ≡ OutOfMemory) × (self.new ≡ self.old)) }
+    {
+        self.items.reserve(self.depth + 1)?;
+        let name_offset = self.names.add(name)?;
+        let property = Property {
+            name,
+            name_offset,
+            value,
+        };
+        self.items.push(Item::Property(property)).unwrap();
+        Ok(())
+    }
+
+    /// Ends the innermost open node. It may only be called where `may_end` is true. It takes no
+    /// memory.
+    pub fn end(&mut self)
+        requires { MayEnd (stage_of_events self.old.events) }
+        ensures { self.new ≡ with_event self.old NodeEnd }
+    {
+        self.items.push(Item::End).unwrap();
+        self.depth -= 1;
+    }
+
+    /// Whether `begin` may be called with this name: no node was begun and the name is empty; or 1
+    /// to 63 nodes are open, the name has a byte and neither a zero nor a `/`, and no child of the
+    /// innermost open node has it.
+    ///
+    /// It takes time linear in the number of events, since it looks for a child of the same name.
+    /// `begin` itself does not look, so a caller that knows that the names of children differ need
+    /// not call this.
+    pub fn may_begin(&self, name: &[u8]) -> bool
+        ensures { let stage = stage_of_events self.now.events in
+            IsTrue result ↔ MayBegin most_open_nodes name.now stage }
+    {
+        if self.depth == 0 {
+            return self.items.is_empty() && name.is_empty();
+        }
+        if self.depth == MAX_DEPTH {
+            return false;
+        }
+        is_child_name(name) && is_new_child(&self.items, self.depth, name)
+    }
+
+    /// Whether `property` may be called with this name: a node is open and has no child yet, the
+    /// name has a byte and no zero, and it is greater in byte order than that of the node's last
+    /// property.
+    pub fn may_property(&self, name: &[u8]) -> bool
+        ensures { IsTrue result ↔ MayHaveNextProperty name.now (stage_of_events self.now.events) }
+    {
+        match self.items.last() {
+            Some(Item::Begin(_)) => is_property_name(name),
+            Some(Item::Property(last)) => is_property_name(name) && last.name.cmp(&name).is_lt(),
+            Some(Item::End) | None => false,
+        }
+    }
+
+    /// Whether `end` may be called: a node is open.
+    pub fn may_end(&self) -> bool
+        ensures { IsTrue result ↔ MayEnd (stage_of_events self.now.events) }
+    {
+        self.depth != 0
+    }
+
+    /// Whether the root was begun and ended. The events are then those of exactly one tree that a
+    /// blob can hold, and the properties of each of its nodes come in byte order.
+    pub fn is_closed(&self) -> bool
+        ensures ended { IsTrue result ↔ (stage_of_events self.now.events ≡ AfterRoot) }
+        ensures tree { IsTrue result → HasOneNormalTree self.now.events }
+    {
+        self.depth == 0 && !self.items.is_empty()
+    }
+
+    /// Returns the length of the document's text in bytes, or None if it has more than 0x7fffffff
+    /// bytes. It may only be called where `is_closed` is true. It takes time linear in the number
+    /// of events.
+    pub fn size(&self) -> Option<u32>
+        requires { stage_of_events self.now.events ≡ AfterRoot }
+        ensures { MatchOption result (longest_text < length (text_of self.now))
+            (λ size. (size ≡ length (text_of self.now)) × (size ≤ longest_text)) }
+    {
+        let count = self.reservations.len();
+        let sizes = BlockSizes::measure(count, &self.items, self.names.length())?;
+        Some(sizes.total())
+    }
+
+    /// Appends the document's text: the header, the reservation block, the structure block, the
+    /// strings block, and zeros up to a multiple of four. It may only be called where `is_closed`
+    /// is true and `size` is not None. Fails as the sink does.
+    ///
+    /// It takes time linear in the length of the text, and no memory but what the sink takes.
+    pub fn emit<S: Sink>(&self, sink: &mut S) -> Result<(), Error>
+        requires closed { stage_of_events self.now.events ≡ AfterRoot }
+        requires small { length (text_of self.now) ≤ longest_text }
+        ensures { Wrote S.appends S.fails sink.old (text_of self.now) result sink.new }
+    {
+        let count = self.reservations.len();
+        let sizes = BlockSizes::measure(count, &self.items, self.names.length());
+        let parts = Parts {
+            boot_cpu: self.boot_cpu,
+            reservations: &self.reservations,
+            items: &self.items,
+            names: self.names.as_slice(),
+        };
+        put_text(parts, sizes.unwrap(), sink)
+    }
+}

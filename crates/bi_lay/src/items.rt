@@ -1,0 +1,46 @@
+//! What a document keeps of its tree.
+#![tactic(auto, unfolding(bi_base::specs::Cells::cell))]
+
+ghost use Rattle.std.specs.Prelude.{◌≡◌, length};
+
+/// The value of a property.
+#[derive(Clone, Copy, Debug)]
+pub enum Value<'a> {
+    /// These bytes.
+    Slice(&'a [u8]),
+    /// The four big-endian bytes of this number (Devicetree Specification, 2.2.4.2: u32).
+    Cell(u32),
+}
+
+impl<'a> Value<'a> {
+    ghost use Rattle.bi_lay.specs.Items.{value_bytes};
+
+    /// Returns how many bytes the value has.
+    pub(crate) fn len(&self) -> usize
+        ensures { result ≡ length (value_bytes self.now) }
+    {
+        match self {
+            Value::Slice(bytes) => bytes.len(),
+            Value::Cell(_) => 4,
+        }
+    }
+}
+
+/// A property, with the offset of its name in the strings block.
+#[derive(Clone, Copy, Debug)]
+pub(crate) struct Property<'a> {
+    pub(crate) name: &'a [u8],
+    pub(crate) name_offset: usize,
+    pub(crate) value: Value<'a>,
+}
+
+/// One event of the tree.
+#[derive(Clone, Copy, Debug)]
+pub(crate) enum Item<'a> {
+    /// A node begins, and has this name.
+    Begin(&'a [u8]),
+    /// The innermost open node has this property.
+    Property(Property<'a>),
+    /// The innermost open node ends.
+    End,
+}

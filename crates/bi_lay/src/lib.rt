@@ -1,0 +1,21 @@
+//! Lays out a devicetree blob: a document is built event by event, and its text is measured and
+//! written to a sink.
+#![tactic(auto)]
+
+mod conditions;
+mod document;
+mod items;
+pub mod laws;
+mod names;
+mod siblings;
+mod sizes;
+mod structure;
+mod text;
+
+pub use document::Doc;
+pub use items::Value;
+
+#[cfg(test)]
+mod refused_growths;
+#[cfg(test)]
+mod tests;

@@ -1,0 +1,80 @@
+//! The names of properties, each once, with their offsets in the strings block.
+
+ghost use Rattle.std.specs.Prelude.{◌≡◌, [], IfOk, OnOk, IfErr, length};
+ghost use Rattle.bi_base.specs.declared.fault.Error.TheVariants.{OutOfMemory};
+ghost use Rattle.bi_blob.specs.Layout.{offset_in, strings_of};
+
+use bi_base::Error;
+use indexmap::IndexMap;
+use std::alloc::Global;
+use std::marker::Model;
+
+/// The names that the strings block has, in the order of their first use (Devicetree
+/// Specification, 5.5). Contracts see the list of the names.
+#[derive(Drop)]
+pub(crate) struct Names<'a> {
+    offsets: IndexMap<&'a [u8], usize>,
+    length: usize,
+}
+
+impl<'a> Model for Names<'a> {
+    ghost use Rattle.std.specs.Prelude.{ℕ, List};
+
+    ghost Value = { List (List ℕ) };
+
+    ghost use Rattle.bi_lay.specs.Names.{names_of, AreNames};
+
+    ghost view = { names_of };
+
+    ghost invariant = { AreNames };
+}
+
+impl<'a> Names<'a> {
+    ghost use Rattle.bi_lay.specs.Names.{with_name, capped};
+    ghost use Rattle.bi_lay.specs.Items.{bytes_of};
+
+    /// No names. It takes no memory yet.
+    pub(crate) fn new(alloc: Global) -> Names<'a>
+        ensures { result ≡ [] }
+    {
+        Names {
+            offsets: IndexMap::new(alloc),
+            length: 0,
+        }
+    }
+
+    /// The length of the strings block in bytes, or the greatest `usize` if it is longer than
+    /// that.
+    pub(crate) fn length(&self) -> usize
+        ensures { result ≡ capped (length (strings_of self.now)) }
+    {
+        self.length
+    }
+
+    /// Returns the names in the order of their first use.
+    pub(crate) fn as_slice(&self) -> &[&'a [u8]]
+        ensures { bytes_of result.now ≡ self.now }
+    {
+        self.offsets.keys().as_slice()
+    }
+
+    /// Adds a name if it is not there yet, and returns its offset in the strings block, or the
+    /// greatest `usize` if it is greater than that. The time it takes is linear in the name's
+    /// length, whatever other names there are.
+    ///
+    /// The only error is `OutOfMemory`, and the names are unchanged then.
+    pub(crate) fn add(&mut self, name: &'a [u8]) -> Result<usize, Error>
+        ensures offset { IfOk result (λ offset.
+            offset ≡ capped (offset_in self.new name.entry.now)) }
+        ensures names { OnOk result (self.new ≡ with_name self.old name.entry.now) }
+        ensures refused { IfErr result (λ error. (error ≡ OutOfMemory) × (self.new ≡ self.old)) }
+    {
+        if let Some(offset) = self.offsets.get(&name) {
+            return Ok(*offset);
+        }
+        let offset = self.length;
+        self.offsets.insert(name, offset)?;
+        self.length = offset.saturating_add(name.len()).saturating_add(1);
+        Ok(offset)
+    }
+}

@@ -1,0 +1,87 @@
+//! The sizes of the blocks of a text.
+
+ghost use Rattle.std.specs.Prelude.{◌≡◌, ◌+◌, ◌-◌, ◌*◌, ◌<◌, ◌≤◌, ◌^◌, min, length, MatchOption};
+ghost use Rattle.bi_base.specs.Cells.{up4};
+ghost use Rattle.bi_blob.specs.Layout.{length_before_padding, longest_text};
+ghost use Rattle.bi_lay.specs.Items.{structure_of_items};
+
+use crate::items::Item;
+use crate::structure::structure_size;
+
+/// The most bytes that a text may have before its padding.
+const LONGEST_BEFORE_PADDING: u64 = 0x7fff_fffc;
+
+/// The header's size in bytes (Devicetree Specification, 5.2).
+const HEADER_SIZE: u32 = 40;
+
+/// The sizes of the blocks of a text in bytes. The text is not too long.
+#[derive(Clone, Copy)]
+pub(crate) struct BlockSizes {
+    pub(crate) reservations: u32,
+    pub(crate) structure: u32,
+    pub(crate) strings: u32,
+    ghost fits: { up4 (length_before_padding reservations structure strings) ≤ longest_text },
+}
+
+impl BlockSizes {
+    /// Returns the sizes of the blocks with this many reservations, these items and a strings
+    /// block of this many bytes. None where the text would have more than 0x7fffffff bytes.
+    pub(crate) fn measure(
+        reservation_count: usize,
+        items: &[Item<'_>],
+        strings: usize,
+    ) -> Option<BlockSizes>
+        ensures { let structure = length (structure_of_items items.now) in
+            let reserved = 16 * reservation_count + 16 in
+            MatchOption result
+            (longest_text < up4 (length_before_padding reserved structure strings))
+            (λ sizes. (sizes.reservations ≡ reserved) × (sizes.structure ≡ structure)
+            × (sizes.strings ≡ strings)) }
+    {
+        let most = LONGEST_BEFORE_PADDING;
+        let pairs = (reservation_count as u64).saturating_add(1);
+        let structure = structure_size(items);
+        let strings = strings as u64;
+        if pairs > most || structure > most || strings > most {
+            return None;
+        }
+        if 40 + 16 * pairs + structure + strings > most {
+            return None;
+        }
+        Some(BlockSizes {
+            reservations: (16 * pairs) as u32,
+            structure: structure as u32,
+            strings: strings as u32,
+        })
+    }
+
+    /// Returns the offset of the structure block.
+    pub(crate) fn structure_offset(&self) -> u32
+        ensures { result ≡ 40 + self.now.reservations }
+    {
+        HEADER_SIZE + self.reservations
+    }
+
+    /// Returns the offset of the strings block.
+    pub(crate) fn strings_offset(&self) -> u32
+        ensures { result ≡ 40 + self.now.reservations + self.now.structure }
+    {
+        self.structure_offset() + self.structure
+    }
+
+    /// Returns the length of the text before its padding.
+    pub(crate) fn before_padding(&self) -> u32
+        ensures { let sizes = self.now in
+            result ≡ length_before_padding sizes.reservations sizes.structure sizes.strings }
+    {
+        self.strings_offset() + self.strings
+    }
+
+    /// Returns the length of the text.
+    pub(crate) fn total(&self) -> u32
+        ensures { let sizes = self.now in
+            result ≡ up4 (length_before_padding sizes.reservations sizes.structure sizes.strings) }
+    {
+        self.before_padding().div_ceil(4) * 4
+    }
+}

@@ -1,0 +1,111 @@
+//! Writing the structure block (Devicetree Specification, 5.4).
+#![tactic(auto, unfolding(bi_base::specs::Cells::cell))]
+
+ghost use Rattle.std.specs.Prelude.{◌≡◌, ◌-◌, ◌%◌, ◌^◌, ◌≤◌, length, replicate, min};
+ghost use Rattle.bi_base.specs.Cells.{cell};
+ghost use Rattle.bi_base.specs.Sinks.{Wrote};
+ghost use Rattle.bi_blob.specs.Tokens.{BeginNode, Prop, End};
+ghost use Rattle.bi_blob.specs.Layout.{encoding, padding_to_4};
+ghost use Rattle.bi_lay.specs.Items.{value_bytes, item_encoding, structure_of_items};
+
+use crate::items::{Item, Property, Value};
+use bi_base::{CountSink, Error, Sink, put_cell, put_cells};
+
+/// The number of the token that begins a node (Devicetree Specification, 5.4.1).
+const BEGIN_NODE: u32 = 1;
+
+/// The number of the token that ends a node (Devicetree Specification, 5.4.1).
+const END_NODE: u32 = 2;
+
+/// The number of the token of a property (Devicetree Specification, 5.4.1).
+const PROP: u32 = 3;
+
+/// The number of the token that ends the structure block (Devicetree Specification, 5.4.1).
+const END: u32 = 9;
+
+/// Returns how many bytes the structure block of these items has, or the greatest u64 if it has
+/// more than that.
+pub(crate) fn structure_size(items: &[Item<'_>]) -> u64
+    ensures { result ≡ min (length (structure_of_items items.now)) (2 ^ 64 - 1) }
+{
+    let mut sink = CountSink::new();
+    put_structure(items, &mut sink).unwrap();
+    sink.count()
+}
+
+/// Appends the structure block of these items. Fails as the sink does.
+pub(crate) fn put_structure<S: Sink>(items: &[Item<'_>], sink: &mut S) -> Result<(), Error>
+    ensures { Wrote S.appends S.fails sink.old (structure_of_items items.now) result sink.new }
+{
+    for item in items {
+        put_item(*item, sink)?;
+    }
+    put_cell(sink, END)
+}
+
+/// Appends the token of an item. Fails as the sink does.
+fn put_item<S: Sink>(item: Item<'_>, sink: &mut S) -> Result<(), Error>
+    ensures { Wrote S.appends S.fails sink.old (item_encoding item.entry) result sink.new }
+{
+    match item {
+        Item::Begin(name) => put_begin(name, sink),
+        Item::Property(property) => put_property(property, sink),
+        Item::End => put_cell(sink, END_NODE),
+    }
+}
+
+/// Appends the token that begins a node of this name. Fails as the sink does.
+fn put_begin<S: Sink>(name: &[u8], sink: &mut S) -> Result<(), Error>
+    ensures { Wrote S.appends S.fails sink.old (encoding (BeginNode name.now)) result sink.new }
+{
+    put_cell(sink, BEGIN_NODE)?;
+    sink.put(name)?;
+    put_zeros(4 - name.len() % 4, sink)
+}
+
+/// Appends the token of a property. Fails as the sink does.
+fn put_property<S: Sink>(property: Property<'_>, sink: &mut S) -> Result<(), Error>
+    ensures { let value = value_bytes property.entry.value in
+        Wrote S.appends S.fails sink.old (encoding (Prop property.entry.name_offset value))
+        result sink.new }
+{
+    let size = property.value.len();
+    put_cells(
+        sink,
+        &[PROP, low_cell(size), low_cell(property.name_offset)],
+    )?;
+    put_value(property.value, sink)?;
+    put_padding(size, sink)
+}
+
+/// Appends the bytes of a value. Fails as the sink does.
+fn put_value<S: Sink>(value: Value<'_>, sink: &mut S) -> Result<(), Error>
+    ensures { Wrote S.appends S.fails sink.old (value_bytes value.entry) result sink.new }
+{
+    match value {
+        Value::Slice(bytes) => sink.put(bytes),
+        Value::Cell(number) => put_cell(sink, number),
+    }
+}
+
+/// Appends the zeros that pad this many bytes to a multiple of four. Fails as the sink does.
+pub(crate) fn put_padding<S: Sink>(size: usize, sink: &mut S) -> Result<(), Error>
+    ensures { Wrote S.appends S.fails sink.old (padding_to_4 size) result sink.new }
+{
+    put_zeros((4 - size % 4) % 4, sink)
+}
+
+/// Appends up to four zeros. Fails as the sink does.
+fn put_zeros<S: Sink>(count: usize, sink: &mut S) -> Result<(), Error>
+    requires { count ≤ 4 }
+    ensures { Wrote S.appends S.fails sink.old (replicate count 0) result sink.new }
+{
+    sink.put(&[0; 4][..count])
+}
+
+/// The low 32 bits of a number, which are all that a cell has.
+fn low_cell(number: usize) -> u32
+    ensures { result ≡ number % 2 ^ 32 }
+{
+    (number % 0x1_0000_0000) as u32
+}

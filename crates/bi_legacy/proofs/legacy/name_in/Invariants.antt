@@ -1,5 +1,0 @@
-use Rattle.std.proofs.Common.{◌≢◌, ℕ, ◌<◌, get_or}
-use Rattle.bi_legacy.proofs.legacy.name_in.Given as goal
-
-abbrev pub invariant-loop-index : goal.invariant-loop-index
-invariant-loop-index l = (k : ℕ) → k < l.index → get_or l.field k 0 ≢ 0

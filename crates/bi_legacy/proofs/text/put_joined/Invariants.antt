@@ -1,8 +1,0 @@
-use Rattle.std.proofs.Common.{take, flat_map}
-use Rattle.bi_legacy.specs.Text.{filled}
-use Rattle.bi_legacy.proofs.text.put_joined.Given as goal
-
--- The parts before this one were appended, each filled.
-abbrev pub invariant-loop-part : goal.invariant-loop-part
-invariant-loop-part g l =
-    g.S.Sink.appends l.initial.sink (flat_map (λ part. filled part.now) (take l.part-index l.before)) l.sink

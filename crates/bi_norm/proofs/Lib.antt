@@ -1,0 +1,5 @@
+pub mod Opening
+pub mod NormalForms
+pub mod Writing
+pub mod KindLaws
+pub mod Converting

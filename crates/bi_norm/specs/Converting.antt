@@ -1,0 +1,181 @@
+use Rattle.std.specs.Prelude.{◌≡◌, ◌≢◌, ℕ, ◌≤◌, ◌==◌, Bool, true, false, List, [], ◌∷◌, Option}
+use Rattle.std.specs.Prelude.{None, Some, IsSome, length, map, codes, unwrap_or, if◌then◌else◌}
+use Rattle.std.specs.List.{AllByRecursion}
+use Rattle.bi_base.specs.declared.fault.Fault.{Fault}
+use Rattle.bi_base.specs.declared.fault.Cause.TheVariants.{NoCodeName, TooManyParts, EmptyPart}
+use Rattle.bi_base.specs.Checks.{IsFirstFault, HasNoFault}
+use Rattle.bi_base.specs.Limits.{Bounds}
+use Rattle.bi_blob.specs.Layout.{longest_text}
+use Rattle.bi_fit.specs.declared.form.Form.{Form}
+use Rattle.bi_fit.specs.declared.key.Key.{Key}
+use Rattle.bi_fit.specs.declared.key.Key.TheVariants.{Kernel, Fdt, Ramdisk, Firmware, Loadables}
+use Rattle.bi_fit.specs.declared.key.Key.TheVariants.{Script}
+use Rattle.bi_fit.specs.Building.{ImageSpecification, built}
+use Rattle.bi_fit.specs.ImageTree.{ImageTree}
+use Rattle.bi_fit.specs.Judgement.{verdicts_of}
+use Rattle.bi_fit.specs.Laws.{IsAcceptedAs}
+use Rattle.bi_fit.specs.Text.{fit_text}
+use Rattle.bi_hash.specs.declared.verdicts.Verdict.TheVariants.{Good}
+use Rattle.bi_legacy.specs.Codes.{CodeName, os_names, arch_names, type_names, compression_names}
+use Rattle.bi_legacy.specs.Codes.{name_of_code}
+use Rattle.bi_legacy.specs.Meaning.{LegacyImage}
+use Rattle.bi_legacy.specs.Text.{IsLegacyImage}
+
+-- The flattened image tree that a legacy image is converted to (what is built is profile of this
+-- project).
+
+-- The keys of the images that the parts of an image of some type become, in their order. In a
+-- multi-file image with a kernel, part 0 is the kernel, part 1 the ramdisk and part 2 the
+-- devicetree (U-Boot, boot/image.c: multi-file images).
+pub record Conversion : Type 0 where
+  pub image_type : ℕ
+  pub keys : List Key
+
+-- The types that can be converted.
+abbrev pub conversions : List Conversion
+conversions =
+    record { image_type = 1; keys = Loadables ∷ [] }
+    ∷ record { image_type = 2; keys = Kernel ∷ [] }
+    ∷ record { image_type = 3; keys = Ramdisk ∷ [] }
+    ∷ record { image_type = 4; keys = Kernel ∷ Ramdisk ∷ Fdt ∷ [] }
+    ∷ record { image_type = 5; keys = Firmware ∷ [] }
+    ∷ record { image_type = 6; keys = Script ∷ [] }
+    ∷ record { image_type = 8; keys = Fdt ∷ [] } ∷ []
+
+-- The keys for a type: none where it cannot be converted.
+abbrev pub keys_in : List Conversion → ℕ → List Key
+keys_in [] image_type = []
+keys_in (conversion ∷ later) image_type =
+    if conversion.image_type == image_type then conversion.keys else keys_in later image_type
+
+abbrev pub keys_of_type : ℕ → List Key
+keys_of_type image_type = keys_in conversions image_type
+
+-- The name of the image node of a key.
+abbrev pub image_name : Key → List ℕ
+image_name Kernel = codes "kernel-1"
+image_name Fdt = codes "fdt-1"
+image_name Ramdisk = codes "ramdisk-1"
+image_name Firmware = codes "firmware-1"
+image_name Loadables = codes "standalone-1"
+image_name Script = codes "script-1"
+
+-- Whether an image of this key keeps the load address and the entry point.
+abbrev pub has_addresses : Key → Bool
+has_addresses Kernel = true
+has_addresses Firmware = true
+has_addresses Loadables = true
+has_addresses key = false
+
+-- A number that is given or not.
+abbrev pub given : Bool → ℕ → Option ℕ
+given true number = Some number
+given false number = None
+
+-- The name of a code, or none.
+abbrev pub code_name : List CodeName → ℕ → List ℕ
+code_name names code = unwrap_or (name_of_code names code) []
+
+-- The image of the first part. It has the compression of the legacy image.
+abbrev pub first_image : LegacyImage → Key → List ℕ → ImageSpecification
+first_image image key part = record {
+  name = image_name key;
+  key = key;
+  arch = code_name arch_names image.arch;
+  os = code_name os_names image.os;
+  compression = code_name compression_names image.compression;
+  load = given (has_addresses key) image.load;
+  entry = given (has_addresses key) image.entry;
+  payload = part;
+}
+
+-- The image of a later part, which is not compressed.
+abbrev pub later_image : LegacyImage → Key → List ℕ → ImageSpecification
+later_image image key part = record {
+  name = image_name key;
+  key = key;
+  arch = code_name arch_names image.arch;
+  os = code_name os_names image.os;
+  compression = code_name compression_names 0;
+  load = None;
+  entry = None;
+  payload = part;
+}
+
+-- The images of later parts, of these keys.
+abbrev pub later_images : LegacyImage → List Key → List (List ℕ) → List ImageSpecification
+later_images image (key ∷ keys) (part ∷ parts) =
+    later_image image key part ∷ later_images image keys parts
+later_images image keys parts = []
+
+-- The images of parts, of these keys.
+abbrev pub images_of_parts : LegacyImage → List Key → List (List ℕ) → List ImageSpecification
+images_of_parts image (key ∷ keys) (part ∷ parts) =
+    first_image image key part ∷ later_images image keys parts
+images_of_parts image keys parts = []
+
+-- The images of a legacy image.
+abbrev pub converted_images : LegacyImage → List ImageSpecification
+converted_images image = images_of_parts image (keys_of_type image.image_type) image.parts
+
+-- The tree that a legacy image is converted to: its description is the name of the legacy image.
+abbrev pub fit_of : LegacyImage → ImageTree
+fit_of image =
+    built (record { description = image.name; time = image.time }) (converted_images image)
+
+-- The checks of a legacy image to be converted.
+pub data ConvertCheck : Type 0 where
+  HasOsName : ConvertCheck
+  HasArchName : ConvertCheck
+  HasTypeName : ConvertCheck
+  HasCompressionName : ConvertCheck
+  HasPart : ConvertCheck
+  HasFewParts : ConvertCheck
+
+-- The order in which they are made.
+abbrev pub convert_checks : List ConvertCheck
+convert_checks =
+    HasOsName ∷ HasArchName ∷ HasTypeName ∷ HasCompressionName ∷ HasPart ∷ HasFewParts ∷ []
+
+-- What each of them asks for.
+abbrev pub ConvertPasses : LegacyImage → ConvertCheck → Type 0
+ConvertPasses image HasOsName = IsSome (name_of_code os_names image.os)
+ConvertPasses image HasArchName = IsSome (name_of_code arch_names image.arch)
+ConvertPasses image HasTypeName = IsSome (name_of_code type_names image.image_type)
+ConvertPasses image HasCompressionName = IsSome (name_of_code compression_names image.compression)
+ConvertPasses image HasPart = image.parts ≢ []
+ConvertPasses image HasFewParts = length image.parts ≤ length (keys_of_type image.image_type)
+
+-- The fault that each of them gives.
+abbrev pub convert_fault : ConvertCheck → Fault
+convert_fault HasOsName = record { cause = NoCodeName; offset = 28 }
+convert_fault HasArchName = record { cause = NoCodeName; offset = 29 }
+convert_fault HasTypeName = record { cause = NoCodeName; offset = 30 }
+convert_fault HasCompressionName = record { cause = NoCodeName; offset = 31 }
+convert_fault HasPart = record { cause = EmptyPart; offset = 64 }
+convert_fault HasFewParts = record { cause = TooManyParts; offset = 64 }
+
+-- The fault of a legacy image to be converted.
+abbrev pub IsConvertFault : LegacyImage → Fault → Type 0
+IsConvertFault image fault = IsFirstFault (ConvertPasses image) convert_fault convert_checks fault
+
+-- The legacy image can be converted.
+abbrev pub CanBeConverted : LegacyImage → Type 0
+CanBeConverted image = HasNoFault (ConvertPasses image) convert_checks
+
+-- What the text of a converted image is: it is accepted and means the tree, whose payloads are the
+-- parts in their order, and all of whose verdicts are Good.
+pub record IsConverted (bounds : Bounds) (form : Form) (image : LegacyImage) : Type 0 where
+  pub accepted : IsAcceptedAs bounds (fit_text form (fit_of image)) (fit_of image)
+  pub payloads : (fit_of image).payloads ≡ map Some image.parts
+  pub verdicts : AllByRecursion (λ hash. hash.verdict ≡ Good) (verdicts_of (fit_of image))
+
+-- The law that the text of a converted image, within limits that hold it and four open nodes, is
+-- so.
+abbrev pub ConvertedIsAccepted : Type 0
+ConvertedIsAccepted =
+    (bounds : Bounds) (form : Form) (image : LegacyImage)
+    → IsLegacyImage image → CanBeConverted image
+    → 4 ≤ bounds.depth → length (fit_text form (fit_of image)) ≤ bounds.file
+    → bounds.file ≤ longest_text
+    → IsConverted bounds form image

@@ -1,0 +1,87 @@
+use Rattle.std.specs.Prelude.{ℕ, ◌<◌, ◌≡◌, ◌↔◌, ◌⊎◌, ⊤, List, length}
+use Rattle.bi_base.specs.declared.fault.Error.{Error}
+use Rattle.bi_base.specs.declared.fault.Error.TheVariants.{Refused, OutOfMemory, ReadFailed}
+use Rattle.bi_base.specs.declared.fault.Error.TheVariants.{WriteFailed}
+use Rattle.bi_base.specs.Limits.{Bounds}
+use Rattle.bi_base.specs.Reading.{too_large}
+use Rattle.bi_fit.specs.declared.form.Form.{Form}
+use Rattle.bi_norm.specs.Faults.{IsFileFault}
+use Rattle.bi_norm.specs.Meaning.{Meaning, Means, MeansSomething, MeansNothing, normal_text}
+use Rattle.bi_norm.specs.Meaning.{signature_count}
+
+-- What normalising promises: two accepted files of one kind have the same normal form exactly if
+-- they mean the same (profile of this project).
+
+-- The text is the normal form of the file.
+pub record IsNormalForm (limits : Bounds) (form : Form) (file text : List ℕ) : Type 0 where
+  -- The file means this, and nothing else.
+  pub meaning : Meaning
+  pub means : Means limits file meaning
+  pub only : (other : Meaning) → Means limits file other → other ≡ meaning
+  -- The text is the normal text of it.
+  pub is_text : text ≡ normal_text form meaning
+  -- Of all files that mean something within the limits, those have this normal text that mean this,
+  -- and no others.
+  pub distinguishes : (other_file : List ℕ) (other : Meaning) → Means limits other_file other
+      → (normal_text form other ≡ text) ↔ (other ≡ meaning)
+  -- The text means the same within the same limits, so it is its own normal form.
+  pub is_own : Means limits text meaning
+
+-- The text is the normal form of the file, and this is the number of its signature nodes.
+pub record Normalised (limits : Bounds) (form : Form) (count : ℕ) (file text : List ℕ) : Type 0
+  where
+    pub normal : IsNormalForm limits form file text
+    pub signatures : count ≡ signature_count normal.meaning
+
+-- The file means something whose normal text is longer than the limit. This is so of no legacy
+-- image.
+pub record IsTooLong (limits : Bounds) (form : Form) (file : List ℕ) : Type 0 where
+  pub meaning : Meaning
+  pub means : Means limits file meaning
+  pub longer : limits.file < length (normal_text form meaning)
+
+-- Memory is needed only for a file that passes all checks that need none: a legacy image that means
+-- something.
+abbrev pub NeedsMemory : Bounds → List ℕ → Type 0
+NeedsMemory limits file = MeansSomething limits file
+
+-- The error that reading a file in memory can have.
+abbrev pub IsOpenError : Bounds → List ℕ → Error → Type 0
+IsOpenError limits file (Refused fault) = IsFileFault limits file fault × MeansNothing limits file
+IsOpenError limits file OutOfMemory = NeedsMemory limits file
+IsOpenError limits file ReadFailed = ⊥
+IsOpenError limits file WriteFailed = ⊥
+
+-- The error that normalising a file in memory can have: one of reading it, or its normal text is
+-- longer than the limit.
+abbrev pub IsNormaliseError : Bounds → Form → List ℕ → Error → Type 0
+IsNormaliseError limits form file (Refused fault) =
+    IsOpenError limits file (Refused fault)
+    ⊎ (IsTooLong limits form file × (fault ≡ too_large limits.file))
+IsNormaliseError limits form file error = IsOpenError limits file error
+
+-- The same of a file that comes from a reader and goes to a writer. Reading it needs memory and may
+-- fail, and so may writing.
+abbrev pub IsStreamError : (List ℕ → Error → Type 0) → List ℕ → Error → Type 0
+IsStreamError HasError file (Refused fault) = HasError file (Refused fault)
+IsStreamError HasError file OutOfMemory = ⊤
+IsStreamError HasError file ReadFailed = ⊤
+IsStreamError HasError file WriteFailed = ⊤
+
+-- The normal form of a file was appended to a sink.
+pub record Appended {S : Type 0} (appends : S → List ℕ → S → Type 0) (limits : Bounds) (form : Form)
+    (count : ℕ)
+    (file : List ℕ) (old new : S) : Type 0 where
+  pub text : List ℕ
+  pub normal : Normalised limits form count file text
+  pub appended : appends old text new
+
+-- Normalising a file into a sink failed: with an error of the file, and the sink is unchanged, or
+-- as the sink fails.
+pub data FailedInto {S : Type 0} (fails : S → List ℕ → S → Error → Type 0) (limits : Bounds)
+    (form : Form)
+    (file : List ℕ) (old new : S) (error : Error) : Type 0 where
+  WasRefused : IsNormaliseError limits form file error → new ≡ old
+      → FailedInto fails limits form file old new error
+  SinkFailed : (text : List ℕ) → IsNormalForm limits form file text → fails old text new error
+      → FailedInto fails limits form file old new error

@@ -1,0 +1,35 @@
+//! The kinds of boot images.
+
+ghost use Rattle.std.specs.Prelude.{◌≡◌, IfOk, IfErr};
+ghost use Rattle.bi_norm.specs.declared.kind.Kind.{Kind};
+ghost use Rattle.bi_norm.specs.Kinds.{BeginsAs, IsKindFault};
+
+use bi_base::{Cause, Fault, be32_at, refuse};
+use bi_legacy::MAGIC as LEGACY_MAGIC;
+
+/// The magic number of a blob, and so of a flattened image tree (Devicetree Specification, 5.2).
+const FIT_MAGIC: u32 = 0xd00d_feed;
+
+/// A kind of boot image.
+#[derive(Clone, Copy, Debug, PartialEq, Eq)]
+pub enum Kind {
+    /// A legacy image: a header of 64 bytes and the data.
+    Legacy,
+    /// A flattened image tree in a devicetree blob.
+    Fit,
+}
+
+/// Returns the kind of a file by its first four bytes. Fails with Truncated at 0 below four bytes,
+/// else with BadMagic at 0 where they are the magic number of no kind.
+pub fn kind_of(file: &[u8]) -> Result<Kind, Fault>
+    ensures ok { IfOk result (BeginsAs file.now) }
+    ensures exactly { (kind : Kind) → BeginsAs file.now kind → result ≡ Ok kind }
+    ensures refused { IfErr result (IsKindFault file.now) }
+{
+    match be32_at(file, 0) {
+        None => refuse(Cause::Truncated, 0),
+        Some(LEGACY_MAGIC) => Ok(Kind::Legacy),
+        Some(FIT_MAGIC) => Ok(Kind::Fit),
+        Some(_) => refuse(Cause::BadMagic, 0),
+    }
+}

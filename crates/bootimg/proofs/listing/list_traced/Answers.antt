@@ -1,0 +1,15 @@
+use Rattle.std.proofs.lemmas.Result.{err_from_is_err_and}
+use Rattle.bi_base.proofs.TransferLaws.{read_stopped}
+use Rattle.bootimg.proofs.Streams.{listing_error, listing_refused}
+use Rattle.bootimg.proofs.listing.list_traced.Goals as goal
+
+pub returns-in_err-file-clause-failed : goal.returns-in_err-file-clause-failed
+returns-in_err-file-clause-failed g c =
+    let p = err_from_is_err_and c.from_residual.result c.from_residual.ensures.1 in
+    let is = listing_error c.args.limits _ _ _ c.in_err-file.ensures.failed in
+    rw (p.1, p.2) (read_stopped _ _ _ _ _ _ _ _ _ is (λ e. e) (λ e. e))
+
+pub returns-in_err-text-clause-failed : goal.returns-in_err-text-clause-failed
+returns-in_err-text-clause-failed g c =
+    let p = err_from_is_err_and c.from_residual-in_err-text.result c.from_residual-in_err-text.ensures.1 in
+    rw (p.1, p.2) (listing_refused c.args.limits _ _ _ c.deref.result.now _ c.in_err-text.field-0.0 c.in_ok-file.ensures.whole c.deref.ensures.value c.in_err-text.ensures.failed)

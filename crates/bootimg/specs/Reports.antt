@@ -1,0 +1,75 @@
+use Rattle.std.specs.Prelude.{◌≡◌, ◌⊎◌, ℕ, Bool, true, false, List, [], ◌∷◌, ◌++◌, Option, None}
+use Rattle.std.specs.Prelude.{Some}
+use Rattle.std.specs.Prelude.{length, flat_map, filter, codes, bytes_eq, if◌then◌else◌}
+use Rattle.std.specs.Fmt.{decimal}
+use Rattle.bi_base.specs.Limits.{Bounds}
+use Rattle.bi_fit.specs.File.{FitMeans}
+use Rattle.bi_fit.specs.ImageTree.{ImageTree}
+use Rattle.bi_fit.specs.Judgement.{CheckedHash, verdicts_of}
+use Rattle.bi_hash.specs.declared.verdicts.Verdict.{Verdict}
+use Rattle.bi_hash.specs.declared.verdicts.Verdict.TheVariants.{Good, Bad, UnknownAlgo, NoPayload}
+use Rattle.bi_hash.specs.declared.verdicts.Verdict.TheVariants.{Malformed}
+use Rattle.bi_legacy.specs.File.{LegacyMeans}
+use Rattle.bi_legacy.specs.Meaning.{LegacyImage}
+use Rattle.bootimg.specs.Shown.{line, digits_of_byte, shown}
+
+-- The text of a report on the checksums and digests of a boot image (profile of this project).
+
+-- The word for a verdict.
+abbrev pub verdict_word : Verdict → List ℕ
+verdict_word Good = codes "good"
+verdict_word Bad = codes "bad"
+verdict_word UnknownAlgo = codes "unknown-algorithm"
+verdict_word NoPayload = codes "no-payload"
+verdict_word Malformed = codes "malformed"
+
+-- A name that may not be there: `-` where it is not.
+abbrev pub shown_or_none : Option (List ℕ) → List ℕ
+shown_or_none None = codes "-"
+shown_or_none (Some name) = shown name
+
+-- A value in hexadecimal digits of lower case: `-` where it is empty or not there.
+abbrev pub value_word : Option (List ℕ) → List ℕ
+value_word None = codes "-"
+value_word (Some value) =
+    if bytes_eq value [] then codes "-" else flat_map (digits_of_byte false) value
+
+-- The line of a hash node.
+abbrev pub hash_line : CheckedHash → List ℕ
+hash_line hash =
+    line
+    (shown hash.image ∷ shown hash.node_name ∷ shown_or_none hash.algo ∷ verdict_word hash.verdict
+    ∷ value_word hash.value ∷ [])
+
+-- How many of these hash nodes have a verdict, by its word.
+abbrev pub count_of : Verdict → List CheckedHash → ℕ
+count_of verdict hashes =
+    length (filter (λ hash. bytes_eq (verdict_word hash.verdict) (verdict_word verdict)) hashes)
+
+-- The last line: how many hash nodes have each verdict.
+abbrev pub summary_line : List CheckedHash → List ℕ
+summary_line hashes =
+    line
+    (codes "summary"
+    ∷ verdict_word Good ∷ decimal (count_of Good hashes)
+    ∷ verdict_word Bad ∷ decimal (count_of Bad hashes)
+    ∷ verdict_word UnknownAlgo ∷ decimal (count_of UnknownAlgo hashes)
+    ∷ verdict_word NoPayload ∷ decimal (count_of NoPayload hashes)
+    ∷ verdict_word Malformed ∷ decimal (count_of Malformed hashes) ∷ [])
+
+-- The report on a flattened image tree.
+abbrev pub fit_report : ImageTree → List ℕ
+fit_report tree = flat_map hash_line (verdicts_of tree) ++ summary_line (verdicts_of tree)
+
+-- The report on a legacy image: a wrong checksum is a refusal, so both are good.
+abbrev pub legacy_report : List ℕ
+legacy_report =
+    line (codes "header" ∷ codes "crc32" ∷ codes "good" ∷ [])
+    ++ line (codes "data" ∷ codes "crc32" ∷ codes "good" ∷ [])
+
+-- The text is the report on a file.
+pub data IsReport (limits : Bounds) (file text : List ℕ) : Type 0 where
+  OfLegacyImage : (image : LegacyImage) → LegacyMeans limits file image → text ≡ legacy_report
+      → IsReport limits file text
+  OfImageTree : (tree : ImageTree) → FitMeans limits file tree → text ≡ fit_report tree
+      → IsReport limits file text

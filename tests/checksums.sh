@@ -1,0 +1,144 @@
+#!/bin/sh
+# Compares checksums and digests with those of python3's zlib and hashlib. The program accepts images whose checksums are
+# zlib's, and writes the same checksums itself; it refuses them with one bit changed. The digests of hash nodes are compared
+# by tests that are added to a copy of the sources. The data have all lengths around the steps and buffers, and some
+# megabytes. The script needs python3, and installs Debian's where it is missing and the script runs as root.
+set -u
+
+export LC_ALL=C
+root=$(cd "$(dirname "$0")/.." && pwd)
+passed=0
+failed=0
+
+# check NAME COMMAND..: passes where the command ends with status 0.
+check() {
+    name=$1
+    shift
+    if output=$("$@" 2>&1 < /dev/null); then
+        passed=$((passed + 1))
+    else
+        failed=$((failed + 1))
+        echo "FAILED: $name"
+        echo "$output"
+    fi
+}
+
+# finish: prints the last line of the script.
+finish() {
+    echo "$passed passed, $failed failed"
+    [ "$failed" = 0 ]
+    exit
+}
+
+if [ "$(id -u)" = 0 ] && ! command -v python3 > /dev/null; then
+    (apt-get update && apt-get install -y python3) >&2
+fi
+check "python3 is installed" command -v python3
+[ "$failed" = 0 ] || finish
+"$root/bootimg" --version > /dev/null
+check "the program runs" "$root/bootimg" --version
+[ "$failed" = 0 ] || finish
+
+work=$(mktemp -d)
+trap 'rm -rf "$work"' EXIT
+trap 'exit 1' HUP INT TERM
+cd "$work" || exit 2
+
+# image SEED LENGTH: a kernel image with random data of this length, whose checksums are zlib's.
+image() {
+    python3 -c 'import random, struct, sys, zlib
+seed, length = map(int, sys.argv[1:])
+data = random.Random(seed).getrandbits(8 * length + 1).to_bytes(length + 1, "big")[:length]
+fields = [0x27051956, 0, 0, length, 0x8000, 0x8000, zlib.crc32(data)]
+header = struct.pack(">7I4B32s", *fields, 5, 2, 2, 0, b"checksum")
+sum = struct.pack(">I", zlib.crc32(header))
+sys.stdout.buffer.write(header[:4] + sum + header[8:] + data)' "$@"
+}
+
+# flip IMAGE OFFSET BIT: the image with this bit of the byte at this offset changed.
+flip() {
+    python3 -c 'import sys
+image = bytearray(open(sys.argv[1], "rb").read())
+image[int(sys.argv[2])] ^= 1 << int(sys.argv[3])
+sys.stdout.buffer.write(image)' "$@"
+}
+
+# accepts IMAGE: the program lists the image, and its normal form is the image itself.
+accepts() {
+    "$root/bootimg" list < "$1" > output && "$root/bootimg" normalise < "$1" > output && cmp "$1" output
+}
+
+# refuses LINE IMAGE: list and normalise write nothing, print this line and end with status 2.
+refuses() {
+    for command in list normalise; do
+        "$root/bootimg" "$command" < "$2" > output 2> errors
+        [ $? = 2 ] && [ ! -s output ] && [ "$(cat errors)" = "bootimg: $1" ] || return 1
+    done
+}
+
+# compare LENGTH: an image with data of this length, as it is and with one bit of the header and of the data changed.
+compare() {
+    image "$1" "$1" > image
+    check "the checksums over $1 bytes are those of zlib" accepts image
+    flip image 16 0 > flipped
+    check "a changed bit of the header before $1 bytes is found" refuses "BadHeaderCrc at 4" flipped
+    [ "$1" -gt 0 ] || return
+    for offset in 0 $(($1 / 2)) $(($1 - 1)); do
+        flip image $((64 + offset)) $((offset % 8)) > flipped
+        check "a changed bit at $offset of $1 bytes is found" refuses "BadDataCrc at 24" flipped
+    done
+}
+
+length=0
+while [ "$length" -le 20 ]; do
+    compare "$length"
+    length=$((length + 1))
+done
+for length in 4095 4096 4097 65471 65472 65473 65535 65536 65537; do
+    compare "$length"
+done
+compare 5000003
+
+# digest_tests: for each length, a test that compares the digest by each algorithm with that of zlib or hashlib. The test
+# makes the same bytes as python3 does.
+digest_tests() {
+    python3 -c 'import hashlib, zlib
+longest = 3000001
+state, data = 1, bytearray()
+for _ in range(longest):
+    state = (state * 1664525 + 1013904223) % 2**32
+    data.append(state >> 24)
+print("""
+/// The first bytes of a linear congruential generator.
+fn generated(alloc: Global, length: usize) -> Result<Vec<u8>, Fail> {
+    let mut bytes = Vec::with_capacity(alloc, length)?;
+    let mut state = 1u32;
+    for _ in 0..length {
+        state = state.wrapping_mul(1664525).wrapping_add(1013904223);
+        bytes.push((state >> 24) as u8)?;
+    }
+    Ok(bytes)
+}""")
+for length in 0, 1, 4095, 4096, 4097, 8191, 8192, 8193, 65537, longest:
+    payload = bytes(data[:length])
+    print("#[test] fn digests_of_%d_bytes(rt: HostRuntime) -> Result<(), Fail> {" % length)
+    print("    let payload = generated(rt.alloc(), %d)?;" % length)
+    digests = [("Crc32", "%08x" % zlib.crc32(payload))]
+    for name in "md5", "sha1", "sha256", "sha384", "sha512":
+        digests.append((name.capitalize(), hashlib.new(name, payload).hexdigest()))
+    for algo, digest in digests:
+        print("    let digest = hex_digest(rt.alloc(), Algo::%s, &payload)?;" % algo)
+        print("    assert_eq!(rt; digest.as_str(), \"%s\", \"%s\");" % (digest, algo))
+    print("    Ok(())\n}")'
+}
+
+(cd "$root" && tar cf - --exclude=out crates.txt HANDLES crates) | tar xf -
+digest_tests >> crates/bi_hash/src/algo/tests.rt
+(cd crates/bi_hash && rt try --test --seconds 300) > log 2>&1
+for length in 0 1 4095 4096 4097 8191 8192 8193 65537 3000001; do
+    check "the digests of $length bytes are those of zlib and hashlib" \
+        grep -Fqx "test algo::tests::digests_of_${length}_bytes ... ok" log
+done
+[ "$failed" = 0 ] || cat log
+
+finish

@@ -1,0 +1,225 @@
+#!/bin/sh
+# Tries ./bootimg, which builds the program where it is missing or old, on a checkout without sources and with an rt that is a
+# script: without rt, in an unwritable checkout, interrupted, with a source that is edited while it builds, with a build that
+# fails, and twice at the same time. No build takes more than two seconds.
+set -u
+
+root=$(cd "$(dirname "$0")/.." && pwd)
+passed=0
+failed=0
+
+# check NAME COMMAND..: passes where the command ends with status 0.
+check() {
+    name=$1
+    shift
+    if output=$("$@" 2>&1 < /dev/null); then
+        passed=$((passed + 1))
+    else
+        failed=$((failed + 1))
+        echo "FAILED: $name"
+        echo "$output"
+    fi
+}
+
+work=$(mktemp -d)
+trap 'rm -rf "$work"' EXIT
+trap 'exit 1' HUP INT TERM
+cd "$work" || exit 2
+chmod 755 .
+
+# The rt of these tests takes as many seconds as the file `seconds` says, fails where there is a file `broken`, and builds a
+# program that prints its arguments and the source as it was at the start. Each run adds a line to the file `builds`.
+mkdir bin
+cat > bin/rt << 'END'
+#!/bin/sh
+checkout=$(cd ../.. && pwd)
+echo build >> "$checkout/../builds"
+source=$(cat src/main.rt)
+echo "fn bootimg::main: proved"
+sleep "$(cat "$checkout/../seconds")"
+[ ! -e "$checkout/../broken" ] || { echo "fn bootimg::main: not proved"; exit 1; }
+printf '#!/bin/sh\necho %s "$@"\n' "$source" > out/bootimg
+chmod +x out/bootimg
+END
+chmod +x bin/rt
+
+# new_checkout: a checkout of the launcher, with two crates of one file each, and no build yet.
+new_checkout() {
+    rm -rf checkout builds broken
+    mkdir -p checkout/crates/bootimg/src checkout/crates/lower/src
+    cp "$root/bootimg" checkout/bootimg
+    echo "bootimg: lower" > checkout/crates.txt
+    echo one > checkout/crates/bootimg/src/main.rt
+    echo lower > checkout/crates/lower/src/lib.rt
+    echo 0 > seconds
+    touch -d '1 hour ago' checkout/crates/*/src/* checkout/crates/*/src checkout/crates.txt
+}
+
+# launch ARGUMENT..: runs the launcher; its streams are in the files output and errors.
+launch() {
+    PATH="$work/bin:$PATH" checkout/bootimg "$@" > output 2> errors
+}
+
+# builds COUNT: rt was run so often.
+builds() {
+    touch builds
+    [ "$(wc -l < builds)" = "$1" ] || { cat builds errors; false; }
+}
+
+# prints LINE: the last launch printed this line alone.
+prints() {
+    [ "$(cat output)" = "$1" ] || { cat output errors; false; }
+}
+
+# tells TEXT: the last launch printed this text on standard error.
+tells() {
+    grep -Fq "$1" errors || { cat errors; false; }
+}
+
+# fails STATUS COMMAND..: the command ends with this status.
+fails() {
+    wanted=$1
+    shift
+    "$@"
+    got=$?
+    [ "$got" = "$wanted" ] || { echo "status $got"; cat errors; false; }
+}
+
+new_checkout
+check "the first call builds and runs the program" launch list 'a b'
+check "the program gets the arguments" prints "one list a b"
+check "the first call says that it builds" tells "proving and building the program: once, in about"
+check "rt's lines go to the log" grep -Fqx "fn bootimg::main: proved" checkout/crates/bootimg/out/build.log
+check "rt's lines are not printed" fails 1 grep -Fq "fn bootimg" errors
+check "the second call runs the program" launch
+check "the second call does not build" builds 1
+check "the second call says nothing" test ! -s errors
+
+sleep 0.1
+echo two > checkout/crates/bootimg/src/main.rt
+check "a call after an edit runs the program" launch
+check "the edited program is built" prints two
+check "the call says why it builds" tells "a source has changed"
+touch checkout/crates/lower/src/new.rt
+check "a call after a new file in another crate runs the program" launch
+check "a new file in another crate is built" builds 3
+rm checkout/crates/lower/src/new.rt
+check "a call after a file was removed runs the program" launch
+check "a removed file is noticed" builds 4
+
+new_checkout
+mkdir empty
+for tool in dirname readlink find head grep sed tail sleep mkdir touch rm flock cat; do
+    ln -s "$(command -v "$tool")" "empty/$tool"
+done
+without_rt() {
+    PATH="$work/empty" checkout/bootimg list > output 2> errors
+}
+check "without rt the status is 2" fails 2 without_rt
+check "without rt the call says what is missing" tells "bootimg: rt, the command of the Rattle kit, is not in PATH"
+check "the call says where to read on" tells "'Set-up' in $work/checkout/README.md"
+check "README has that section" grep -q '^## Set-up$' "$root/README.md"
+check "that is one line" test "$(wc -l < errors)" = 1
+check "a call with rt builds the program" launch
+check "a call without rt runs a program that is built" without_rt
+
+# The script may run as root, who can write to any directory: nobody cannot.
+new_checkout
+as_nobody() {
+    if [ "$(id -u)" = 0 ]; then
+        PATH="$work/bin:$PATH" setpriv --reuid=65534 --regid=65534 --clear-groups checkout/bootimg > output 2> errors
+    else
+        launch
+    fi
+}
+chmod -R a-w checkout
+check "in an unwritable checkout the status is 2" fails 2 as_nobody
+check "the call names the directory" tells "bootimg: cannot write to $work/checkout/crates/bootimg/out, where rt builds"
+check "that is one line, too" test "$(wc -l < errors)" = 1
+chmod -R u+w checkout
+check "a call that can write builds" launch
+chmod -R a-w checkout
+check "an unwritable checkout runs a program that is built" as_nobody
+check "it prints what the program prints" prints one
+chmod -R u+w checkout
+
+new_checkout
+touch broken
+check "where the build fails the status is 2" fails 2 launch
+check "the call names the log" tells "$work/checkout/crates/bootimg/out/build.log has what rt printed"
+check "the log has what rt printed" grep -Fqx "fn bootimg::main: not proved" checkout/crates/bootimg/out/build.log
+rm broken
+check "the next call builds" launch
+check "the next call runs the program" prints one
+
+# interrupt SIGNAL: a call that gets the signal while rt runs. A shell has commands in the background ignore INT, and env undoes
+# that.
+interrupt() {
+    PATH="$work/bin:$PATH" env --default-signal=INT checkout/bootimg > output 2> errors &
+    launcher=$!
+    while [ ! -s builds ]; do sleep 0.05; done
+    kill -s "$1" "$launcher"
+    wait "$launcher"
+}
+new_checkout
+echo 2 > seconds
+check "a call that is terminated ends with status 143" fails 143 interrupt TERM
+check "it says so" tells "interrupted; the next call builds the program"
+echo 0 > seconds
+check "the call after an interrupted one builds" launch
+check "it runs the program" prints one
+check "there were two builds" builds 2
+new_checkout
+echo 2 > seconds
+check "a call that is interrupted from the keyboard ends with status 130" fails 130 interrupt INT
+check "it says so, too" tells "interrupted; the next call builds the program"
+echo 0 > seconds
+check "the call after that builds the program" launch
+# A build of an edited source is interrupted when there is a program already.
+sleep 0.1
+echo two > checkout/crates/bootimg/src/main.rt
+echo 2 > seconds
+rm builds
+check "a call that builds again is terminated" fails 143 interrupt TERM
+echo 0 > seconds
+check "the call after that builds" launch
+check "it runs the edited program" prints two
+
+# An edit during the build: the program of this call has the old source, and the next call builds again.
+edit_while_building() {
+    PATH="$work/bin:$PATH" checkout/bootimg > output 2> errors &
+    launcher=$!
+    while [ ! -s builds ]; do sleep 0.05; done
+    sleep 0.2
+    echo edited > checkout/crates/bootimg/src/main.rt
+    wait "$launcher"
+}
+new_checkout
+echo 1 > seconds
+check "a source is edited while the program is built" edit_while_building
+check "this call runs the program as it was" prints one
+echo 0 > seconds
+check "the next call runs the program" launch
+check "it has the edit" prints edited
+check "the call after that does not build" launch
+check "there were two builds, too" builds 2
+
+# Two calls at the same time: one builds, and the other waits for it.
+two_calls() {
+    PATH="$work/bin:$PATH" checkout/bootimg first > first 2> first.errors &
+    one=$!
+    while [ ! -s builds ]; do sleep 0.05; done
+    launch second
+    second=$?
+    wait "$one" && [ "$second" = 0 ]
+}
+new_checkout
+echo 1 > seconds
+check "two calls at the same time both end with status 0" two_calls
+check "the second runs the program" prints "one second"
+check "the first runs the program" grep -Fqx "one first" first
+check "the second says that it waits" tells "waiting for another build"
+check "there was one build" builds 1
+
+echo "$passed passed, $failed failed"
+[ "$failed" = 0 ]
