@@ -1,12 +1,12 @@
 //! Reading a devicetree blob.
 
-ghost use Rattle.std.specs.Prelude.{◌≡◌, ℕ, ◌≤◌, ◌<◌, ◌^◌, ◌↔◌, List, length, map, slice_get, IfOk};
-ghost use Rattle.std.specs.Prelude.{IfErr, IsOk, OnOk};
+ghost use Rattle.std.specs.Prelude.{◌≡◌, ℕ, ◌<◌, ◌^◌, List, length, map, slice_get, IfOk};
+ghost use Rattle.std.specs.Prelude.{IfErr, OnOk};
 ghost use Rattle.bi_base.specs.declared.fault.Fault.{Fault};
 ghost use Rattle.bi_blob.specs.Tree.{Root, FileNode};
-ghost use Rattle.bi_blob.specs.Blob.{Reservation, header_length, totalsize, off_mem_rsvmap};
+ghost use Rattle.bi_blob.specs.Blob.{Reservation, totalsize, off_mem_rsvmap};
 ghost use Rattle.bi_blob.specs.Blob.{tree_blocks as tree_blocks_of, IsBlob, IsBlobWithin, Header};
-ghost use Rattle.bi_blob.specs.BlobFaults.{HasNoHeaderFault, HasReservations, HasNoFaultBeforeTree};
+ghost use Rattle.bi_blob.specs.BlobFaults.{HasNoHeaderFault, HasReservations};
 ghost use Rattle.bi_blob.specs.BlobFaults.{IsFaultBeforeTree, IsBlobFault};
 ghost use Rattle.bi_blob.specs.BlobLaws.{SameContent};
 ghost use Rattle.bi_fdt.specs.Blocks.{blocks_of};
@@ -62,6 +62,21 @@ impl<'a> Blob<'a> {
 
     /// Reads a blob of version 16 or 17, or of a later version that is compatible with 17. The file
     /// may be longer than the blob.
+    ///
+    /// Ok exactly where the file is a blob within the limits, if memory suffices. Else the fault of
+    /// the first check that fails:
+    ///
+    /// - in the header: TooLarge at the limit; Truncated at 0 for less than a magic number; BadMagic
+    ///   at 0; Truncated at 0 for less than a header; BadVersion at 20 and at 24; BadTotalSize at 4;
+    ///   Truncated at 4 where `totalsize` is greater than the file; BadOffset at 16, 8 and 12 for the
+    ///   reservation block, the structure block and the strings block;
+    /// - in the reservation block: Truncated at the first pair that ends after `totalsize`;
+    /// - in the structure block, at the token: Truncated where the block ends in it; BadToken;
+    ///   TooDeep, BadName and DuplicateNode for a node; PropertyAfterChild, BadNameOffset, BadName
+    ///   and DuplicateProperty for a property.
+    ///
+    /// OutOfMemory comes only where the header and the reservation block have no fault. ReadFailed
+    /// and WriteFailed never come.
     pub fn read(alloc: Global, file: &'a [u8], limits: Limits) -> Result<Blob<'a>, Error>
         ensures accepts { OnOk result (IsBlobWithin limits file.entry.now) }
         ensures content { IfOk result

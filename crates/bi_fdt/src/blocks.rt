@@ -1,6 +1,6 @@
 //! The blocks of a blob that hold its tree, and what a single token in them holds.
 
-ghost use Rattle.std.specs.Prelude.{◌≡◌, ℕ, ◌+◌, ◌≤◌, List, [], ◌↔◌, length, IsTrue, IfOk, IfErr};
+ghost use Rattle.std.specs.Prelude.{◌≡◌, ◌+◌, ◌≤◌, List, [], ◌↔◌, length, IsTrue, IfOk, IfErr};
 ghost use Rattle.std.specs.Prelude.{OnOk};
 ghost use Rattle.bi_base.specs.Cells.{u32_at, slice};
 ghost use Rattle.bi_base.specs.Checks.{IsFirstFault, HasNoFault};

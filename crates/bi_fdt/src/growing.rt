@@ -1,6 +1,6 @@
 //! A tree while its tokens are read.
 
-ghost use Rattle.std.specs.Prelude.{◌≡◌, ℕ, ◌+◌, List, [], ◌∷◌, ◌↔◌, length, map, IsTrue, IfOk};
+ghost use Rattle.std.specs.Prelude.{◌≡◌, ◌+◌, List, [], ◌∷◌, ◌↔◌, length, map, IsTrue, IfOk};
 ghost use Rattle.std.specs.Prelude.{IfErr, OnOk};
 ghost use Rattle.bi_blob.specs.Tree.{names, IsNew};
 ghost use Rattle.bi_blob.specs.BlobFaults.{token_fault, IsNewNode, IsNewProperty};

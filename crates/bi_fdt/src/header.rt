@@ -4,7 +4,7 @@
 ghost use Rattle.std.specs.Prelude.{◌≡◌, ◌≤◌, length, IfErr, OnOk};
 ghost use Rattle.bi_base.specs.Checks.{IsFirstFault, HasNoFault};
 ghost use Rattle.bi_blob.specs.Blob.{header_length as length_of_header};
-ghost use Rattle.bi_blob.specs.Blob.{structure_end as end_of_structure, totalsize};
+ghost use Rattle.bi_blob.specs.Blob.{structure_end as end_of_structure};
 ghost use Rattle.bi_blob.specs.BlobFaults.{HasNoHeaderFault, HeaderPasses, header_fault};
 ghost use Rattle.bi_blob.specs.BlobFaults.{IsHeaderFault};
 ghost use Rattle.bi_fdt.specs.Header.{place_checks};

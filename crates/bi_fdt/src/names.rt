@@ -2,7 +2,7 @@
 
 ghost use Rattle.std.specs.Prelude.{◌≡◌, ◌≤◌, ◌↔◌, length, IsSome, IfSome, IsTrue};
 ghost use Rattle.bi_blob.specs.Tokens.{name_from};
-ghost use Rattle.bi_blob.specs.Tree.{HasNoZero, IsChildName, IsPropertyName};
+ghost use Rattle.bi_blob.specs.Tree.{HasNoZero, IsChildName};
 ghost use Rattle.bi_blob.specs.BlobFaults.{HasName};
 
 /// The name at offset `at`. None exactly where no zero byte ends it before `end`.

@@ -1,8 +1,8 @@
 //! The nodes of a blob.
 
-ghost use Rattle.std.specs.Prelude.{◌≡◌, ◌<◌, ◌^◌, drop, length, map, slice_get, IsTrue};
+ghost use Rattle.std.specs.Prelude.{◌≡◌, ◌<◌, ◌^◌, drop, length, slice_get, IsTrue};
 ghost use Rattle.std.specs.Option.{option_map};
-ghost use Rattle.bi_blob.specs.Tree.{property_of, properties_of};
+ghost use Rattle.bi_blob.specs.Tree.{properties_of};
 ghost use Rattle.bi_blob.specs.Lookups.{siblings, root_node, node_at, node_named, value_named};
 ghost use Rattle.bi_blob.specs.Lookups.{property_named};
 ghost use Rattle.bi_fdt.specs.Table.{file_property_of};
@@ -29,6 +29,7 @@ impl<'a, 'b> NodeRef<'a, 'b> {
     pub(crate) fn new(blob: &'b Blob<'a>) -> NodeRef<'a, 'b>
         ensures { node_of result ≡ root_node (root_of blob.entry.now) }
     {
+        // What the type of the blob keeps: its table begins with the root.
         let _ = blob.entries();
         NodeRef { blob, index: 0 }
     }
