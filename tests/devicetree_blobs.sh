@@ -1,6 +1,6 @@
 #!/bin/sh
 # Devicetree blobs that Debian's dtc makes, of versions 17 and 16, with padding, free space, alignment, memory reservations and
-# symbols: they are read as fdtget and fdtdump show them. Blobs of hostile shapes are read in at most ten times what sha256sum
+# symbols: they are read as fdtget and fdtdump show them. Four large shapes are read in at most ten times what sha256sum
 # takes. The program that reads them is tests/print_blob. It needs Debian's device-tree-compiler and python3, and installs them
 # where one is missing and it runs as root.
 set -u
