@@ -5,36 +5,10 @@
 # megabytes. The script needs python3, and installs Debian's where it is missing and the script runs as root.
 set -u
 
-export LC_ALL=C
 root=$(cd "$(dirname "$0")/.." && pwd)
-passed=0
-failed=0
+. "$root/tests/common"
 
-# check NAME COMMAND..: passes where the command ends with status 0.
-check() {
-    name=$1
-    shift
-    if output=$("$@" 2>&1 < /dev/null); then
-        passed=$((passed + 1))
-    else
-        failed=$((failed + 1))
-        echo "FAILED: $name"
-        echo "$output"
-    fi
-}
-
-# finish: prints the last line of the script.
-finish() {
-    echo "$passed passed, $failed failed"
-    [ "$failed" = 0 ]
-    exit
-}
-
-if [ "$(id -u)" = 0 ] && ! command -v python3 > /dev/null; then
-    (apt-get update && apt-get install -y python3) >&2
-fi
-check "python3 is installed" command -v python3
-[ "$failed" = 0 ] || finish
+need python3 python3
 "$root/bootimg" --version > /dev/null
 check "the program runs" "$root/bootimg" --version
 [ "$failed" = 0 ] || finish

@@ -3,27 +3,11 @@
 # Debian's u-boot-tools, and installs them where they are missing and it runs as root.
 set -u
 
-export LC_ALL=C SOURCE_DATE_EPOCH=1700000000
 root=$(cd "$(dirname "$0")/.." && pwd)
-passed=0
-failed=0
+. "$root/tests/common"
+export SOURCE_DATE_EPOCH=1700000000
 
-# check NAME COMMAND..: passes where the command ends with status 0.
-check() {
-    name=$1
-    shift
-    if output=$("$@" 2>&1 < /dev/null); then
-        passed=$((passed + 1))
-    else
-        failed=$((failed + 1))
-        echo "FAILED: $name"
-        echo "$output"
-    fi
-}
-
-if [ "$(id -u)" = 0 ] && ! command -v mkimage > /dev/null; then
-    (apt-get update && apt-get install -y u-boot-tools) >&2
-fi
+install_missing u-boot-tools mkimage
 "$root/bootimg" --version > /dev/null || exit 1
 
 work=$(mktemp -d)
@@ -111,5 +95,4 @@ make -T kernel -n "$(printf 'a\377b')" -d data name.image
 check "a name that is not UTF-8 is listed" sh -c '"$1" list < name.image | grep -Fqx "name a%FFb"' sh "$root/bootimg"
 check "and normalised" sh -c '"$1" normalise < name.image | cmp - name.image' sh "$root/bootimg"
 
-echo "$passed passed, $failed failed"
-[ "$failed" = 0 ]
+finish

@@ -5,21 +5,7 @@
 set -u
 
 root=$(cd "$(dirname "$0")/.." && pwd)
-passed=0
-failed=0
-
-# check NAME COMMAND..: passes where the command ends with status 0.
-check() {
-    name=$1
-    shift
-    if output=$("$@" 2>&1 < /dev/null); then
-        passed=$((passed + 1))
-    else
-        failed=$((failed + 1))
-        echo "FAILED: $name"
-        echo "$output"
-    fi
-}
+. "$root/tests/common"
 
 work=$(mktemp -d)
 trap 'rm -rf "$work"' EXIT
@@ -221,5 +207,4 @@ check "the first runs the program" grep -Fqx "one first" first
 check "the second says that it waits" tells "waiting for another build"
 check "there was one build" builds 1
 
-echo "$passed passed, $failed failed"
-[ "$failed" = 0 ]
+finish

@@ -5,38 +5,11 @@
 # installs them where one is missing and it runs as root. The program, tests/layout/main.rt.source, is built in a copy of the sources.
 set -u
 
-export LC_ALL=C
 root=$(cd "$(dirname "$0")/.." && pwd)
-passed=0
-failed=0
+. "$root/tests/common"
 
-# check NAME COMMAND..: passes where the command ends with status 0.
-check() {
-    name=$1
-    shift
-    if said=$("$@" 2>&1 < /dev/null); then
-        passed=$((passed + 1))
-    else
-        failed=$((failed + 1))
-        echo "FAILED: $name"
-        echo "$said"
-    fi
-}
-
-# finish: the line that ends each script.
-finish() {
-    echo "$passed passed, $failed failed"
-    [ "$failed" = 0 ]
-    exit
-}
-
-if [ "$(id -u)" = 0 ] && { ! command -v dtc || ! command -v fdtget || ! command -v python3; } > /dev/null; then
-    (apt-get update && apt-get install -y device-tree-compiler python3) >&2
-fi
-for tool in dtc fdtget fdtdump python3; do
-    check "$tool is there (Debian: device-tree-compiler, python3)" command -v "$tool"
-done
-[ "$failed" = 0 ] || finish
+need device-tree-compiler dtc fdtget fdtdump
+need python3 python3
 
 work=$(mktemp -d)
 trap 'rm -rf "$work"' EXIT

@@ -4,38 +4,12 @@
 # python3, and installs them if one is missing and it runs as root.
 set -u
 
-export LC_ALL=C SOURCE_DATE_EPOCH=1000000000
 root=$(cd "$(dirname "$0")/.." && pwd)
-passed=0
-failed=0
+. "$root/tests/common"
+export SOURCE_DATE_EPOCH=1000000000
 
-# check NAME COMMAND..: passes where the command ends with status 0.
-check() {
-    name=$1
-    shift
-    if said=$("$@" 2>&1 < /dev/null); then
-        passed=$((passed + 1))
-    else
-        failed=$((failed + 1))
-        echo "FAILED: $name"
-        echo "$said"
-    fi
-}
-
-# finish: prints the last line of the script.
-finish() {
-    echo "$passed passed, $failed failed"
-    [ "$failed" = 0 ]
-    exit
-}
-
-if [ "$(id -u)" = 0 ] && { ! command -v mkimage || ! command -v python3; } > /dev/null; then
-    (apt-get update && apt-get install -y u-boot-tools python3) >&2
-fi
-for tool in mkimage dumpimage python3; do
-    check "$tool is there (Debian: u-boot-tools, python3)" command -v "$tool"
-done
-[ "$failed" = 0 ] || finish
+need u-boot-tools mkimage dumpimage
+need python3 python3
 "$root/bootimg" --version > /dev/null
 check "the program is there" "$root/bootimg" --version
 [ "$failed" = 0 ] || finish

@@ -5,12 +5,11 @@
 # is missing and it runs as root.
 set -u
 
-export LC_ALL=C
 root=$(cd "$(dirname "$0")/.." && pwd)
+. "$root/tests/common"
 
-if [ "$(id -u)" = 0 ] && { ! command -v mkimage || ! command -v python3; } > /dev/null; then
-    (apt-get update && apt-get install -y u-boot-tools python3) >&2
-fi
+install_missing u-boot-tools mkimage
+install_missing python3 python3
 "$root/bootimg" --version > /dev/null || exit 1
 
 work=$(mktemp -d)
