@@ -10,7 +10,7 @@ use crate::fault::Error;
 use crate::sinks::Sink;
 
 /// The number whose cell, its four big-endian bytes (Devicetree Specification, 2.2.4.2: u32),
-/// stands at offset `at`. None exactly where the bytes end before the cell does.
+/// is at offset `at`. None exactly where the bytes end before the cell does.
 pub fn be32_at(bytes: &[u8], at: usize) -> Option<u32>
     ensures within { IsSome result ↔ (at + 4 ≤ length bytes.now) }
     ensures value { IfSome result (λ number. number ≡ u32_at bytes.now at) }

@@ -18,21 +18,21 @@ pub enum Cause {
     BadDataCrc = 4,
     /// The list of part sizes of a multi or script image has no end.
     BadPartTable = 5,
-    /// A part ends after the data that it has to stand in.
+    /// A part ends after the data of the image.
     BadPart = 6,
     /// The `totalsize` of a blob is less than its header.
     BadTotalSize = 7,
     /// The version of a blob is not one that can be read.
     BadVersion = 8,
-    /// A block of a blob does not stand where it may.
+    /// A block of a blob has an offset that it may not have.
     BadOffset = 9,
-    /// A token of the structure block is unknown, or stands where it may not.
+    /// A token of the structure block is unknown, or is where it may not be.
     BadToken = 10,
     /// A node or property has a name that it may not have.
     BadName = 11,
-    /// A property's name does not stand in the strings block.
+    /// A property's name is not in the strings block.
     BadNameOffset = 12,
-    /// A property stands after a child node.
+    /// A property is after a child node.
     PropertyAfterChild = 13,
     /// A node has two properties of one name.
     DuplicateProperty = 14,
@@ -44,7 +44,7 @@ pub enum Cause {
     NoImages = 17,
     /// A property that has to be one cell is not four bytes long.
     BadCell = 18,
-    /// An image node tells where its payload stands, and not its size.
+    /// An image node has the offset of its payload, and not its size.
     NoSize = 19,
     /// A payload ends after the file.
     OutsideFile = 20,

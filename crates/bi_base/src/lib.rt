@@ -1,4 +1,4 @@
-//! What every layer of bootimg stands on: cells, CRC-32, limits, causes and faults, reading a whole
+//! What every layer of bootimg uses: cells, CRC-32, limits, causes and faults, reading a whole
 //! input, and sinks that bytes are written to.
 #![tactic(auto)]
 

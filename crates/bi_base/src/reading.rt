@@ -37,8 +37,8 @@ fn read_some<S: TracedRead>(source: &mut S, buffer: &mut [u8]) -> Result<usize, 
 /// Errors: `Refused` with `TooLarge` at the limit for files, where the input is longer than that;
 /// `ReadFailed` after a read that failed by another error than an interruption, or after 1,024
 /// interrupted reads in a row; `OutOfMemory` where the buffer cannot grow. After an error the bytes
-/// that were read are lost. At most one byte more than the limit is read, also where the call
-/// fails. No failed read is ignored: after one the call returns `ReadFailed`.
+/// that were read are lost. At most one byte more than the limit is read, even if the call fails.
+/// Apart from interruptions, no failed read is ignored: after one the call returns `ReadFailed`.
 pub fn read_all_traced<S: TracedRead>(
     alloc: Global,
     source: &mut S,
@@ -60,6 +60,7 @@ pub fn read_all_traced<S: TracedRead>(
     let mut bytes = Vec::new(alloc);
     let mut chunk = [0u8; CHUNK];
     loop {
+        // One byte more than is left shows that the input is longer than the limit.
         let room = (most - bytes.len()).saturating_add(1).min(CHUNK);
         let count = read_some(source, &mut chunk[..room])?;
         if count == 0 {

@@ -67,13 +67,13 @@ impl<'a> Blob<'a> {
     /// the first check that fails:
     ///
     /// - in the header: TooLarge at the limit; Truncated at 0 for less than a magic number;
-    /// BadMagic at 0; Truncated at 0 for less than a header; BadVersion at 20 and at 24;
-    /// BadTotalSize at 4; Truncated at 4 where `totalsize` is greater than the file; BadOffset at
-    /// 16, 8 and 12 for the reservation block, the structure block and the strings block;
+    ///   BadMagic at 0; Truncated at 0 for less than a header; BadVersion at 20 and at 24;
+    ///   BadTotalSize at 4; Truncated at 4 where `totalsize` is greater than the file; BadOffset at
+    ///   16, 8 and 12 for the memory reservation block, the structure block and the strings block;
     /// - in the reservation block: Truncated at the first pair that ends after `totalsize`;
     /// - in the structure block, at the token: Truncated where the block ends in it; BadToken;
-    /// TooDeep, BadName and DuplicateNode for a node; PropertyAfterChild, BadNameOffset, BadName
-    /// and DuplicateProperty for a property.
+    ///   TooDeep, BadName and DuplicateNode for a node; PropertyAfterChild, BadNameOffset, BadName
+    ///   and DuplicateProperty for a property.
     ///
     /// OutOfMemory comes only where the header and the reservation block have no fault. ReadFailed
     /// and WriteFailed never come.

@@ -29,7 +29,7 @@ impl<'a, 'b> NodeRef<'a, 'b> {
     pub(crate) fn new(blob: &'b Blob<'a>) -> NodeRef<'a, 'b>
         ensures { node_of result ≡ root_node (root_of blob.entry.now) }
     {
-        // What the type of the blob keeps: its table begins with the root.
+        // The call gives the proof the invariant of the blob: its table begins with the root.
         let _ = blob.entries();
         NodeRef { blob, index: 0 }
     }
@@ -148,6 +148,7 @@ impl<'a, 'b> NodeRef<'a, 'b> {
         let entry = *self.blob.entries().get(node.after)?;
         match entry {
             Entry::Node(next) => {
+                // A node of less depth is a sibling of a parent.
                 if next.depth != node.depth {
                     return None;
                 }
@@ -160,7 +161,7 @@ impl<'a, 'b> NodeRef<'a, 'b> {
         }
     }
 
-    /// The number of the children. It goes over all of them.
+    /// The number of the children. Takes time linear in it.
     pub fn child_count(self) -> usize
         ensures { result ≡ length (siblings (node_of self.entry).children) }
     {
@@ -174,7 +175,7 @@ impl<'a, 'b> NodeRef<'a, 'b> {
     }
 
     /// Child `index`, from 0, in the order of the file. None exactly where there is no such child.
-    /// It goes over the children before it.
+    /// Takes time linear in the children before it.
     pub fn child_at(self, index: usize) -> Option<NodeRef<'a, 'b>>
         ensures { option_map node_of result ≡ node_at (node_of self.entry).children index }
     {
@@ -185,8 +186,8 @@ impl<'a, 'b> NodeRef<'a, 'b> {
         Some(child)
     }
 
-    /// The child of this name. None exactly where there is no such child. It goes over the children
-    /// before it.
+    /// The child of this name. None exactly where there is no such child. Takes time
+    /// linear in the children before it.
     pub fn child(self, name: &[u8]) -> Option<NodeRef<'a, 'b>>
         ensures { option_map node_of result ≡ node_named (node_of self.entry).children name.now }
     {

@@ -23,12 +23,13 @@ use std::alloc::Global;
 use std::io::{Read, Write};
 
 /// Returns the normal form of a boot image: two accepted files of one kind have the same normal
-/// form exactly if they mean the same.
+/// form exactly if they mean the same. `form` is where a flattened image tree keeps its payloads;
+/// it has no effect on a legacy image.
 ///
-/// Errors, the first that applies: TooLarge at the limit, where the file is longer; Truncated at 0
-/// below four bytes; BadMagic at 0; for a legacy image those of `Legacy::read`; Unsupported at 0
-/// for a flattened image tree. A file in memory is refused without an allocation, so OutOfMemory
-/// comes only for a file that means something.
+/// Errors, each `Error::Refused`, the first that applies: TooLarge at the limit, where the file is
+/// longer; Truncated at 0 below four bytes; BadMagic at 0; for a legacy image those of
+/// `Legacy::read`; Unsupported at 0 for a flattened image tree. A file in memory is refused without
+/// an allocation, so OutOfMemory comes only for a file that means something.
 pub fn normalise(alloc: Global, file: &[u8], form: Form, limits: Limits) -> Result<Vec<u8>, Error>
     ensures normal_form { IfOk result (λ text. IsNormalForm limits form file.now text.items) }
     ensures failed { IfErr result (IsNormaliseError limits form file.now) }
@@ -92,8 +93,8 @@ fn parts_of<'a>(alloc: Global, image: &Legacy<'a>) -> Result<Vec<&'a [u8]>, Erro
     Ok(parts)
 }
 
-/// Writes the normal form of a boot image, and flushes: `normalise_into` a sink of a writer that
-/// records the outcome of its calls.
+/// Writes the normal form of a boot image, and flushes: `normalise_into` with a buffered sink over
+/// a writer that records the outcome of its calls.
 fn write_normal_form<T: TracedWrite>(
     alloc: Global,
     file: &[u8],
@@ -113,8 +114,7 @@ fn write_normal_form<T: TracedWrite>(
     outcome
 }
 
-/// Appends the normal form of a boot image to a sink that holds nothing back, and finishes the
-/// sink.
+/// Appends the normal form of a boot image to a sink whose buffer is empty, and finishes the sink.
 fn normalise_and_finish<T: TracedWrite>(
     alloc: Global,
     file: &[u8],

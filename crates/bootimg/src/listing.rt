@@ -164,7 +164,7 @@ fn put_codes(text: &mut String, image: &Legacy) -> Result<(), AllocError>
     Ok(())
 }
 
-/// Appends the line that tells how many parts there are, and a line for each part.
+/// Appends the line with the number of parts, and a line for each part.
 fn put_parts(text: &mut String, image: &Legacy) -> Result<(), AllocError>
     ensures { OnOk result (string_bytes text.new ≡ string_bytes text.old
         ++ parts_lines image.now.image) }
