@@ -39,11 +39,12 @@ source_word (DataPosition position size) = data_position_name
 -- The line of an image: its size, the property that gives its payload, and the offset of the
 -- payload in the file, or that it has no payload.
 abbrev pub image_line : List ℕ → (name : List ℕ) → PayloadSource → Option (List ℕ) → List ℕ
-image_line file name source None = line (codes "image" ∷ shown name ∷ codes "none" ∷ [])
-image_line file name source (Some payload) =
+image_line file name payload_source None = line (codes "image" ∷ shown name ∷ codes "none" ∷ [])
+image_line file name payload_source (Some payload) =
     line
-    (codes "image" ∷ shown name ∷ codes "size" ∷ decimal (length payload) ∷ source_word source
-    ∷ codes "at" ∷ decimal (unwrap_or (payload_place file source) 0) ∷ [])
+    (codes "image" ∷ shown name ∷ codes "size" ∷ decimal (length payload)
+    ∷ source_word payload_source ∷ codes "at"
+    ∷ decimal (unwrap_or (payload_place file payload_source) 0) ∷ [])
 
 -- The lines of image nodes with these payloads.
 abbrev pub image_lines : List ℕ → Nodes FileNode → List (Option (List ℕ)) → List ℕ
