@@ -113,7 +113,7 @@ impl<'a, 'b> NodeRef<'a, 'b> {
     }
 
     /// The property of this name. None exactly where there is no such property.
-    fn find_property(self, name: &[u8]) -> Option<Property<'a>>
+    pub fn find_property(self, name: &[u8]) -> Option<Property<'a>>
         ensures { option_map file_property_of result
             ≡ property_named (node_of self.entry).own.properties name.now }
     {

@@ -40,6 +40,11 @@ each_own (node name own children later) = own ∷ each_own later
 abbrev pub image_nodes : {Own : Type 0} → Root Own → Option (Nodes Own)
 image_nodes root = children_of images_name root.children
 
+-- The nodes of a list, where there may be no list.
+abbrev pub nodes_or_none : {Own : Type 0} → Option (Nodes Own) → Nodes Own
+nodes_or_none None = none
+nodes_or_none (Some nodes) = nodes
+
 -- The same tree, with other image nodes.
 abbrev pub with_image_nodes : {Own : Type 0} → (Nodes Own → Nodes Own) → Root Own → Root Own
 with_image_nodes change root =

@@ -10,7 +10,7 @@ use Rattle.bi_hash.specs.Verdicts.{verdict_of, text_before_nul}
 use Rattle.bi_fit.specs.declared.key.Key.{Key}
 use Rattle.bi_fit.specs.Names.{configurations_name, algo_name, value_name, default_name}
 use Rattle.bi_fit.specs.Names.{is_hash_name, is_signature_name, key_name}
-use Rattle.bi_fit.specs.ImageTree.{ImageTree, image_nodes, children_of}
+use Rattle.bi_fit.specs.ImageTree.{ImageTree, image_nodes, nodes_or_none, children_of}
 
 -- What follows from a flattened image tree about its images and configurations: the verdicts on
 -- its hash nodes, the images that each configuration lists, the default configuration, and how
@@ -30,11 +30,6 @@ images_with [] payloads = []
 images_with entries [] = []
 images_with (entry ∷ entries) (payload ∷ payloads) =
     record { entry = entry; payload = payload } ∷ images_with entries payloads
-
--- The nodes of a list, where there may be no list.
-abbrev pub nodes_or_none : Option (Nodes PropertyMap) → Nodes PropertyMap
-nodes_or_none None = none
-nodes_or_none (Some nodes) = nodes
 
 -- The images of a tree, in their order.
 abbrev pub images_of : ImageTree → List Image

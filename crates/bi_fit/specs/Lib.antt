@@ -6,6 +6,10 @@ pub mod Faults
 pub mod Text
 pub mod Judgement
 pub mod Building
+pub mod Content
+pub mod Fields
+pub mod Reading
+pub mod Documents
 pub mod Laws
 pub mod KnownFiles
 pub mod KnownFaults

@@ -1,0 +1,13 @@
+use Rattle.std.specs.Prelude.{◌≡◌, ℕ, List, map}
+use Rattle.bi_fit.specs.declared.fit.Fit.TheInside.{Inside as Fields}
+use Rattle.bi_fit.specs.Content.{FitContent, read_image, IsHeld}
+
+-- What the fields of a flattened image tree that was read hold, and what is true of them.
+
+-- What the fields hold.
+abbrev pub content_of : Fields → FitContent
+content_of fit = record { blob = fit.blob; images = map read_image fit.images.items }
+
+-- What is true of the fields.
+pub record IsConsistent (fit : Fields) : Type 0 where
+  pub held : IsHeld (content_of fit)

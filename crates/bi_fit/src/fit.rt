@@ -1,0 +1,134 @@
+//! Reading a flattened image tree.
+
+ghost use Rattle.std.specs.Prelude.{◌≡◌, length, map, slice_get, IfOk, IfErr};
+ghost use Rattle.std.specs.Option.{option_map, option_and_then};
+ghost use Rattle.bi_fit.specs.Content.{index_of, place_or_absent, read_image};
+ghost use Rattle.bi_fit.specs.Reading.{IsReadFrom, IsReadError};
+
+use crate::image::{Image, Place};
+use crate::images::read_images;
+use bi_base::{Cause, Error, Limits, refuse};
+use bi_fdt::Blob;
+use std::alloc::Global;
+use std::collections::BTreeMap;
+use std::marker::Model;
+
+/// A flattened image tree that was read. It holds slices of its file.
+#[derive(Drop)]
+pub struct Fit<'a> {
+    blob: Blob<'a>,
+    images: Vec<Image<'a>>,
+    /// The index of each image by its name.
+    indices: BTreeMap<&'a [u8], usize>,
+}
+
+impl<'a> Model for Fit<'a> {
+    ghost use Rattle.bi_fit.specs.Content.{FitContent};
+
+    ghost Value = { FitContent };
+
+    ghost use Rattle.bi_fit.specs.Fields.{content_of, IsConsistent};
+
+    ghost view = { content_of };
+
+    ghost invariant = { IsConsistent };
+}
+
+impl<'a> Fit<'a> {
+    /// Reads a flattened image tree. The file may be longer than its blob.
+    ///
+    /// Ok exactly if the file is a flattened image tree within the limits, unless memory runs out.
+    /// Else the fault of the first check that fails: those of `Blob::read`; NoImages at the token
+    /// of the root, if it has no child `images`; then for each image node in order that has
+    /// `data-position` or else `data-offset`: BadCell at that property, if its value is not four
+    /// bytes; NoSize there, if there is no `data-size`; BadCell at `data-size`, if its value is not
+    /// four bytes; OutsideFile at the first property, if the payload ends after the file.
+    ///
+    /// OutOfMemory comes only if the header and the reservation block have no fault. ReadFailed and
+    /// WriteFailed never come.
+    pub fn read(alloc: Global, file: &'a [u8], limits: Limits) -> Result<Fit<'a>, Error>
+        ensures read { IfOk result (IsReadFrom limits file.entry.now) }
+        ensures failed { IfErr result (IsReadError limits file.entry.now) }
+    {
+        let blob = Blob::read(alloc, file, limits)?;
+        let root = blob.root();
+        let Some(node) = root.child(b"images") else {
+            return refuse(Cause::NoImages, root.place()).map_err(Error::from);
+        };
+        let images = read_images(alloc, file, blob.total_size(), node)?;
+        let indices = index_by_name(alloc, &images)?;
+        Ok(Fit {
+            blob,
+            images,
+            indices,
+        })
+    }
+
+    /// The blob.
+    pub fn blob(&self) -> &Blob<'a>
+        ensures { result.now ≡ self.now.blob }
+    {
+        &self.blob
+    }
+
+    /// The images, in their order in the file.
+    pub fn images(&self) -> &[Image<'a>]
+        ensures { map read_image result.now ≡ self.now.images }
+    {
+        &self.images
+    }
+
+    /// The number of the images.
+    pub fn image_count(&self) -> usize
+        ensures { result ≡ length self.now.images }
+    {
+        self.images.len()
+    }
+
+    /// The name of image `index`, from 0. None exactly if there is no such image.
+    pub fn image_name(&self, index: usize) -> Option<&'a [u8]>
+        ensures { option_map (λ name. name.now) result
+            ≡ option_map (λ image. image.name) (slice_get self.now.images index) }
+    {
+        Some(self.images.get(index)?.name)
+    }
+
+    /// The index of the image of this name. None exactly if there is no such image.
+    pub fn image(&self, name: &[u8]) -> Option<usize>
+        ensures { result ≡ index_of name.now self.now.images }
+    {
+        self.indices.get(name).copied()
+    }
+
+    /// The payload of image `index`, from 0. None exactly if there is no such image, or it has no
+    /// payload.
+    pub fn payload(&self, index: usize) -> Option<&'a [u8]>
+        ensures { option_map (λ payload. payload.now) result
+            ≡ option_and_then (λ image. image.payload) (slice_get self.now.images index) }
+    {
+        self.images.get(index)?.payload
+    }
+
+    /// Where the payload of image `index`, from 0, is in the file. `Place::Absent` exactly if there
+    /// is no such image, or it has no payload.
+    pub fn place(&self, index: usize) -> Place
+        ensures { result ≡ place_or_absent (slice_get self.now.images index) }
+    {
+        match self.images.get(index) {
+            Some(image) => image.place,
+            None => Place::Absent,
+        }
+    }
+}
+
+/// The index of each of these images by its name. No two of them have one name.
+fn index_by_name<'a>(
+    alloc: Global,
+    images: &[Image<'a>],
+) -> Result<BTreeMap<&'a [u8], usize>, Error> {
+    let mut indices = BTreeMap::new(alloc);
+    for (index, image) in images.iter().enumerate() {
+        indices.insert(image.name, index)?;
+    }
+    Ok(indices)
+}
