@@ -20,3 +20,4 @@ pub mod JudgementFacts
 pub mod BuildFacts
 pub mod NameLists
 pub mod BuiltConfigurations
+pub mod ReadErrors
