@@ -9,7 +9,7 @@ ghost use Rattle.bi_fdt.specs.Table.{file_property_of};
 ghost use Rattle.bi_fdt.specs.Growth.{IsGrowing, IsGrown, IsEnding, IsRefusal};
 
 use crate::table::{Entry, NodeEntry, Property, set_after, set_property_count};
-use bi_base::{Cause, Error, Fault};
+use bi_base::{Cause, Error, refuse};
 use std::alloc::Global;
 use std::collections::BTreeSet;
 
@@ -111,10 +111,7 @@ impl<'a> Growing<'a> {
             mut properties,
         } = self;
         if !innermost.children.insert(name)? {
-            return Err(Error::Refused(Fault {
-                cause: Cause::DuplicateNode,
-                offset: place,
-            }));
+            return refuse(Cause::DuplicateNode, place).map_err(Error::from);
         }
         let entry = entries.len();
         entries.push(Entry::Node(NodeEntry {
@@ -166,10 +163,7 @@ impl<'a> Growing<'a> {
             mut properties,
         } = self;
         if !properties.insert(property.name)? {
-            return Err(Error::Refused(Fault {
-                cause: Cause::DuplicateProperty,
-                offset: property.place,
-            }));
+            return refuse(Cause::DuplicateProperty, property.place).map_err(Error::from);
         }
         entries.push(Entry::Property(property))?;
         let property_count = entries.len() - innermost.entry - 1;

@@ -10,7 +10,7 @@ ghost use Rattle.bi_fdt.specs.Reading.{IsReading, IsAhead};
 use crate::blocks::{Blocks, child_name, number_at, property_at};
 use crate::growing::{Ending, Growing};
 use crate::table::Entry;
-use bi_base::{Cause, Error, Fault, up4};
+use bi_base::{Cause, Error, refuse, up4};
 use std::alloc::Global;
 
 pub(crate) const BEGIN_NODE: u32 = 1;
@@ -65,10 +65,7 @@ pub(crate) fn step<'a>(
         return Ok(Next::Inside(Reading { place, growing }));
     }
     if number != END_NODE {
-        return Err(Error::Refused(Fault {
-            cause: Cause::BadToken,
-            offset: place as u32,
-        }));
+        return refuse(Cause::BadToken, place as u32).map_err(Error::from);
     }
     Ok(match growing.end_node() {
         Ending::Inside(growing) => Next::Inside(Reading {

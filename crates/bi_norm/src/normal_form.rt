@@ -110,8 +110,7 @@ fn write_normal_form<T: TracedWrite>(
         (T.trace target.new)) }
 {
     let mut sink = BufferedSink::new(target);
-    let outcome = normalise_and_finish(alloc, file, form, limits, &mut sink);
-    outcome
+    normalise_and_finish(alloc, file, form, limits, &mut sink)
 }
 
 /// Appends the normal form of a boot image to a sink whose buffer is empty, and finishes the sink.
