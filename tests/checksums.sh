@@ -2,7 +2,7 @@
 # Compares checksums and digests with those of python3's zlib and hashlib. The program accepts images whose checksums are
 # zlib's, and writes the same checksums itself; it refuses them with one bit changed. The digests of hash nodes are compared
 # by tests that are added to a copy of the sources. The data have all lengths around the steps and buffers, and some
-# megabytes. The script needs python3, and installs Debian's where it is missing and the script runs as root.
+# megabytes. The script needs python3, and installs Debian's if it is missing and the script runs as root.
 set -u
 
 root=$(cd "$(dirname "$0")/.." && pwd)

@@ -2,7 +2,7 @@
 # Devicetree blobs that Debian's dtc makes, of versions 17 and 16, with padding, free space, alignment, memory reservations and
 # symbols: they are read as fdtget and fdtdump print them. Four large shapes are timed: a search that is quadratic would take
 # more than thirty times what sha256sum takes. The program that reads them is tests/print_blob. It needs Debian's
-# device-tree-compiler and python3, and installs them where one is missing and it runs as root.
+# device-tree-compiler and python3, and installs them if one is missing and it runs as root.
 set -u
 
 root=$(cd "$(dirname "$0")/.." && pwd)
@@ -120,7 +120,7 @@ name, program = sys.argv[1:]
 data = shape(name, 100000)
 ours, sums = took([program, 'count'], data), took(['sha256sum'], data)
 print('%s: %.1f ms, sha256sum %.1f ms' % (name, 1000 * ours, 1000 * sums))
-# It takes three to six times as long where sha256sum takes 5 ms a MB. Some processors have instructions for SHA-256.
+# It takes three to six times as long if sha256sum takes 5 ms a MB. Some processors have instructions for SHA-256.
 sys.exit(ours > 30 * sums)
 PY
 for shape in properties children nops chains; do

@@ -1,5 +1,5 @@
 #!/bin/sh
-# Tries ./bootimg, which builds the program where it is missing or old, on a checkout without sources and with an rt that is a
+# Tries ./bootimg, which builds the program if it is missing or old, on a checkout without sources and with an rt that is a
 # script: without rt, in an unwritable checkout, interrupted, with a source that is edited while it builds, with a build that
 # fails, and twice at the same time. No build takes more than two seconds.
 set -u
@@ -13,7 +13,7 @@ trap 'exit 1' HUP INT TERM
 cd "$work" || exit 2
 chmod 755 .
 
-# The rt of these tests takes as many seconds as the file `seconds` says, fails where there is a file `broken`, and builds a
+# The rt of these tests takes as many seconds as the file `seconds` has, fails if there is a file `broken`, and builds a
 # program that prints its arguments and the source as it was at the start. Each run adds a line to the file `builds`.
 mkdir bin
 cat > bin/rt << 'END'

@@ -1,8 +1,8 @@
 #!/bin/sh
-# Blobs that Debian's dtc makes, laid out again: tests/layout/events.py has fdtget and fdtdump say what each blob has, a
+# Blobs that Debian's dtc makes, laid out again: tests/layout/events.py has fdtget and fdtdump print what each blob has, a
 # program builds documents from that and writes their texts, and dtc and fdtdump print of each text what they print of the
-# blob that it comes from, but for the order of properties and nodes. It needs Debian's device-tree-compiler and python3, and
-# installs them where one is missing and it runs as root. The program, tests/layout/main.rt.source, is built in a copy of the sources.
+# blob that it comes from, except for the order of properties and nodes. It needs Debian's device-tree-compiler and python3, and
+# installs them if one is missing and it runs as root. The program, tests/layout/main.rt.source, is built in a copy of the sources.
 set -u
 
 root=$(cd "$(dirname "$0")/.." && pwd)
@@ -133,7 +133,7 @@ cp "$root/tests/layout/main.rt.source" "$work/copy/crates/layout_of_events/src/m
 check "the program writes texts" test -s texts
 [ "$failed" = 0 ] || { tail -n 20 errors; finish; }
 
-# Each text has as many bytes as its header says.
+# Each text has as many bytes as its header states.
 check "the texts are one after the other" python3 -c '
 import sys
 texts = open("texts", "rb").read()
@@ -150,7 +150,7 @@ printed() {
     dtc -q -s -I dtb -O dts "$1"
 }
 
-# dumped FILE: what fdtdump prints of a blob without its header but for the boot processor, the lines sorted.
+# dumped FILE: what fdtdump prints of a blob without its header except the boot processor, the lines sorted.
 dumped() {
     fdtdump "$1" 2> /dev/null | sed '/^\/\/ [^b]/d' | sort
 }

@@ -1,5 +1,5 @@
 #!/bin/sh
-# Tries the program on images that U-Boot's mkimage makes: they are their own normal forms, also after bytes without a meaning
+# Tries the program on images that U-Boot's mkimage makes: they are their own normal forms, even after bytes without a meaning
 # are changed; their listings are right; and their parts are the files that went in. The script needs Debian's u-boot-tools and
 # python3, and installs them if one is missing and it runs as root.
 set -u

@@ -1,7 +1,7 @@
 #!/bin/sh
 # Runs every command in a ```console block of README.md and examples/README.md, from the top of the checkout, and compares
 # what it prints with what the block shows. The commands of a file share one shell. At the end nothing is untracked in the
-# checkout that was not so before. It needs python3 and, for the examples, Debian's u-boot-tools, and installs them where one
+# checkout that was not so before. It needs python3 and, for the examples, Debian's u-boot-tools, and installs them if one
 # is missing and it runs as root.
 set -u
 
@@ -37,7 +37,7 @@ def commands(text):
 
 
 def untracked(root):
-    """Returns the files that git does not know, or nothing where there is no git."""
+    """Returns the files that git does not know, or nothing if there is no git."""
     git = ["git", "-C", root, "status", "--porcelain", "--untracked-files=all"]
     return subprocess.run(git, capture_output=True, text=True).stdout
 

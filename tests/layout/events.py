@@ -1,4 +1,4 @@
-"""Says what each devicetree blob has, as tests/layout/main.rt reads it. What it has is what dtc's tools print of it: fdtget
+"""Prints what each devicetree blob has, as tests/layout/main.rt reads it. What it has is what dtc's tools print of it: fdtget
 its nodes and properties, and fdtdump its reservations and its boot processor."""
 
 import re

@@ -20,7 +20,7 @@ pub record Buffered : Type 0 where
   pub trace : WriteTrace
   pub held : List ℕ
 
--- A sink of a writer that is traced so.
+-- What contracts see of a sink whose writer has this trace.
 abbrev pub buffered : {T : Type 0} → (T → WriteTrace) → BufferedSink T → Buffered
 buffered trace sink = record {
   borrow = sink.target.ghost_name;
@@ -41,7 +41,7 @@ pub record Stops (old : Buffered) (bytes : List ℕ) (new : Buffered) (error : E
   pub stopped : WriteStopped old.trace (old.held ++ bytes) new.trace error
   pub same_borrow : new.borrow ≡ old.borrow
 
--- The same of a sink.
+-- The same for a sink.
 abbrev pub BufferAppends : {T : Type 0} → (T → WriteTrace) → BufferedSink T → List ℕ
     → BufferedSink T → Type 0
 BufferAppends trace old bytes new = Holds (buffered trace old) bytes (buffered trace new)

@@ -15,8 +15,8 @@ cell8 n = to_be_bytes w64 n
 abbrev pub slice : List ℕ → ℕ → ℕ → List ℕ
 slice file at n = take n (drop at file)
 
--- The number whose cell is at offset `at`. Bytes that the file lacks read as zero: this is used
--- only where the file has all of them, or an earlier check fails.
+-- The number whose cell is at offset `at`. Bytes that the file does not have read as zero: this is
+-- used only if the file has all of them, or an earlier check fails.
 unfoldable pub u32_at : List ℕ → ℕ → ℕ
 u32_at file at = from_be_bytes w32 (slice file at 4)
 

@@ -2,8 +2,8 @@ use Rattle.std.specs.Prelude.{◌≡◌, ◌⊎◌, List, [], ◌∷◌}
 use Rattle.std.specs.List.{AllByRecursion}
 use Rattle.bi_base.specs.declared.fault.Fault.{Fault}
 
--- A format's checks, in the order in which they are made. Each format says what its checks are,
--- when one passes, and which fault one gives where it fails (profile of this project).
+-- A format's checks, in the order in which they are made. Each format defines its checks, when each
+-- of them passes, and its fault if it fails (profile of this project).
 
 -- Some check fails, each one before it passes, and this is the fault of that first failing check.
 abbrev pub IsFirstFault : {C : Type 0} → (C → Type 0) → (C → Fault) → List C → Fault → Type 0

@@ -4,8 +4,8 @@ use Rattle.bi_base.specs.Sinks.{AppendsNothing, AppendsInTurn}
 
 -- A count of bytes as a sink, which keeps none of them (profile of this project).
 
--- Counting these bytes leads from the one count to the other. It stops at the greatest number of
--- 64 bits.
+-- Counting these bytes leads from one count to the other. It stops at the greatest number of 64
+-- bits.
 abbrev pub Counts : ℕ → List ℕ → ℕ → Type 0
 Counts old bytes new = old < 2 ^ 64 → new ≡ min (old + length bytes) (2 ^ 64 - 1)
 

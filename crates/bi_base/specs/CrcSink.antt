@@ -7,16 +7,16 @@ use Rattle.bi_base.specs.Sinks.{AppendsNothing, AppendsInTurn}
 
 -- A running CRC-32 as a sink, which keeps no bytes (RFC 1952, chapter 8).
 
--- Going on over these bytes leads from the one register to the other.
+-- Continuing over these bytes leads from one register to the other.
 abbrev pub GoesOn : ℕ → List ℕ → ℕ → Type 0
 GoesOn old bytes new = new ≡ crc_after old bytes
 
--- Going on over no bytes changes nothing.
+-- Continuing over no bytes changes nothing.
 pub goes_on_nothing : AppendsNothing GoesOn
 unfolding crc_after
 goes_on_nothing a = refl
 
--- Going on over two pieces in turn is going on over both together.
+-- Continuing over two pieces in turn is continuing over both together.
 pub goes_on_in_turn : AppendsInTurn GoesOn
 unfolding crc_after
 goes_on_in_turn a b c xs ys first second =

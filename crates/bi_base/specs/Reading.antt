@@ -7,23 +7,23 @@ use Rattle.bi_base.specs.declared.fault.Cause.TheVariants.{TooLarge}
 use Rattle.bi_base.specs.declared.fault.Fault.{Fault}
 use Rattle.bi_base.specs.Traces.{ReadTrace, ReadsWell, MustStopReading}
 
--- What calls did that read a whole input (profile of this project).
+-- What calls that read a whole input did (profile of this project).
 
 -- The fault of what is longer than this bound.
 abbrev pub too_large : ℕ → Fault
 too_large most = record { cause = TooLarge; offset = most }
 
--- Of the bytes that a reader had, where they are known, the first `n` at most were read.
+-- Of the bytes that a reader had, if they are known, at most the first `n` were read.
 abbrev pub TakesAtMost : Option (List ℕ) → Option (List ℕ) → ℕ → Type 0
 TakesAtMost old new n = (bytes : List ℕ) × (length bytes ≤ n) × Consumes old new bytes
 
--- The input of a reader that has these bytes, where they are known.
+-- The input of a reader that has these bytes, if they are known.
 abbrev pub IsInput : Option (List ℕ) → List ℕ → Type 0
 IsInput None input = ⊤
 IsInput (Some bytes) input = bytes ≡ input
 
--- One call read these first bytes of a buffer: none only at the end of the input, or where the
--- buffer is empty.
+-- One call read these first bytes of a buffer: none only at the end of the input, or if the buffer
+-- is empty.
 pub record ReadSome (old new : ReadTrace) (buffer : List ℕ) (count : ℕ) : Type 0 where
   pub consumed : Consumes old.remaining new.remaining (take count buffer)
   pub ended : count ≡ 0 → 0 < length buffer → IsAtEnd new.remaining
@@ -43,8 +43,8 @@ pub record ReadWhole (old new : Option (List ℕ)) (input : List ℕ) : Type 0 w
   pub consumed : Consumes old new input
   pub ended : IsAtEnd new
 
--- Why reading an input of at most so many bytes fails: it is longer, or memory was short, or the
--- last read was a reason to stop.
+-- Why reading an input of at most this many bytes fails: it is longer, memory ran out, or the last
+-- read was a reason to stop.
 abbrev pub IsReadError : Option (List ℕ) → (most : ℕ) → (MustStop : Type 0) → Error → Type 0
 IsReadError old most MustStop (Refused fault) =
     (input : List ℕ) × IsInput old input × (most < length input) × (fault ≡ too_large most)

@@ -5,7 +5,7 @@ use Rattle.std.proofs.lemmas.List.{length-append, take-append-le}
 use Rattle.bi_base.specs.declared.fault.Error.{Error}
 use Rattle.bi_base.specs.Sinks.{AppendsPrefix, AppendsInTurn, FailsWithin, FailsAfter, FailsBefore}
 
--- Laws of sinks that append a prefix where they fail. They are not in proofs/, since the sinks'
+-- Laws of sinks that append a prefix if they fail. They are not in proofs/, since the sinks'
 -- `ghost` members cite them.
 
 -- A prefix of some bytes is a prefix of these and more.

@@ -6,7 +6,7 @@ use Rattle.bi_base.specs.declared.fault.Error.{Error}
 -- call that fails, the bytes that were to be appended, the sink after it, and the error (profile of
 -- this project).
 
--- What a call did that appends these bytes to a sink, whatever value it returns.
+-- What a call that appends these bytes to a sink did, whatever value it returns.
 abbrev pub Wrote : {S V : Type 0} → (S → List ℕ → S → Type 0) → (S → List ℕ → S → Error → Type 0)
     → S → List ℕ → Result V Error → S → Type 0
 Wrote appends fails old bytes result new =

@@ -3,7 +3,7 @@ use Rattle.std.specs.List.{before_first}
 
 -- NUL-terminated strings.
 
--- The bytes before the first zero byte, or all of them where none is zero.
+-- The bytes before the first zero byte, or all of them if none is zero.
 abbrev pub before_nul : List ℕ → List ℕ
 before_nul bytes = before_first (λ byte. byte == 0) bytes
 

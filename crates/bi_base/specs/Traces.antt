@@ -12,9 +12,9 @@ use Rattle.std.specs.declared.io.ErrorKind.TheVariants.{Interrupted}
 pub record ReadTrace : Type 0 where
   -- Which reader it is.
   pub reader : GName
-  -- The bytes that it still has, where they are known.
+  -- The bytes that it still has, if they are known.
   pub remaining : Option (List ℕ)
-  -- The last call failed, by another error than an interruption.
+  -- The last call failed with an error other than an interruption.
   pub failed : Bool
   -- How many calls in a row were interrupted, up to the last one. The count stops at 2^32 - 1.
   pub interruptions : ℕ
@@ -25,11 +25,11 @@ pub record ReadTrace : Type 0 where
 pub record WriteTrace : Type 0 where
   -- Which writer it is.
   pub writer : GName
-  -- The bytes that it holds, where they are known.
+  -- The bytes that it holds, if they are known.
   pub contents : Option (List ℕ)
-  -- The last call failed, by another error than an interruption.
+  -- The last call failed with an error other than an interruption.
   pub failed : Bool
-  -- The last call was a write of some bytes, and took none.
+  -- The last call was a write of some bytes, and wrote none.
   pub stalled : Bool
   -- The last call was a flush.
   pub flushing : Bool
@@ -38,12 +38,12 @@ pub record WriteTrace : Type 0 where
   -- Some call so far was a reason to stop.
   pub stopped : Bool
 
--- The flag says whether the call failed, by another error than an interruption.
+-- The flag is true exactly if the call failed with an error other than an interruption.
 abbrev pub RecordsFailure : {T : Type 0} → Bool → Result T Error → Type 0
 RecordsFailure failed result = IsTrue failed
     ↔ IsErrAnd result (λ error. error_kind error ≢ Interrupted)
 
--- The flag says whether the write of these bytes stalled: there were some, and it took none.
+-- The flag is true exactly if the write of these bytes stalled: there were some, and it wrote none.
 abbrev pub RecordsStall : Bool → Result ℕ Error → List ℕ → Type 0
 RecordsStall stalled result bytes = IsTrue stalled
     ↔ IsOkAnd result (λ count. (count ≡ 0) × (0 < length bytes))

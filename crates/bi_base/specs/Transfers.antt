@@ -3,10 +3,10 @@ use Rattle.std.specs.Io.KnownBytes.{Appends, Keeps}
 use Rattle.bi_base.specs.Reading.{IsInput, ReadWhole}
 use Rattle.bi_base.specs.Traces.{ReadTrace, WriteTrace, IsFlushed, MustStopReading, MustStopWriting}
 
--- What a call did that reads a whole input from a reader, and writes an output to a writer (profile
--- of this project). `remaining` is what the reader has before the call and after it, `contents`
--- what the writer holds, each where it is known. `IsOutput` says which outputs the call may have
--- for an input.
+-- What a call that reads a whole input from a reader, and writes an output to a writer, did
+-- (profile of this project). `remaining` is what the reader has before the call and after it,
+-- `contents` what the writer holds, each if it is known. `IsOutput` holds for an input and an
+-- output that the call may write for it.
 
 -- The input was read, and its output was written.
 pub record Moved (remaining new_remaining contents new_contents : Option (List ℕ))
@@ -17,8 +17,7 @@ pub record Moved (remaining new_remaining contents new_contents : Option (List �
   pub written : Appends contents new_contents output
   pub is_output : IsOutput input output
 
--- The input was read, and a prefix of its output was written: all of it where the writer was
--- flushing.
+-- The input was read, and a prefix of its output was written: all of it if the writer was flushing.
 pub record MovedPrefix (remaining new_remaining contents new_contents : Option (List ℕ))
     (flushing : Type 0)
     (IsOutput : List ℕ → List ℕ → Type 0) : Type 0 where
@@ -44,14 +43,14 @@ pub record MoveFailed (remaining new_remaining contents new_contents : Option (L
       IsOutput
   pub else_nothing : ¬ write_failed → Keeps contents new_contents
 
--- The same of a reader and a writer whose calls are traced: the output was also flushed.
+-- The same for a reader and a writer whose calls are traced: the output was also flushed.
 pub record Transferred (source new_source : ReadTrace) (target new_target : WriteTrace)
     (IsOutput : List ℕ → List ℕ → Type 0) : Type 0 where
   pub moved : Moved source.remaining new_source.remaining target.contents new_target.contents
       IsOutput
   pub flushed : IsFlushed new_target
 
--- The same of a call that failed: a failed read or write was a reason to stop.
+-- The same for a call that failed: a failed read or write was a reason to stop.
 pub record TransferFailed (source new_source : ReadTrace) (target new_target : WriteTrace)
     (IsOutput : List ℕ → List ℕ → Type 0) (HasError : List ℕ → Type 0)
     (read_failed write_failed : Type 0) : Type 0 where

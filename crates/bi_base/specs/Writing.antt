@@ -5,7 +5,7 @@ use Rattle.bi_base.specs.declared.fault.Error.TheVariants.{WriteFailed}
 use Rattle.bi_base.specs.Sinks.{AppendsPrefix}
 use Rattle.bi_base.specs.Traces.{WriteTrace, WritesWell, IsFlushed, MustStop, MustStopWriting}
 
--- What calls did that write bytes to a writer whose calls are traced (profile of this project).
+-- What calls that write bytes to a traced writer did (profile of this project).
 
 -- These bytes were written.
 abbrev pub Writes : WriteTrace → List ℕ → WriteTrace → Type 0
@@ -58,7 +58,7 @@ pub record WroteAndFlushed (old : WriteTrace) (bytes : List ℕ) (new : WriteTra
   pub same_writer : new.writer ≡ old.writer
 
 -- Writing these bytes and flushing stopped with an error: a prefix of them was written, all of them
--- where the last call was a flush, and the last call was a reason to stop.
+-- if the last call was a flush, and the last call was a reason to stop.
 pub record WriteOrFlushStopped (old : WriteTrace) (bytes : List ℕ) (new : WriteTrace)
     (error : Error) : Type 0 where
   pub is : error ≡ WriteFailed

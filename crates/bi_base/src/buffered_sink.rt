@@ -16,7 +16,7 @@ const BUFFER_SIZE: usize = 8192;
 /// A sink that writes the bytes to a writer whose calls are traced, and which it borrows. It holds
 /// up to 8 KiB of them back, so that small pieces are not a write each; a piece that is longer than
 /// that is written without a copy. On average a write has 4 KiB at least. What is held back is
-/// written by `finish`, and lost where the sink is dropped before.
+/// written by `finish`, and lost if the sink is dropped before.
 #[derive(Drop)]
 pub struct BufferedSink<'a, T> {
     target: &'a mut T,
@@ -41,10 +41,10 @@ impl<'a, T: TracedWrite> BufferedSink<'a, T> {
     /// Writes what is held back, and flushes the writer.
     ///
     /// The only error is `WriteFailed`, and a prefix of what is held back was written then, all of
-    /// it where the flush failed. It comes after a write or flush that failed by another error than
-    /// an interruption, after a write that wrote none of some bytes, or after 1,024 interruptions
-    /// in a row. No failure is ignored. After an error of `put` or `finish` the sink is not to be
-    /// used.
+    /// it if the flush failed. It comes after a write or flush that failed with an error other than
+    /// an interruption, after a write that wrote none of the remaining bytes, or after 1,024
+    /// interruptions in a row. No failure is ignored. Do not use the sink after an error of `put`
+    /// or `finish`.
     pub fn finish(&mut self) -> Result<(), Error>
         ensures finished { let old = buffered T.trace self.old in
             let new = buffered T.trace self.new in

@@ -9,8 +9,8 @@ ghost use Rattle.bi_base.specs.Sinks.{Wrote};
 use crate::fault::Error;
 use crate::sinks::Sink;
 
-/// The number whose cell, its four big-endian bytes (Devicetree Specification, 2.2.4.2: u32),
-/// is at offset `at`. None exactly where the bytes end before the cell does.
+/// The number whose cell, its four big-endian bytes (Devicetree Specification, 2.2.4.2: u32), is at
+/// offset `at`. None exactly if the bytes end before the cell does.
 pub fn be32_at(bytes: &[u8], at: usize) -> Option<u32>
     ensures within { IsSome result ↔ (at + 4 ≤ length bytes.now) }
     ensures value { IfSome result (λ number. number ≡ u32_at bytes.now at) }
@@ -29,7 +29,7 @@ pub fn up4(n: usize) -> usize
 }
 
 /// The number whose two cells, its eight big-endian bytes (Devicetree Specification, 2.2.4.2: u64),
-/// are at offset `at`. None exactly where the bytes end before the two cells do.
+/// are at offset `at`. None exactly if the bytes end before the two cells do.
 #[tactic(auto, unfolding(crate::specs::Cells::u64_at))]
 pub fn be64_at(bytes: &[u8], at: usize) -> Option<u64>
     ensures within { IsSome result ↔ (at + 8 ≤ length bytes.now) }

@@ -5,22 +5,22 @@ ghost use Rattle.bi_base.specs.declared.fault.Error.TheVariants.{OutOfMemory, Re
 
 use std::alloc::{AllocError, AllocFailed};
 
-/// Why a file, or an argument of a building call, is refused.
+/// Why a file, or an argument of a call that writes one, is refused.
 #[derive(Clone, Copy, Debug, PartialEq, Eq)]
 pub enum Cause {
     /// The file ends before something that it has to hold.
     Truncated = 1,
-    /// The file begins with another word than the format's.
+    /// The file does not begin with the right magic number.
     BadMagic = 2,
     /// The header checksum of a legacy image is not that of its header.
     BadHeaderCrc = 3,
     /// The data checksum of a legacy image is not that of its data.
     BadDataCrc = 4,
-    /// The list of part sizes of a multi or script image has no end.
+    /// The part table of a multi or script image has no end.
     BadPartTable = 5,
     /// A part ends after the data of the image.
     BadPart = 6,
-    /// The `totalsize` of a blob is less than its header.
+    /// The `totalsize` of a blob is less than the length of its header.
     BadTotalSize = 7,
     /// The version of a blob is not one that can be read.
     BadVersion = 8,
@@ -44,7 +44,7 @@ pub enum Cause {
     NoImages = 17,
     /// A property that has to be one cell is not four bytes long.
     BadCell = 18,
-    /// An image node has the offset of its payload, and not its size.
+    /// An image node has the offset of its payload, but not its size.
     NoSize = 19,
     /// A payload ends after the file.
     OutsideFile = 20,
@@ -52,7 +52,7 @@ pub enum Cause {
     TooLarge = 21,
     /// A code has no name.
     NoCodeName = 22,
-    /// An image has more parts than the other format has places for.
+    /// A legacy image that is to be converted has too many parts.
     TooManyParts = 23,
     /// A part is empty, or there is none.
     EmptyPart = 24,
@@ -124,19 +124,19 @@ pub fn refuse<T>(cause: Cause, offset: u32) -> Result<T, Fault>
     Err(Fault { cause, offset })
 }
 
-/// What a call that reads, writes or takes memory can answer in place of its value.
+/// The error of a call that reads, writes or allocates.
 #[derive(Clone, Copy, Debug, PartialEq, Eq, thiserror::Error)]
 pub enum Error {
     /// The file or the arguments are refused.
     #[error("refused")]
     Refused(Fault),
-    /// A growth was refused. No statement about the file.
+    /// An allocation failed. This does not show whether the file would be refused.
     #[error("out of memory")]
     OutOfMemory,
-    /// A read failed. No statement about the file.
+    /// A read failed. This does not show whether the file would be refused.
     #[error("read failed")]
     ReadFailed,
-    /// A write failed. No statement about the file.
+    /// A write failed. This does not show whether the file would be refused.
     #[error("write failed")]
     WriteFailed,
 }

@@ -1,12 +1,12 @@
-//! How much a call takes in.
+//! Limits on the sizes of files and on the depth of trees.
 
 ghost use Rattle.std.specs.Prelude.{◌≡◌, ◌≤◌, ◌↔◌, IsSome, IfSome};
 ghost use Rattle.bi_base.specs.Limits.{Bounds, IsInRange};
 
 use std::marker::Model;
 
-/// The limits of a call: `file` bounds in bytes every input and every image or payload that is
-/// written, `depth` the open nodes of a blob's tree, the root counted.
+/// The limits of a call. `file` is the most bytes of an input, and of an image or payload that is
+/// written. `depth` is the most nodes of a blob's tree that are open at once, the root counted.
 #[derive(Clone, Copy, Debug, PartialEq, Eq)]
 pub struct Limits {
     file: u32,
@@ -24,8 +24,8 @@ impl Model for Limits {
 }
 
 impl Limits {
-    /// The limits with these bounds. Some exactly where `file` is 64 to 0x7fffffff and `depth` is 1
-    /// to 64.
+    /// The limits with these bounds. Some exactly if `file` is 64 to 0x7fffffff and `depth` is 1 to
+    /// 64.
     pub fn new(file: u32, depth: u8) -> Option<Limits>
         ensures in_range { IsSome result ↔ IsInRange file depth }
         ensures value { IfSome result (λ limits. limits ≡ record { file = file; depth = depth }) }

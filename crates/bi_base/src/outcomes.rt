@@ -8,7 +8,7 @@ use std::io::{self, ErrorKind};
 /// How many interrupted calls in a row are a reason to stop. After fewer the call is made again.
 pub const MOST_INTERRUPTIONS: u32 = 1024;
 
-/// The outcome of the calls so far: whether the last one failed, by another error than an
+/// The outcome of the calls so far: whether the last one failed with an error other than an
 /// interruption, and how many in a row were interrupted, up to the last one.
 #[derive(Clone, Copy)]
 pub struct Outcome {

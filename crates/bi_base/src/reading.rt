@@ -15,8 +15,8 @@ use std::io::{ErrorKind, Read};
 /// How many bytes are read at once, at most.
 const CHUNK: usize = 0x1_0000;
 
-/// Reads once, and again after each interruption. Fails with `ReadFailed` where a read fails, or
-/// where 1,024 reads in a row are interrupted.
+/// Reads once, and again after each interruption. Fails with `ReadFailed` if a read fails, or if
+/// 1,024 reads in a row are interrupted.
 fn read_some<S: TracedRead>(source: &mut S, buffer: &mut [u8]) -> Result<usize, Error>
     ensures bound { ReadsAtMost result buffer.new }
     ensures ok { IfOk result (ReadSome (S.trace source.old) (S.trace source.new) buffer.new) }
@@ -34,9 +34,9 @@ fn read_some<S: TracedRead>(source: &mut S, buffer: &mut [u8]) -> Result<usize, 
 
 /// Reads a whole input up to its end, from a reader that records the outcome of its calls.
 ///
-/// Errors: `Refused` with `TooLarge` at the limit for files, where the input is longer than that;
-/// `ReadFailed` after a read that failed by another error than an interruption, or after 1,024
-/// interrupted reads in a row; `OutOfMemory` where the buffer cannot grow. After an error the bytes
+/// Errors: `Refused` with `TooLarge` at the limit for files, if the input is longer than that;
+/// `ReadFailed` after a read that failed with an error other than an interruption, or after 1,024
+/// interrupted reads in a row; `OutOfMemory` if the buffer cannot grow. After an error the bytes
 /// that were read are lost. At most one byte more than the limit is read, even if the call fails.
 /// Apart from interruptions, no failed read is ignored: after one the call returns `ReadFailed`.
 pub fn read_all_traced<S: TracedRead>(
@@ -78,8 +78,8 @@ pub fn read_all_traced<S: TracedRead>(
 
 /// Reads a whole input up to its end: `read_all_traced` over a plain reader, with the same errors.
 ///
-/// A plain reader does not record a failed call, so no clause here says why `ReadFailed` comes, nor
-/// that no failure is ignored. `read_all_traced` promises both.
+/// A plain reader does not record a failed call, so the contract cannot state why `ReadFailed`
+/// comes, nor that no failure is ignored. `read_all_traced` promises both.
 pub fn read_all<R: Read>(alloc: Global, reader: &mut R, limits: Limits) -> Result<Vec<u8>, Error>
     ensures whole { IfOk result (λ bytes.
         ReadWhole (R.remaining reader.old) (R.remaining reader.new) bytes.items) }

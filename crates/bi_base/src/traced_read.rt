@@ -13,8 +13,8 @@ pub trait TracedRead {
     ghost trace: { Self → ReadTrace };
 
     /// Reads once into the first bytes of `buffer`, and returns how many: 0 only at the end of the
-    /// input, or where `buffer` is empty. An error is that of the reader, an interruption too, and
-    /// no byte is lost then.
+    /// input, or if `buffer` is empty. An error is that of the reader, an interruption too, and no
+    /// byte is lost then.
     fn read_once(&mut self, buffer: &mut [u8]) -> io::Result<usize>
         ensures bound { ReadsAtMost result buffer.new }
         ensures call { IsReadCall (trace self.old) (trace self.new) result buffer.new };

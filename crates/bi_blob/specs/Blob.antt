@@ -8,9 +8,9 @@ use Rattle.bi_blob.specs.Tree.{Root, FileNode, IsTree, AreProperties, tree_witho
 use Rattle.bi_blob.specs.Tree.{depth_of}
 use Rattle.bi_blob.specs.Events.{EncodeEvents, file_events_of}
 
--- What a file has as a devicetree blob (Devicetree Specification, chapter 5): the number of the
--- boot processor, the memory reservations and the tree. A file may be longer than its blob
--- (profile of this project).
+-- What a devicetree blob holds (Devicetree Specification, chapter 5): the number of the boot
+-- processor, the memory reservations and the tree. A file may be longer than its blob (profile of
+-- this project).
 
 -- The cells of the header, by their names in the standard (5.2).
 abbrev pub magic : List ℕ → ℕ
@@ -69,8 +69,8 @@ lacks_structure_size file = version file == version_without_structure_size
 abbrev pub header_length : List ℕ → ℕ
 header_length file = if lacks_structure_size file then 36 else 40
 
--- The offset of the structure block's end (5.2). Where the header has no size of the block, it may
--- extend to `totalsize` (profile of this project).
+-- The offset of the structure block's end (5.2). If the header has no size of the block, the block
+-- may extend to `totalsize` (profile of this project).
 abbrev pub structure_end : List ℕ → ℕ
 structure_end file =
     if lacks_structure_size file then totalsize file else off_dt_struct file + size_dt_struct file

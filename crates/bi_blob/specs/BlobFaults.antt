@@ -47,8 +47,8 @@ header_checks =
     ∷ TotalHoldsHeader ∷ FileHoldsTotal ∷ PlacesReservations ∷ PlacesStructure ∷ PlacesStrings
     ∷ []
 
--- What each of them requires. A check may read cells that a short file lacks; an earlier check
--- fails there.
+-- What each of them requires. A check may read cells that a short file does not have; an earlier
+-- check then fails.
 abbrev pub HeaderPasses : Bounds → List ℕ → HeaderCheck → Type 0
 HeaderPasses bounds file IsWithinLimit = length file ≤ bounds.file
 HeaderPasses bounds file HasMagicCell = 4 ≤ length file
@@ -103,8 +103,8 @@ pub record HasReservations (file : List ℕ) (at total count : ℕ) : Type 0 whe
   pub end : IsEndPair file (at + 16 * count)
   pub within : at + 16 * count + 16 ≤ total
 
--- Of the pairs of the reservation block, up to and with its end pair, the first that extends past
--- `total` gives the fault.
+-- Of the pairs of the reservation block, up to and including its end pair, the first that extends
+-- past `total` gives the fault.
 pub record IsReservationsFault (file : List ℕ) (at total : ℕ) (fault : Fault) : Type 0 where
   pub index : ℕ
   pub before : (earlier : ℕ) → earlier < index → ¬ (IsEndPair file (at + 16 * earlier))
@@ -112,7 +112,7 @@ pub record IsReservationsFault (file : List ℕ) (at total : ℕ) (fault : Fault
   pub past : total < at + 16 * index + 16
   pub is : fault ≡ record { cause = Truncated; offset = at + 16 * index }
 
--- The header and the reservation block of a file are at no fault.
+-- The header and the reservation block of a file have no fault.
 pub record HasNoFaultBeforeTree (bounds : Bounds) (file : List ℕ) : Type 0 where
   pub header : HasNoHeaderFault bounds file
   pub count : ℕ
@@ -148,8 +148,8 @@ abbrev pub property_checks : List TokenCheck
 property_checks =
     IsBeforeChildren ∷ HasValue ∷ HasPropertyName ∷ MayNameProperty ∷ IsNewProperty ∷ []
 
--- The checks of the token of this number, in order. Where the block has no whole number at an
--- offset, `HasTokenNumber` fails, whatever is read there (5.4.1).
+-- The checks of the token of this number, in order. If the block has no whole number at an offset,
+-- `HasTokenNumber` fails, whatever is read there (5.4.1).
 abbrev pub token_checks : ℕ → List TokenCheck
 token_checks number =
     HasTokenNumber ∷ IsExpected

@@ -15,9 +15,9 @@ use Rattle.bi_blob.specs.Stages.{Stage, BeforeRoot, Inside, AfterRoot, next_stag
 abbrev pub most_open_nodes : ℕ
 most_open_nodes = 64
 
--- A node of this name may begin. It is the root, whose name is empty; or it is a child, where
--- fewer nodes than the limit are open, and its name is one that a child may have and that no
--- earlier child of the same node has.
+-- A node of this name may begin. It is the root, whose name is empty; or it is a child: fewer nodes
+-- than the limit are open, and its name is one that a child may have and that no earlier child of
+-- the same node has.
 abbrev pub MayBegin : (depth_limit : ℕ) → List ℕ → Stage → Type 0
 MayBegin depth_limit name BeforeRoot = (0 < depth_limit) × (name ≡ [])
 MayBegin depth_limit name (Inside innermost outer) =

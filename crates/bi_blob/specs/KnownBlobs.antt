@@ -8,9 +8,9 @@ use Rattle.bi_blob.specs.Blob.{Reservation, tree_blocks, IsBlob, IsWithin}
 use Rattle.bi_blob.specs.BlobFaults.{ArePassed, place_after, stage_after}
 use Rattle.bi_blob.specs.KnownTexts.{smallest_tree, smallest_text}
 
--- Small files that are accepted, each with what it has as a blob, by which a reader can judge the
--- definitions (Devicetree Specification, chapter 5). Bytes that have no meaning are `ff` in them,
--- where they may be anything (profile of this project).
+-- Small files that are accepted, each with what it holds as a blob, by which a reader can judge the
+-- definitions (Devicetree Specification, chapter 5). In some of them, bytes that may be anything
+-- are `ff` (which bytes these are is profile of this project).
 
 -- The widest limits.
 abbrev pub widest : Bounds
@@ -131,7 +131,7 @@ pub record FilesAreBlobs : Type 0 where
   pub same_tree : tree_without_places (smallest_tree_at 36 44) ≡ smallest_tree
   pub same_tree_padded : tree_without_places (smallest_tree_at 56 64) ≡ smallest_tree
 
--- The tokens of the file with FDT_NOP up to and with the start of `images`, the newest first.
+-- The tokens of the file with FDT_NOP up to and including the start of `images`, the newest first.
 abbrev pub tokens_to_images : List Token
 tokens_to_images =
     BeginNode (codes "images") ∷ Nop ∷ Prop 0 (1 ∷ []) ∷ Nop ∷ Prop 4 (2 ∷ []) ∷ Nop

@@ -14,7 +14,7 @@ use Rattle.bi_blob.specs.KnownTexts.{smallest_text}
 pub use Rattle.bi_blob.specs.KnownBlobs.{widest, with_cell}
 use Rattle.bi_blob.specs.KnownBlobs.{cells, file_of_version_16, smallest_of_version_16}
 
--- Small files that are at fault, each with its fault, by which a reader can judge the definitions:
+-- Small files that are refused, each with its fault, by which a reader can judge the definitions:
 -- each check of a header and of a token is the first that fails in one of them (profile of this
 -- project).
 
@@ -78,9 +78,9 @@ abbrev pub HasFault : Bounds → List ℕ → Cause → ℕ → Type 0
 HasFault bounds file cause offset =
     IsBlobFault bounds file (record { cause = cause; offset = offset })
 
--- Files that are at fault in their headers. `totalsize` is at 4, `off_dt_struct` at 8,
--- `off_dt_strings` at 12, `off_mem_rsvmap` at 16, `version` at 20, `last_comp_version` at 24,
--- `size_dt_strings` at 32 and `size_dt_struct` at 36 (Devicetree Specification, 5.2).
+-- Files with wrong headers. `totalsize` is at 4, `off_dt_struct` at 8, `off_dt_strings` at 12,
+-- `off_mem_rsvmap` at 16, `version` at 20, `last_comp_version` at 24, `size_dt_strings` at 32 and
+-- `size_dt_struct` at 36 (Devicetree Specification, 5.2).
 pub record HeadersHaveFaults : Type 0 where
   pub past_limit : HasFault (record { file = 87; depth = 64 }) smallest_text TooLarge 87
   pub no_bytes : HasFault widest [] Truncated 0
@@ -119,8 +119,8 @@ pub record HeaderChecksHaveOrder : Type 0 where
   pub structure_before_strings :
       HasFault widest (with_cell (with_cell smallest_text 8 0xfffffffc) 12 39) BadOffset 8
 
--- Files of version 16 that are at fault: their header has 36 bytes, and their structure block may
--- extend to `totalsize`.
+-- Wrong files of version 16: their header has 36 bytes, and their structure block may extend to
+-- `totalsize`.
 pub record Version16HasFaults : Type 0 where
   pub short_header : HasFault widest (take 35 header_of_version_16) Truncated 0
   pub no_blocks : HasFault widest header_of_version_16 BadOffset 16
@@ -136,18 +136,17 @@ pub record Version16HasFaults : Type 0 where
   pub structure_cut :
       HasFault widest (with_cell (with_cell smallest_of_version_16 4 84) 12 84) Truncated 84
 
--- Files that are at fault in their memory reservations: the first pair extends past `totalsize`,
--- at the end of the file or inside it; the block begins at `totalsize`; there is no pair of two
--- zeros.
+-- Files with wrong memory reservations: the first pair extends past `totalsize`, at the end of the
+-- file or inside it; the block begins at `totalsize`; there is no pair of two zeros.
 pub record ReservationsHaveFaults : Type 0 where
   pub past_end : HasFault widest (with_cell smallest_text 16 80) Truncated 80
   pub at_end : HasFault widest (with_cell smallest_text 16 88) Truncated 88
   pub past_total : HasFault widest (with_cell longer_file 16 80) Truncated 80
   pub endless : HasFault widest (with_cell smallest_text 44 1) Truncated 88
 
--- Files that are at fault in a token. In the smallest text the root's token is at 56, that of
--- `images` at 64, both FDT_END_NODE at 76 and 80, and FDT_END at 84; `size_dt_struct` is at 36
--- (Devicetree Specification, 5.2, 5.4).
+-- Files with a wrong token. In the smallest text the root's token is at 56, that of `images` at 64,
+-- both FDT_END_NODE at 76 and 80, and FDT_END at 84; `size_dt_struct` is at 36 (Devicetree
+-- Specification, 5.2, 5.4).
 pub record TokensHaveFaults : Type 0 where
   pub no_number : HasFault widest (with_cell smallest_text 36 28) Truncated 84
   pub unknown_number : HasFault widest (with_cell smallest_text 56 5) BadToken 56

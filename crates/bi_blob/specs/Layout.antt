@@ -9,11 +9,11 @@ use Rattle.bi_blob.specs.Tree.{FileNode, with_each_node, IsTree, AreProperties, 
 use Rattle.bi_blob.specs.Events.{Event, NodeStart, NodeProperty, NodeEnd, events, events_of}
 use Rattle.bi_blob.specs.Blob.{Reservation, IsReservation, reservation_block, blob_magic}
 
--- The text of a blob as this project lays it out (profile of this project): a header of version
--- 17, the reservation block, the structure block and the strings block, one after the other. There
--- is no FDT_NOP, padding is zero, and each name of a property is in the strings block once, in the
+-- The text of a blob as this project lays it out (profile of this project): a header of version 17,
+-- the reservation block, the structure block and the strings block, one after the other. There is
+-- no FDT_NOP, padding is zero, and each name of a property is in the strings block once, in the
 -- order of first use; names share no bytes. Properties and children are in the order of the tree.
--- The text is the normal one where the properties of each node are in byte order of their names.
+-- The text is the normal one if the properties of each node are in byte order of their names.
 
 -- The names of properties that an event uses.
 abbrev pub event_names : Event → List (List ℕ)
@@ -48,7 +48,7 @@ padding_to_4 size = replicate (up4 size - size) 0
 abbrev pub encoding : Token → List ℕ
 encoding token = token_bytes token ++ padding_to_4 (length (token_bytes token))
 
--- The token of an event, where the strings block has these names.
+-- The token of an event, if the strings block has these names.
 abbrev pub token_of : List (List ℕ) → Event → Token
 token_of names (NodeStart name) = BeginNode name
 token_of names (NodeProperty property) = Prop (offset_in names property.0) property.1

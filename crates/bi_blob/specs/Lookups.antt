@@ -3,8 +3,8 @@ use Rattle.std.specs.List.{slice_get}
 use Rattle.std.specs.Map.{lookup}
 use Rattle.bi_blob.specs.Tree.{Nodes, none, node, Root, Property, FileProperty}
 
--- What a tree has at an index or under a name (Devicetree Specification, 2.2.1, 2.2.4). Where
--- several have a name, the first of them is found.
+-- What a tree has at an index or under a name (Devicetree Specification, 2.2.1, 2.2.4). If several
+-- have the name, the first of them is found.
 
 -- A node of a list with the nodes after it.
 pub record Sibling (Own : Type 0) : Type 0 where

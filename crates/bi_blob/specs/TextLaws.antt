@@ -181,7 +181,7 @@ pub record HasEventWidths : Type 0 where
       (property : Property) → event_width (NodeProperty property) ≡ up4 (length property.1 + 12)
   pub node_end : event_width NodeEnd ≡ 4
 
--- What a file has as a blob is content: it can be laid out again.
+-- What a blob holds is content: it can be laid out again.
 abbrev pub BlobHasContent : Type 0
 BlobHasContent =
     (file : List ℕ) (cpu : ℕ) (reservations : List Reservation) (root : Root FileNode)
@@ -199,8 +199,8 @@ TextHasOneContent =
     → text_of_tree cpu reservations root ≡ text_of_tree other_cpu other_reservations other_root
     → SameContent cpu other_cpu reservations other_reservations root other_root
 
--- The same for texts with other bytes after them, neither of which is too long: where the files
--- are the same, the contents are the same, and so are the bytes after the texts.
+-- The same for texts with other bytes after them, neither of which is too long: if the files are
+-- the same, the contents are the same, and so are the bytes after the texts.
 abbrev pub TextWithRestHasOneContent : Type 0
 TextWithRestHasOneContent =
     (cpu other_cpu : ℕ) (reservations other_reservations : List Reservation)
@@ -239,8 +239,8 @@ ContentMayBeOrdered =
     → IsContent cpu reservations root
     → MayBeOrdered cpu reservations root
 
--- Normal texts, one of which is not too long, are the same exactly where their boot processors,
--- memory reservations and trees are, with the properties of each node by name.
+-- Normal texts, one of which is not too long, are the same exactly if their boot processors, memory
+-- reservations and trees are, with the properties of each node by name.
 abbrev pub NormalTextTellsContent : Type 0
 NormalTextTellsContent =
     (cpu other_cpu : ℕ) (reservations other_reservations : List Reservation)
@@ -275,8 +275,8 @@ pub record HasOneNormalTree (events : List Event) : Type 0 where
   pub tree : HasOneTree most_open_nodes events
   pub is_normal : IsNormal tree.root
 
--- Events are those of one normal tree that a blob can hold exactly where each may follow those
--- before it in a normal text and the last ends the root.
+-- Events are those of one normal tree that a blob can hold exactly if each may follow those before
+-- it in a normal text and the last ends the root.
 abbrev pub NormalEventsHaveOneTree : Type 0
 NormalEventsHaveOneTree =
     (events : List Event) → AreClosedEvents MayFollowInText events ↔ HasOneNormalTree events

@@ -74,7 +74,7 @@ pub record IsNameAt (strings : List ℕ) (offset : ℕ) (name : List ℕ) : Type
   pub trailing : List ℕ
   pub is_at : drop offset strings ≡ name ++ 0 ∷ trailing
 
--- The bytes from this offset to the first zero byte, or all of them where none is zero: the name
--- of a node (5.4.1) or of a property (5.5).
+-- The bytes from this offset to the first zero byte, or all of them if none is zero: the name of a
+-- node (5.4.1) or of a property (5.5).
 abbrev pub name_from : List ℕ → ℕ → List ℕ
 name_from bytes offset = before_nul (drop offset bytes)

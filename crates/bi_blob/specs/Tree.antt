@@ -38,7 +38,7 @@ abbrev pub with_each_node : {A B : Type 0} → (A → B) → Root A → Root B
 with_each_node change root =
     record { own = change root.own; children = with_each change root.children }
 
--- The number of nodes on the longest line of descent of these nodes: at most so many are open at
+-- The number of nodes on the longest line of descent of these nodes: at most that many are open at
 -- once.
 abbrev pub depth : {Own : Type 0} → Nodes Own → ℕ
 depth none = 0
@@ -115,7 +115,7 @@ pub record AreProperties (properties : List Property) : Type 0 where
   pub named : AllByRecursion (λ property. IsPropertyName property.0) properties
   pub distinct : AreDistinct (map (λ property. property.0) properties)
 
--- A node other than the root that a tree may have, where the siblings after it have these names
+-- A node other than the root that a tree may have, if the siblings after it have these names
 -- (2.2.1).
 pub record IsNode {Own : Type 0} (IsOwn : Own → Type 0) (name : List ℕ) (own : Own)
     (later_names : List (List ℕ)) : Type 0 where

@@ -29,7 +29,7 @@ pub fn a_file_is_a_blob_or_has_a_fault()
     ensures { BlobOrFault }
 {}
 
-/// A file of bytes is a blob within limits exactly where it has no fault under them.
+/// A file of bytes is a blob within limits exactly if it has no fault under them.
 pub fn a_file_is_a_blob_where_it_has_no_fault()
     ensures { BlobWhereNoFault }
 {}
@@ -40,9 +40,9 @@ pub fn passed_tokens_are_encoded()
     ensures { PassedWhereEncoded }
 {}
 
-/// Events are those of exactly one tree that a blob can hold, within a limit on depth, where each
-/// of them may follow those before it and the last ends the root. The events of each such tree
-/// are so (Devicetree Specification, 5.4.2).
+/// Events are those of a tree that a blob can hold, within a limit on depth, exactly if each of
+/// them may follow those before it and the last ends the root. They are then those of no other tree
+/// (Devicetree Specification, 5.4.2).
 pub fn closed_events_have_one_tree()
     ensures { ClosedEventsHaveOneTree }
 {}
@@ -54,8 +54,8 @@ pub fn fault_before_tree_comes_first()
 {}
 
 /// A node at an index of a list of siblings is found by its name, and a property of a node
-/// likewise, where names are distinct. Nothing else is found by a name. The node at the next index
-/// is the first of the later siblings.
+/// likewise, if names are distinct. Nothing else is found by a name. The node at the next index is
+/// the first of the later siblings.
 pub fn names_find_nodes_and_properties()
     ensures nodes { NodesAreFound }
     ensures properties { PropertiesAreFound }
@@ -71,26 +71,26 @@ pub fn files_are_these_blobs()
     ensures tokens { TokensAreNewestFirst }
 {}
 
-/// Small files that are at fault in their headers have known faults: each check of a header is the
-/// first that fails in one. Of two checks that fail, the first gives the fault.
+/// Small files with wrong headers have known faults: each check of a header is the first that fails
+/// in one of them. Of two checks that fail, the first gives the fault.
 pub fn headers_have_these_faults()
     ensures headers { HeadersHaveFaults }
     ensures order { HeaderChecksHaveOrder }
 {}
 
-/// Small files of version 16 that are at fault have known faults: the header has 36 bytes, and the
-/// structure block may extend to `totalsize`.
+/// Wrong small files of version 16 have known faults: the header has 36 bytes, and the structure
+/// block may extend to `totalsize`.
 pub fn version_16_has_these_faults()
     ensures faults { Version16HasFaults }
 {}
 
-/// Small files that are at fault in their memory reservations have known faults.
+/// Small files with wrong memory reservations have known faults.
 pub fn reservations_have_these_faults()
     ensures reservations { ReservationsHaveFaults }
 {}
 
-/// Small files that are at fault in a token have known faults: each check of a token is the first
-/// that fails in one. Of two checks that fail, the first gives the fault.
+/// Small files with a wrong token have known faults: each check of a token is the first that fails
+/// in one of them. Of two checks that fail, the first gives the fault.
 pub fn tokens_have_these_faults()
     ensures tokens { TokensHaveFaults }
     ensures order { TokenChecksHaveOrder }

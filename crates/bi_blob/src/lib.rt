@@ -1,4 +1,4 @@
-//! What a devicetree blob is, and the text that one is laid out as: definitions, and their laws.
+//! What a devicetree blob is, and the text that is written for one: definitions, and their laws.
 //!
 //! The reader of blobs and their layout both cite them, and do not depend on each other. The
 //! definitions are in `specs/`. No function here computes anything: the contract of each is a law.

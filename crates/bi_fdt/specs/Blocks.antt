@@ -24,10 +24,10 @@ pub record IsNumberAt (blocks : TreeBlocks) (place number : ℕ) : Type 0 where
   pub within : place + 4 ≤ blocks.end
   pub is_number : u32_at blocks.file place ≡ number
 
--- The checks of FDT_BEGIN_NODE that ask for nothing of the other children of a node.
+-- The checks of FDT_BEGIN_NODE that do not depend on the other children of a node.
 abbrev pub node_name_checks : List TokenCheck
 node_name_checks = IsWithinDepth ∷ HasNodeName ∷ MayNameNode ∷ []
 
--- The checks of FDT_PROP that ask for nothing of the other properties of a node.
+-- The checks of FDT_PROP that do not depend on the other properties of a node.
 abbrev pub property_token_checks : List TokenCheck
 property_token_checks = IsBeforeChildren ∷ HasValue ∷ HasPropertyName ∷ MayNameProperty ∷ []

@@ -23,7 +23,7 @@ pub record Holds (set : BTreeSet (Bor (List ℕ))) (held : List (List ℕ)) : Ty
   pub each : (name : Bor (List ℕ)) → contains (λ x y. slice_cmp nat_cmp x.now y.now) set name
       ≡ list_any (λ other. bytes_eq other name.now) held
 
--- The open nodes of a table, the innermost first: each with its place in the table and the names of
+-- The open nodes of a table, the innermost first: each with its index in the table and the names of
 -- its children so far.
 abbrev pub AreOpen : List OpenNode → List (List ℕ) → List ℕ → List PartialNode → Type 0
 AreOpen [] children name outer = ⊥
@@ -35,7 +35,7 @@ AreOpen (open_node ∷ later) children name (parent ∷ outer) =
     × Holds open_node.children children
     × AreOpen later (names parent.children ++ name ∷ []) parent.name outer
 
--- A growing table says what these open nodes say.
+-- A growing table is that of these open nodes.
 pub record IsGrowing (growing : Growing) (innermost : PartialNode) (outer : List PartialNode)
     : Type 0 where
   pub items : map item_of growing.entries.items ≡ items_of 0 (said_by innermost outer)
@@ -45,13 +45,13 @@ pub record IsGrowing (growing : Growing) (innermost : PartialNode) (outer : List
   pub properties : names innermost.children ≡ []
       → Holds growing.properties (map (λ property. property.name) innermost.properties)
 
--- Some open nodes say what a growing table says.
+-- A growing table is that of some open nodes.
 pub record IsGrown (growing : Growing) : Type 0 where
   pub innermost : PartialNode
   pub outer : List PartialNode
   pub is : IsGrowing growing innermost outer
 
--- A table says what a root says that has ended, and its numbers fit.
+-- A table is that of a root that has ended, and its numbers fit.
 pub record IsFinished (entries : List Entry) (root : PartialNode) : Type 0 where
   pub items : map item_of entries ≡ items_of 0 (said_by root [])
   pub linked : AreLinked 0 0 entries
@@ -71,7 +71,7 @@ IsEnding growing (ending.Root entries) =
     (innermost : PartialNode) (outer : List PartialNode) → IsGrowing growing innermost outer
     → (outer ≡ []) × IsFinished entries.items innermost
 
--- An error that is a refusal by a fault of which this holds, or that a growth was refused.
+-- A refusal with a fault of which this holds, or OutOfMemory.
 abbrev pub IsRefusal : (Fault → Type 0) → Error → Type 0
 IsRefusal IsCause (error.Refused fault) = IsCause fault
 IsRefusal IsCause error.OutOfMemory = Unit {0}

@@ -38,7 +38,7 @@ pub record IsAfter (blocks : TreeBlocks) (depth_limit place : ℕ) (entries : Li
   pub is_table : IsTable entries root
   pub within : place ≤ blocks.end + 3
 
--- A reader has come from an offset to what comes after the token there.
+-- A reader has read the token at an offset, and has come to what is after it.
 abbrev pub IsAhead : TreeBlocks → (depth_limit place : ℕ) → Next → Type 0
 IsAhead blocks depth_limit place (next.Inside reading) =
     IsReading blocks depth_limit reading × (place < reading.place)

@@ -15,8 +15,8 @@ pub record IsOnlyFault (bounds : Bounds) (file : List ℕ) (fault : Fault) : Typ
   pub only : (other : Fault) → IsBlobFault bounds file other → other ≡ fault
   pub no_blob : ¬ (IsBlobWithin bounds file)
 
--- What an error says of the file that is read: its fault; or that memory ran out, which happens
--- only where the header and the reservation block are at no fault.
+-- What an error means for the file that is read: this is its fault; or memory ran out, which
+-- happens only if the header and the reservation block have no fault.
 abbrev pub IsRefused : Bounds → List ℕ → Error → Type 0
 IsRefused bounds file (Refused fault) = IsOnlyFault bounds file fault
 IsRefused bounds file OutOfMemory = HasNoFaultBeforeTree bounds file

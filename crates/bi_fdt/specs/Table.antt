@@ -9,7 +9,7 @@ use Rattle.bi_fdt.specs.declared.table.Property.{Property}
 
 -- The table of a tree: its nodes and properties in the order of their tokens in the file.
 
--- What a table says at one entry: a node of this depth, or a property of the last node before it.
+-- One entry of a table: a node of this depth, or a property of the last node before it.
 pub data Item : Type 0 where
   NodeItem : (depth place : ℕ) → (name : List ℕ) → Item
   PropertyItem : (property : FileProperty) → Item
@@ -30,7 +30,7 @@ nodes_of depth (NodeItem own_depth place name ∷ later) =
     (nodes_of (depth + 1) later) (nodes_of depth later)
     else if nat_lt depth own_depth then nodes_of depth later else none
 
--- The items of what a tree says, where nodes that begin first have this depth.
+-- The items of these events, if a node that begins first has this depth.
 abbrev pub items_of : ℕ → List FileEvent → List Item
 items_of depth [] = []
 items_of depth (FileNodeStart place name ∷ later) =
@@ -50,13 +50,13 @@ abbrev pub file_property_of : Property → FileProperty
 file_property_of property =
     record { name = property.name.now; value = property.value.now; place = property.place }
 
--- What an entry says.
+-- The item of an entry.
 abbrev pub item_of : Entry → Item
 item_of (entry.Node node_entry) = NodeItem node_entry.depth node_entry.place node_entry.name.now
 item_of (entry.Property property) = PropertyItem (file_property_of property)
 
 -- The numbers of the entry of a node at index `at` fit the items after it. While the node is open,
--- `opened` being the number of the open nodes, nothing is said of its last descendant.
+-- `opened` being the number of the open nodes, nothing is required of its last descendant.
 pub record IsLinked (opened at : ℕ) (node_entry : NodeEntry) (later : List Item) : Type 0 where
   pub count : node_entry.property_count ≡ length (first_properties later)
   pub before_end : count_inside node_entry.depth later < length later → node_entry.after

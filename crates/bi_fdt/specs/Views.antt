@@ -22,7 +22,8 @@ pub record IsNodeOf (table : List Item) (index : ℕ) (node_entry : NodeEntry) :
   pub linked : IsLinked 0 index node_entry later
   pub below : (events : List FileEvent) × (later ≡ items_of (node_entry.depth + 1) events)
 
--- A call that gives the first of some properties, and leaves the others; None where none are left.
+-- A call that takes the first of some properties and leaves the others, or returns None if none are
+-- left.
 abbrev pub GivesProperty : List FileProperty → Option Property → List FileProperty → Type 0
 GivesProperty old result new =
     MatchOption result ((old ≡ []) × (new ≡ [])) (λ property. old ≡ file_property_of property ∷ new)

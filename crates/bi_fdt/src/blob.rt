@@ -63,20 +63,21 @@ impl<'a> Blob<'a> {
     /// Reads a blob of version 16 or 17, or of a later version that is compatible with 17. The file
     /// may be longer than the blob.
     ///
-    /// Ok exactly where the file is a blob within the limits, if memory suffices. Else the fault of
+    /// If memory suffices, Ok exactly if the file is a blob within the limits. Else the fault of
     /// the first check that fails:
     ///
     /// - in the header: TooLarge at the limit; Truncated at 0 for less than a magic number;
     ///   BadMagic at 0; Truncated at 0 for less than a header; BadVersion at 20 and at 24;
-    ///   BadTotalSize at 4; Truncated at 4 where `totalsize` is greater than the file; BadOffset at
-    ///   16, 8 and 12 for the memory reservation block, the structure block and the strings block;
+    ///   BadTotalSize at 4; Truncated at 4 if `totalsize` is greater than the file's length;
+    ///   BadOffset at 16, 8 and 12 for the memory reservation block, the structure block and the
+    ///   strings block;
     /// - in the reservation block: Truncated at the first pair that ends after `totalsize`;
-    /// - in the structure block, at the token: Truncated where the block ends in it; BadToken;
+    /// - in the structure block, at the token: Truncated if the block ends inside it; BadToken;
     ///   TooDeep, BadName and DuplicateNode for a node; PropertyAfterChild, BadNameOffset, BadName
     ///   and DuplicateProperty for a property.
     ///
-    /// OutOfMemory comes only where the header and the reservation block have no fault. ReadFailed
-    /// and WriteFailed never come.
+    /// OutOfMemory comes only if the header and the reservation block have no fault. ReadFailed and
+    /// WriteFailed never come.
     pub fn read(alloc: Global, file: &'a [u8], limits: Limits) -> Result<Blob<'a>, Error>
         ensures accepts { OnOk result (IsBlobWithin limits file.entry.now) }
         ensures content { IfOk result
@@ -121,8 +122,8 @@ impl<'a> Blob<'a> {
         self.reservation_count
     }
 
-    /// The address and the size of memory reservation `index`, from 0. None exactly where there is
-    /// no such reservation.
+    /// The address and the size of memory reservation `index`, from 0. None exactly if there is no
+    /// such reservation.
     pub fn reservation(&self, index: usize) -> Option<(u64, u64)>
         ensures { result ≡ slice_get (map
             (λ reservation. (reservation.address, reservation.size)) self.now.reservations) index }
@@ -165,7 +166,7 @@ fn check_before_tree(file: &[u8], limits: Limits) -> Result<usize, Fault>
     count_reservations(file, cell_at(file, 16) as usize, cell_at(file, 4) as usize)
 }
 
-/// Where a file whose header was checked has its tree.
+/// The blocks that hold the tree of a file whose header was checked.
 fn tree_blocks<'a>(file: &'a [u8]) -> Blocks<'a>
     requires { Header file.now }
     ensures { blocks_of result ≡ tree_blocks_of file.entry.now }

@@ -26,7 +26,7 @@ pub(crate) struct Blocks<'a> {
     pub(crate) strings: &'a [u8],
 }
 
-/// The number of the token at `place`. Truncated where the structure block ends before the number
+/// The number of the token at `place`. Truncated if the structure block ends before the number
 /// does.
 pub(crate) fn number_at(blocks: Blocks, place: usize) -> Result<u32, Fault>
     requires blocks { AreBlocks (blocks_of blocks) }
@@ -67,7 +67,7 @@ pub(crate) fn root_name<'a>(
     Ok(name)
 }
 
-/// The name of a child, whose token is at `place`, where `depth` nodes are open.
+/// The name of a child, whose token is at `place`, while `depth` nodes are open.
 pub(crate) fn child_name<'a>(
     blocks: Blocks<'a>,
     place: usize,

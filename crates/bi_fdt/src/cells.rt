@@ -1,4 +1,4 @@
-//! Cells, where a check has shown that the bytes are there.
+//! Cells that are in the bytes, as a check has shown.
 
 ghost use Rattle.std.specs.Prelude.{◌≡◌, ◌+◌, ◌≤◌, length};
 ghost use Rattle.bi_base.specs.Cells.{u32_at, u64_at};

@@ -9,7 +9,7 @@ ghost use Rattle.bi_fdt.specs.Table.{file_property_of};
 ghost use Rattle.bi_fdt.specs.Growth.{IsGrowing, IsGrown, IsEnding, IsRefusal};
 
 use crate::table::{Entry, NodeEntry, Property, set_after, set_property_count};
-use bi_base::{Cause, Error, Fault};
+use bi_base::{Cause, Error, refuse};
 use std::alloc::Global;
 use std::collections::BTreeSet;
 
@@ -29,12 +29,12 @@ pub(crate) struct Growing<'a> {
     innermost: OpenNode<'a>,
     /// The nodes that contain the innermost open node, the root first.
     outer: Vec<OpenNode<'a>>,
-    /// The names of the properties of the innermost open node, where it has no child yet.
+    /// The names of the properties of the innermost open node, while it has no child.
     properties: BTreeSet<&'a [u8]>,
 }
 
 /// What remains of a growing tree after a node has ended: the tree itself, or the table of the
-/// whole tree where the node is the root.
+/// whole tree if the node is the root.
 #[derive(Drop)]
 pub(crate) enum Ending<'a> {
     Inside(Growing<'a>),
@@ -83,8 +83,8 @@ impl<'a> Growing<'a> {
         self.innermost.children.is_empty()
     }
 
-    /// The tree after a child of the innermost open node has begun at `place`. DuplicateNode where
-    /// a child has the name already.
+    /// The tree after a child of the innermost open node has begun at `place`. DuplicateNode if a
+    /// child has the name already.
     pub(crate) fn begin_node(
         self,
         alloc: Global,
@@ -111,10 +111,7 @@ impl<'a> Growing<'a> {
             mut properties,
         } = self;
         if !innermost.children.insert(name)? {
-            return Err(Error::Refused(Fault {
-                cause: Cause::DuplicateNode,
-                offset: place,
-            }));
+            return refuse(Cause::DuplicateNode, place).map_err(Error::from);
         }
         let entry = entries.len();
         entries.push(Entry::Node(NodeEntry {
@@ -138,7 +135,7 @@ impl<'a> Growing<'a> {
     }
 
     /// The tree after a property of the innermost open node, which has no child yet.
-    /// DuplicateProperty where a property has the name already.
+    /// DuplicateProperty if a property has the name already.
     pub(crate) fn add_property(self, property: Property<'a>) -> Result<Growing<'a>, Error>
         requires { IsGrown self }
         ensures new { OnOk result ((innermost : PartialNode) (outer : List PartialNode)
@@ -166,10 +163,7 @@ impl<'a> Growing<'a> {
             mut properties,
         } = self;
         if !properties.insert(property.name)? {
-            return Err(Error::Refused(Fault {
-                cause: Cause::DuplicateProperty,
-                offset: property.place,
-            }));
+            return refuse(Cause::DuplicateProperty, property.place).map_err(Error::from);
         }
         entries.push(Entry::Property(property))?;
         let property_count = entries.len() - innermost.entry - 1;

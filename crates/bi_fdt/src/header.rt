@@ -87,8 +87,8 @@ fn check_places(file: &[u8], limits: Limits) -> Result<(), Fault>
     Ok(())
 }
 
-/// The length of the header in bytes: 36 in version 16, else 40. It is 40 where the file ends
-/// before the cell of its version.
+/// The length of the header in bytes: 36 in version 16, else 40. It is 40 if the file ends before
+/// the cell of its version.
 fn header_length(file: &[u8]) -> usize
     ensures least { 36 ≤ result }
     ensures value { 36 ≤ length file.now → result ≡ length_of_header file.now }

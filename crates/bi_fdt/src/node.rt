@@ -18,7 +18,9 @@ use crate::table::{Entry, NodeEntry, Property};
 pub struct NodeRef<'a, 'b> {
     blob: &'b Blob<'a>,
     index: usize,
+    // The entry at the index is a node's, so that `entry` finds no property there.
     ghost is_node: { IsTrue (begins_with_node (drop index blob.now.table)) },
+    // The table is short enough that no sum of indices overflows.
     ghost small: { length blob.now.table < 2 ^ 63 },
 }
 
@@ -66,8 +68,8 @@ impl<'a, 'b> NodeRef<'a, 'b> {
         self.entry().property_count
     }
 
-    /// The properties in their order in the file. Going over all of them takes time linear in their
-    /// number.
+    /// The properties in their order in the file. Iterating over all of them takes time linear in
+    /// their number.
     pub fn properties(self) -> Properties<'a, 'b>
         ensures { result ≡ (node_of self.entry).own.properties }
     {
@@ -77,7 +79,7 @@ impl<'a, 'b> NodeRef<'a, 'b> {
         Properties::new(&entries[begin..end])
     }
 
-    /// The name and value of property `index`, from 0, in the order of the file. None exactly where
+    /// The name and value of property `index`, from 0, in the order of the file. None exactly if
     /// there is no such property.
     pub fn property_at(self, index: usize) -> Option<(&'a [u8], &'a [u8])>
         ensures { option_map (λ property. (property.0.now, property.1.now)) result
@@ -94,7 +96,7 @@ impl<'a, 'b> NodeRef<'a, 'b> {
         }
     }
 
-    /// The value of the property of this name. None exactly where there is no such property.
+    /// The value of the property of this name. None exactly if there is no such property.
     pub fn property(self, name: &[u8]) -> Option<&'a [u8]>
         ensures { option_map (λ value. value.now) result
             ≡ value_named (properties_of (node_of self.entry).own) name.now }
@@ -102,8 +104,8 @@ impl<'a, 'b> NodeRef<'a, 'b> {
         Some(self.find_property(name)?.value)
     }
 
-    /// The offset in the file of the token of the property of this name. None exactly where there
-    /// is no such property.
+    /// The offset in the file of the token of the property of this name. None exactly if there is
+    /// no such property.
     pub fn property_place(self, name: &[u8]) -> Option<u32>
         ensures { result ≡ option_map
             (λ property. property.place)
@@ -112,7 +114,7 @@ impl<'a, 'b> NodeRef<'a, 'b> {
         Some(self.find_property(name)?.place)
     }
 
-    /// The property of this name. None exactly where there is no such property.
+    /// The property of this name. None exactly if there is no such property.
     pub fn find_property(self, name: &[u8]) -> Option<Property<'a>>
         ensures { option_map file_property_of result
             ≡ property_named (node_of self.entry).own.properties name.now }
@@ -125,7 +127,7 @@ impl<'a, 'b> NodeRef<'a, 'b> {
         None
     }
 
-    /// The first child. None exactly where there is no child.
+    /// The first child. None exactly if there is no child.
     pub fn first_child(self) -> Option<NodeRef<'a, 'b>>
         ensures { option_map node_of result ≡ node_at (node_of self.entry).children 0 }
     {
@@ -174,7 +176,7 @@ impl<'a, 'b> NodeRef<'a, 'b> {
         count
     }
 
-    /// Child `index`, from 0, in the order of the file. None exactly where there is no such child.
+    /// Child `index`, from 0, in the order of the file. None exactly if there is no such child.
     /// Takes time linear in the children before it.
     pub fn child_at(self, index: usize) -> Option<NodeRef<'a, 'b>>
         ensures { option_map node_of result ≡ node_at (node_of self.entry).children index }
@@ -186,8 +188,8 @@ impl<'a, 'b> NodeRef<'a, 'b> {
         Some(child)
     }
 
-    /// The child of this name. None exactly where there is no such child. Takes time
-    /// linear in the children before it.
+    /// The child of this name. None exactly if there is no such child. Takes time linear in the
+    /// children before it.
     pub fn child(self, name: &[u8]) -> Option<NodeRef<'a, 'b>>
         ensures { option_map node_of result ≡ node_named (node_of self.entry).children name.now }
     {

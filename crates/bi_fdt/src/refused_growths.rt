@@ -21,7 +21,7 @@ const FILE: [u8; 154] =
     \x00\x00\x00\x02\x00\x00\x00\x02\x00\x00\x00\x01\x63\x00\x00\x00\x00\x00\x00\x02\
     \x00\x00\x00\x02\x00\x00\x00\x09\x70\x00\x71\x00\x72\x00";
 
-/// Takes memory and gives it back, so many times. True where it was refused once.
+/// Allocates and frees this many times. Returns whether an allocation was refused.
 fn is_refused(alloc: Global, times: u64) -> bool {
     let mut refused = false;
     for _ in 0..times {
@@ -43,8 +43,9 @@ fn is_read(blob: &Blob) -> bool {
         && root.child(b"c").is_some()
 }
 
-/// Reads the file while the allocation of this number, from 1, is refused; none where it is 0. True
-/// where the call made that allocation. It gives the blob, or runs out of memory then.
+/// Reads the file while the allocation of this number, from 1, is refused, or none if it is 0.
+/// Checks that the call returns the blob, or runs out of memory if it made that allocation. Returns
+/// whether it made it.
 fn reads(rt: &(impl Abort + AllocGlobal), growth: u64) -> Result<bool, Fail> {
     let alloc = rt.alloc();
     let Some(limits) = Limits::new(1000, 64) else {

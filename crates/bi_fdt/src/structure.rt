@@ -63,7 +63,7 @@ fn skip_to_root(blocks: Blocks) -> Result<usize, Fault>
     }
 }
 
-/// A reader inside the root, whose token is at `place`.
+/// Reads the token of the root, which is at `place`.
 fn begin_root<'a>(
     alloc: Global,
     blocks: Blocks<'a>,
@@ -86,7 +86,7 @@ fn begin_root<'a>(
     })
 }
 
-/// Reads the tokens inside the root: the offset after them, and the table.
+/// Reads the tokens inside the root. Returns the offset after them, and the table.
 fn read_root<'a>(
     alloc: Global,
     blocks: Blocks<'a>,

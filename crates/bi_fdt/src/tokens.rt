@@ -10,20 +10,25 @@ ghost use Rattle.bi_fdt.specs.Reading.{IsReading, IsAhead};
 use crate::blocks::{Blocks, child_name, number_at, property_at};
 use crate::growing::{Ending, Growing};
 use crate::table::Entry;
-use bi_base::{Cause, Error, Fault, up4};
+use bi_base::{Cause, Error, refuse, up4};
 use std::alloc::Global;
 
+/// The number of FDT_BEGIN_NODE.
 pub(crate) const BEGIN_NODE: u32 = 1;
 
+/// The number of FDT_END_NODE.
 pub(crate) const END_NODE: u32 = 2;
 
+/// The number of FDT_PROP.
 pub(crate) const PROP: u32 = 3;
 
+/// The number of FDT_NOP.
 pub(crate) const NOP: u32 = 4;
 
+/// The number of FDT_END.
 pub(crate) const END: u32 = 9;
 
-/// A reader inside the root: the offset of its next token, and the tree so far.
+/// How far reading has come inside the root: the offset of the next token, and the tree so far.
 #[derive(Drop)]
 pub(crate) struct Reading<'a> {
     pub(crate) place: usize,
@@ -39,7 +44,8 @@ pub(crate) enum Next<'a> {
     After(usize, Vec<Entry<'a>>),
 }
 
-/// The reader after the token at its place.
+/// Reads the token at `reading.place`. Fails with the fault of the first of its checks that fails,
+/// or runs out of memory.
 pub(crate) fn step<'a>(
     alloc: Global,
     blocks: Blocks<'a>,
@@ -65,10 +71,7 @@ pub(crate) fn step<'a>(
         return Ok(Next::Inside(Reading { place, growing }));
     }
     if number != END_NODE {
-        return Err(Error::Refused(Fault {
-            cause: Cause::BadToken,
-            offset: place as u32,
-        }));
+        return refuse(Cause::BadToken, place as u32).map_err(Error::from);
     }
     Ok(match growing.end_node() {
         Ending::Inside(growing) => Next::Inside(Reading {
@@ -79,7 +82,7 @@ pub(crate) fn step<'a>(
     })
 }
 
-/// The reader after FDT_BEGIN_NODE at its place.
+/// Reads the token FDT_BEGIN_NODE at `reading.place`, with the same errors.
 fn begin_node<'a>(
     alloc: Global,
     blocks: Blocks<'a>,
@@ -96,13 +99,14 @@ fn begin_node<'a>(
     let Reading { place, growing } = reading;
     let name = child_name(blocks, place, growing.depth(), depth_limit)?;
     let growing = growing.begin_node(alloc, name, place as u32)?;
+    // Besides the name, the token has its number of four bytes and a zero byte.
     Ok(Next::Inside(Reading {
         place: place + up4(name.len() + 5),
         growing,
     }))
 }
 
-/// The reader after FDT_PROP at its place.
+/// Reads the token FDT_PROP at `reading.place`, with the same errors.
 fn add_property<'a>(
     blocks: Blocks<'a>,
     depth_limit: usize,
@@ -117,6 +121,7 @@ fn add_property<'a>(
 {
     let Reading { place, growing } = reading;
     let property = property_at(blocks, place, growing.is_childless())?;
+    // Besides the value, the token has its number and two cells.
     let width = up4(property.value.len() + 12);
     Ok(Next::Inside(Reading {
         place: place + width,

@@ -27,7 +27,7 @@ digest_size Sha256 = 32
 digest_size Sha384 = 48
 digest_size Sha512 = 64
 
--- The law that a digest is a list of bytes, of the length that its algorithm gives.
+-- The law that a digest is a list of bytes, of the length that its algorithm has.
 abbrev pub DigestsAreBytes : Type 0
 DigestsAreBytes =
     (algo : Algo) (payload : List ℕ)

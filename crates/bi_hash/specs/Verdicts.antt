@@ -10,7 +10,7 @@ use Rattle.bi_hash.specs.declared.verdicts.Verdict.{Verdict}
 use Rattle.bi_hash.specs.declared.verdicts.Verdict.TheVariants.{Malformed, UnknownAlgo}
 use Rattle.bi_hash.specs.declared.verdicts.Verdict.TheVariants.{NoPayload, Good, Bad}
 
--- The text of a property's value: the bytes before its first NUL. None where there is no NUL
+-- The text of a property's value: the bytes before its first NUL. None if there is no NUL
 -- (Devicetree Specification, 2.2.4.2: a string is NUL-terminated).
 unfoldable pub text_before_nul : List ℕ → Option (List ℕ)
 text_before_nul value =

@@ -46,7 +46,7 @@ pub fn verdict(algo: Option<&[u8]>, value: Option<&[u8]>, payload: Option<&[u8]>
     }
 }
 
-/// The text of a property's value: the bytes before its first NUL. None where it has no NUL.
+/// The text of a property's value: the bytes before its first NUL. None if it has no NUL.
 fn text_before_nul(value: &[u8]) -> Option<&[u8]>
     ensures { option_copied result ≡ text_before_nul value.now }
 {

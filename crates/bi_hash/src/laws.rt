@@ -3,13 +3,13 @@
 ghost use Rattle.bi_hash.specs.Digests.{DigestsAreBytes};
 ghost use Rattle.bi_hash.specs.Verdicts.{GoodMeansDigest};
 
-/// The verdict is Good exactly where `algo` is the name of an algorithm, a NUL and anything after
-/// it, there is a payload, and `value` is the digest of the payload by that algorithm.
+/// The verdict is Good exactly if `algo` is the name of an algorithm, a NUL and anything after it,
+/// there is a payload, and `value` is the digest of the payload by that algorithm.
 pub fn good_means_the_digest()
     ensures { GoodMeansDigest }
 {}
 
-/// A digest is a list of bytes, of the length that its algorithm gives: 4, 16, 20, 32, 48 or 64.
+/// A digest is a list of bytes, of the length that its algorithm has: 4, 16, 20, 32, 48 or 64.
 pub fn digests_are_bytes()
     ensures { DigestsAreBytes }
 {}

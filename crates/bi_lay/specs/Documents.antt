@@ -20,7 +20,7 @@ content_of doc = record {
   events = events_of_items doc.items.items;
 }
 
--- Where the tree has come to.
+-- The stage that the tree has reached.
 abbrev pub stage_of : Fields → Stage
 stage_of doc = stage_of_events (events_of_items doc.items.items)
 
@@ -28,12 +28,12 @@ stage_of doc = stage_of_events (events_of_items doc.items.items)
 abbrev pub last : {X : Type 0} → List X → Option X
 last xs = slice_get xs (length xs - 1)
 
--- The open nodes but for the innermost.
+-- The open nodes except the innermost.
 abbrev pub outer_nodes : Stage → List OpenNode
 outer_nodes (Inside innermost outer) = outer
 outer_nodes stage = []
 
--- What the last item says of the innermost open node.
+-- What the last item shows about the innermost open node.
 abbrev pub IsNewest : Option Item → Stage → Type 0
 IsNewest None BeforeRoot = Unit {0}
 IsNewest (Some (Begin name)) (Inside innermost outer) =

@@ -11,7 +11,7 @@ use Rattle.bi_lay.specs.declared.items.Item.{Item}
 use Rattle.bi_lay.specs.declared.items.Item.TheVariants.{Begin, Property, End}
 use Rattle.bi_lay.specs.Names.{capped}
 
--- The events that a document keeps.
+-- The events that a document stores.
 
 -- The bytes of a value.
 abbrev pub value_bytes : Value → List ℕ

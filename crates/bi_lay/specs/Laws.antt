@@ -30,8 +30,8 @@ NodesAddTheirNames =
     → fold next_stage (Inside innermost outer) (events nodes)
     ≡ Inside (with_children innermost nodes) outer
 
--- Where events may follow one another in a normal text, each may come at the stage after those
--- before it.
+-- If events may follow one another in a normal text, each may come at the stage after those before
+-- it.
 abbrev pub EachMayFollow : Type 0
 EachMayFollow =
     (before : List Event) (event : Event) (later : List Event)

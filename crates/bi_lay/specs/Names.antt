@@ -20,7 +20,7 @@ with_name names name = if is_among name names then names else names ++ name ∷ 
 abbrev pub capped : ℕ → ℕ
 capped n = min n (2 ^ 64 - 1)
 
--- Each of these names has its offset, where the first of them is at this offset.
+-- Each of these names has its offset, if the first of them is at this offset.
 abbrev pub AreAt : ℕ → List (Bor (List ℕ) × ℕ) → Type 0
 AreAt at [] = Unit {0}
 AreAt at (entry ∷ later) = (entry.1 ≡ capped at) × AreAt (at + length entry.0.now + 1) later

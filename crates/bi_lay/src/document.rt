@@ -22,8 +22,8 @@ const MAX_DEPTH: usize = 64;
 /// a tree, which come in the order of the structure block (Devicetree Specification, 5.4.2). Names
 /// and values are borrowed and not copied.
 ///
-/// Each call but `may_begin` takes constant time, apart from the growth of memory and the hash of
-/// a property's name.
+/// Each call but `may_begin`, `size` and `emit` takes constant time, apart from allocations and the
+/// hash of a property's name.
 #[derive(Drop)]
 pub struct Doc<'a> {
     boot_cpu: u32,
@@ -84,7 +84,7 @@ impl<'a> Doc<'a> {
     }
 
     /// Begins a node of this name, as a child of the innermost open node, or as the root, whose
-    /// name is empty. It may only be called where `may_begin` is true.
+    /// name is empty. It may only be called if `may_begin` is true.
     ///
     /// The only error is `OutOfMemory`, and the document is unchanged then.
     pub fn begin(&mut self, name: &'a [u8]) -> Result<(), Error>
@@ -98,8 +98,7 @@ impl<'a> Doc<'a> {
         Ok(())
     }
 
-    /// Gives the innermost open node a property. It may only be called where `may_property` is
-    /// true.
+    /// Adds a property to the innermost open node. It may only be called if `may_property` is true.
     ///
     /// The only error is `OutOfMemory`, and the document is unchanged then.
     pub fn property(&mut self, name: &'a [u8], value: Value<'a>) -> Result<(), Error>
@@ -119,8 +118,8 @@ impl<'a> Doc<'a> {
         Ok(())
     }
 
-    /// Ends the innermost open node. It may only be called where `may_end` is true. It takes no
-    /// memory.
+    /// Ends the innermost open node. It may only be called if `may_end` is true. It allocates
+    /// nothing.
     pub fn end(&mut self)
         requires { MayEnd (stage_of_events self.old.events) }
         ensures { self.new ≡ with_event self.old NodeEnd }
@@ -179,8 +178,8 @@ impl<'a> Doc<'a> {
     }
 
     /// Returns the length of the document's text in bytes, or None if it has more than 0x7fffffff
-    /// bytes. It may only be called where `is_closed` is true. It takes time linear in the number
-    /// of events.
+    /// bytes. It may only be called if `is_closed` is true. It takes time linear in the number of
+    /// events.
     pub fn size(&self) -> Option<u32>
         requires { stage_of_events self.now.events ≡ AfterRoot }
         ensures { MatchOption result (longest_text < length (text_of self.now))
@@ -192,10 +191,10 @@ impl<'a> Doc<'a> {
     }
 
     /// Appends the document's text: the header, the reservation block, the structure block, the
-    /// strings block, and zeros up to a multiple of four. It may only be called where `is_closed`
-    /// is true and `size` is not None. Fails as the sink does.
+    /// strings block, and zeros up to a multiple of four. It may only be called if `is_closed` is
+    /// true and `size` is not None. Fails as the sink does.
     ///
-    /// It takes time linear in the length of the text, and no memory but what the sink takes.
+    /// It takes time linear in the length of the text, and allocates nothing itself.
     pub fn emit<S: Sink>(&self, sink: &mut S) -> Result<(), Error>
         requires closed { stage_of_events self.now.events ≡ AfterRoot }
         requires small { length (text_of self.now) ≤ longest_text }

@@ -1,4 +1,4 @@
-//! What a document keeps of its tree.
+//! The events of a tree, as a document stores them.
 #![tactic(auto, unfolding(bi_base::specs::Cells::cell))]
 
 ghost use Rattle.std.specs.Prelude.{◌≡◌, length};

@@ -14,7 +14,7 @@ pub fn nodes_add_their_names()
     ensures { NodesAddTheirNames }
 {}
 
-/// Where events may follow one another in a normal text, as those of a normal tree may
+/// If events may follow one another in a normal text, as those of a normal tree may
 /// (`bi_blob::text_laws::normal_events_have_one_tree`), each may come at the stage after those
 /// before it. So a caller that adds the events of such a tree in turn meets what `begin`,
 /// `property` and `end` of a document require.

@@ -33,7 +33,7 @@ impl<'a> Names<'a> {
     ghost use Rattle.bi_lay.specs.Names.{with_name, capped};
     ghost use Rattle.bi_lay.specs.Items.{bytes_of};
 
-    /// No names. It takes no memory yet.
+    /// No names. It allocates nothing yet.
     pub(crate) fn new(alloc: Global) -> Names<'a>
         ensures { result ≡ [] }
     {

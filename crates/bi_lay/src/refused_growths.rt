@@ -1,5 +1,5 @@
-//! A document that is built with one of its growths refused. `rt test` builds it with none
-//! refused; the script tests/refused_growths.sh adds a test for each growth, and has it refused.
+//! A document that is built with one of its allocations failing. `rt test` has none fail; the
+//! script tests/refused_growths.sh adds a test for each allocation, and has that one fail.
 
 use crate::{Doc, Value};
 use bi_base::{Error, VecSink};
@@ -13,7 +13,7 @@ const REFUSED: u64 = 1000;
 /// The names of the root's properties and children, of a byte each.
 const NAMES: &[u8] = b"ABCDEFGHIJKLMNOPQRSTUVWXYZabcdefghijklmnopqrstuvwxyz";
 
-/// Takes memory and gives it back, so many times. True where it was refused once.
+/// Allocates and frees this many times. Returns whether an allocation was refused.
 fn is_refused(alloc: Global, times: u64) -> bool {
     let mut refused = false;
     for _ in 0..times {
@@ -22,13 +22,13 @@ fn is_refused(alloc: Global, times: u64) -> bool {
     refused
 }
 
-/// Counts a refusal of memory. Any other error ends the test.
+/// Counts an OutOfMemory. Any other error ends the test.
 fn count(rt: &impl Abort, error: Error, refusals: &mut u64) {
     assert!(rt; error == Error::OutOfMemory);
     *refusals = refusals.saturating_add(1);
 }
 
-/// Adds a reservation, again where memory was refused.
+/// Adds a reservation, and tries again after OutOfMemory.
 fn reserve(rt: &impl Abort, doc: &mut Doc<'_>, refusals: &mut u64) -> Result<(), Error> {
     if let Err(error) = doc.reserve(0x1000, 16) {
         count(rt, error, refusals);
@@ -37,7 +37,7 @@ fn reserve(rt: &impl Abort, doc: &mut Doc<'_>, refusals: &mut u64) -> Result<(),
     Ok(())
 }
 
-/// Begins a node that may begin, again where memory was refused.
+/// Begins a node that may begin, and tries again after OutOfMemory.
 fn begin<'a>(
     rt: &impl Abort,
     doc: &mut Doc<'a>,
@@ -53,7 +53,7 @@ fn begin<'a>(
     Ok(())
 }
 
-/// Adds a property that may be added, again where memory was refused.
+/// Adds a property that may be added, and tries again after OutOfMemory.
 fn property<'a>(
     rt: &impl Abort,
     doc: &mut Doc<'a>,
@@ -76,7 +76,7 @@ fn end(rt: &impl Abort, doc: &mut Doc<'_>) {
 }
 
 /// Adds reservations, a root with properties, and its children with a property each. Returns how
-/// many calls were refused memory.
+/// many calls ran out of memory.
 fn build(rt: &impl Abort, doc: &mut Doc<'_>) -> Result<u64, Error> {
     let mut refusals = 0;
     begin(rt, doc, b"", &mut refusals)?;
@@ -102,8 +102,9 @@ fn text_of(rt: &(impl Abort + AllocGlobal), doc: &Doc<'_>) -> Result<Vec<u8>, Er
     Ok(sink.into_vec())
 }
 
-/// Builds a document, and of the allocations for it has the one of this number, from 1, refused.
-/// It is the one call that is refused memory. Returns the text, and whether there was a refusal.
+/// Builds a document while the allocation of this number, from 1, is refused, or none if it is 0.
+/// Checks that exactly one call ran out of memory if the build made that allocation, else none.
+/// Returns the text, and whether the build made it.
 fn text_with(rt: &(impl Abort + AllocGlobal), growth: u64) -> Result<(Vec<u8>, bool), Error> {
     let is_over = is_refused(rt.alloc(), REFUSED.saturating_sub(growth));
     let mut doc = Doc::new(rt.alloc(), 7)?;
@@ -113,8 +114,8 @@ fn text_with(rt: &(impl Abort + AllocGlobal), growth: u64) -> Result<(Vec<u8>, b
     Ok((text_of(rt, &doc)?, is_met))
 }
 
-/// A document that is refused memory once has the text of one that is not. True where there was a
-/// refusal.
+/// Checks that a document that ran out of memory once has the text of one that did not. Returns
+/// whether it ran out of memory.
 fn builds(rt: &(impl Abort + AllocGlobal), growth: u64) -> Result<bool, Fail> {
     let (text, is_met) = text_with(rt, growth)?;
     let (ample, _) = text_with(rt, 0)?;

@@ -9,7 +9,7 @@ ghost use Rattle.bi_lay.specs.Siblings.{IsScan};
 
 use crate::items::Item;
 
-/// How far a search for a child has come.
+/// The state of a search for a child.
 #[derive(Clone, Copy)]
 struct Scan {
     /// How many nodes are open.
@@ -18,8 +18,8 @@ struct Scan {
     is_new: bool,
 }
 
-/// Whether no child of the innermost open node has this name, where so many nodes are open after
-/// these items.
+/// Whether no child of the innermost open node has this name. After these items, `depth` nodes are
+/// open.
 pub(crate) fn is_new_child(items: &[Item<'_>], depth: usize, name: &[u8]) -> bool
     requires open { depth ≡ length (open_nodes (stage_of_events (events_of_items items.now))) }
     requires some { 0 < depth }
@@ -55,7 +55,7 @@ fn scan_after(scan: Scan, item: &Item<'_>, depth: usize, name: &[u8]) -> Scan
     }
 }
 
-/// Whether the name is new still where a node begins that has the name `child`.
+/// Whether the name is still new after a node of the name `child` begins.
 fn is_new_after(scan: Scan, child: &[u8], depth: usize, name: &[u8]) -> bool
     requires { scan.depth + 1 < 2 ^ 64 }
     ensures child { scan.depth ≡ depth →

@@ -49,7 +49,7 @@ compression_names =
     ∷ record { code = 5; name = codes "lz4" }
     ∷ record { code = 6; name = codes "zstd" } ∷ []
 
--- The name of a code in such a list, or None where it has none.
+-- The name of a code in such a list, or None if it has none.
 abbrev pub name_of_code : List CodeName → ℕ → Option (List ℕ)
 name_of_code [] code = None
 name_of_code (entry ∷ later) code =

@@ -31,7 +31,7 @@ pub record EmitPartCheck : Type 0 where
 abbrev pub EmitPartPasses : EmitPartCheck → Type 0
 EmitPartPasses check = IsTablePart check.part
 
--- The fault where the check of a part fails, at the offset of the size of the part.
+-- The fault of a part that fails its check, at the offset of the size of the part.
 abbrev pub emit_part_fault : EmitPartCheck → Fault
 emit_part_fault check = record { cause = EmptyPart; offset = 64 + 4 * check.index }
 
@@ -50,7 +50,7 @@ EmitPasses limits image HasPartCount =
 EmitPasses limits image FitsLimit = length (legacy_text image) ≤ limits.file
 EmitPasses limits image (IsNotEmpty check) = EmitPartPasses check
 
--- The fault of an image where a check fails, at the offset of the field in the image to be written,
+-- The fault of an image that fails a check, at the offset of the field in the image to be written,
 -- or at the limit.
 abbrev pub emit_fault : Bounds → EmitCheck → Fault
 emit_fault limits HasImageName = record { cause = BadField; offset = 32 }
@@ -80,7 +80,7 @@ IsEmitFault limits image fault =
 abbrev pub HasNoEmitFault : Bounds → LegacyImage → Type 0
 HasNoEmitFault limits image = HasNoFault (EmitPasses limits image) (emit_checks image)
 
--- What a call did that writes this image to a sink. It fails with the fault of the image and leaves
+-- What a call that writes this image to a sink did. It fails with the fault of the image and leaves
 -- the sink unchanged, or it writes the normal text as a call to the sink does. The image has a
 -- fault or none.
 pub record WroteImage {S : Type 0} (appends : S → List ℕ → S → Type 0)

@@ -41,7 +41,7 @@ Passes limits file HasData = 64 + u32_at file 12 ≤ length file
 Passes limits file HasDataChecksum = u32_at file 24 ≡ crc32 (body_of file)
 Passes limits file (InPartTable check) = TablePasses (body_of file) check
 
--- The fault of a file where a check fails.
+-- The fault of a file that fails a check.
 abbrev pub fault_of : Bounds → Check → Fault
 fault_of limits IsWithinLimit = record { cause = TooLarge; offset = limits.file }
 fault_of limits HasMagicCell = record { cause = Truncated; offset = 0 }

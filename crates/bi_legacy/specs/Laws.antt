@@ -27,7 +27,7 @@ NoMeaningWithoutMagic =
 abbrev pub TextBeginsWithMagic : Type 0
 TextBeginsWithMagic = (image : LegacyImage) → BeginsWithMagic (legacy_text image)
 
--- Bytes mean an image within the limits exactly where no check fails.
+-- Bytes mean an image within the limits exactly if no check fails.
 abbrev pub MeaningWithoutFault : Type 0
 MeaningWithoutFault =
     (file : List ℕ) (limits : Bounds) → AreBytes file →
@@ -52,7 +52,7 @@ OneFault =
     (file : List ℕ) (limits : Bounds) (a b : Fault) →
     IsLegacyFault limits file a → IsLegacyFault limits file b → a ≡ b
 
--- An image fits the format exactly where some file means it.
+-- An image fits the format exactly if some file means it.
 abbrev pub ImagesOfFiles : Type 0
 ImagesOfFiles =
     (image : LegacyImage) → IsLegacyImage image ↔ ((file : List ℕ) × IsLegacyFile file image)
@@ -75,7 +75,7 @@ TextIsItsOwnNormalForm =
     (image other : LegacyImage) → IsLegacyImage image → IsLegacyFile (legacy_text image) other →
     legacy_text other ≡ legacy_text image
 
--- Two files have the same normal text exactly where they mean the same image.
+-- Two files have the same normal text exactly if they mean the same image.
 abbrev pub TextsDiffer : Type 0
 TextsDiffer =
     (f g : List ℕ) (a b : LegacyImage) → IsLegacyFile f a → IsLegacyFile g b →

@@ -9,7 +9,7 @@ use Rattle.bi_legacy.specs.PartTables.{table_sizes}
 use Rattle.bi_legacy.specs.PlacedParts.{PlacedPart}
 
 -- Where the reader finds the parts in the data of an image. It finds them by the sizes alone: no
--- promise about the format is stated in these words.
+-- promise about the format is stated in these terms.
 
 -- The sizes of the parts: those in the part table, or the size of the data, which is the one part.
 abbrev pub part_sizes : Bool → List ℕ → List ℕ
@@ -39,11 +39,11 @@ placed_slices body at sizes = map (placed_slice body) (part_ranges at sizes)
 abbrev pub part_slices : List ℕ → ℕ → List ℕ → List (List ℕ)
 part_slices body at sizes = map (λ (part : PlacedPart). part.bytes) (placed_slices body at sizes)
 
--- A range ends within so many bytes.
+-- A range ends within this many bytes.
 abbrev pub EndsWithin : ℕ → PartRange → Type 0
 EndsWithin most range = range.start + range.size ≤ most
 
--- The ranges of parts of these sizes end within so many bytes.
+-- The ranges of parts of these sizes end within this many bytes.
 abbrev pub FitWithin : ℕ → ℕ → List ℕ → Type 0
 FitWithin most at sizes = AllByRecursion (EndsWithin most) (part_ranges at sizes)
 

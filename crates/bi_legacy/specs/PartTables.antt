@@ -17,28 +17,30 @@ cells_of bytes = []
 abbrev pub table_sizes : List ℕ → List ℕ
 table_sizes body = before_first (λ number. number == 0) (cells_of body)
 
--- The checks of a part table.
+-- A check of a part table: the table has an end; or part `index`, whose end is at `end` in the
+-- data, is inside the data.
 pub data TableCheck : Type 0 where
   HasTableEnd : TableCheck
   HasPart : (index : ℕ) → (end : ℕ) → TableCheck
 
--- When each check of the data passes.
+-- When each of them passes.
 abbrev pub TablePasses : List ℕ → TableCheck → Type 0
 TablePasses body HasTableEnd = Contains (cells_of body) 0
 TablePasses body (HasPart index end) = end ≤ length body
 
--- The fault of the file where a check fails.
+-- The fault of a file that fails a check.
 abbrev pub table_fault : TableCheck → Fault
 table_fault HasTableEnd = record { cause = BadPartTable; offset = 64 }
 table_fault (HasPart index end) = record { cause = BadPart; offset = 64 + 4 * index }
 
--- A check of the end of each part, from part `index` on, whose first byte is at `at` in the data.
+-- The checks of parts of these sizes. The first of them is part `index`, whose first byte is at
+-- `at` in the data.
 abbrev pub part_checks : ℕ → ℕ → List ℕ → List TableCheck
 part_checks index at [] = []
 part_checks index at (size ∷ sizes) =
     HasPart index (at + size) ∷ part_checks (index + 1) (up4 (at + size)) sizes
 
--- The checks of the data of multi and script images.
+-- The checks of the data of multi and script images, in their order.
 abbrev pub table_checks : List ℕ → List TableCheck
 table_checks body =
     let sizes = table_sizes body in HasTableEnd ∷ part_checks 0 (4 * (length sizes + 1)) sizes

@@ -25,7 +25,7 @@ ArePaddedParts (part ∷ next ∷ later) bytes =
     × ArePaddedParts (next ∷ later) after
 
 -- The data is the part table of these parts, then the parts with their padding, and then any bytes.
--- It is used for data of less than 2^32 bytes alone, where each size fits its cell.
+-- It is used only for data of less than 2^32 bytes, so each size fits its cell.
 pub record HasPartTable (parts : List (List ℕ)) (body : List ℕ) : Type 0 where
   pub rest : List ℕ
   pub body_is : body ≡ part_table parts ++ rest
@@ -48,6 +48,6 @@ abbrev pub parts_end_from : ℕ → List ℕ → ℕ
 parts_end_from end [] = end
 parts_end_from end (size ∷ sizes) = parts_end_from (up4 end + size) sizes
 
--- The end of the last part in the data, or of the part table where there are no parts.
+-- The end of the last part in the data, or of the part table if there are no parts.
 abbrev pub parts_end : ℕ → List (List ℕ) → ℕ
 parts_end image_type parts = parts_end_from (parts_start image_type parts) (map length parts)

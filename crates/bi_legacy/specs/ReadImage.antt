@@ -10,7 +10,7 @@ use Rattle.bi_legacy.specs.PartRanges.{part_sizes, first_part_offset, part_slice
 use Rattle.bi_legacy.specs.declared.part_table.PartTable.{PartTable}
 
 -- What the reader reads from the bytes of a file. No promise about the format is stated in these
--- words.
+-- terms.
 
 -- The parts of the data of an image of this type: those in the part table, or the whole data.
 abbrev pub parts_of_body : ℕ → List ℕ → List (List ℕ)

@@ -10,7 +10,7 @@ use Rattle.bi_legacy.specs.PlacedParts.{PlacedPart, placed_parts, AreAtOffsets}
 -- The result of reading a legacy image (profile of this project).
 
 -- What reading returns: the image, and how many bytes of the file follow the last part, or the part
--- table where there are no parts.
+-- table if there are no parts.
 pub record ParsedImage : Type 0 where
   pub image : LegacyImage
   pub unused : ℕ
@@ -19,9 +19,9 @@ pub record ParsedImage : Type 0 where
 abbrev pub part_places : LegacyImage → List ℕ
 part_places image = map (λ (part : PlacedPart). part.place) (placed_parts image)
 
--- The file means this image and no other, each part is in it at its offset, and so many of its
--- bytes follow the last part, or the part table where there are no parts. No check of the file
--- fails, and the image has a normal form.
+-- The file means this image and no other, each part is in it at its offset, and this many of its
+-- bytes follow the last part, or the part table if there are no parts. No check of the file fails,
+-- and the image has a normal form.
 pub record IsParsedImage (limits : Bounds) (file : List ℕ) (value : ParsedImage) : Type 0 where
   pub means : LegacyMeans limits file value.image
   pub only_meaning : (other : LegacyImage) → LegacyMeans limits file other → other ≡ value.image

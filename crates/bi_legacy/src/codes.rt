@@ -4,7 +4,7 @@ ghost use Rattle.std.specs.Prelude.{◌≡◌, option_map};
 ghost use Rattle.bi_legacy.specs.Codes.{name_of_code, os_names, arch_names, type_names};
 ghost use Rattle.bi_legacy.specs.Codes.{compression_names};
 
-/// The name of an operating system's code (U-Boot, include/image.h: `IH_OS_*`). None where the code
+/// The name of an operating system's code (U-Boot, include/image.h: `IH_OS_*`). None if the code
 /// has no name here.
 pub fn os_name(code: u8) -> Option<&'static str>
     ensures { option_map (λ name. name.now) result ≡ name_of_code os_names code }
@@ -18,8 +18,8 @@ pub fn os_name(code: u8) -> Option<&'static str>
     }
 }
 
-/// The name of a processor architecture's code (U-Boot, include/image.h: `IH_ARCH_*`). None where
-/// the code has no name here.
+/// The name of a processor architecture's code (U-Boot, include/image.h: `IH_ARCH_*`). None if the
+/// code has no name here.
 pub fn arch_name(code: u8) -> Option<&'static str>
     ensures { option_map (λ name. name.now) result ≡ name_of_code arch_names code }
 {
@@ -35,8 +35,8 @@ pub fn arch_name(code: u8) -> Option<&'static str>
     }
 }
 
-/// The name of an image type's code (U-Boot, include/image.h: `IH_TYPE_*`). None where the code has
-/// no name here.
+/// The name of an image type's code (U-Boot, include/image.h: `IH_TYPE_*`). None if the code has no
+/// name here.
 pub fn type_name(code: u8) -> Option<&'static str>
     ensures { option_map (λ name. name.now) result ≡ name_of_code type_names code }
 {
@@ -52,8 +52,8 @@ pub fn type_name(code: u8) -> Option<&'static str>
     }
 }
 
-/// The name of a compression's code (U-Boot, include/image.h: `IH_COMP_*`). None where the code has
-/// no name here.
+/// The name of a compression's code (U-Boot, include/image.h: `IH_COMP_*`). None if the code has no
+/// name here.
 pub fn compression_name(code: u8) -> Option<&'static str>
     ensures { option_map (λ name. name.now) result ≡ name_of_code compression_names code }
 {

@@ -27,10 +27,9 @@ use bi_base::{Cause, Error, Fault, Limits, Sink, refuse, up4};
 ///
 /// Fails with the first of these faults, and then appends nothing:
 ///
-/// - BadField at 32, where the name is longer than 32 bytes or has a zero byte;
-/// - BadField at 30, where the image is neither multi nor script and does not have exactly one
-///   part;
-/// - TooLarge at `limits.file()`, where the text is longer than that;
+/// - BadField at 32, if the name is longer than 32 bytes or has a zero byte;
+/// - BadField at 30, if the image is neither multi nor script and does not have exactly one part;
+/// - TooLarge at `limits.file()`, if the text is longer than that;
 /// - EmptyPart at `64 + 4 * index`, for the first empty part of a multi or script image.
 ///
 /// Otherwise it fails only as the sink does. It allocates nothing itself, and takes time linear in
@@ -49,8 +48,8 @@ pub fn emit<S: Sink>(
 
 /// Appends the normal text of an image that was read, as `emit` does for its fields and parts.
 ///
-/// `parts` are the parts of the image. The CRC-32 of the data is not computed again where the data
-/// is the one part: it was checked when the image was read.
+/// `parts` are the parts of the image. The CRC-32 of the data is not computed again if the data is
+/// the one part: it was checked when the image was read.
 ///
 /// Fails with the same faults as `emit`, and then appends nothing. Otherwise it fails only as the
 /// sink does.
@@ -124,14 +123,14 @@ fn is_image_name(name: &[u8]) -> bool
     name.len() <= NAME_SIZE && !name.contains(&0)
 }
 
-/// Whether an image of this type can have so many parts.
+/// Whether an image of this type can have this many parts.
 fn can_have_parts(image_type: u8, part_count: usize) -> bool
     ensures { IsTrue result ↔ MatchBool (has_part_table image_type) ⊤ (part_count ≡ 1) }
 {
     has_part_table(image_type) || part_count == 1
 }
 
-/// The size of the normal data. None exactly where it is more than `most`.
+/// The size of the normal data. None exactly if it is more than `most`.
 fn data_size(image_type: u8, parts: &[&[u8]], most: u32) -> Option<u32>
     ensures { let size = length (normal_body image_type (bytes_of parts.now)) in
         MatchOption result (most < size) (λ n. (n ≡ size) × (n ≤ most)) }
@@ -153,7 +152,7 @@ fn start_of_parts(image_type: u8, parts: &[&[u8]]) -> usize
 }
 
 /// The end of the last of these parts. The first begins at `start`, and each later one at the next
-/// multiple of four. None exactly where the end is after `most`.
+/// multiple of four. None exactly if the end is after `most`.
 fn end_within(start: usize, parts: &[&[u8]], most: usize) -> Option<usize>
     requires { most < 2 ^ 32 }
     ensures { let end = parts_end_from start (map length (bytes_of parts.now)) in

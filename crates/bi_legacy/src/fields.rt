@@ -9,8 +9,8 @@ const MULTI: u8 = 4;
 /// The code of a script.
 const SCRIPT: u8 = 6;
 
-/// The fields of a legacy header (U-Boot, include/image.h), but for the checksums and the data
-/// size, which follow from these and the parts.
+/// The fields of a legacy header (U-Boot, include/image.h), except the checksums and the data size,
+/// which follow from these and the parts.
 #[derive(Clone, Copy, Debug, PartialEq, Eq)]
 pub struct Fields<'a> {
     /// The time of creation, in seconds since 1970.

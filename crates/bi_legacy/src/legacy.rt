@@ -47,15 +47,15 @@ impl<'a> Model for Legacy<'a> {
 impl<'a> Legacy<'a> {
     /// Reads a legacy image (U-Boot, include/image.h). The file may be longer than the image.
     ///
-    /// Ok exactly where the file is a legacy image of at most `limits.file()` bytes. Otherwise it
+    /// Ok exactly if the file is a legacy image of at most `limits.file()` bytes. Otherwise it
     /// fails with the fault of the first check that fails:
     ///
-    /// - TooLarge at `limits.file()`, where the file is longer;
-    /// - Truncated at 0, where the file is shorter than the magic number;
+    /// - TooLarge at `limits.file()`, if the file is longer;
+    /// - Truncated at 0, if the file is shorter than the magic number;
     /// - BadMagic at 0;
-    /// - Truncated at 0, where the file is shorter than a header;
+    /// - Truncated at 0, if the file is shorter than a header;
     /// - BadHeaderCrc at 4;
-    /// - Truncated at 12, where the data ends after the file;
+    /// - Truncated at 12, if the data ends after the file;
     /// - BadDataCrc at 24;
     /// - BadPartTable at 64, for a multi or script image whose part table has no end;
     /// - BadPart at `64 + 4 * k`, for the first part k of such an image that ends after the data.
@@ -95,7 +95,7 @@ impl<'a> Legacy<'a> {
         )
     }
 
-    /// Part `index`, counted from 0. None exactly where there is no such part. Takes time linear in
+    /// Part `index`, counted from 0. None exactly if there is no such part. Takes time linear in
     /// `index`.
     pub fn part(&self, index: usize) -> Option<&'a [u8]>
         ensures { option_map (λ part. part.now) result ≡ slice_get self.now.image.parts index }
@@ -103,7 +103,7 @@ impl<'a> Legacy<'a> {
         Some(self.parts().nth(index)?.bytes)
     }
 
-    /// The offset in the file of the first byte of part `index`, counted from 0. None exactly where
+    /// The offset in the file of the first byte of part `index`, counted from 0. None exactly if
     /// there is no such part. Takes time linear in `index`.
     pub fn part_place(&self, index: usize) -> Option<u32>
         ensures { result ≡ slice_get (part_places self.now.image) index }
@@ -111,8 +111,8 @@ impl<'a> Legacy<'a> {
         Some(self.parts().nth(index)?.place)
     }
 
-    /// The CRC-32 of the normal data, where the data of the file is its own normal data, and the
-    /// header has it.
+    /// The CRC-32 of the normal data, for an image whose data is its one part: the header has it.
+    /// None for multi and script images, whose normal data may differ from the data of the file.
     pub(crate) fn normal_data_checksum(&self) -> Option<u32>
         ensures { let image = self.now.image in IfSome result (λ checksum.
             checksum ≡ crc32 (normal_body image.image_type image.parts)) }
@@ -124,8 +124,8 @@ impl<'a> Legacy<'a> {
         }
     }
 
-    /// The number of bytes of the file after the last part, or after the part table where there are
-    /// no parts.
+    /// The number of bytes of the file after the last part, or after the part table if there are no
+    /// parts.
     pub fn unused(&self) -> u32
         ensures { result ≡ self.now.unused }
     {

@@ -1,4 +1,4 @@
-//! Legacy images of U-Boot, the format of `mkimage` without a tree: reading them, and writing their
+//! Legacy images of U-Boot, which `mkimage` writes without `-f`: reading them, and writing their
 //! normal form.
 #![tactic(auto)]
 

@@ -1,4 +1,4 @@
-//! Where the parts of an image are in its data, as their sizes give it.
+//! Where the parts of an image are in its data, by their sizes.
 
 ghost use Rattle.std.specs.Prelude.{◌≡◌, ◌+◌, ◌*◌, ◌^◌, ◌<◌, ◌≤◌, List, ◌∷◌, length, drop};
 ghost use Rattle.std.specs.Prelude.{if◌then◌else◌};

@@ -1,5 +1,5 @@
-//! The part table of multi and script images: how many parts there are, and where the last one
-//! ends.
+//! The part table of multi and script images: how many parts there are, and where the last one ends
+//! in the data.
 
 ghost use Rattle.std.specs.Prelude.{◌≡◌, true, ◌+◌, ◌*◌, ◌^◌, ◌<◌, ◌≤◌, ◌↔◌, length, IsSome};
 ghost use Rattle.std.specs.Prelude.{IfSome, IfOk, OnOk, IfErr};
@@ -16,16 +16,19 @@ use crate::header::HEADER_SIZE;
 use crate::part_ranges::PartRanges;
 use bi_base::{Cause, Fault, be32_at, refuse};
 
-/// The number of parts of some data, and the end of the last one in it, or of the part table where
-/// there are no parts.
+/// The number of parts of some data, and the offset in the data at which the last one ends, or at
+/// which the part table ends if there are no parts.
 #[derive(Clone, Copy)]
 pub(crate) struct PartTable {
     pub(crate) part_count: usize,
     pub(crate) end: usize,
 }
 
-/// Finds the parts in the data of an image of this type. BadPartTable at 64 where a part table has
-/// no end; BadPart at `64 + 4 * k` for the first part k of a table that ends after the data.
+/// Counts the parts in the data of an image of this type, and finds the end of the last one. The
+/// data of an image without a part table is one part.
+///
+/// Fails with BadPartTable at 64 if the part table has no end, else with BadPart at `64 + 4 * k`
+/// for the first part k that ends after the data.
 pub(crate) fn find_parts(image_type: u8, body: &[u8]) -> Result<PartTable, Fault>
     requires { length body.now < 2 ^ 31 }
     ensures ok { OnOk result (HasNoFault (TablePasses body.now) (body_checks image_type body.now)) }
@@ -43,7 +46,7 @@ pub(crate) fn find_parts(image_type: u8, body: &[u8]) -> Result<PartTable, Fault
     }
 }
 
-/// Reads the part table at the start of some data.
+/// Reads the part table at the start of some data. The errors are those of `find_parts`.
 fn read_part_table(body: &[u8]) -> Result<PartTable, Fault>
     requires { length body.now < 2 ^ 31 }
     ensures ok { OnOk result (HasNoFault (TablePasses body.now) (table_checks body.now)) }
@@ -58,8 +61,8 @@ fn read_part_table(body: &[u8]) -> Result<PartTable, Fault>
     Ok(PartTable { part_count, end })
 }
 
-/// The number of sizes in the part table, which ends at the first zero. None exactly where no whole
-/// cell of the data is zero.
+/// The number of sizes in the part table, which ends at the first cell of zero. None exactly if no
+/// whole cell of the data is zero.
 fn count_sizes(body: &[u8]) -> Option<usize>
     ensures ends { IsSome result ↔ Contains (cells_of body.now) 0 }
     ensures count { IfSome result (λ count. count ≡ length (table_sizes body.now)) }
@@ -75,7 +78,8 @@ fn count_sizes(body: &[u8]) -> Option<usize>
     None
 }
 
-/// The end of the last part in the part table, or of the table itself where there are no parts.
+/// The end of the last of the parts in a part table, or of the table itself if there are no parts.
+/// Fails with BadPart for the first part that ends after the data.
 fn end_of_parts(body: &[u8], part_count: usize) -> Result<usize, Fault>
     requires count { part_count ≡ length (table_sizes body.now) }
     requires room { 4 * (part_count + 1) ≤ length body.now }
@@ -98,7 +102,7 @@ fn end_of_parts(body: &[u8], part_count: usize) -> Result<usize, Fault>
     Ok(end)
 }
 
-/// The offset in the file of the size of a part.
+/// The offset in the file of the size of part `index`, a cell of the part table.
 pub(crate) fn table_offset(index: usize) -> u32
     requires { 64 + 4 * index < 2 ^ 32 }
     ensures { result ≡ 64 + 4 * index }

@@ -293,7 +293,7 @@ fn a_failed_write_leaves_a_prefix(rt: HostRuntime) -> Result<(), Fail> {
 /// A number of parts so large that quadratic time would be minutes.
 const MANY: u32 = 200_000;
 
-/// The data of an image of so many parts of one byte, which count up from 0 to 250 and again from
+/// The data of an image of that many parts of one byte, which count up from 0 to 250 and again from
 /// 0.
 fn many_parts(alloc: Global) -> Result<Vec<u8>, Fail> {
     let mut data = Vec::new(alloc);

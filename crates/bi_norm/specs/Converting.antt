@@ -42,7 +42,7 @@ conversions =
     ∷ record { image_type = 6; keys = Script ∷ [] }
     ∷ record { image_type = 8; keys = Fdt ∷ [] } ∷ []
 
--- The keys for a type: none where it cannot be converted.
+-- The keys for a type: none if it cannot be converted.
 abbrev pub keys_in : List Conversion → ℕ → List Key
 keys_in [] image_type = []
 keys_in (conversion ∷ later) image_type =
@@ -137,7 +137,7 @@ abbrev pub convert_checks : List ConvertCheck
 convert_checks =
     HasOsName ∷ HasArchName ∷ HasTypeName ∷ HasCompressionName ∷ HasPart ∷ HasFewParts ∷ []
 
--- What each of them asks for.
+-- What each of them requires.
 abbrev pub ConvertPasses : LegacyImage → ConvertCheck → Type 0
 ConvertPasses image HasOsName = IsSome (name_of_code os_names image.os)
 ConvertPasses image HasArchName = IsSome (name_of_code arch_names image.arch)
@@ -170,8 +170,8 @@ pub record IsConverted (bounds : Bounds) (form : Form) (image : LegacyImage) : T
   pub payloads : (fit_of image).payloads ≡ map Some image.parts
   pub verdicts : AllByRecursion (λ hash. hash.verdict ≡ Good) (verdicts_of (fit_of image))
 
--- The law that the text of a converted image, within limits that hold it and four open nodes, is
--- so.
+-- The law that this is what the text of a converted image is, within limits that hold it and four
+-- open nodes.
 abbrev pub ConvertedIsAccepted : Type 0
 ConvertedIsAccepted =
     (bounds : Bounds) (form : Form) (image : LegacyImage)

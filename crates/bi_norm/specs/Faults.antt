@@ -31,8 +31,8 @@ fault_of limits IsSupported = record { cause = Unsupported; offset = 0 }
 abbrev pub tree_checks : List Check
 tree_checks = OfHeader IsWithinLimit ∷ OfHeader HasMagicCell ∷ OfHeader HasMagic ∷ IsSupported ∷ []
 
--- The fault of a file: that of a legacy image where it begins as one, else that of a flattened
--- image tree.
+-- The fault of a file: that of a legacy image if it begins as one, else that of a flattened image
+-- tree.
 pub data IsFileFault (limits : Bounds) (file : List ℕ) (fault : Fault) : Type 0 where
   OfLegacyImage : BeginsAs file Legacy → IsLegacyFault limits file fault
       → IsFileFault limits file fault

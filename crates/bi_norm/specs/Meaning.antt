@@ -7,7 +7,7 @@ use Rattle.bi_fit.specs.declared.form.Form.{Form}
 
 -- What a boot image of any kind means.
 
--- What a file means: now a legacy image always.
+-- What a file means: for now always a legacy image.
 pub data Meaning : Type 0 where
   OfLegacy : (image : LegacyImage) → Meaning
 

@@ -18,10 +18,10 @@ pub record IsNormalForm (limits : Bounds) (form : Form) (file text : List ℕ) :
   pub meaning : Meaning
   pub means : Means limits file meaning
   pub only : (other : Meaning) → Means limits file other → other ≡ meaning
-  -- The text is the normal text of it.
+  -- The text is the normal text of this meaning.
   pub is_text : text ≡ normal_text form meaning
-  -- Of all files that mean something within the limits, those have this normal text that mean this,
-  -- and no others.
+  -- Of all files that mean something within the limits, exactly those that mean this have this
+  -- normal text.
   pub distinguishes : (other_file : List ℕ) (other : Meaning) → Means limits other_file other
       → (normal_text form other ≡ text) ↔ (other ≡ meaning)
   -- The text means the same within the same limits, so it is its own normal form.
@@ -33,15 +33,15 @@ pub record Normalised (limits : Bounds) (form : Form) (count : ℕ) (file text :
     pub normal : IsNormalForm limits form file text
     pub signatures : count ≡ signature_count normal.meaning
 
--- The file means something whose normal text is longer than the limit. This is so of no legacy
--- image.
+-- The file means something whose normal text is longer than the limit. No legacy image is such a
+-- file.
 pub record IsTooLong (limits : Bounds) (form : Form) (file : List ℕ) : Type 0 where
   pub meaning : Meaning
   pub means : Means limits file meaning
   pub longer : limits.file < length (normal_text form meaning)
 
--- Memory is needed only for a file that passes all checks that need none: a legacy image that means
--- something.
+-- Memory is needed only for a file that means something: a legacy image is checked without an
+-- allocation.
 abbrev pub NeedsMemory : Bounds → List ℕ → Type 0
 NeedsMemory limits file = MeansSomething limits file
 
@@ -60,8 +60,8 @@ IsNormaliseError limits form file (Refused fault) =
     ⊎ (IsTooLong limits form file × (fault ≡ too_large limits.file))
 IsNormaliseError limits form file error = IsOpenError limits file error
 
--- The same of a file that comes from a reader and goes to a writer. Reading it needs memory and may
--- fail, and so may writing.
+-- The same for a file that comes from a reader, with an output that goes to a writer. Reading it
+-- needs memory and may fail, and so may writing.
 abbrev pub IsStreamError : (List ℕ → Error → Type 0) → List ℕ → Error → Type 0
 IsStreamError HasError file (Refused fault) = HasError file (Refused fault)
 IsStreamError HasError file OutOfMemory = ⊤
@@ -76,8 +76,8 @@ pub record Appended {S : Type 0} (appends : S → List ℕ → S → Type 0) (li
   pub normal : Normalised limits form count file text
   pub appended : appends old text new
 
--- Normalising a file into a sink failed: with an error of the file, and the sink is unchanged, or
--- as the sink fails.
+-- Normalising a file into a sink failed: with an error of the file, and the sink is unchanged; or
+-- with an error of the sink.
 pub data FailedInto {S : Type 0} (fails : S → List ℕ → S → Error → Type 0) (limits : Bounds)
     (form : Form)
     (file : List ℕ) (old new : S) (error : Error) : Type 0 where

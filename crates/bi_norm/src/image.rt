@@ -19,9 +19,9 @@ pub enum BootImage<'a> {
 impl<'a> BootImage<'a> {
     /// Reads a boot image.
     ///
-    /// Errors, the first that applies: TooLarge at the limit, where the file is longer; Truncated
-    /// at 0 below four bytes; BadMagic at 0; for a legacy image those of `Legacy::read`;
-    /// Unsupported at 0 for a flattened image tree.
+    /// Errors, the first that applies: TooLarge at the limit, if the file is longer; Truncated at 0
+    /// below four bytes; BadMagic at 0; for a legacy image those of `Legacy::read`; Unsupported at
+    /// 0 for a flattened image tree.
     pub fn read(_alloc: Global, file: &'a [u8], limits: Limits) -> Result<BootImage<'a>, Error>
         ensures opened { IfOk result (IsOpened limits file.entry.now) }
         ensures failed { IfErr result (IsOpenError limits file.entry.now) }

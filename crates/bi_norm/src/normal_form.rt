@@ -26,7 +26,7 @@ use std::io::{Read, Write};
 /// form exactly if they mean the same. `form` is where a flattened image tree keeps its payloads;
 /// it has no effect on a legacy image.
 ///
-/// Errors, each `Error::Refused`, the first that applies: TooLarge at the limit, where the file is
+/// Errors, each `Error::Refused`, the first that applies: TooLarge at the limit, if the file is
 /// longer; Truncated at 0 below four bytes; BadMagic at 0; for a legacy image those of
 /// `Legacy::read`; Unsupported at 0 for a flattened image tree. A file in memory is refused without
 /// an allocation, so OutOfMemory comes only for a file that means something.
@@ -43,9 +43,9 @@ pub fn normalise(alloc: Global, file: &[u8], form: Form, limits: Limits) -> Resu
 /// nodes, which is 0 for a legacy image.
 ///
 /// The errors are those of `normalise`, and those of the sink. After an error of the file, which
-/// comes before the first byte is appended, the sink is unchanged; after an error of the sink it is
-/// as a failed `put` of the normal form leaves it. All allocations but those of the sink are made
-/// before the first byte is appended.
+/// comes before the first byte is appended, the sink is unchanged. After an error of the sink, it
+/// is as a failed `put` of the normal form leaves it. All allocations but those of the sink are
+/// made before the first byte is appended.
 pub fn normalise_into<S: Sink>(
     alloc: Global,
     file: &[u8],
@@ -62,8 +62,8 @@ pub fn normalise_into<S: Sink>(
     }
 }
 
-/// Appends the normal form of a legacy image that was read under the limits, and returns 0, as it
-/// has no signature nodes.
+/// Appends the normal form of a legacy image that was read under the limits, and returns 0, since
+/// it has no signature nodes.
 fn emit_legacy<S: Sink>(
     alloc: Global,
     image: &Legacy<'_>,
@@ -110,8 +110,7 @@ fn write_normal_form<T: TracedWrite>(
         (T.trace target.new)) }
 {
     let mut sink = BufferedSink::new(target);
-    let outcome = normalise_and_finish(alloc, file, form, limits, &mut sink);
-    outcome
+    normalise_and_finish(alloc, file, form, limits, &mut sink)
 }
 
 /// Appends the normal form of a boot image to a sink whose buffer is empty, and finishes the sink.
@@ -138,12 +137,12 @@ fn normalise_and_finish<T: TracedWrite>(
 /// reader to a writer that record the outcome of their calls. Returns the number of signature
 /// nodes, which is 0 for a legacy image.
 ///
-/// ReadFailed comes after a read that failed by another error than an interruption, or after 1,024
-/// interrupted reads in a row; WriteFailed after a write or flush that failed so, after a write
-/// that wrote none of the remaining bytes, or after 1,024 interruptions in a row. No such failure
-/// is ignored. After WriteFailed a prefix of the normal form was written, the whole of it where the
-/// flush failed; after any other error nothing was written. A call that allocates may return
-/// OutOfMemory.
+/// ReadFailed comes after a read that failed with an error other than an interruption, or after
+/// 1,024 interrupted reads in a row; WriteFailed after a write or flush that failed with such an
+/// error, after a write that wrote none of the remaining bytes, or after 1,024 interruptions in a
+/// row. No such failure is ignored. After WriteFailed a prefix of the normal form was written, the
+/// whole of it if the flush failed; after any other error nothing was written. A call that
+/// allocates may return OutOfMemory.
 pub fn normalise_traced<S: TracedRead, T: TracedWrite>(
     alloc: Global,
     source: &mut S,
@@ -175,8 +174,8 @@ pub fn normalise_traced<S: TracedRead, T: TracedWrite>(
 /// image.
 ///
 /// The errors are those of `normalise_traced`. A plain reader or writer does not record a failed
-/// call, so no clause here says why ReadFailed and WriteFailed come. After WriteFailed a prefix of
-/// the normal form was written; after any other error nothing was written.
+/// call, so the contract cannot state why ReadFailed and WriteFailed come. After WriteFailed a
+/// prefix of the normal form was written; after any other error nothing was written.
 pub fn normalise_to<R: Read, W: Write>(
     alloc: Global,
     reader: &mut R,

@@ -42,7 +42,7 @@ IsExtractError select limits file (Failed error) = IsOpenError limits file error
 IsExtractError select limits file WrongKind = MeansSuch limits file (IsOfOtherKind select)
 IsExtractError select limits file NoPart = MeansSuch limits file (IsPastParts select)
 
--- The same of a file that comes from a reader, with bytes that go to a writer.
+-- The same for a file that comes from a reader, with bytes that go to a writer.
 abbrev pub IsStreamExtractError : Select → Bounds → List ℕ → ExtractError → Type 0
 IsStreamExtractError select limits file (Failed error) = IsStreamError (IsOpenError limits) file
     error

@@ -16,12 +16,12 @@ pub data FitChoice : Type 0 where
   HasNoPayload : FitChoice
   Chosen : (bytes : List ℕ) → FitChoice
 
--- A payload, where there is one.
+-- A payload, if there is one.
 abbrev pub choice_of_payload : Option (List ℕ) → FitChoice
 choice_of_payload None = HasNoPayload
 choice_of_payload (Some payload) = Chosen payload
 
--- The payload of an image, where there is such an image.
+-- The payload of an image, if there is such an image.
 abbrev pub choice_of_image : Option Image → FitChoice
 choice_of_image None = NoImage
 choice_of_image (Some image) = choice_of_payload image.payload
@@ -30,7 +30,7 @@ choice_of_image (Some image) = choice_of_payload image.payload
 abbrev pub choice_by_name : ImageTree → List ℕ → FitChoice
 choice_by_name tree name = choice_of_image (image_named name (images_of tree))
 
--- The payload at an index of a list, where the list is so long.
+-- The payload at an index of a list, if the list is long enough.
 abbrev pub choice_of_entry : Option ListedImage → FitChoice
 choice_of_entry None = NoIndex
 choice_of_entry (Some image) = choice_of_payload image.payload

@@ -52,8 +52,8 @@ image_lines file (node name own children later) (payload ∷ payloads) =
     image_line file name (source_of own) payload ++ image_lines file later payloads
 image_lines file nodes payloads = []
 
--- The line of a key of a configuration: what it lists, or why it lists nothing. There is none
--- where the configuration has no such key.
+-- The line of a key of a configuration: what it lists, or why it lists nothing. There is none if
+-- the configuration has no such key.
 abbrev pub key_line : (configuration : List ℕ) → Key → Listed → List ℕ
 key_line configuration key NoConfiguration = []
 key_line configuration key NoKey = []
@@ -72,7 +72,7 @@ configuration_lines tree configuration =
     line (codes "config" ∷ shown configuration ∷ [])
     ++ flat_map (λ key. key_line configuration key (listed_of tree configuration key)) all_keys
 
--- The line of the default configuration, where one is named.
+-- The line of the default configuration, if one is named.
 abbrev pub default_line : Option (List ℕ) → List ℕ
 default_line None = []
 default_line (Some name) = line (codes "default" ∷ shown name ∷ [])

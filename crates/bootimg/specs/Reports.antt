@@ -23,12 +23,12 @@ verdict_word UnknownAlgo = codes "unknown-algorithm"
 verdict_word NoPayload = codes "no-payload"
 verdict_word Malformed = codes "malformed"
 
--- A name that may not be there: `-` where it is not.
+-- A name that may not be there: `-` if it is not.
 abbrev pub shown_or_none : Option (List ℕ) → List ℕ
 shown_or_none None = codes "-"
 shown_or_none (Some name) = shown name
 
--- A value in hexadecimal digits of lower case: `-` where it is empty or not there.
+-- A value in hexadecimal digits of lower case: `-` if it is empty or not there.
 abbrev pub value_word : Option (List ℕ) → List ℕ
 value_word None = codes "-"
 value_word (Some value) =

@@ -17,7 +17,7 @@ const GREATEST_LIMIT: &str = "2147483647";
 /// The limit for the depth of a blob's tree.
 const DEPTH: u8 = 64;
 
-/// A command and the options of it alone.
+/// A command, and the options that only this command has.
 #[derive(Clone, Copy, Debug, PartialEq, Eq)]
 pub enum Task<'a> {
     /// Write the normal form.
@@ -28,7 +28,7 @@ pub enum Task<'a> {
     Extract(Select<'a>),
 }
 
-/// What the arguments ask for.
+/// What the arguments request.
 #[derive(Clone, Copy, Debug, PartialEq, Eq)]
 pub struct Request<'a> {
     /// The command.
@@ -37,7 +37,7 @@ pub struct Request<'a> {
     pub limits: Limits,
 }
 
-/// The outcome of arguments that ask for no task.
+/// The outcome of arguments that request no task.
 #[derive(Debug, Drop)]
 pub enum Outcome {
     /// The program prints this text: help, the version, or why clap rejects the arguments.
@@ -187,8 +187,8 @@ fn limits(options: &ArgMatches<'_>) -> Result<Limits, Failure> {
         .ok_or(Failure::BadValue)
 }
 
-/// Returns the selection that the options give. Fails with NoSelection where there is not exactly
-/// one, and with BadValue.
+/// Returns the selection that the options give. Fails with NoSelection if there is not exactly one,
+/// and with BadValue.
 fn selection<'a>(options: &ArgMatches<'a>) -> Result<Select<'a>, Failure> {
     match (options.get_str("part"), options.get_str("image")) {
         (Some(value), None) => {

@@ -33,7 +33,7 @@ pub enum Select<'a> {
 /// Why nothing, or not all, was extracted.
 #[derive(Clone, Copy, Debug, PartialEq, Eq, thiserror::Error)]
 pub enum ExtractError {
-    /// The file is refused, memory is, or reading or writing failed.
+    /// The file is refused, memory ran out, or reading or writing failed.
     #[error("failed")]
     Failed(Error),
     /// The selection does not fit this kind of image.
@@ -85,12 +85,13 @@ fn extract_part<'a>(image: &Legacy<'a>, select: Select) -> Result<&'a [u8], Extr
 /// Reads a boot image to its end, writes the bytes of it that are selected, and flushes: `extract`
 /// from a reader to a writer that record the outcome of their calls.
 ///
-/// Failed with ReadFailed comes after a read that failed by another error than an interruption, or
-/// after 1,024 interrupted reads in a row; Failed with WriteFailed after a write or flush that
-/// failed so, after a write that wrote none of the remaining bytes, or after 1,024 interruptions in
-/// a row, and only where no other error applies. No such failure is ignored. After Failed with
-/// WriteFailed a prefix of the bytes was written, all of them where the flush failed; after any
-/// other error nothing was written. A call that allocates may return Failed with OutOfMemory.
+/// Failed with ReadFailed comes after a read that failed with an error other than an interruption,
+/// or after 1,024 interrupted reads in a row; Failed with WriteFailed after a write or flush that
+/// failed with such an error, after a write that wrote none of the remaining bytes, or after 1,024
+/// interruptions in a row, and only if no other error applies. No such failure is ignored. After
+/// Failed with WriteFailed a prefix of the bytes was written, all of them if the flush failed;
+/// after any other error nothing was written. A call that allocates may return Failed with
+/// OutOfMemory.
 pub fn extract_traced<S: TracedRead, T: TracedWrite>(
     alloc: Global,
     source: &mut S,
@@ -123,9 +124,9 @@ pub fn extract_traced<S: TracedRead, T: TracedWrite>(
 /// `extract_traced` over a plain reader and a plain writer.
 ///
 /// The errors are those of `extract_traced`. A plain reader or writer does not record a failed
-/// call, so no clause here says why Failed with ReadFailed and Failed with WriteFailed come. After
-/// Failed with WriteFailed a prefix of the bytes was written; after any other error nothing was
-/// written.
+/// call, so the contract cannot state why Failed with ReadFailed and Failed with WriteFailed come.
+/// After Failed with WriteFailed a prefix of the bytes was written; after any other error nothing
+/// was written.
 pub fn extract_to<R: Read, W: Write>(
     alloc: Global,
     reader: &mut R,

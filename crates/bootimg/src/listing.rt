@@ -29,7 +29,7 @@ use std::io::{Read, Write};
 
 /// Returns the listing of a boot image.
 ///
-/// Errors, the first that applies: TooLarge at the limit, where the file is longer; Truncated at 0
+/// Errors, the first that applies: TooLarge at the limit, if the file is longer; Truncated at 0
 /// below four bytes; BadMagic at 0; for a legacy image those of `Legacy::read`; Unsupported at 0
 /// for a flattened image tree. A file in memory is refused without an allocation, so OutOfMemory
 /// comes only for a file that means something.
@@ -56,12 +56,12 @@ fn list_legacy(alloc: Global, image: &Legacy) -> Result<String, Error>
 /// Reads a boot image to its end, writes its listing, and flushes: `listing` from a reader to a
 /// writer that record the outcome of their calls.
 ///
-/// ReadFailed comes after a read that failed by another error than an interruption, or after 1,024
-/// interrupted reads in a row; WriteFailed after a write or flush that failed so, after a write
-/// that wrote none of the remaining bytes, or after 1,024 interruptions in a row. No such failure
-/// is ignored. After WriteFailed a prefix of the listing was written, the whole of it where the
-/// flush failed; after any other error nothing was written. A call that allocates may return
-/// OutOfMemory.
+/// ReadFailed comes after a read that failed with an error other than an interruption, or after
+/// 1,024 interrupted reads in a row; WriteFailed after a write or flush that failed with such an
+/// error, after a write that wrote none of the remaining bytes, or after 1,024 interruptions in a
+/// row. No such failure is ignored. After WriteFailed a prefix of the listing was written, the
+/// whole of it if the flush failed; after any other error nothing was written. A call that
+/// allocates may return OutOfMemory.
 pub fn list_traced<S: TracedRead, T: TracedWrite>(
     alloc: Global,
     source: &mut S,
@@ -92,8 +92,8 @@ pub fn list_traced<S: TracedRead, T: TracedWrite>(
 /// reader and a plain writer.
 ///
 /// The errors are those of `list_traced`. A plain reader or writer does not record a failed call,
-/// so no clause here says why ReadFailed and WriteFailed come. After WriteFailed a prefix of the
-/// listing was written; after any other error nothing was written.
+/// so the contract cannot state why ReadFailed and WriteFailed come. After WriteFailed a prefix of
+/// the listing was written; after any other error nothing was written.
 pub fn list_to<R: Read, W: Write>(
     alloc: Global,
     reader: &mut R,
@@ -185,7 +185,7 @@ fn put_part(text: &mut String, index: usize, part: &Part) -> Result<(), AllocErr
     writeln!(text, "part {index} size {size} at {place}")
 }
 
-/// Appends the line of a code: its name, or its number where it has none.
+/// Appends a line of a label and a code: the code's name, or its number if it has none.
 fn put_code(text: &mut String, label: &str, name: Option<&str>, code: u8) -> Result<(), AllocError>
     ensures { OnOk result (string_bytes text.new ≡ string_bytes text.old
         ++ line (label.now ∷ unwrap_or (option_map (λ name. name.now) name.entry) (decimal code)
@@ -197,7 +197,7 @@ fn put_code(text: &mut String, label: &str, name: Option<&str>, code: u8) -> Res
     }
 }
 
-/// Appends the line of a word.
+/// Appends a line of a label and a word.
 fn put_word(text: &mut String, label: &str, word: &str) -> Result<(), AllocError>
     ensures { OnOk result (string_bytes text.new ≡ string_bytes text.old
         ++ line (label.now ∷ word.now ∷ [])) }
@@ -205,7 +205,7 @@ fn put_word(text: &mut String, label: &str, word: &str) -> Result<(), AllocError
     writeln!(text, "{label} {word}")
 }
 
-/// Appends the line of a number.
+/// Appends a line of a label and a number.
 fn put_number(text: &mut String, label: &str, number: u64) -> Result<(), AllocError>
     ensures { OnOk result (string_bytes text.new
         ≡ string_bytes text.old ++ line (label.now ∷ decimal number ∷ [])) }
@@ -213,7 +213,7 @@ fn put_number(text: &mut String, label: &str, number: u64) -> Result<(), AllocEr
     writeln!(text, "{label} {number}")
 }
 
-/// Appends the line of an address.
+/// Appends a line of a label and an address.
 fn put_address(text: &mut String, label: &str, address: u32) -> Result<(), AllocError>
     ensures { OnOk result (string_bytes text.new
         ≡ string_bytes text.old ++ line (label.now ∷ hexadecimal address ∷ [])) }

@@ -29,8 +29,8 @@ fn main(rt: HostRuntime) -> ExitCode {
     }
 }
 
-/// Runs the program over the standard streams, and returns its exit status. Fails where memory is
-/// refused, or an argument is not UTF-8.
+/// Runs the program over the standard streams, and returns its exit status. Fails if memory runs
+/// out, or an argument is not UTF-8.
 fn run_streams(rt: &HostRuntime) -> io::Result<u8> {
     let alloc = rt.alloc();
     let strings: Vec<String> = std::env::args(rt)?.skip(1).collect(alloc)?;

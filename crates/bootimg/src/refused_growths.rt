@@ -16,7 +16,7 @@ use std::test::Fail;
 /// The number of the allocation that the script has refused in each test, from 1.
 const REFUSED: u64 = 1000;
 
-/// Allocates and frees so many times. Returns whether an allocation was refused.
+/// Allocates and frees this many times. Returns whether an allocation was refused.
 fn is_refused(alloc: Global, times: u64) -> bool {
     let mut refused = false;
     for _ in 0..times {
@@ -34,8 +34,8 @@ struct Trial {
 }
 
 impl Trial {
-    /// Made before the call. The allocation of this number, from 1, is refused of those that
-    /// follow. None is where it is 0.
+    /// Has one of the allocations that follow refused: the one of this number, from 1, or none if
+    /// it is 0. To be made before the call.
     fn new(alloc: Global, number: u64) -> Trial {
         let is_over = is_refused(alloc, REFUSED.saturating_sub(number));
         Trial {
@@ -58,7 +58,7 @@ fn limits() -> Result<Limits, Fail> {
     }
 }
 
-/// The bytes that were written to a buffer, of which so many bytes are left.
+/// The bytes that were written to a buffer, of which this many bytes are left.
 fn written(buffer: &[u8; 1024], left: usize) -> &[u8] {
     &buffer[..1024usize.saturating_sub(left)]
 }
@@ -198,8 +198,7 @@ fn run_with<'a>(alloc: Global, args: &'a [&'a str]) -> Outcome {
     }
 }
 
-/// Runs the program with these arguments, which ends with this status where no allocation is
-/// refused.
+/// Runs the program with these arguments, which ends with this status if no allocation is refused.
 fn runs<'a>(rt: &(impl Abort + AllocGlobal), number: u64, args: &'a [&'a str], status: u8) -> bool {
     let trial = Trial::new(rt.alloc(), number);
     let outcome = run_with(rt.alloc(), args);

@@ -20,9 +20,9 @@ const FAILED: u8 = 2;
 /// Runs the program with these arguments, without its own name, and returns the exit status: 0
 /// after success, 2 after any failure.
 ///
-/// The image is read from `reader`, once the arguments are parsed. The output, help and the
-/// version are written to `writer`. A failure is written to `errors`: one line, or clap's text
-/// where it rejects the arguments. A failed write to `errors` is ignored.
+/// The image is read from `reader`, once the arguments are parsed. The output, help and the version
+/// are written to `writer`. A failure is written to `errors`: one line, or clap's text if it
+/// rejects the arguments. A failed write to `errors` is ignored.
 pub fn run<'a, R: Read, W: Write, E: Write>(
     alloc: Global,
     arguments: &'a [&'a str],

@@ -11,7 +11,7 @@ use std::fmt::Write;
 /// every other byte is `%` and two hexadecimal digits in upper case. The empty name is `-`, and
 /// the name `-` is `%2D`.
 ///
-/// Fails only where memory is refused.
+/// Fails only if memory runs out.
 pub fn shown_name(alloc: Global, name: &[u8]) -> Result<String, AllocError>
     ensures { IfOk result (λ text. string_bytes text ≡ shown name.now) }
 {

@@ -33,7 +33,7 @@ pub struct Script {
 impl Script {
     ghost use Rattle.scripted_io.specs.Script.{turn_at, Follows};
 
-    /// Returns the script of which each call has this turn.
+    /// Returns the script in which each call has this turn.
     pub fn always(turn: Turn) -> Script
         ensures { (number : ℕ) → turn_at result number ≡ turn }
     {
@@ -46,7 +46,7 @@ impl Script {
         }
     }
 
-    /// Returns the script of which the call of this number, counted from 0, fails, and each other
+    /// Returns the script in which the call of this number, counted from 0, fails, and each other
     /// call has this turn.
     pub fn failing_among(number: u64, others: Turn) -> Script
         ensures fails { turn_at result number ≡ Turn.Fails }
@@ -61,7 +61,7 @@ impl Script {
         }
     }
 
-    /// Returns the script of which the first `calls` calls have the turn `turn`, and each call
+    /// Returns the script in which the first `calls` calls have the turn `turn`, and each call
     /// after them has `then`.
     pub fn first(calls: u64, turn: Turn, then: Turn) -> Script
         ensures turn { (number : ℕ) → number < calls → turn_at result number ≡ turn }
@@ -76,7 +76,7 @@ impl Script {
         }
     }
 
-    /// Returns the script of which `calls` calls have the turn `turn` and the next one has `then`,
+    /// Returns the script in which `calls` calls have the turn `turn` and the next one has `then`,
     /// again and again.
     pub fn repeated(calls: u32, turn: Turn, then: Turn) -> Script
         ensures turn { (number : ℕ) → number % (calls + 1) < calls → turn_at result number ≡ turn }

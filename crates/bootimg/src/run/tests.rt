@@ -382,8 +382,8 @@ fn a_failed_write_to_standard_error_is_ignored(rt: HostRuntime) {
 }
 
 /// With these arguments the program reads nothing and ends with this status. It writes a text that
-/// contains this, to standard output where the status is 0, else to standard error, and nothing to
-/// the other.
+/// contains this, to standard output if the status is 0, else to standard error, and nothing to the
+/// other.
 fn shows<'a>(
     rt: &(impl Abort + AllocGlobal),
     args: &'a [&'a str],
@@ -403,7 +403,7 @@ fn shows<'a>(
     Ok(())
 }
 
-/// The usage line of each command, which says where the image comes from.
+/// The usage line of each command, which shows where the image comes from.
 const USAGES: [(&str, &str); 3] = [
     (
         "normalise",

@@ -1,18 +1,21 @@
-use Rattle.std.proofs.Common.{◌≡◌, suc, ◌+◌, ◌∷◌, length, reverse, refl, sym, ap, ◌∙◌, arith, rules}
+use Rattle.std.proofs.Common.{◌≡◌, List, suc, ◌+◌, ◌∷◌, length, reverse, refl, sym, ap, ◌∙◌, arith, rules}
 use Rattle.std.proofs.lemmas.Bool.{not-true, not-false}
 use Rattle.std.proofs.lemmas.List.{length-reverse}
-use Rattle.bi_blob.specs.Tree.{names}
+use Rattle.bi_blob.specs.Tree.{names, IsNew}
+use Rattle.bi_blob.proofs.Blobs.PartialNodes.{PartialNode}
 use Rattle.bi_fdt.specs.Table.{NodeItem}
-use Rattle.bi_fdt.specs.Growth.{Holds}
+use Rattle.bi_fdt.specs.Growth.{Holds, IsGrowing}
 use Rattle.bi_fdt.proofs.NameSets.{Holds-none, Holds-insert, Holds-new, Holds-held}
 use Rattle.bi_fdt.proofs.OpenEntries.{AreOpen-held, AreOpen-length}
 use Rattle.bi_fdt.proofs.GrowingTables.{growing_begun}
 use Rattle.bi_fdt.proofs.growing.Growing.begin_node.Goals as goal
 
 pub returns-then-not-branch-clause-duplicate : goal.returns-then-not-branch-clause-duplicate
-returns-then-not-branch-clause-duplicate c = λ innermost outer growing.
+returns-then-not-branch-clause-duplicate c =
+    let duplicate : (innermost : PartialNode) (outer : List PartialNode) → IsGrowing c.args.self innermost outer → ¬ (IsNew c.args.name.now (names innermost.children)) = λ innermost outer growing.
     let held : Holds c.args.self.innermost.children (names innermost.children) = AreOpen-held _ _ (names innermost.children) innermost.name outer growing.opened in
-    Holds-held c.args.self.innermost.children c.args.name (names innermost.children) held (not-false _ (sym c.in_ok-insert.ensures.added ∙ c.if-not-branch.true))
+    Holds-held c.args.self.innermost.children c.args.name (names innermost.children) held (not-false _ (sym c.in_ok-insert.ensures.added ∙ c.if-not-branch.true)) in
+    search rules
 
 pub returns-clause-new : goal.returns-clause-new
 returns-clause-new c = λ innermost outer growing.
