@@ -1,0 +1,160 @@
+#!/bin/sh
+# Measures what the program takes on large flattened image trees: time beside sha256sum of the same file, and memory beside the
+# length of the file. Each time is the least of five runs. It fails if memory is more than the file and 8 MiB for a large payload,
+# if 10,000 images take more than ten times what sha256sum takes, or if ten times as many take more than twelve times as long.
+# It needs python3 and coreutils.
+set -u
+
+root=$(cd "$(dirname "$0")/.." && pwd)
+. "$root/tests/common"
+
+need python3 python3
+need coreutils sha256sum
+"$root/bootimg" --version > /dev/null
+check "the program is there" "$root/bootimg" --version
+[ "$failed" = 0 ] || finish
+
+work=$(mktemp -d)
+trap 'rm -rf "$work"' EXIT
+trap 'exit 1' HUP INT TERM
+cd "$work" || exit 2
+
+cat > costs.py << 'END'
+"""Makes large flattened image trees, runs commands on them, and prints and judges what they take."""
+import hashlib
+import os
+import struct
+import subprocess
+import sys
+import time
+
+PROGRAM = sys.argv[1]
+MIB = 1 << 20
+
+
+def cell(number):
+    return struct.pack(">I", number)
+
+
+def padded(data):
+    return data + bytes(-len(data) % 4)
+
+
+class Tree:
+    """A blob whose properties have names from one strings block."""
+
+    def __init__(self):
+        self.structure = []
+        self.strings = b""
+        self.offsets = {}
+
+    def begin(self, name):
+        self.structure.append(cell(1) + padded(name + b"\0"))
+
+    def end(self):
+        self.structure.append(cell(2))
+
+    def property(self, name, value):
+        if name not in self.offsets:
+            self.offsets[name] = len(self.strings)
+            self.strings += name + b"\0"
+        self.structure.append(cell(3) + cell(len(value)) + cell(self.offsets[name]) + padded(value))
+
+    def blob(self):
+        structure = b"".join(self.structure) + cell(9)
+        total = 56 + len(structure) + len(self.strings)
+        header = (0xD00DFEED, total, 56, 56 + len(structure), 40, 17, 16, 0, len(self.strings), len(structure))
+        return struct.pack(">10I", *header) + bytes(16) + structure + self.strings
+
+
+def image(tree, name, payload):
+    tree.begin(name)
+    tree.property(b"description", b"an image\0")
+    tree.property(b"data", payload)
+    tree.begin(b"hash-1")
+    tree.property(b"value", hashlib.sha256(payload).digest())
+    tree.property(b"algo", b"sha256\0")
+    tree.end()
+    tree.end()
+
+
+def make(path, payloads, configurations=0):
+    """Writes an image with these payloads, and with configurations that list one image each."""
+    tree = Tree()
+    tree.begin(b"")
+    tree.begin(b"images")
+    for index, payload in enumerate(payloads):
+        image(tree, b"image-%d" % index, payload)
+    tree.end()
+    tree.begin(b"configurations")
+    for index in range(configurations):
+        tree.begin(b"conf-%d" % index)
+        tree.property(b"kernel", b"image-%d\0" % (configurations - 1 - index))
+        tree.end()
+    tree.end()
+    tree.end()
+    with open(path, "wb") as file:
+        file.write(tree.blob())
+
+
+def run(path, command):
+    """Returns the seconds and the bytes of memory of a command that reads this file, the least of five runs."""
+    seconds = memory = None
+    for _ in range(5):
+        with open(path, "rb") as source, open("output", "wb") as target:
+            begin = time.perf_counter()
+            process = subprocess.Popen(command, stdin=source, stdout=target)
+            _, status, usage = os.wait4(process.pid, 0)
+            taken = time.perf_counter() - begin
+        process.returncode = status
+        if status != 0:
+            sys.exit(f"{command}: status {status}")
+        seconds = taken if seconds is None else min(seconds, taken)
+        memory = usage.ru_maxrss * 1024 if memory is None else min(memory, usage.ru_maxrss * 1024)
+    return seconds, memory
+
+
+COMMANDS = {
+    "list": ["list"],
+    "verify": ["verify"],
+    "normalise": ["normalise"],
+    "normalise --external": ["normalise", "--external"],
+}
+
+failures = 0
+
+
+def judge(name, good, text):
+    global failures
+    print(f"{'ok' if good else 'FAILED'}: {name}: {text}")
+    failures += not good
+
+
+make("large", [os.urandom(64 * MIB)])
+make("many", [b"%d" % index for index in range(10_000)])
+make("more", [b"%d" % index for index in range(100_000)])
+make("configured", [b"%d" % index for index in range(10_000)], 10_000)
+times = {}
+for path in "large", "many", "more", "configured":
+    size = os.path.getsize(path)
+    base, _ = run(path, ["sha256sum"])
+    print(f"{path}: {size} bytes, cat {run(path, ['cat'])[0]:.3f} s, sha256sum {base:.3f} s")
+    for name, arguments in COMMANDS.items():
+        seconds, memory = run(path, [PROGRAM, *arguments])
+        times[path, name] = seconds
+        text = f"{seconds:.3f} s, {seconds / base:.1f} times sha256sum, {(memory - size) / MIB:.1f} MiB more than the file"
+        if path == "large":
+            judge(f"{path}, {name}", memory <= size + 8 * MIB, text)
+        else:
+            judge(f"{path}, {name}", path == "more" or seconds <= 10 * base, text)
+for name in COMMANDS:
+    ratio = times["more", name] / times["many", name]
+    judge(f"{name} of ten times as many images", ratio <= 12, f"{ratio:.1f} times as long")
+sys.exit(failures != 0)
+END
+program=$root/crates/bootimg/out/bootimg
+python3 costs.py "$program" | tee costs
+passed=$((passed + $(grep -c '^ok: ' costs)))
+failed=$((failed + $(grep -c '^FAILED: ' costs)))
+[ "$(grep -c '^ok: \|^FAILED: ' costs)" = 20 ] || failed=$((failed + 1))
+finish
