@@ -1,4 +1,5 @@
 pub mod Opening
+pub mod PayloadAreas
 pub mod NormalForms
 pub mod Writing
 pub mod KindLaws

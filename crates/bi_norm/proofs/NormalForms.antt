@@ -1,26 +1,73 @@
-use Rattle.std.proofs.Common.{◌≡◌, ◌<◌, ◌↔◌, ℕ, List, length, Option, refl, ap, inl}
+use Rattle.std.proofs.Common.{◌≡◌, ◌<◌, ◌≤◌, ◌⊎◌, ◌↔◌, ℕ, List, ◌∷◌, length, Option, refl, sym, ap, ◌∙◌, subst, inl, inr, arith}
+use Rattle.bi_base.specs.Cells.{cell, u32_at}
 use Rattle.bi_base.specs.Limits.{Bounds}
 use Rattle.bi_base.specs.Reading.{IsReadError, too_large}
 use Rattle.bi_base.proofs.TransferLaws.{IsErrorOfReading, error_of_reading}
 use Rattle.bi_base.specs.declared.fault.Error.{Error}
 use Rattle.bi_base.specs.declared.fault.Error.TheVariants.{Refused, OutOfMemory, ReadFailed, WriteFailed}
+use Rattle.bi_base.specs.declared.fault.Fault.{Fault}
+use Rattle.bi_blob.specs.Blob.{blob_magic}
+use Rattle.bi_blob.specs.BlobFaults.{HasNoFaultBeforeTree, IsFaultBeforeTree}
+use Rattle.bi_blob.specs.Layout.{longest_text, text_of_events, text_of_blocks}
+use Rattle.bi_blob.proofs.Blobs.BeforeTree.{fault_before_tree_comes_first}
+use Rattle.bi_legacy.specs.File.{legacy_magic, header}
+use Rattle.bi_legacy.specs.Meaning.{LegacyImage}
 use Rattle.bi_legacy.specs.Reading.{ParsedImage, IsParsedImage}
 use Rattle.bi_legacy.specs.Text.{legacy_text}
 use Rattle.bi_fit.specs.declared.form.Form.{Form}
-use Rattle.bi_norm.specs.Meaning.{Meaning, OfLegacy, Means, normal_text}
-use Rattle.bi_norm.specs.NormalForm.{IsNormalForm, IsNormaliseError, IsStreamError, Normalised}
-use Rattle.bi_norm.proofs.Opening.{too_long_is_file_fault, too_long_means_nothing}
+use Rattle.bi_fit.specs.Content.{FitContent, tree_of}
+use Rattle.bi_fit.specs.Documents.{IsDocumentError}
+use Rattle.bi_fit.specs.Faults.{InBlob}
+use Rattle.bi_fit.specs.File.{IsFitFile}
+use Rattle.bi_fit.specs.ImageTree.{ImageTree}
+use Rattle.bi_fit.specs.Judgement.{judgement, signature_count as signatures_of_tree}
+use Rattle.bi_fit.specs.Reading.{IsReadFrom}
+use Rattle.bi_fit.specs.Text.{fit_text}
+use Rattle.bi_fit.proofs.Faults.{meaning_has_no_fault}
+use Rattle.bi_fit.proofs.TextLaws.{file_means_image_tree, normal_text_is_accepted, same_text_same_tree, text_keeps_judgement}
+use Rattle.bi_norm.specs.Meaning.{Meaning, OfLegacy, OfFit, Means, normal_text}
+use Rattle.bi_norm.specs.NormalForm.{IsNormalForm, IsOpenError, IsNormaliseError, IsStreamError, FailedInto, WasRefused, SinkFailed, Normalised, NeedsMemory, ForLegacyImage, ForTree}
+use Rattle.bi_norm.proofs.Opening.{means_legacy, means_tree, too_long_is_file_fault, too_long_means_nothing}
 
 -- Normal forms of files that were read.
+
+-- What these four bytes begin has a magic number.
+blob_begins : (bytes : List ℕ) → u32_at (0xd0 ∷ 0x0d ∷ 0xfe ∷ 0xed ∷ bytes) 0 ≡ blob_magic
+unfolding u32_at
+blob_begins bytes = refl
+
+legacy_begins : (bytes : List ℕ) → u32_at (0x27 ∷ 0x05 ∷ 0x19 ∷ 0x56 ∷ bytes) 0 ≡ legacy_magic
+unfolding u32_at
+legacy_begins bytes = refl
+
+-- So has the normal text of either kind.
+tree_text_begins : (form : Form) (tree : ImageTree) → u32_at (fit_text form tree) 0 ≡ blob_magic
+unfolding text_of_events text_of_blocks cell
+tree_text_begins form tree = blob_begins _
+
+legacy_text_begins : (image : LegacyImage) → u32_at (legacy_text image) 0 ≡ legacy_magic
+unfolding legacy_text header cell
+legacy_text_begins image = legacy_begins _
+
+-- No text is that of both kinds.
+texts_differ : (form : Form) (image : LegacyImage) (tree : ImageTree) → ¬ (legacy_text image ≡ fit_text form tree)
+texts_differ form image tree same =
+    omega (arith, legacy_text_begins image, tree_text_begins form tree, ap (λ text. u32_at text 0) same)
 
 -- A file that means a legacy image means nothing else.
 only_legacy : (limits : Bounds) (file : List ℕ) (parsed : ParsedImage) → IsParsedImage limits file parsed → (other : Meaning) → Means limits file other → other ≡ OfLegacy parsed.image
 only_legacy limits file parsed opened (OfLegacy other) means = ap OfLegacy (opened.only_meaning other means)
+only_legacy limits file parsed opened (OfFit tree) means =
+    absurd (means_tree limits file tree means (means_legacy limits file parsed.image opened.means))
 
 -- Files that mean something else have another normal text.
 distinguishes_legacy : (limits : Bounds) (form : Form) (file : List ℕ) (parsed : ParsedImage) → IsParsedImage limits file parsed → (other_file : List ℕ) (other : Meaning) → Means limits other_file other → (normal_text form other ≡ legacy_text parsed.image) ↔ (other ≡ OfLegacy parsed.image)
 distinguishes_legacy limits form file parsed opened other_file (OfLegacy other) means = (
   λ same. ap OfLegacy (opened.normal_form.only_image other_file other means.is_file same),
+  λ same. ap (normal_text form) same,
+)
+distinguishes_legacy limits form file parsed opened other_file (OfFit tree) means = (
+  λ same. absurd (texts_differ form parsed.image tree (sym same)),
   λ same. ap (normal_text form) same,
 )
 
@@ -33,6 +80,7 @@ legacy_normal_form limits form file parsed opened = record {
   is_text = refl;
   distinguishes = distinguishes_legacy limits form file parsed opened;
   is_own = opened.normal_form.text_means_image;
+  keeps_judgement = λ tree other means text_means. absurd (means_tree limits file tree means (means_legacy limits file parsed.image opened.means));
 }
 
 -- It has no signature nodes.
@@ -40,12 +88,84 @@ pub legacy_normalised : (limits : Bounds) (form : Form) (file : List ℕ) (parse
 unfolding legacy_normal_form
 legacy_normalised limits form file parsed opened = record { normal = legacy_normal_form limits form file parsed opened; signatures = refl }
 
+-- A file that means a flattened image tree means nothing else.
+only_tree : (limits : Bounds) (file : List ℕ) (content : FitContent) → IsReadFrom limits file content → (other : Meaning) → Means limits file other → other ≡ OfFit (tree_of content)
+only_tree limits file content opened (OfFit other) means = ap OfFit (opened.only other means)
+only_tree limits file content opened (OfLegacy image) means =
+    absurd (means_tree limits file (tree_of content) opened.means (means_legacy limits file image means))
+
+-- Files that mean something else have another normal text.
+distinguishes_tree : (limits : Bounds) (form : Form) (file : List ℕ) (tree : ImageTree) → IsFitFile file tree → length (fit_text form tree) ≤ longest_text → (other_file : List ℕ) (other : Meaning) → Means limits other_file other → (normal_text form other ≡ fit_text form tree) ↔ (other ≡ OfFit tree)
+distinguishes_tree limits form file tree is short other_file (OfFit other) means = (
+  λ same.
+      ap OfFit (sym ((same_text_same_tree form tree other (file_means_image_tree file tree is) (file_means_image_tree other_file other means.is_file) short).0 (sym same))),
+  λ same. ap (normal_text form) same,
+)
+distinguishes_tree limits form file tree is short other_file (OfLegacy image) means = (
+  λ same. absurd (texts_differ form image tree same),
+  λ same. ap (normal_text form) same,
+)
+
+-- The normal text of a flattened image tree that was read from a file, if it is no longer than the limit, is the normal form of the file.
+pub tree_normal_form : (limits : Bounds) (form : Form) (file : List ℕ) (content : FitContent) → IsReadFrom limits file content → length (fit_text form (tree_of content)) ≤ limits.file → limits.file ≤ longest_text → IsNormalForm limits form file (fit_text form (tree_of content))
+tree_normal_form limits form file content opened fits most =
+    let tree = tree_of content in
+    let short : length (fit_text form (tree_of content)) ≤ longest_text = omega (arith, fits, most) in
+    record {
+      meaning = OfFit tree;
+      means = opened.means;
+      only = only_tree limits file content opened;
+      is_text = refl;
+      distinguishes = distinguishes_tree limits form file tree opened.means.is_file short;
+      is_own = (normal_text_is_accepted limits form file tree opened.means fits most).means;
+      keeps_judgement = λ one other means text_means.
+          text_keeps_judgement form file tree other opened.means.is_file short text_means.is_file ∙ ap judgement (sym (opened.only one means));
+    }
+
+-- It has as many signature nodes as the tree.
+pub tree_normalised : (limits : Bounds) (form : Form) (file : List ℕ) (content : FitContent) (count : ℕ) → IsReadFrom limits file content → length (fit_text form (tree_of content)) ≤ limits.file → limits.file ≤ longest_text → count ≡ signatures_of_tree (tree_of content) → Normalised limits form count file (fit_text form (tree_of content))
+unfolding tree_normal_form
+tree_normalised limits form file content count opened fits most is = record { normal = tree_normal_form limits form file content opened fits most; signatures = is }
+
+-- A file that means something needs memory.
+needs_memory : (limits : Bounds) (file : List ℕ) (meaning : Meaning) → Means limits file meaning → NeedsMemory limits file
+needs_memory limits file (OfLegacy image) means = ForLegacyImage image means
+needs_memory limits file (OfFit tree) means = by (fault_before_tree_comes_first limits file).decided where
+  by : HasNoFaultBeforeTree limits file ⊎ ((fault : Fault) × IsFaultBeforeTree limits file fault) → NeedsMemory limits file
+  by (inl fine) = ForTree (means_tree limits file tree means) fine
+  by (inr faulty) = absurd (meaning_has_no_fault limits file tree faulty.0 means (InBlob ((fault_before_tree_comes_first limits file).first faulty.0 faulty.1)))
+
+-- A file that has a normal form needs memory.
+pub normal_form_needs_memory : (limits : Bounds) (form : Form) (file text : List ℕ) → IsNormalForm limits form file text → NeedsMemory limits file
+normal_form_needs_memory limits form file text normal = needs_memory limits file normal.meaning normal.means
+
+-- An error of making its document is one that normalising the file can have.
+pub document_error : (limits : Bounds) (form : Form) (file : List ℕ) (content : FitContent) (error : Error) → IsReadFrom limits file content → IsDocumentError limits form (tree_of content) error → IsNormaliseError limits form file error
+document_error limits form file content (Refused fault) opened is =
+    inr (record { tree = tree_of content; means = opened.means; longer = is.1 }, is.0)
+document_error limits form file content OutOfMemory opened is = needs_memory limits file (OfFit (tree_of content)) opened.means
+document_error limits form file content ReadFailed opened is = is
+document_error limits form file content WriteFailed opened is = is
+
 -- An error of a file in memory is one that a call can have for the same file from a reader.
 pub stream_error : (HasError : List ℕ → Error → Type 0) (file : List ℕ) (error : Error) → HasError file error → IsStreamError HasError file error
 stream_error HasError file (Refused fault) is = is
 stream_error HasError file OutOfMemory is = tt
 stream_error HasError file ReadFailed is = tt
 stream_error HasError file WriteFailed is = tt
+
+-- An error of reading a file is one of normalising it.
+pub open_error : (limits : Bounds) (form : Form) (file : List ℕ) (error : Error) → IsOpenError limits file error → IsNormaliseError limits form file error
+open_error limits form file (Refused fault) is = inl is
+open_error limits form file OutOfMemory is = is
+open_error limits form file ReadFailed is = is
+open_error limits form file WriteFailed is = is
+
+-- An error of appending a normal form to memory is one of normalising the file.
+pub memory_error : {S : Type 0} (fails : S → List ℕ → S → Error → Type 0) (limits : Bounds) (form : Form) (file : List ℕ) (old new : S) (error : Error) → ((text : List ℕ) → fails old text new error → error ≡ OutOfMemory) → FailedInto fails limits form file old new error → IsNormaliseError limits form file error
+memory_error fails limits form file old new error full (WasRefused is same) = is
+memory_error fails limits form file old new error full (SinkFailed text normal failed) =
+    subst (IsNormaliseError limits form file) (sym (full text failed)) (normal_form_needs_memory limits form file text normal)
 
 -- A file that is too long is refused.
 pub too_long_is_refused : (limits : Bounds) (form : Form) (file : List ℕ) → limits.file < length file → IsNormaliseError limits form file (Refused (too_large limits.file))

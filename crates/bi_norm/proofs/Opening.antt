@@ -1,19 +1,29 @@
 use Rattle.std.proofs.Common.{◌≡◌, ◌≢◌, ◌⊎◌, ℕ, ◌<◌, ◌≤◌, List, length, eqb, true, false, inl, inr, arith, refl}
 use Rattle.std.proofs.lemmas.Bool.{cases_lt, false≢true}
 use Rattle.std.proofs.lemmas.Bool.Decides.{eqb_tells}
-use Rattle.bi_base.specs.declared.fault.Cause.TheVariants.{Unsupported}
 use Rattle.bi_base.specs.Reading.{too_large}
 use Rattle.bi_legacy.specs.File.{legacy_magic}
 use Rattle.bi_norm.specs.Faults.{IsFileFault, OfLegacyImage, OfTree}
+use Rattle.bi_base.specs.declared.fault.Error.{Error}
+use Rattle.bi_base.specs.declared.fault.Error.TheVariants.{Refused, OutOfMemory, ReadFailed, WriteFailed}
 use Rattle.bi_base.specs.declared.fault.Fault.{Fault}
 use Rattle.bi_base.specs.Limits.{Bounds}
 use Rattle.bi_base.specs.Cells.{u32_at}
+use Rattle.std.specs.Prelude.{Bool, if◌then◌else◌}
+use Rattle.bi_blob.specs.Blob.{lacks_structure_size}
+use Rattle.bi_blob.specs.BlobFaults.{InHeader}
+use Rattle.bi_fit.specs.ImageTree.{ImageTree}
+use Rattle.bi_fit.specs.File.{FitMeans}
+use Rattle.bi_fit.specs.Faults.{InBlob}
+use Rattle.bi_fit.specs.Reading.{IsReadError as IsFitReadError}
+use Rattle.bi_fit.proofs.Meanings.{begins_with_magic}
 use Rattle.bi_legacy.specs.Meaning.{LegacyImage}
 use Rattle.bi_legacy.specs.File.{LegacyMeans}
 use Rattle.bi_legacy.proofs.Magic.{file_begins}
 use Rattle.bi_norm.specs.declared.kind.Kind.TheVariants.{Legacy, Fit}
 use Rattle.bi_norm.specs.Kinds.{BeginsAs, IsKindFault, TooShort, OfNoKind}
-use Rattle.bi_norm.specs.Meaning.{OfLegacy, MeansNothing}
+use Rattle.bi_norm.specs.Meaning.{OfLegacy, OfFit, MeansNothing}
+use Rattle.bi_norm.specs.NormalForm.{IsOpenError, ForTree}
 
 -- Files that mean nothing, by how they begin.
 
@@ -36,9 +46,38 @@ legacy_or_not file = by (nat_le_decided 4 (length file)) (eqb_tells (u32_at file
   by (inl whole) (inr other) = inr (λ begins. other.1 begins.magic)
 
 -- A file that means a legacy image begins with its magic number.
-means_legacy : (limits : Bounds) (file : List ℕ) (image : LegacyImage) → LegacyMeans limits file image → BeginsAs file Legacy
+pub means_legacy : (limits : Bounds) (file : List ℕ) (image : LegacyImage) → LegacyMeans limits file image → BeginsAs file Legacy
 means_legacy limits file image means =
     let begins = file_begins file image means.is_file in record { whole = begins.whole; magic = begins.magic }
+
+-- A header has at least four bytes.
+least_header : (lacks : Bool) → 4 ≤ (if lacks then 36 else 40)
+least_header true = omega arith
+least_header false = omega arith
+
+-- A file that means a flattened image tree begins as one.
+begins_as_tree : (limits : Bounds) (file : List ℕ) (tree : ImageTree) → FitMeans limits file tree → BeginsAs file Fit
+begins_as_tree limits file tree means =
+    let header = means.is_file.blob.header in
+    record { whole = omega (arith, least_header (lacks_structure_size file), header.whole); magic = begins_with_magic file tree means.is_file }
+
+-- A file that means a flattened image tree does not begin as a legacy image.
+pub means_tree : (limits : Bounds) (file : List ℕ) (tree : ImageTree) → FitMeans limits file tree → ¬ (BeginsAs file Legacy)
+means_tree limits file tree means begins =
+    omega (arith, begins.magic, begins_with_magic file tree means.is_file)
+
+-- A file that begins as a flattened image tree does not begin as a legacy image.
+pub begins_as_one : (file : List ℕ) → BeginsAs file Fit → ¬ (BeginsAs file Legacy)
+begins_as_one file begins legacy = omega (arith, begins.magic, legacy.magic)
+
+-- The fault of a file of no kind that is not too long is the fault of the file.
+pub kind_fault_is_file_fault : (limits : Bounds) (file : List ℕ) (fault : Fault) → length file ≤ limits.file → IsKindFault file fault → IsFileFault limits file fault
+kind_fault_is_file_fault limits file fault short (TooShort few is) =
+    OfTree (λ begins. omega (arith, few, begins.whole))
+    (InBlob (InHeader (inr (short, inl (λ enough. omega (arith, few, enough), is)))))
+kind_fault_is_file_fault limits file fault short (OfNoKind whole unknown is) =
+    OfTree (unknown Legacy)
+    (InBlob (InHeader (inr (short, inr (whole, inl (λ magic. unknown Fit (record { whole = whole; magic = magic }), is))))))
 
 -- A file of no kind means nothing.
 pub kind_fault_means_nothing : (limits : Bounds) (file : List ℕ) (fault : Fault) → IsKindFault file fault → MeansNothing limits file
@@ -46,38 +85,37 @@ kind_fault_means_nothing limits file fault (TooShort short is) (OfLegacy image) 
     omega (arith, short, (means_legacy limits file image means).whole)
 kind_fault_means_nothing limits file fault (OfNoKind whole unknown is) (OfLegacy image) means =
     unknown Legacy (means_legacy limits file image means)
-
--- A file that does not begin as a legacy image means nothing.
-pub tree_means_nothing : (limits : Bounds) (file : List ℕ) → BeginsAs file Fit → MeansNothing limits file
-tree_means_nothing limits file begins (OfLegacy image) means =
-    omega (arith, begins.magic, (means_legacy limits file image means).magic)
-
--- The fault of a file of no kind that is not too long is the fault of the file.
-pub kind_fault_is_file_fault : (limits : Bounds) (file : List ℕ) (fault : Fault) → length file ≤ limits.file → IsKindFault file fault → IsFileFault limits file fault
-kind_fault_is_file_fault limits file fault short (TooShort few is) =
-    OfTree (λ begins. omega (arith, few, begins.whole)) (inr (short, inl (λ enough. omega (arith, few, enough), is)))
-kind_fault_is_file_fault limits file fault short (OfNoKind whole unknown is) =
-    OfTree (unknown Legacy)
-    (inr (short, inr (whole, inl (λ magic. unknown Fit (record { whole = whole; magic = magic }), is))))
-
--- A flattened image tree that is not too long is not supported.
-pub tree_is_unsupported : (limits : Bounds) (file : List ℕ) → length file ≤ limits.file → BeginsAs file Fit → IsFileFault limits file (record { cause = Unsupported; offset = 0 })
-tree_is_unsupported limits file short begins =
-    OfTree (λ legacy. omega (arith, begins.magic, legacy.magic))
-    (inr (short, inr (begins.whole, inr (begins.magic, inl (λ supported. supported, refl)))))
+kind_fault_means_nothing limits file fault (TooShort short is) (OfFit tree) means =
+    omega (arith, short, (begins_as_tree limits file tree means).whole)
+kind_fault_means_nothing limits file fault (OfNoKind whole unknown is) (OfFit tree) means =
+    unknown Fit (begins_as_tree limits file tree means)
 
 -- The fault of a file that is too long.
 pub too_long_is_file_fault : (limits : Bounds) (file : List ℕ) → limits.file < length file → IsFileFault limits file (too_large limits.file)
 too_long_is_file_fault limits file longer =
     elim (legacy_or_not file) [
       | inl begins ↦ OfLegacyImage begins (inl (λ short. omega (arith, longer, short), refl))
-      | inr other ↦ OfTree other (inl (λ short. omega (arith, longer, short), refl))
+      | inr other ↦ OfTree other (InBlob (InHeader (inl (λ short. omega (arith, longer, short), refl))))
     ]
 
 -- A file that is too long means nothing.
 pub too_long_means_nothing : (limits : Bounds) (file : List ℕ) → limits.file < length file → MeansNothing limits file
 too_long_means_nothing limits file longer (OfLegacy image) means = omega (arith, longer, means.short)
+too_long_means_nothing limits file longer (OfFit tree) means = omega (arith, longer, means.within.short)
 
--- A file that means no legacy image means nothing.
-pub refused_means_nothing : (limits : Bounds) (file : List ℕ) → (((image : LegacyImage) × LegacyMeans limits file image) → false ≡ true) → MeansNothing limits file
-refused_means_nothing limits file refused (OfLegacy image) means = absurd (false≢true (refused (image, means)))
+-- A file that begins as a legacy image and means none means nothing.
+pub refused_means_nothing : (limits : Bounds) (file : List ℕ) → BeginsAs file Legacy → (((image : LegacyImage) × LegacyMeans limits file image) → false ≡ true) → MeansNothing limits file
+refused_means_nothing limits file begins refused (OfLegacy image) means = absurd (false≢true (refused (image, means)))
+refused_means_nothing limits file begins refused (OfFit tree) means = means_tree limits file tree means begins
+
+-- An error of reading a flattened image tree is one of a file that begins as one.
+pub tree_error : (limits : Bounds) (file : List ℕ) (error : Error) → BeginsAs file Fit → IsFitReadError limits file error → IsOpenError limits file error
+tree_error limits file (Refused fault) begins is =
+    (OfTree (begins_as_one file begins) is.is_fault, means_nothing)
+  where
+    means_nothing : MeansNothing limits file
+    means_nothing (OfLegacy image) means = begins_as_one file begins (means_legacy limits file image means)
+    means_nothing (OfFit tree) means = is.means_nothing tree means
+tree_error limits file OutOfMemory begins is = ForTree (begins_as_one file begins) is
+tree_error limits file ReadFailed begins is = is
+tree_error limits file WriteFailed begins is = is

@@ -4,20 +4,22 @@ use Rattle.bi_legacy.specs.File.{LegacyMeans}
 use Rattle.bi_legacy.specs.Meaning.{LegacyImage}
 use Rattle.bi_legacy.specs.Text.{legacy_text}
 use Rattle.bi_fit.specs.declared.form.Form.{Form}
+use Rattle.bi_fit.specs.File.{FitMeans}
+use Rattle.bi_fit.specs.ImageTree.{ImageTree}
+use Rattle.bi_fit.specs.Judgement.{signature_count as signatures_of_tree}
+use Rattle.bi_fit.specs.Text.{fit_text}
 
 -- What a boot image of any kind means.
 
--- What a file means: for now always a legacy image.
+-- What a file means: a legacy image or a flattened image tree.
 pub data Meaning : Type 0 where
   OfLegacy : (image : LegacyImage) → Meaning
+  OfFit : (tree : ImageTree) → Meaning
 
 -- The file, within the limits, means this.
 abbrev pub Means : Bounds → List ℕ → Meaning → Type 0
 Means limits file (OfLegacy image) = LegacyMeans limits file image
-
--- The file means something within the limits.
-abbrev pub MeansSomething : Bounds → List ℕ → Type 0
-MeansSomething limits file = (meaning : Meaning) × Means limits file meaning
+Means limits file (OfFit tree) = FitMeans limits file tree
 
 -- The file means nothing within the limits.
 abbrev pub MeansNothing : Bounds → List ℕ → Type 0
@@ -27,7 +29,9 @@ MeansNothing limits file = (meaning : Meaning) → ¬ (Means limits file meaning
 -- project).
 abbrev pub normal_text : Form → Meaning → List ℕ
 normal_text form (OfLegacy image) = legacy_text image
+normal_text form (OfFit tree) = fit_text form tree
 
 -- How many signature nodes there are: none in a legacy image.
 abbrev pub signature_count : Meaning → ℕ
 signature_count (OfLegacy image) = 0
+signature_count (OfFit tree) = signatures_of_tree tree

@@ -4,10 +4,18 @@ use Rattle.bi_base.specs.declared.fault.Error.TheVariants.{Refused, OutOfMemory,
 use Rattle.bi_base.specs.declared.fault.Error.TheVariants.{WriteFailed}
 use Rattle.bi_base.specs.Limits.{Bounds}
 use Rattle.bi_base.specs.Reading.{too_large}
+use Rattle.bi_blob.specs.BlobFaults.{HasNoFaultBeforeTree}
 use Rattle.bi_fit.specs.declared.form.Form.{Form}
+use Rattle.bi_fit.specs.File.{FitMeans}
+use Rattle.bi_fit.specs.ImageTree.{ImageTree}
+use Rattle.bi_fit.specs.Judgement.{judgement}
+use Rattle.bi_fit.specs.Text.{fit_text}
+use Rattle.bi_legacy.specs.File.{LegacyMeans}
+use Rattle.bi_legacy.specs.Meaning.{LegacyImage}
+use Rattle.bi_norm.specs.declared.kind.Kind.TheVariants.{Legacy}
 use Rattle.bi_norm.specs.Faults.{IsFileFault}
-use Rattle.bi_norm.specs.Meaning.{Meaning, Means, MeansSomething, MeansNothing, normal_text}
-use Rattle.bi_norm.specs.Meaning.{signature_count}
+use Rattle.bi_norm.specs.Kinds.{BeginsAs}
+use Rattle.bi_norm.specs.Meaning.{Meaning, Means, MeansNothing, normal_text, signature_count}
 
 -- What normalising promises: two accepted files of one kind have the same normal form exactly if
 -- they mean the same (profile of this project).
@@ -26,6 +34,9 @@ pub record IsNormalForm (limits : Bounds) (form : Form) (file text : List ℕ) :
       → (normal_text form other ≡ text) ↔ (other ≡ meaning)
   -- The text means the same within the same limits, so it is its own normal form.
   pub is_own : Means limits text meaning
+  -- The verdicts, configurations, default and signatures of a flattened image tree stay.
+  pub keeps_judgement : (tree other : ImageTree) → FitMeans limits file tree
+      → FitMeans limits text other → judgement other ≡ judgement tree
 
 -- The text is the normal form of the file, and this is the number of its signature nodes.
 pub record Normalised (limits : Bounds) (form : Form) (count : ℕ) (file text : List ℕ) : Type 0
@@ -33,17 +44,19 @@ pub record Normalised (limits : Bounds) (form : Form) (count : ℕ) (file text :
     pub normal : IsNormalForm limits form file text
     pub signatures : count ≡ signature_count normal.meaning
 
--- The file means something whose normal text is longer than the limit. No legacy image is such a
--- file.
+-- The file means a flattened image tree whose normal text in this form is longer than the limit. No
+-- legacy image has such a text.
 pub record IsTooLong (limits : Bounds) (form : Form) (file : List ℕ) : Type 0 where
-  pub meaning : Meaning
-  pub means : Means limits file meaning
-  pub longer : limits.file < length (normal_text form meaning)
+  pub tree : ImageTree
+  pub means : FitMeans limits file tree
+  pub longer : limits.file < length (fit_text form tree)
 
--- Memory is needed only for a file that means something: a legacy image is checked without an
--- allocation.
-abbrev pub NeedsMemory : Bounds → List ℕ → Type 0
-NeedsMemory limits file = MeansSomething limits file
+-- Memory is needed only for a file that passes all checks that need none: a legacy image, or a file
+-- that does not begin as one and whose header and reservation block, as those of a blob, have no
+-- fault.
+pub data NeedsMemory (limits : Bounds) (file : List ℕ) : Type 0 where
+  ForLegacyImage : (image : LegacyImage) → LegacyMeans limits file image → NeedsMemory limits file
+  ForTree : ¬ (BeginsAs file Legacy) → HasNoFaultBeforeTree limits file → NeedsMemory limits file
 
 -- The error that reading a file in memory can have.
 abbrev pub IsOpenError : Bounds → List ℕ → Error → Type 0

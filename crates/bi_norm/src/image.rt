@@ -5,7 +5,8 @@ ghost use Rattle.bi_norm.specs.NormalForm.{IsOpenError};
 ghost use Rattle.bi_norm.specs.Opening.{IsOpened};
 
 use crate::kind::{Kind, kind_of};
-use bi_base::{Cause, Error, Fault, Limits, refuse};
+use bi_base::{Cause, Error, Limits, refuse};
+use bi_fit::Fit;
 use bi_legacy::Legacy;
 use std::alloc::Global;
 
@@ -14,15 +15,18 @@ use std::alloc::Global;
 pub enum BootImage<'a> {
     /// A legacy image.
     Legacy(Legacy<'a>),
+    /// A flattened image tree.
+    Fit(Fit<'a>),
 }
 
 impl<'a> BootImage<'a> {
-    /// Reads a boot image.
+    /// Reads a boot image. The file may be longer than the image.
     ///
     /// Errors, the first that applies: TooLarge at the limit, if the file is longer; Truncated at 0
-    /// below four bytes; BadMagic at 0; for a legacy image those of `Legacy::read`; Unsupported at
-    /// 0 for a flattened image tree.
-    pub fn read(_alloc: Global, file: &'a [u8], limits: Limits) -> Result<BootImage<'a>, Error>
+    /// below four bytes; BadMagic at 0; those of `Legacy::read` or of `Fit::read`. OutOfMemory
+    /// comes only after the checks of a legacy image, or of the header and the reservation block of
+    /// a blob.
+    pub fn read(alloc: Global, file: &'a [u8], limits: Limits) -> Result<BootImage<'a>, Error>
         ensures opened { IfOk result (IsOpened limits file.entry.now) }
         ensures failed { IfErr result (IsOpenError limits file.entry.now) }
     {
@@ -31,10 +35,7 @@ impl<'a> BootImage<'a> {
         }
         match kind_of(file)? {
             Kind::Legacy => Ok(BootImage::Legacy(Legacy::read(file, limits)?)),
-            Kind::Fit => Err(Error::Refused(Fault {
-                cause: Cause::Unsupported,
-                offset: 0,
-            })),
+            Kind::Fit => Ok(BootImage::Fit(Fit::read(alloc, file, limits)?)),
         }
     }
 }

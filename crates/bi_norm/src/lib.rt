@@ -5,6 +5,7 @@ mod image;
 mod kind;
 pub mod laws;
 mod normal_form;
+mod payloads;
 
 pub use bi_fit::Form;
 pub use image::BootImage;

@@ -8,28 +8,31 @@ ghost use Rattle.bi_base.specs.Writing.{WroteAndFlushed, WriteOrFlushStopped};
 ghost use Rattle.bi_base.specs.Transfers.{Moved, MoveFailed, Transferred, TransferFailed};
 ghost use Rattle.bi_base.specs.Transfers.{SameStreams};
 ghost use Rattle.bi_fit.specs.declared.form.Form.{Form};
+ghost use Rattle.bi_fit.specs.Reading.{IsReadFrom};
 ghost use Rattle.bi_legacy.specs.Reading.{IsParsedImage};
 ghost use Rattle.bi_norm.specs.NormalForm.{Appended, FailedInto, IsNormalForm, IsNormaliseError};
 ghost use Rattle.bi_norm.specs.NormalForm.{IsStreamError, Normalised};
 
 use crate::image::BootImage;
+use crate::payloads::put_payloads;
 use bi_base::{
     BufferedSink, Error, Limits, Sink, TracedRead, TracedReader, TracedWrite, TracedWriter,
     VecSink, read_all_traced,
 };
-use bi_fit::Form;
+use bi_fit::{Fit, Form};
 use bi_legacy::{Legacy, emit_image};
 use std::alloc::Global;
 use std::io::{Read, Write};
 
 /// Returns the normal form of a boot image: two accepted files of one kind have the same normal
-/// form exactly if they mean the same. `form` is where a flattened image tree keeps its payloads;
-/// it has no effect on a legacy image.
+/// form exactly if they mean the same. `form` is where that of a flattened image tree has the
+/// payloads; it has no effect on a legacy image.
 ///
 /// Errors, each `Error::Refused`, the first that applies: TooLarge at the limit, if the file is
-/// longer; Truncated at 0 below four bytes; BadMagic at 0; for a legacy image those of
-/// `Legacy::read`; Unsupported at 0 for a flattened image tree. A file in memory is refused without
-/// an allocation, so OutOfMemory comes only for a file that means something.
+/// longer; Truncated at 0 below four bytes; BadMagic at 0; those of `Legacy::read` or of
+/// `Fit::read`; TooLarge at the limit, if the normal form of a flattened image tree is longer.
+/// OutOfMemory comes only after the checks of a legacy image, or of the header and the reservation
+/// block of a blob. ReadFailed and WriteFailed never come.
 pub fn normalise(alloc: Global, file: &[u8], form: Form, limits: Limits) -> Result<Vec<u8>, Error>
     ensures normal_form { IfOk result (λ text. IsNormalForm limits form file.now text.items) }
     ensures failed { IfErr result (IsNormaliseError limits form file.now) }
@@ -39,8 +42,8 @@ pub fn normalise(alloc: Global, file: &[u8], form: Form, limits: Limits) -> Resu
     Ok(sink.into_vec())
 }
 
-/// Appends the normal form of a boot image to a sink, and returns the number of its signature
-/// nodes, which is 0 for a legacy image.
+/// Appends the normal form of a boot image to a sink. Returns the number of signature nodes, which
+/// is 0 for a legacy image. No signature is checked.
 ///
 /// The errors are those of `normalise`, and those of the sink. After an error of the file, which
 /// comes before the first byte is appended, the sink is unchanged. After an error of the sink, it
@@ -59,6 +62,7 @@ pub fn normalise_into<S: Sink>(
 {
     match BootImage::read(alloc, file, limits)? {
         BootImage::Legacy(image) => emit_legacy(alloc, &image, limits, sink),
+        BootImage::Fit(fit) => emit_fit(alloc, &fit, form, limits, sink),
     }
 }
 
@@ -78,6 +82,28 @@ fn emit_legacy<S: Sink>(
     let parts = parts_of(alloc, image)?;
     emit_image(image, &parts, limits, sink)?;
     Ok(0)
+}
+
+/// Appends the normal form of a flattened image tree that was read under the limits, and returns
+/// the number of its signature nodes. All allocations come before the first byte is appended.
+fn emit_fit<S: Sink>(
+    alloc: Global,
+    fit: &Fit<'_>,
+    form: Form,
+    limits: Limits,
+    sink: &mut S,
+) -> Result<usize, Error>
+    ensures appended { (file : List ℕ) → IsReadFrom limits file fit.now →
+        IfOk result (λ count. Appended S.appends limits form count file sink.old sink.new) }
+    ensures failed { (file : List ℕ) → IsReadFrom limits file fit.now →
+        IfErr result (FailedInto S.fails limits form file sink.old sink.new) }
+{
+    let document = fit.to_doc(alloc, form, limits)?;
+    document.emit(sink)?;
+    if form == Form::External {
+        put_payloads(fit.images(), sink)?;
+    }
+    Ok(fit.signature_count())
 }
 
 /// Returns the parts of a legacy image, in their order.
@@ -137,12 +163,12 @@ fn normalise_and_finish<T: TracedWrite>(
 /// reader to a writer that record the outcome of their calls. Returns the number of signature
 /// nodes, which is 0 for a legacy image.
 ///
-/// ReadFailed comes after a read that failed with an error other than an interruption, or after
-/// 1,024 interrupted reads in a row; WriteFailed after a write or flush that failed with such an
-/// error, after a write that wrote none of the remaining bytes, or after 1,024 interruptions in a
-/// row. No such failure is ignored. After WriteFailed a prefix of the normal form was written, the
-/// whole of it if the flush failed; after any other error nothing was written. A call that
-/// allocates may return OutOfMemory.
+/// The errors of the file are those of `normalise`; OutOfMemory may come for any file, since
+/// reading it allocates. ReadFailed comes after a read that failed with an error other than an
+/// interruption, or after 1,024 interrupted reads in a row; WriteFailed after a write or flush that
+/// failed with such an error, after a write that wrote none of the remaining bytes, or after 1,024
+/// interruptions in a row. No such failure is ignored. After WriteFailed a prefix of the normal form
+/// was written, the whole of it if the flush failed; after any other error nothing was written.
 pub fn normalise_traced<S: TracedRead, T: TracedWrite>(
     alloc: Global,
     source: &mut S,

@@ -1,8 +1,7 @@
 use Rattle.std.proofs.Common.{map, ap, ◌∙◌, ℕ, List, Bor, refl, subst, sym}
 use Rattle.std.proofs.lemmas.Result.{err_from_is_err_and}
 use Rattle.bi_legacy.specs.Text.{legacy_text}
-use Rattle.bi_norm.specs.Meaning.{OfLegacy}
-use Rattle.bi_norm.specs.NormalForm.{IsNormaliseError, WasRefused, SinkFailed}
+use Rattle.bi_norm.specs.NormalForm.{IsNormaliseError, ForLegacyImage, WasRefused, SinkFailed}
 use Rattle.bi_norm.proofs.NormalForms.{legacy_normal_form, legacy_normalised}
 use Rattle.bi_norm.proofs.normal_form.emit_legacy.Goals as goal
 
@@ -12,7 +11,7 @@ emit_image-requires g c = ap (map (λ (part : Bor (List ℕ)). part.now)) c.dere
 pub returns-in_err-parts-clause-failed : goal.returns-in_err-parts-clause-failed
 returns-in_err-parts-clause-failed g c form file opened =
     let p = err_from_is_err_and c.from_residual.result c.from_residual.ensures.1 in
-    rw (p.1, p.2) (WasRefused (subst (IsNormaliseError c.args.limits form file) (sym c.in_err-parts.ensures.error) (OfLegacy c.args.image.now.image, opened.means)) refl)
+    rw (p.1, p.2) (WasRefused (subst (IsNormaliseError c.args.limits form file) (sym c.in_err-parts.ensures.error) (ForLegacyImage c.args.image.now.image opened.means)) refl)
 
 pub returns-in_err-emit_image-clause-failed : goal.returns-in_err-emit_image-clause-failed
 returns-in_err-emit_image-clause-failed g c form file opened =

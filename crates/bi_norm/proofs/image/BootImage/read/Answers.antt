@@ -3,7 +3,7 @@ use Rattle.std.proofs.lemmas.Grind.{common_steps}
 use Rattle.std.proofs.lemmas.Result.{err_from_is_err_and}
 use Rattle.bi_norm.specs.Faults.{OfLegacyImage}
 use Rattle.bi_norm.specs.Kinds.{BeginsAs}
-use Rattle.bi_norm.proofs.Opening.{kind_fault_is_file_fault, kind_fault_means_nothing, tree_is_unsupported, tree_means_nothing, refused_means_nothing}
+use Rattle.bi_norm.proofs.Opening.{kind_fault_is_file_fault, kind_fault_means_nothing, refused_means_nothing, tree_error}
 use Rattle.bi_norm.proofs.image.BootImage.read.Goals as goal
 
 pub returns-in_err-kind_of-clause-failed : goal.returns-in_err-kind_of-clause-failed
@@ -16,10 +16,10 @@ pub returns-in_err-read-in-Legacy-clause-failed : goal.returns-in_err-read-in-Le
 returns-in_err-read-in-Legacy-clause-failed c =
     let e = err_from_is_err_and c.from_residual-in_err-read-in-Legacy.result c.from_residual-in_err-read-in-Legacy.ensures.1 in
     let begins = subst (BeginsAs c.args.file.now) c.in-Legacy.is c.in_ok-kind_of.ensures.ok in
-    rw (e.1, e.2) (OfLegacyImage begins c.in_err-read-in-Legacy.ensures.fault.is_fault, refused_means_nothing c.args.limits c.args.file.now c.in_err-read-in-Legacy.ensures.accepts.1)
+    rw (e.1, e.2) (OfLegacyImage begins c.in_err-read-in-Legacy.ensures.fault.is_fault, refused_means_nothing c.args.limits c.args.file.now begins c.in_err-read-in-Legacy.ensures.accepts.1)
 
-pub returns-in-Fit-clause-failed : goal.returns-in-Fit-clause-failed
-returns-in-Fit-clause-failed c =
-    let short : length c.args.file.now ≤ c.args.limits.file = grind (arith, common_steps) in
+pub returns-in_err-read-in-Fit-clause-failed : goal.returns-in_err-read-in-Fit-clause-failed
+returns-in_err-read-in-Fit-clause-failed c =
+    let e = err_from_is_err_and c.from_residual-in_err-read-in-Fit.result c.from_residual-in_err-read-in-Fit.ensures.1 in
     let begins = subst (BeginsAs c.args.file.now) c.in-Fit.is c.in_ok-kind_of.ensures.ok in
-    (tree_is_unsupported _ _ short begins, tree_means_nothing _ _ begins)
+    rw (e.1, e.2) (tree_error _ _ _ begins c.in_err-read-in-Fit.ensures.failed)

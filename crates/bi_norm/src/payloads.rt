@@ -1,0 +1,42 @@
+//! The payloads after the blob of a normal form.
+
+ghost use Rattle.std.specs.Prelude.{◌≡◌, ◌≤◌, ◌+◌, ◌++◌, length, map, IfOk};
+ghost use Rattle.bi_base.specs.Cells.{up4};
+ghost use Rattle.bi_base.specs.Sinks.{Wrote};
+ghost use Rattle.bi_blob.specs.Layout.{longest_text, padding_to_4};
+ghost use Rattle.bi_fit.specs.Content.{read_image};
+ghost use Rattle.bi_fit.specs.Text.{payload_area, payloads_end};
+
+use bi_base::{Error, Sink};
+use bi_fit::Image;
+
+/// Appends the payloads of images in their order, each after zeros up to a multiple of four, also
+/// an empty one. Fails as the sink does.
+pub(crate) fn put_payloads<S: Sink>(images: &[Image<'_>], sink: &mut S) -> Result<(), Error>
+    requires { payloads_end 0 (map (λ image. (read_image image).payload) images.now)
+        ≤ longest_text }
+    ensures { Wrote S.appends S.fails sink.old
+        (payload_area 0 (map (λ image. (read_image image).payload) images.now)) result sink.new }
+{
+    let mut end = 0;
+    for image in images {
+        if let Some(payload) = image.payload {
+            end = put_payload(end, payload, sink)?;
+        }
+    }
+    Ok(())
+}
+
+/// Appends zeros up to a multiple of four, and a payload, after payloads that end at `end`. Returns
+/// where this one ends. Fails as the sink does.
+fn put_payload<S: Sink>(end: usize, payload: &[u8], sink: &mut S) -> Result<usize, Error>
+    requires { up4 end + length payload.now ≤ longest_text }
+    ensures end { IfOk result (λ new_end. new_end ≡ up4 end + length payload.now) }
+    ensures written { Wrote S.appends S.fails sink.old (padding_to_4 end ++ payload.now) result
+        sink.new }
+{
+    let begin = end.next_multiple_of(4);
+    sink.put(&[0; 3][..begin - end])?;
+    sink.put(payload)?;
+    Ok(begin + payload.len())
+}
