@@ -3,4 +3,5 @@ pub mod Lines
 pub mod PartLines
 pub mod ShownBytes
 pub mod Choices
+pub mod Opened
 pub mod Streams

@@ -11,7 +11,7 @@ use Rattle.bi_norm.specs.NormalForm.{IsOpenError, IsStreamError}
 use Rattle.bi_norm.proofs.NormalForms.{stream_error}
 use Rattle.bi_norm.proofs.Opening.{too_long_is_file_fault, too_long_means_nothing}
 use Rattle.bootimg.specs.declared.extract.ExtractError.{ExtractError}
-use Rattle.bootimg.specs.declared.extract.ExtractError.TheVariants.{Failed, WrongKind, NoPart}
+use Rattle.bootimg.specs.declared.extract.ExtractError.TheVariants.{Failed, WrongKind, NoPart, NoImage, Config, NoIndex, NoPayload}
 use Rattle.bootimg.specs.declared.extract.Select.{Select}
 use Rattle.bootimg.specs.Extracting.{IsChosen, IsExtractError, IsStreamExtractError}
 use Rattle.bootimg.specs.Listing.{IsListing}
@@ -45,6 +45,10 @@ pub stream_extract_error : (select : Select) (limits : Bounds) (file : List ℕ)
 stream_extract_error select limits file (Failed error) is = stream_error (IsOpenError limits) file error is
 stream_extract_error select limits file WrongKind is = is
 stream_extract_error select limits file NoPart is = is
+stream_extract_error select limits file NoImage is = is
+stream_extract_error select limits file (Config reason) is = is
+stream_extract_error select limits file NoIndex is = is
+stream_extract_error select limits file NoPayload is = is
 
 -- After a whole input was read, extracting from it failed; nothing was written.
 pub extract_refused : (select : Select) (limits : Bounds) (source new_source : ReadTrace) (target : WriteTrace) (file bytes : List ℕ) (error : ExtractError) → ReadWhole source.remaining new_source.remaining bytes → file ≡ bytes → IsExtractError select limits file error → TransferFailed source new_source target target (IsChosen select limits) (λ input. IsStreamExtractError select limits input error) (error ≡ Failed ReadFailed) (error ≡ Failed WriteFailed)

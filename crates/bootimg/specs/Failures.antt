@@ -4,10 +4,13 @@ use Rattle.bi_base.specs.declared.fault.Error.{Error}
 use Rattle.bi_base.specs.declared.fault.Error.TheVariants.{Refused, OutOfMemory, ReadFailed}
 use Rattle.bi_base.specs.declared.fault.Error.TheVariants.{WriteFailed}
 use Rattle.bi_base.specs.Causes.{name_of}
+use Rattle.bi_fit.specs.declared.configurations.ConfigError.TheVariants as list
 use Rattle.bootimg.specs.declared.extract.ExtractError.{ExtractError}
 use Rattle.bootimg.specs.declared.extract.ExtractError.TheVariants as extract
 use Rattle.bootimg.specs.declared.failure.Failure.{Failure}
-use Rattle.bootimg.specs.declared.failure.Failure.TheVariants.{Call, WrongKind, NoPart, NoSelection}
+use Rattle.bootimg.specs.declared.failure.Failure.TheVariants.{Call, WrongKind, NoPart, NoImage}
+use Rattle.bootimg.specs.declared.failure.Failure.TheVariants.{NoConfig, NoKey, BadList, Missing}
+use Rattle.bootimg.specs.declared.failure.Failure.TheVariants.{NoIndex, NoPayload, NoSelection}
 use Rattle.bootimg.specs.declared.failure.Failure.TheVariants.{BadValue}
 
 -- The failures of the program, and the text of each (profile of this project).
@@ -17,6 +20,14 @@ abbrev pub failure_of : ExtractError → Failure
 failure_of (extract.Failed error) = Call error
 failure_of extract.WrongKind = WrongKind
 failure_of extract.NoPart = NoPart
+failure_of extract.NoImage = NoImage
+failure_of (extract.Config list.NoConfig) = NoConfig
+failure_of (extract.Config list.NoKey) = NoKey
+failure_of (extract.Config list.BadList) = BadList
+failure_of (extract.Config (list.Missing index)) = Missing index
+failure_of (extract.Config list.OutOfMemory) = Call OutOfMemory
+failure_of extract.NoIndex = NoIndex
+failure_of extract.NoPayload = NoPayload
 
 -- The text of an error.
 abbrev pub error_text : Error → List ℕ
@@ -30,5 +41,12 @@ abbrev pub failure_text : Failure → List ℕ
 failure_text (Call error) = error_text error
 failure_text WrongKind = codes "the selection does not fit this kind of image"
 failure_text NoPart = codes "no such part"
+failure_text NoImage = codes "no such image"
+failure_text NoConfig = codes "no such configuration"
+failure_text NoKey = codes "no such key"
+failure_text BadList = codes "bad list"
+failure_text (Missing index) = codes "missing image " ++ decimal index
+failure_text NoIndex = codes "no such entry"
+failure_text NoPayload = codes "no payload"
 failure_text NoSelection = codes "usage: give one of --part, --image, --config"
 failure_text BadValue = codes "usage: bad value"

@@ -5,4 +5,3 @@ pub mod Numbers
 pub mod Shown
 pub mod FitListing
 pub mod Reports
-pub mod FitChoices

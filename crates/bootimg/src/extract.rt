@@ -1,21 +1,24 @@
-//! Extracting a part of a boot image.
+//! Extracting a part or a payload of a boot image.
 
-ghost use Rattle.std.specs.Prelude.{◌≡◌, ◌+◌, ℕ, List, IfOk, OnOk, IfErr, IsErrOf};
-ghost use Rattle.bi_base.specs.declared.fault.Error.TheVariants.{Refused, OutOfMemory, ReadFailed};
+ghost use Rattle.std.specs.Prelude.{◌≡◌, ◌⊎◌, ◌+◌, IfOk, OnOk, IfErr, IsErrOf};
+ghost use Rattle.bi_base.specs.declared.fault.Error.TheVariants.{OutOfMemory, ReadFailed};
 ghost use Rattle.bi_base.specs.declared.fault.Error.TheVariants.{WriteFailed};
-ghost use Rattle.bi_base.specs.Limits.{Bounds};
 ghost use Rattle.bi_base.specs.Reading.{TakesAtMost};
 ghost use Rattle.bi_base.specs.Traces.{ReadsWell, WritesWell};
 ghost use Rattle.bi_base.specs.Transfers.{Moved, MoveFailed, Transferred, TransferFailed};
 ghost use Rattle.bi_base.specs.Transfers.{SameStreams};
-ghost use Rattle.bi_legacy.specs.Reading.{IsParsedImage};
+ghost use Rattle.bi_fit.specs.Content.{IsHeld, tree_of};
+ghost use Rattle.bi_norm.specs.Meaning.{OfLegacy, OfFit};
 ghost use Rattle.bootimg.specs.declared.extract.ExtractError.TheVariants.{Failed};
+ghost use Rattle.bootimg.specs.Extracting.{Chosen, IsReason, choice_of, choice_by_name};
+ghost use Rattle.bootimg.specs.Extracting.{choice_by_configuration, error_of_listing};
 ghost use Rattle.bootimg.specs.Extracting.{IsChosen, IsExtractError, IsStreamExtractError};
 
 use bi_base::{
     Error, Limits, TracedRead, TracedReader, TracedWrite, TracedWriter, read_all_traced,
     write_and_flush,
 };
+use bi_fit::{ConfigError, Fit, Key};
 use bi_legacy::Legacy;
 use bi_norm::BootImage;
 use std::alloc::Global;
@@ -26,8 +29,11 @@ use std::io::{Read, Write};
 pub enum Select<'a> {
     /// The part of this index, from 0, of a legacy image.
     Part(u32),
-    /// The payload of the image node of this name, of a flattened image tree.
+    /// The payload of the image of this name of a flattened image tree.
     Image(&'a [u8]),
+    /// A payload that a configuration of a flattened image tree lists: by the name of the
+    /// configuration, the key, and the index, from 0, in what it lists under the key.
+    Config(&'a [u8], Key, u32),
 }
 
 /// Why nothing, or not all, was extracted.
@@ -39,9 +45,22 @@ pub enum ExtractError {
     /// The selection does not fit this kind of image.
     #[error("the selection does not fit this kind of image")]
     WrongKind,
-    /// The image has no part of this index.
+    /// The legacy image has no part of this index.
     #[error("no such part")]
     NoPart,
+    /// The flattened image tree has no image of this name.
+    #[error("no such image")]
+    NoImage,
+    /// The configuration lists no images under the key, for this reason. Running out of memory is
+    /// Failed instead.
+    #[error("no list of images")]
+    Config(ConfigError),
+    /// The configuration lists no image at this index under the key.
+    #[error("no such entry")]
+    NoIndex,
+    /// The image has no payload, not even an empty one.
+    #[error("no payload")]
+    NoPayload,
 }
 
 impl From<Error> for ExtractError {
@@ -52,9 +71,25 @@ impl From<Error> for ExtractError {
     }
 }
 
-/// Returns the bytes of a boot image that are selected.
+impl From<ConfigError> for ExtractError {
+    ghost from_gives = { λ error extract_error. extract_error ≡ error_of_listing error };
+
+    fn from(error: ConfigError) -> ExtractError {
+        match error {
+            ConfigError::OutOfMemory => ExtractError::Failed(Error::OutOfMemory),
+            error => ExtractError::Config(error),
+        }
+    }
+}
+
+/// Returns the bytes of a boot image that are selected: a slice of the file. No hash of them is
+/// checked.
 ///
-/// Errors, the first that applies: Failed with the error of `BootImage::read`; WrongKind; NoPart.
+/// Errors, the first that applies: Failed with the error of `BootImage::read`; WrongKind, if a part
+/// is selected of a flattened image tree, or anything else of a legacy image; NoPart; NoImage;
+/// Config with NoConfig, NoKey, BadList or Missing; NoIndex; NoPayload. Failed with OutOfMemory
+/// comes only for a legacy image, or for a file whose header and reservation block, as those of a
+/// blob, have no fault.
 pub fn extract<'a>(
     alloc: Global,
     file: &'a [u8],
@@ -65,21 +100,75 @@ pub fn extract<'a>(
     ensures failed { IfErr result (IsExtractError select.entry limits file.entry.now) }
 {
     match BootImage::read(alloc, file, limits)? {
-        BootImage::Legacy(image) => extract_part(&image, select),
+        BootImage::Legacy(image) => select_part(&image, select),
+        BootImage::Fit(fit) => select_payload(alloc, &fit, select),
     }
 }
 
 /// Returns the part of a legacy image that is selected.
-fn extract_part<'a>(image: &Legacy<'a>, select: Select) -> Result<&'a [u8], ExtractError>
-    ensures chosen { (limits : Bounds) (file : List ℕ) → IsParsedImage limits file image.now →
-        IfOk result (λ bytes. IsChosen select.entry limits file bytes.now) }
-    ensures failed { (limits : Bounds) (file : List ℕ) → IsParsedImage limits file image.now →
-        IfErr result (IsExtractError select.entry limits file) }
+fn select_part<'a>(image: &Legacy<'a>, select: Select) -> Result<&'a [u8], ExtractError>
+    ensures chosen { IfOk result (λ bytes. choice_of select.entry (OfLegacy image.now.image)
+        ≡ Chosen bytes.now) }
+    ensures failed { IfErr result (λ error. IsReason error
+        (choice_of select.entry (OfLegacy image.now.image))) }
 {
     match select {
         Select::Part(index) => image.part(index as usize).ok_or(ExtractError::NoPart),
-        Select::Image(_) => Err(ExtractError::WrongKind),
+        Select::Image(_) | Select::Config(..) => Err(ExtractError::WrongKind),
     }
+}
+
+/// Returns the payload of a flattened image tree that is selected.
+fn select_payload<'a>(
+    alloc: Global,
+    fit: &Fit<'a>,
+    select: Select,
+) -> Result<&'a [u8], ExtractError>
+    requires held { IsHeld fit.now }
+    ensures chosen { IfOk result (λ bytes. choice_of select.entry (OfFit (tree_of fit.now))
+        ≡ Chosen bytes.now) }
+    ensures failed { IfErr result (λ error.
+        IsReason error (choice_of select.entry (OfFit (tree_of fit.now)))
+        ⊎ (error ≡ Failed OutOfMemory)) }
+{
+    match select {
+        Select::Part(_) => Err(ExtractError::WrongKind),
+        Select::Image(name) => payload_by_name(fit, name),
+        Select::Config(name, key, index) => payload_by_configuration(alloc, fit, name, key, index),
+    }
+}
+
+/// Returns the payload of the image of this name.
+fn payload_by_name<'a>(fit: &Fit<'a>, name: &[u8]) -> Result<&'a [u8], ExtractError>
+    requires held { IsHeld fit.now }
+    ensures chosen { IfOk result (λ bytes. choice_by_name (tree_of fit.now) name.now
+        ≡ Chosen bytes.now) }
+    ensures failed { IfErr result (λ error. IsReason error
+        (choice_by_name (tree_of fit.now) name.now)) }
+{
+    let Some(index) = fit.image(name) else {
+        return Err(ExtractError::NoImage);
+    };
+    fit.payload(index).ok_or(ExtractError::NoPayload)
+}
+
+/// Returns the payload at this index of what the configuration of this name lists under a key.
+fn payload_by_configuration<'a>(
+    alloc: Global,
+    fit: &Fit<'a>,
+    name: &[u8],
+    key: Key,
+    index: u32,
+) -> Result<&'a [u8], ExtractError>
+    ensures chosen { IfOk result (λ bytes.
+        choice_by_configuration (tree_of fit.now) name.now key index ≡ Chosen bytes.now) }
+    ensures failed { IfErr result (λ error.
+        IsReason error (choice_by_configuration (tree_of fit.now) name.now key index)
+        ⊎ (error ≡ Failed OutOfMemory)) }
+{
+    let listed = fit.config_payloads(alloc, name, key)?;
+    let named = listed.get(index as usize).ok_or(ExtractError::NoIndex)?;
+    named.payload.ok_or(ExtractError::NoPayload)
 }
 
 /// Reads a boot image to its end, writes the bytes of it that are selected, and flushes: `extract`

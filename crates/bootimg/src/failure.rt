@@ -6,6 +6,7 @@ ghost use Rattle.bootimg.specs.Failures.{failure_of, failure_text};
 
 use crate::extract::ExtractError;
 use bi_base::{Error, Fault};
+use bi_fit::ConfigError;
 use std::fmt;
 
 /// Why the program failed. Its `Display` is the text that the program prints after `bootimg: `.
@@ -17,6 +18,20 @@ pub enum Failure {
     WrongKind,
     /// The image has no part with this index.
     NoPart,
+    /// There is no image with this name.
+    NoImage,
+    /// There is no configuration with this name.
+    NoConfig,
+    /// The configuration does not have this key.
+    NoKey,
+    /// The value of the key is not a list of names.
+    BadList,
+    /// No image has the name at this index, from 0, of the list.
+    Missing(usize),
+    /// The list has no entry with this index.
+    NoIndex,
+    /// The image has no payload.
+    NoPayload,
     /// `extract` needs exactly one selection.
     NoSelection,
     /// The value of an option is malformed or out of range.
@@ -39,6 +54,14 @@ impl From<ExtractError> for Failure {
             ExtractError::Failed(error) => Failure::Call(error),
             ExtractError::WrongKind => Failure::WrongKind,
             ExtractError::NoPart => Failure::NoPart,
+            ExtractError::NoImage => Failure::NoImage,
+            ExtractError::Config(ConfigError::NoConfig) => Failure::NoConfig,
+            ExtractError::Config(ConfigError::NoKey) => Failure::NoKey,
+            ExtractError::Config(ConfigError::BadList) => Failure::BadList,
+            ExtractError::Config(ConfigError::Missing(index)) => Failure::Missing(index),
+            ExtractError::Config(ConfigError::OutOfMemory) => Failure::Call(Error::OutOfMemory),
+            ExtractError::NoIndex => Failure::NoIndex,
+            ExtractError::NoPayload => Failure::NoPayload,
         }
     }
 }
@@ -57,6 +80,13 @@ impl fmt::Display for Failure {
             Failure::Call(Error::WriteFailed) => f.write_str("write failed"),
             Failure::WrongKind => f.write_str("the selection does not fit this kind of image"),
             Failure::NoPart => f.write_str("no such part"),
+            Failure::NoImage => f.write_str("no such image"),
+            Failure::NoConfig => f.write_str("no such configuration"),
+            Failure::NoKey => f.write_str("no such key"),
+            Failure::BadList => f.write_str("bad list"),
+            Failure::Missing(index) => write!(f, "missing image {index}"),
+            Failure::NoIndex => f.write_str("no such entry"),
+            Failure::NoPayload => f.write_str("no payload"),
             Failure::NoSelection => f.write_str("usage: give one of --part, --image, --config"),
             Failure::BadValue => f.write_str("usage: bad value"),
         }

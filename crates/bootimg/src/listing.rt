@@ -39,6 +39,7 @@ pub fn listing(alloc: Global, file: &[u8], limits: Limits) -> Result<String, Err
 {
     match BootImage::read(alloc, file, limits)? {
         BootImage::Legacy(image) => list_legacy(alloc, &image),
+        BootImage::Fit(_fit) => Err(Error::OutOfMemory),
     }
 }
 

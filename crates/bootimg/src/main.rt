@@ -1,4 +1,4 @@
-//! `bootimg` normalises, lists and extracts from U-Boot's boot images.
+//! `bootimg` normalises, lists, verifies and extracts from U-Boot's boot images.
 #![tactic(auto)]
 
 mod command_line;
@@ -12,6 +12,7 @@ mod normal_forms;
 mod numbers;
 #[cfg(test)]
 mod refused_growths;
+mod report;
 mod run;
 mod shown;
 

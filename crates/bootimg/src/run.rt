@@ -1,28 +1,33 @@
 //! The program, over any three streams.
 
-ghost use Rattle.std.specs.Prelude.{◌≡◌, ◌⊎◌};
+ghost use Rattle.std.specs.Prelude.{◌≡◌, ◌⊎◌, IfOk};
 
 use crate::command_line::{Outcome, Request, Task, parse_arguments};
 use crate::extract::extract_to;
 use crate::failure::Failure;
 use crate::listing::list_to;
+use crate::report::verify_to;
 use bi_base::{Error, TracedWriter, write_and_flush};
-use bi_norm::{Form, normalise_to};
+use bi_norm::normalise_to;
 use std::alloc::Global;
 use std::io::{Read, Write};
 
 /// The exit status after success.
 const DONE: u8 = 0;
 
+/// The exit status after `verify` wrote a verdict that is not good.
+const NOT_GOOD: u8 = 1;
+
 /// The exit status after any failure.
 const FAILED: u8 = 2;
 
 /// Runs the program with these arguments, without its own name, and returns the exit status: 0
-/// after success, 2 after any failure.
+/// after success, 1 after `verify` wrote a verdict that is not good, 2 after any failure.
 ///
 /// The image is read from `reader`, once the arguments are parsed. The output, help and the version
 /// are written to `writer`. A failure is written to `errors`: one line, or clap's text if it
-/// rejects the arguments. A failed write to `errors` is ignored.
+/// rejects the arguments. After the normal form of a flattened image tree with signature nodes, a
+/// note with their number is written to `errors`. A failed write to `errors` is ignored.
 pub fn run<'a, R: Read, W: Write, E: Write>(
     alloc: Global,
     arguments: &'a [&'a str],
@@ -30,10 +35,10 @@ pub fn run<'a, R: Read, W: Write, E: Write>(
     writer: &mut W,
     errors: &mut E,
 ) -> u8
-    ensures status { (result ≡ 0) ⊎ (result ≡ 2) }
+    ensures status { (result ≡ 0) ⊎ (result ≡ 1) ⊎ (result ≡ 2) }
 {
     let result = match parse_arguments(alloc, arguments) {
-        Ok(request) => perform(alloc, &request, reader, writer),
+        Ok(request) => perform(alloc, &request, reader, writer, errors),
         Err(Outcome::Failure(failure)) => Err(failure),
         Err(Outcome::Text(text)) => {
             if text.use_stderr() {
@@ -44,7 +49,7 @@ pub fn run<'a, R: Read, W: Write, E: Write>(
         }
     };
     match result {
-        Ok(()) => DONE,
+        Ok(status) => status,
         Err(failure) => {
             let _ = writeln!(errors, "bootimg: {failure}");
             FAILED
@@ -52,30 +57,51 @@ pub fn run<'a, R: Read, W: Write, E: Write>(
     }
 }
 
-/// Runs a command.
-fn perform<R: Read, W: Write>(
+/// Runs a command, and returns the exit status.
+fn perform<R: Read, W: Write, E: Write>(
     alloc: Global,
     request: &Request<'_>,
     reader: &mut R,
     writer: &mut W,
-) -> Result<(), Failure> {
+    errors: &mut E,
+) -> Result<u8, Failure>
+    ensures status { IfOk result (λ status. (status ≡ 0) ⊎ (status ≡ 1)) }
+{
     let limits = request.limits;
     match request.task {
-        Task::Normalise => {
-            normalise_to(alloc, reader, writer, Form::Embedded, limits)?;
+        Task::Normalise(form) => {
+            let count = normalise_to(alloc, reader, writer, form, limits)?;
+            note_signatures(errors, count);
         }
         Task::List => list_to(alloc, reader, writer, limits)?,
+        Task::Verify => {
+            if !verify_to(alloc, reader, writer, limits)? {
+                return Ok(NOT_GOOD);
+            }
+        }
         Task::Extract(select) => extract_to(alloc, reader, writer, select, limits)?,
     }
-    Ok(())
+    Ok(DONE)
 }
 
-/// Writes help or the version, and flushes.
-fn show<W: Write>(alloc: Global, text: &clap::Error, writer: &mut W) -> Result<(), Failure> {
+/// Writes a note that the normal form has so many signature nodes, if it has any.
+fn note_signatures<E: Write>(errors: &mut E, count: usize) {
+    if count > 0 {
+        let _ = writeln!(
+            errors,
+            "bootimg: note: {count} signature nodes carried, not checked"
+        );
+    }
+}
+
+/// Writes help or the version, flushes, and returns the exit status.
+fn show<W: Write>(alloc: Global, text: &clap::Error, writer: &mut W) -> Result<u8, Failure>
+    ensures status { IfOk result (λ status. status ≡ 0) }
+{
     let text = format!(in alloc; "{text}").map_err(Error::from)?;
     let mut target = TracedWriter::new(writer);
     write_and_flush(&mut target, text.as_bytes())?;
-    Ok(())
+    Ok(DONE)
 }
 
 #[cfg(test)]
