@@ -1,6 +1,6 @@
 use Rattle.std.specs.Prelude.{ℕ, ◌≤◌, ◌≡◌, ⊤, List, Some, length, slice_get}
 use Rattle.bi_base.specs.Limits.{Bounds}
-use Rattle.bi_norm.specs.Meaning.{Meaning, OfLegacy, Means}
+use Rattle.bi_norm.specs.Meaning.{Meaning, OfLegacy, OfFit, Means}
 use Rattle.bi_norm.specs.NormalForm.{IsOpenError, IsStreamError}
 use Rattle.bootimg.specs.declared.extract.Select.{Select}
 use Rattle.bootimg.specs.declared.extract.Select.TheVariants.{Part, Image}
@@ -13,16 +13,19 @@ use Rattle.bootimg.specs.declared.extract.ExtractError.TheVariants.{Failed, Wron
 abbrev pub Chooses : Select → Meaning → List ℕ → Type 0
 Chooses (Part index) (OfLegacy image) bytes = slice_get image.parts index ≡ Some bytes
 Chooses (Image name) (OfLegacy image) bytes = ⊥
+Chooses select (OfFit tree) bytes = ⊥
 
 -- The selection is one of another kind of image.
 abbrev pub IsOfOtherKind : Select → Meaning → Type 0
 IsOfOtherKind (Part index) (OfLegacy image) = ⊥
 IsOfOtherKind (Image name) (OfLegacy image) = ⊤
+IsOfOtherKind select (OfFit tree) = ⊤
 
 -- The selection is a part that the image does not have.
 abbrev pub IsPastParts : Select → Meaning → Type 0
 IsPastParts (Part index) (OfLegacy image) = length image.parts ≤ index
 IsPastParts (Image name) (OfLegacy image) = ⊥
+IsPastParts select (OfFit tree) = ⊥
 
 -- The file means something, of which the selection chooses these bytes.
 pub record IsChosen (select : Select) (limits : Bounds) (file bytes : List ℕ) : Type 0 where

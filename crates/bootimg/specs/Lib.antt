@@ -4,5 +4,6 @@ pub mod Listing
 pub mod Numbers
 pub mod Shown
 pub mod FitListing
+pub mod ReadListing
 pub mod Reports
 pub mod FitChoices

@@ -66,6 +66,7 @@ pub fn extract<'a>(
 {
     match BootImage::read(alloc, file, limits)? {
         BootImage::Legacy(image) => extract_part(&image, select),
+        BootImage::Fit(_) => Err(ExtractError::WrongKind),
     }
 }
 
