@@ -1,10 +1,13 @@
-use Rattle.std.proofs.Common.{◌≡◌, ℕ, zero, suc, ◌+◌, ◌-◌, ◌/◌, ◌%◌, ◌<◌, ◌≤◌, ◌^◌, Bool, true, false, cond, eqb, List, [], ◌∷◌, ◌++◌, length, replicate, refl, sym, ap, subst, ◌∙◌, inl, inr, arith}
+use Rattle.std.proofs.Common.{◌≡◌, ℕ, zero, suc, ◌+◌, ◌-◌, ◌/◌, ◌%◌, ◌<◌, ◌≤◌, ◌^◌, Bool, true, false, cond, eqb, List, [], ◌∷◌, ◌++◌, length, replicate, refl, sym, ap, ap₂, subst, append_assoc, ◌∙◌, inl, inr, arith}
 use Rattle.std.specs.Fmt.{digits, digits_onto, digit_glyph, padded_integral, char_count, format_spec}
 use Rattle.std.specs.List.{flat_map}
 use Rattle.std.proofs.lemmas.Bool.Decides.{eqb_tells}
 use Rattle.std.proofs.lemmas.Bool.{eq-eqb}
 use Rattle.std.proofs.lemmas.List.{append-nil}
-use Rattle.bi_base.specs.Cells.{cell}
+use Rattle.std.specs.Int.{byte_at, bytes_high_first}
+use Rattle.std.proofs.Math.Nat.{pow-succ', div-div-eq-div-mul}
+use Rattle.std.proofs.lemmas.Grind.{flat_map-append}
+use Rattle.bi_base.specs.Cells.{cell, cell8}
 use Rattle.bootimg.specs.Shown.{digits_of_byte}
 
 -- The last `places` hexadecimal digits of a number, with leading zeros, and then `later`.
@@ -75,42 +78,78 @@ filled_digits upper (suc places) (suc fuel) n later enough fits =
           }
     ]
 
--- At most eight digits, as `{:08}` pads them with zeros.
-padded_to_eight : (numeral : List ℕ) → padded_integral (format_spec 32 0 4 8 (2 ^ 64 - 1)) false [] numeral ≡ replicate (8 - length numeral) 48 ++ numeral
+-- A number below this power of 16 has at most so many digits.
+has_places : (places n : ℕ) → n < 16 ^ places → HasPlaces places n
+has_places zero n small = omega arith
+has_places (suc places) n small = has_places places (n / 16) (omega (arith, small))
+
+-- At most so many digits, padded with zeros.
+padded_to : (places : ℕ) (numeral : List ℕ) →
+    padded_integral (format_spec 32 0 4 places (2 ^ 64 - 1)) false [] numeral ≡ replicate (places - length numeral) 48 ++ numeral
 unfolding padded_integral char_count
-padded_to_eight numeral =
-    ap (λ xs. replicate (8 - length numeral - 0 - 0) 48 ++ xs) (append-nil numeral)
+padded_to places numeral =
+    ap (λ xs. replicate (places - length numeral - 0 - 0) 48 ++ xs) (append-nil numeral)
     ∙ ap (λ k. replicate k 48 ++ numeral) (omega arith)
 
--- The last eight digits of a number of 32 bits are those of the bytes of its cell.
-glyphs-cell : (n : ℕ) → n < 2 ^ 32 → glyphs false 8 n [] ≡ flat_map (digits_of_byte false) (cell n)
-unfolding cell
-glyphs-cell n small =
-    let first : n / 16 / 16 / 16 / 16 / 16 / 16 / 16 % 16 ≡ n / 16777216 % 256 / 16 = omega arith in
-    let second : n / 16 / 16 / 16 / 16 / 16 / 16 % 16 ≡ n / 16777216 % 256 % 16 = omega arith in
-    let third : n / 16 / 16 / 16 / 16 / 16 % 16 ≡ n / 65536 % 256 / 16 = omega arith in
-    let fourth : n / 16 / 16 / 16 / 16 % 16 ≡ n / 65536 % 256 % 16 = omega arith in
-    let fifth : n / 16 / 16 / 16 % 16 ≡ n / 256 % 256 / 16 = omega arith in
-    let sixth : n / 16 / 16 % 16 ≡ n / 256 % 256 % 16 = omega arith in
-    let seventh : n / 16 % 16 ≡ n % 256 / 16 = omega arith in
-    let eighth : n % 16 ≡ n % 256 % 16 = omega arith in
-    cc
+-- The digits of a number that fits so many places, padded with zeros.
+padded_digits : (places n : ℕ) (written : List ℕ) → Filled false places n [] written →
+    padded_integral (format_spec 32 0 4 places (2 ^ 64 - 1)) false [] written ≡ glyphs false places n []
+padded_digits places n written padded =
+    let zeros : places - length written ≡ padded.count = omega (arith, padded.counted) in
+    padded_to places written ∙ ap (λ count. replicate count 48 ++ written) zeros ∙ padded.spelled
+
+-- Twice a number.
+abbrev twice : ℕ → ℕ
+twice zero = zero
+twice (suc k) = suc (suc (twice k))
+
+-- A byte of a number is the byte before it of a 256th.
+byte_at_shifted : (i n : ℕ) → byte_at (suc i) n ≡ byte_at i (n / 256)
+byte_at_shifted zero n = refl
+byte_at_shifted (suc i) n = ap (λ m. m % 256) (ap (λ d. n / d) (pow-succ' 256 (suc i)) ∙ sym (div-div-eq-div-mul n 256 (256 ^ suc i)))
+
+-- The last byte of a number, after those of a 256th.
+bytes_snoc : (k n : ℕ) → bytes_high_first (suc k) n ≡ bytes_high_first k (n / 256) ++ (n % 256 ∷ [])
+bytes_snoc zero n = refl
+bytes_snoc (suc k) n = ap₂ (λ byte later. byte ∷ later) (byte_at_shifted k n) (bytes_snoc k n)
+
+-- The last digits of a number are those of its last bytes.
+glyphs-bytes : (k n : ℕ) (later : List ℕ) → glyphs false (twice k) n later ≡ flat_map (digits_of_byte false) (bytes_high_first k n) ++ later
+glyphs-bytes zero n later = refl
+glyphs-bytes (suc k) n later =
+    let rest : n / 16 / 16 ≡ n / 256 = omega arith in
+    let high : n / 16 % 16 ≡ n % 256 / 16 = omega arith in
+    let low : n % 16 ≡ n % 256 % 16 = omega arith in
+    let two : List ℕ = digits_of_byte false (n % 256) in
+    let before : List ℕ = flat_map (digits_of_byte false) (bytes_high_first k (n / 256)) in
+    let same : glyphs false (twice k) (n / 16 / 16) (digit_glyph false (n / 16 % 16) ∷ digit_glyph false (n % 16) ∷ later)
+        ≡ glyphs false (twice k) (n / 256) (two ++ later) =
+    ap₂ (λ m ds. glyphs false (twice k) m ds) rest (ap₂ (λ a b. digit_glyph false a ∷ digit_glyph false b ∷ later) high low) in
+    same ∙ glyphs-bytes k (n / 256) (two ++ later) ∙ sym (append_assoc before two later)
+    ∙ ap (λ bytes. bytes ++ later) (sym (flat_map-append (digits_of_byte false) (bytes_high_first k (n / 256)) (n % 256 ∷ [])))
+    ∙ ap (λ bytes. flat_map (digits_of_byte false) bytes ++ later) (sym (bytes_snoc k n))
 
 -- The digits of a number, as they are computed one after the other.
 digits-onto : (n : ℕ) → digits 16 false n ≡ digits_onto 64 16 false n []
 unfolding digits
 digits-onto n = refl
 
--- The digits of a number that fits eight places, as `{:08}` pads them with zeros.
-padded_digits : (n : ℕ) (written : List ℕ) → Filled false 8 n [] written →
-    padded_integral (format_spec 32 0 4 8 (2 ^ 64 - 1)) false [] written ≡ glyphs false 8 n []
-padded_digits n written padded =
-    let zeros : 8 - length written ≡ padded.count = omega (arith, padded.counted) in
-    padded_to_eight written ∙ ap (λ count. replicate count 48 ++ written) zeros ∙ padded.spelled
+-- What is written for a number, padded with zeros to two digits for each of its bytes.
+hex_bytes : (k places n : ℕ) → twice k ≡ suc places → places ≤ 63 → n < 16 ^ suc places →
+    padded_integral (format_spec 32 0 4 (suc places) (2 ^ 64 - 1)) false [] (digits 16 false n) ≡ flat_map (digits_of_byte false) (bytes_high_first k n)
+hex_bytes k places n even enough small =
+    let padded = subst (Filled false (suc places) n []) (sym (digits-onto n)) (filled_digits false places 63 n [] enough (has_places (suc places) n small)) in
+    padded_digits (suc places) n (digits 16 false n) padded ∙ ap (λ p. glyphs false p n []) (sym even) ∙ glyphs-bytes k n []
+    ∙ append-nil (flat_map (digits_of_byte false) (bytes_high_first k n))
 
 -- What `{:08x}` writes for a number of 32 bits: the two digits of each byte of its cell.
 pub hex_cell : (n : ℕ) → n < 2 ^ 32 →
     padded_integral (format_spec 32 0 4 8 (2 ^ 64 - 1)) false [] (digits 16 false n) ≡ flat_map (digits_of_byte false) (cell n)
-hex_cell n small =
-    let padded = subst (Filled false 8 n []) (sym (digits-onto n)) (filled_digits false 7 63 n [] (omega arith) (omega arith)) in
-    padded_digits n (digits 16 false n) padded ∙ glyphs-cell n small
+unfolding cell
+hex_cell n small = hex_bytes 4 7 n refl (omega arith) small
+
+-- What `{:016x}` writes for a number of 64 bits: the two digits of each byte of its two cells.
+pub hex_cell8 : (n : ℕ) → n < 2 ^ 64 →
+    padded_integral (format_spec 32 0 4 16 (2 ^ 64 - 1)) false [] (digits 16 false n) ≡ flat_map (digits_of_byte false) (cell8 n)
+unfolding cell8
+hex_cell8 n small = hex_bytes 8 15 n refl (omega arith) small

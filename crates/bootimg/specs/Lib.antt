@@ -4,4 +4,5 @@ pub mod Listing
 pub mod Numbers
 pub mod Shown
 pub mod FitListing
+pub mod ReadListing
 pub mod Reports

@@ -6,6 +6,7 @@ use Rattle.bi_legacy.specs.Codes.{name_of_code}
 use Rattle.bi_legacy.specs.Meaning.{LegacyImage}
 use Rattle.bi_legacy.specs.PlacedParts.{PlacedPart, placed_parts}
 use Rattle.bi_legacy.specs.Reading.{ParsedImage, IsParsedImage}
+use Rattle.bootimg.specs.FitListing.{IsFitListing}
 use Rattle.bootimg.specs.Shown.{line, hexadecimal, shown}
 
 -- The text that `list` writes (profile of this project).
@@ -56,8 +57,8 @@ legacy_listing parsed =
     ++ (parts_lines parsed.image
     ++ line (codes "unused" ∷ decimal parsed.unused ∷ []))))
 
--- The text is the listing of the file.
-pub record IsListing (limits : Bounds) (file text : List ℕ) : Type 0 where
-  pub parsed : ParsedImage
-  pub is_parsed : IsParsedImage limits file parsed
-  pub is : text ≡ legacy_listing parsed
+-- The text is the listing of the file, which is a legacy image or a flattened image tree.
+pub data IsListing (limits : Bounds) (file text : List ℕ) : Type 0 where
+  OfLegacyImage : (parsed : ParsedImage) → IsParsedImage limits file parsed
+      → text ≡ legacy_listing parsed → IsListing limits file text
+  OfImageTree : IsFitListing limits file text → IsListing limits file text

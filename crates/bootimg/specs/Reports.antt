@@ -1,16 +1,15 @@
-use Rattle.std.specs.Prelude.{◌≡◌, ℕ, false, List, [], ◌∷◌, ◌++◌, Option, None}
+use Rattle.std.specs.Prelude.{◌≡◌, ◌↔◌, ℕ, Bool, false, IsTrue, List, [], ◌∷◌, ◌++◌, Option, None}
 use Rattle.std.specs.Prelude.{Some}
 use Rattle.std.specs.Prelude.{length, flat_map, filter, codes, bytes_eq, if◌then◌else◌}
+use Rattle.std.specs.List.{AllByRecursion}
 use Rattle.std.specs.Fmt.{decimal}
 use Rattle.bi_base.specs.Limits.{Bounds}
-use Rattle.bi_fit.specs.File.{FitMeans}
 use Rattle.bi_fit.specs.ImageTree.{ImageTree}
 use Rattle.bi_fit.specs.Judgement.{CheckedHash, verdicts_of}
 use Rattle.bi_hash.specs.declared.verdicts.Verdict.{Verdict}
 use Rattle.bi_hash.specs.declared.verdicts.Verdict.TheVariants.{Good, Bad, UnknownAlgo, NoPayload}
 use Rattle.bi_hash.specs.declared.verdicts.Verdict.TheVariants.{Malformed}
-use Rattle.bi_legacy.specs.File.{LegacyMeans}
-use Rattle.bi_legacy.specs.Meaning.{LegacyImage}
+use Rattle.bi_norm.specs.Meaning.{Meaning, OfLegacy, OfFit, Means}
 use Rattle.bootimg.specs.Shown.{line, digits_of_byte, shown}
 
 -- The text of a report on the checksums and digests of a boot image (profile of this project).
@@ -67,9 +66,27 @@ legacy_report =
     line (codes "header" ∷ codes "crc32" ∷ codes "good" ∷ [])
     ++ line (codes "data" ∷ codes "crc32" ∷ codes "good" ∷ [])
 
--- The text is the report on a file.
-pub data IsReport (limits : Bounds) (file text : List ℕ) : Type 0 where
-  OfLegacyImage : (image : LegacyImage) → LegacyMeans limits file image → text ≡ legacy_report
-      → IsReport limits file text
-  OfImageTree : (tree : ImageTree) → FitMeans limits file tree → text ≡ fit_report tree
-      → IsReport limits file text
+-- The report on what a file means.
+abbrev pub report_of : Meaning → List ℕ
+report_of (OfLegacy image) = legacy_report
+report_of (OfFit tree) = fit_report tree
+
+-- The hash nodes of what a file means, with their verdicts. A legacy image has none.
+abbrev pub hashes_of : Meaning → List CheckedHash
+hashes_of (OfLegacy image) = []
+hashes_of (OfFit tree) = verdicts_of tree
+
+-- The text is the report on the file.
+pub record IsReport (limits : Bounds) (file text : List ℕ) : Type 0 where
+  pub meaning : Meaning
+  pub means : Means limits file meaning
+  pub is : text ≡ report_of meaning
+
+-- Each of these hash nodes has the verdict Good.
+abbrev pub AreGood : List CheckedHash → Type 0
+AreGood hashes = AllByRecursion (λ hash. hash.verdict ≡ Good) hashes
+
+-- The text is the report on the file, and this is whether no verdict in it is other than Good.
+pub record Verified (limits : Bounds) (good : Bool) (file text : List ℕ) : Type 0 where
+  pub report : IsReport limits file text
+  pub all_good : IsTrue good ↔ AreGood (hashes_of report.meaning)

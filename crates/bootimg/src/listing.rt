@@ -1,30 +1,25 @@
 //! The listing of a boot image: a text with what the image is and where its parts are.
 
-ghost use Rattle.std.specs.Prelude.{◌≡◌, ◌+◌, ℕ, List, ◌∷◌, [], ◌++◌, IfOk, OnOk, IfErr, IsErrOf};
-ghost use Rattle.std.specs.Prelude.{option_map, unwrap_or, string_bytes};
-ghost use Rattle.std.specs.Fmt.{decimal};
-ghost use Rattle.bi_base.specs.Limits.{Bounds};
+mod fit;
+mod legacy;
+mod lines;
+
+ghost use Rattle.std.specs.Prelude.{◌≡◌, ◌+◌, IfOk, OnOk, IfErr, IsErrOf, string_bytes};
 ghost use Rattle.bi_base.specs.Reading.{TakesAtMost};
 ghost use Rattle.bi_base.specs.Traces.{ReadsWell, WritesWell};
 ghost use Rattle.bi_base.specs.Transfers.{Moved, MoveFailed, Transferred, TransferFailed};
 ghost use Rattle.bi_base.specs.Transfers.{SameStreams};
-ghost use Rattle.bi_legacy.specs.PlacedParts.{placed_part_of};
 ghost use Rattle.bi_norm.specs.NormalForm.{IsOpenError, IsStreamError};
-ghost use Rattle.bi_legacy.specs.Reading.{IsParsedImage};
-ghost use Rattle.bootimg.specs.Listing.{IsListing, legacy_listing as listing_of, field_lines};
-ghost use Rattle.bootimg.specs.Listing.{code_lines, parts_lines, part_line};
-ghost use Rattle.bootimg.specs.Shown.{line, hexadecimal};
+ghost use Rattle.bootimg.specs.Listing.{IsListing};
 
-use crate::shown::shown_name;
 use bi_base::{
     Error, Limits, TracedRead, TracedReader, TracedWrite, TracedWriter, read_all_traced,
     write_and_flush,
 };
-use bi_legacy::codes::{arch_name, compression_name, os_name, type_name};
-use bi_legacy::{Legacy, Part};
 use bi_norm::BootImage;
-use std::alloc::{AllocError, Global};
-use std::fmt::Write as _;
+use fit::list_fit;
+use legacy::list_legacy;
+use std::alloc::Global;
 use std::io::{Read, Write};
 
 /// Returns the listing of a boot image.
@@ -39,19 +34,8 @@ pub fn listing(alloc: Global, file: &[u8], limits: Limits) -> Result<String, Err
 {
     match BootImage::read(alloc, file, limits)? {
         BootImage::Legacy(image) => list_legacy(alloc, &image),
-        BootImage::Fit(_fit) => Err(Error::OutOfMemory),
+        BootImage::Fit(image) => list_fit(alloc, &image),
     }
-}
-
-/// Returns the listing of a legacy image that was read.
-fn list_legacy(alloc: Global, image: &Legacy) -> Result<String, Error>
-    ensures lists { (limits : Bounds) (file : List ℕ) → IsParsedImage limits file image.now →
-        IfOk result (λ text. IsListing limits file (string_bytes text)) }
-    ensures failed { (limits : Bounds) (file : List ℕ) → IsParsedImage limits file image.now →
-        IfErr result (IsOpenError limits file) }
-{
-    let text = legacy_listing(alloc, image)?;
-    Ok(text)
 }
 
 /// Reads a boot image to its end, writes its listing, and flushes: `listing` from a reader to a
@@ -113,113 +97,6 @@ pub fn list_to<R: Read, W: Write>(
     let mut source = TracedReader::new(reader);
     let mut target = TracedWriter::new(writer);
     list_traced(alloc, &mut source, &mut target, limits)
-}
-
-/// The listing of a legacy image.
-fn legacy_listing(alloc: Global, image: &Legacy) -> Result<String, AllocError>
-    ensures { IfOk result (λ text. string_bytes text ≡ listing_of image.now) }
-{
-    let mut text = String::new(alloc);
-    put_word(&mut text, "kind", "legacy")?;
-    put_fields(alloc, &mut text, image)?;
-    put_codes(&mut text, image)?;
-    put_parts(&mut text, image)?;
-    put_number(&mut text, "unused", u64::from(image.unused()))?;
-    Ok(text)
-}
-
-/// Appends the lines of the name and the numbers of the header.
-fn put_fields(alloc: Global, text: &mut String, image: &Legacy) -> Result<(), AllocError>
-    ensures { OnOk result (string_bytes text.new ≡ string_bytes text.old
-        ++ field_lines image.now.image) }
-{
-    let fields = image.fields();
-    let name = shown_name(alloc, fields.name)?;
-    put_word(text, "name", name.as_str())?;
-    put_number(text, "time", u64::from(fields.time))?;
-    put_address(text, "load", fields.load)?;
-    put_address(text, "entry", fields.entry)?;
-    Ok(())
-}
-
-/// Appends the lines of the codes of the header.
-fn put_codes(text: &mut String, image: &Legacy) -> Result<(), AllocError>
-    ensures { OnOk result (string_bytes text.new ≡ string_bytes text.old
-        ++ code_lines image.now.image) }
-{
-    let fields = image.fields();
-    put_code(text, "os", os_name(fields.os), fields.os)?;
-    put_code(text, "arch", arch_name(fields.arch), fields.arch)?;
-    put_code(
-        text,
-        "type",
-        type_name(fields.image_type),
-        fields.image_type,
-    )?;
-    put_code(
-        text,
-        "compression",
-        compression_name(fields.compression),
-        fields.compression,
-    )?;
-    Ok(())
-}
-
-/// Appends the line with the number of parts, and a line for each part.
-fn put_parts(text: &mut String, image: &Legacy) -> Result<(), AllocError>
-    ensures { OnOk result (string_bytes text.new ≡ string_bytes text.old
-        ++ parts_lines image.now.image) }
-{
-    put_number(text, "parts", image.part_count() as u64)?;
-    for (index, part) in image.parts().enumerate() {
-        put_part(text, index, &part)?;
-    }
-    Ok(())
-}
-
-/// Appends the line of a part.
-fn put_part(text: &mut String, index: usize, part: &Part) -> Result<(), AllocError>
-    ensures { OnOk result (string_bytes text.new ≡ string_bytes text.old
-        ++ part_line index (placed_part_of part.now)) }
-{
-    let (size, place) = (part.bytes.len(), part.place);
-    writeln!(text, "part {index} size {size} at {place}")
-}
-
-/// Appends a line of a label and a code: the code's name, or its number if it has none.
-fn put_code(text: &mut String, label: &str, name: Option<&str>, code: u8) -> Result<(), AllocError>
-    ensures { OnOk result (string_bytes text.new ≡ string_bytes text.old
-        ++ line (label.now ∷ unwrap_or (option_map (λ name. name.now) name.entry) (decimal code)
-        ∷ [])) }
-{
-    match name {
-        Some(name) => put_word(text, label, name),
-        None => put_number(text, label, u64::from(code)),
-    }
-}
-
-/// Appends a line of a label and a word.
-fn put_word(text: &mut String, label: &str, word: &str) -> Result<(), AllocError>
-    ensures { OnOk result (string_bytes text.new ≡ string_bytes text.old
-        ++ line (label.now ∷ word.now ∷ [])) }
-{
-    writeln!(text, "{label} {word}")
-}
-
-/// Appends a line of a label and a number.
-fn put_number(text: &mut String, label: &str, number: u64) -> Result<(), AllocError>
-    ensures { OnOk result (string_bytes text.new
-        ≡ string_bytes text.old ++ line (label.now ∷ decimal number ∷ [])) }
-{
-    writeln!(text, "{label} {number}")
-}
-
-/// Appends a line of a label and an address.
-fn put_address(text: &mut String, label: &str, address: u32) -> Result<(), AllocError>
-    ensures { OnOk result (string_bytes text.new
-        ≡ string_bytes text.old ++ line (label.now ∷ hexadecimal address ∷ [])) }
-{
-    writeln!(text, "{label} 0x{address:08x}")
 }
 
 #[cfg(test)]

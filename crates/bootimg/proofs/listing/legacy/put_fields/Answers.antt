@@ -4,7 +4,7 @@ use Rattle.bi_legacy.specs.Meaning.{LegacyImage}
 use Rattle.bootimg.specs.Listing.{field_lines}
 use Rattle.bootimg.specs.Shown.{line}
 use Rattle.bootimg.proofs.Lines.{four_appended}
-use Rattle.bootimg.proofs.listing.put_fields.Goals as goal
+use Rattle.bootimg.proofs.listing.legacy.put_fields.Goals as goal
 
 pub returns : goal.returns
 returns c =

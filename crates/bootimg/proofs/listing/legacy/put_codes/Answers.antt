@@ -3,7 +3,7 @@ use Rattle.bi_legacy.specs.Codes.{os_names, arch_names, type_names, compression_
 use Rattle.bi_legacy.specs.Meaning.{LegacyImage}
 use Rattle.bootimg.specs.Listing.{code_lines}
 use Rattle.bootimg.proofs.Lines.{four_appended, code_line_of}
-use Rattle.bootimg.proofs.listing.put_codes.Goals as goal
+use Rattle.bootimg.proofs.listing.legacy.put_codes.Goals as goal
 
 pub returns : goal.returns
 returns c =

@@ -1,6 +1,6 @@
 use Rattle.std.proofs.Common.{string_bytes, arith}
 use Rattle.bootimg.proofs.Lines.{address_line_of}
-use Rattle.bootimg.proofs.listing.put_address.Goals as goal
+use Rattle.bootimg.proofs.listing.lines.put_address.Goals as goal
 
 pub returns : goal.returns
 returns c =

@@ -1,6 +1,6 @@
 use Rattle.std.proofs.lemmas.Result.{err_from_is_err_and}
 use Rattle.bi_norm.specs.NormalForm.{ForLegacyImage}
-use Rattle.bootimg.proofs.listing.list_legacy.Goals as goal
+use Rattle.bootimg.proofs.listing.legacy.list_legacy.Goals as goal
 
 pub returns-in_err-text-clause-failed : goal.returns-in_err-text-clause-failed
 returns-in_err-text-clause-failed c limits file opened =

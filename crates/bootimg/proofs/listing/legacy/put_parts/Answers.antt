@@ -3,7 +3,7 @@ use Rattle.std.specs.Iterator.Adapters.{enumerate_source, enumerate_count}
 use Rattle.bi_legacy.specs.PlacedParts.{placed_parts}
 use Rattle.bootimg.specs.Listing.{part_lines}
 use Rattle.bootimg.proofs.PartLines.{length-placed_parts}
-use Rattle.bootimg.proofs.listing.put_parts.Goals as goal
+use Rattle.bootimg.proofs.listing.legacy.put_parts.Goals as goal
 
 pub loop-index-init : goal.loop-index-init
 loop-index-init c =

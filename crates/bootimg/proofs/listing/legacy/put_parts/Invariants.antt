@@ -2,7 +2,7 @@ use Rattle.std.proofs.Common.{◌≡◌, ◌++◌, string_bytes}
 use Rattle.std.specs.Iterator.Adapters.{enumerate_source, enumerate_count}
 use Rattle.bi_legacy.specs.PlacedParts.{placed_parts}
 use Rattle.bootimg.specs.Listing.{part_lines}
-use Rattle.bootimg.proofs.listing.put_parts.Given as goal
+use Rattle.bootimg.proofs.listing.legacy.put_parts.Given as goal
 
 abbrev pub invariant-loop-index : goal.invariant-loop-index
 invariant-loop-index l =
