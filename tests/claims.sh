@@ -1,6 +1,6 @@
 #!/bin/sh
-# Tries what README.md and docs/FORMATS.md state about arguments, refused images and help, if no other script does. It needs
-# Debian's u-boot-tools, and installs them if they are missing and it runs as root.
+# Tries what README.md and docs/FORMATS.md state about arguments, refused images and help, apart from what other scripts try. It
+# needs Debian's u-boot-tools, and installs them if they are missing and it runs as root.
 set -u
 
 root=$(cd "$(dirname "$0")/.." && pwd)

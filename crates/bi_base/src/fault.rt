@@ -124,19 +124,20 @@ pub fn refuse<T>(cause: Cause, offset: u32) -> Result<T, Fault>
     Err(Fault { cause, offset })
 }
 
-/// The error of a call that reads, writes or allocates.
+/// The error of a call that reads, writes or allocates. Only `Refused` is about the file or the
+/// arguments.
 #[derive(Clone, Copy, Debug, PartialEq, Eq, thiserror::Error)]
 pub enum Error {
     /// The file or the arguments are refused.
     #[error("refused")]
     Refused(Fault),
-    /// An allocation failed. This does not show whether the file would be refused.
+    /// An allocation failed.
     #[error("out of memory")]
     OutOfMemory,
-    /// A read failed. This does not show whether the file would be refused.
+    /// A read failed.
     #[error("read failed")]
     ReadFailed,
-    /// A write failed. This does not show whether the file would be refused.
+    /// A write failed.
     #[error("write failed")]
     WriteFailed,
 }

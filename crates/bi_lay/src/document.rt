@@ -22,8 +22,8 @@ const MAX_DEPTH: usize = 64;
 /// a tree, which come in the order of the structure block (Devicetree Specification, 5.4.2). Names
 /// and values are borrowed and not copied.
 ///
-/// Each call but `may_begin`, `size` and `emit` takes constant time, apart from allocations and the
-/// hash of a property's name.
+/// Each call but `may_begin`, `size` and `emit` takes time linear in the length of its name, if it
+/// has one, apart from allocations.
 #[derive(Drop)]
 pub struct Doc<'a> {
     boot_cpu: u32,

@@ -9,7 +9,7 @@ fn writer(alloc: Global, writing: Script) -> ScriptedWriter {
     ScriptedWriter::new(alloc, writing, Script::always(Turn::TakesAll))
 }
 
-/// So many bytes, of which any 251 in a row are different.
+/// This many bytes, of which any 251 in a row are different.
 fn bytes_of(alloc: Global, length: usize) -> Result<Vec<u8>, Fail> {
     let mut bytes = Vec::new(alloc);
     for index in 0..length {
