@@ -42,7 +42,7 @@ module _ (file : List ℕ) where
   region_passes base begin (Some size) payload is = (is.begin_cell, (refl, (is.size_cell, (is.in_file, tt))))
 
   -- The checks of a source that has a payload pass.
-  source_passes : (source : PayloadSource) (payload : Option (List ℕ)) → IsPayload file source payload → HasNoFault (FitPasses file) (source_checks file source)
+  pub source_passes : (source : PayloadSource) (payload : Option (List ℕ)) → IsPayload file source payload → HasNoFault (FitPasses file) (source_checks file source)
   source_passes NoSource payload is = tt
   source_passes (Data value) payload is = tt
   source_passes (DataOffset offset size) payload is = region_passes (external_base file) offset size payload is

@@ -21,3 +21,6 @@ pub mod BuildFacts
 pub mod NameLists
 pub mod BuiltConfigurations
 pub mod ReadErrors
+pub mod ReadImages
+pub mod Indices
+pub mod ReadBlobs

@@ -4,16 +4,16 @@ use Rattle.std.specs.List.{AllByRecursion, AllZip}
 use Rattle.bi_base.specs.Cells.{cell, slice}
 use Rattle.bi_base.proofs.CellLaws.{length-cell, length-slice}
 use Rattle.bi_blob.specs.Tokens.{Token, BeginNode, EndNode, Prop, Nop, End, token_bytes, width, IsTokenAt}
-use Rattle.bi_blob.specs.Tree.{Nodes, none, node, FileProperty, FileNode, as_nodes}
+use Rattle.bi_blob.specs.Tree.{Nodes, none, node, Root, FileProperty, FileNode, as_nodes}
 use Rattle.bi_blob.specs.Events.{FileEvent, FileNodeStart, FileNodeProperty, FileNodeEnd, file_events, file_events_of, EncodeEvents}
-use Rattle.bi_blob.specs.Blob.{tree_blocks}
+use Rattle.bi_blob.specs.Blob.{Reservation, tree_blocks, IsBlob}
 use Rattle.bi_blob.proofs.Blobs.Cells.{BytesAt, BytesAt-right, BytesAt-within}
 use Rattle.bi_blob.proofs.Blobs.TokenEncoding.{AllStand}
 use Rattle.bi_blob.proofs.Blobs.OneBlob.{HoldsTree-stand}
 use Rattle.bi_blob.proofs.Texts.Members.{each-front, each-back, each-map_back}
 use Rattle.bi_blob.specs.Lookups.{property_named}
 use Rattle.bi_fit.specs.Names.{data_name, images_name}
-use Rattle.bi_fit.specs.ImageTree.{children_of, each_own}
+use Rattle.bi_fit.specs.ImageTree.{children_of, each_own, image_nodes}
 use Rattle.bi_fit.specs.Payloads.{PayloadSource, NoSource, Data, DataOffset, DataPosition, source_of, number_of, external_base, IsSizedRegion, IsPayload, HasPayload, payload_place, IsAt, IsAtPlace}
 use Rattle.bi_fit.specs.Laws.{PayloadsAreAtPlaces}
 use Rattle.bi_fit.proofs.Meanings.{same_in_some}
@@ -92,7 +92,7 @@ found_values file wanted (node name own children later) inner has have =
     where_first false is has rest = rest (rw is at has)
 
 -- A property that is found by its name has its value.
-named_value : (file name : List ℕ) (properties : List FileProperty) (property : FileProperty) → AllByRecursion (HasValue file) properties → property_named properties name ≡ Some property → HasValue file property
+pub named_value : (file name : List ℕ) (properties : List FileProperty) (property : FileProperty) → AllByRecursion (HasValue file) properties → property_named properties name ≡ Some property → HasValue file property
 named_value file name [] property have found = absurd cc
 named_value file name (first ∷ later) property have found =
     where_first (bytes_eq first.name name) refl found (named_value file name later property have.1)
@@ -138,8 +138,13 @@ images_places file (node name own children later) (payload ∷ payloads) have ha
   images_places file later payloads have.2 has.1,
 )
 
+-- The image nodes of a blob have the values of their properties in the file.
+pub image_values : (file : List ℕ) (cpu : ℕ) (reservations : List Reservation) (root : Root FileNode) (images : Nodes FileNode) → IsBlob file cpu reservations root → image_nodes root ≡ Some images → HaveValues file images
+image_values file cpu reservations root images blob has =
+    let values = tokens_values file (tree_blocks file).strings (tree_blocks file).begin blob.holds.tokens (file_events_of root) (HoldsTree-stand (tree_blocks file) root blob.holds) blob.holds.encodes in
+    let have = nodes_values file (as_nodes root) values in
+    found_values file images_name root.children images has have.1
+
 pub payloads_are_at_places : PayloadsAreAtPlaces
 payloads_are_at_places file tree is =
-    let values = tokens_values file (tree_blocks file).strings (tree_blocks file).begin is.blob.holds.tokens (file_events_of is.root) (HoldsTree-stand (tree_blocks file) is.root is.blob.holds) is.blob.holds.encodes in
-    let have = nodes_values file (as_nodes is.root) values in
-    images_places file is.images tree.payloads (found_values file images_name is.root.children is.images is.has_images have.1) is.payloads
+    images_places file is.images tree.payloads (image_values file tree.cpu tree.reservations is.root is.images is.blob is.has_images) is.payloads

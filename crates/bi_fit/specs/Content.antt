@@ -1,6 +1,10 @@
 use Rattle.std.specs.Prelude.{◌≡◌, ℕ, ◌+◌, ◌≤◌, List, [], ◌∷◌, map, Option, Some, None, IsSome}
 use Rattle.std.specs.Prelude.{option_map, length, bytes_eq, if◌then◌else◌}
 use Rattle.std.specs.List.{AllZip}
+use Rattle.std.specs.Ordering.{nat_cmp}
+use Rattle.std.specs.Cmp.Lexicographic.{slice_cmp}
+use Rattle.std.specs.BTreeMap.{BTreeMap, get_by}
+use denote.Ref.{Bor}
 use Rattle.bi_blob.specs.Tree.{FileNode, depth_of, tree_without_places, tree_without_order}
 use Rattle.bi_blob.specs.Lookups.{Sibling, siblings}
 use Rattle.bi_blob.specs.Blob.{IsBlob, totalsize}
@@ -77,6 +81,11 @@ index_from index name (image ∷ later) =
 -- The index of the image of a name.
 abbrev pub index_of : List ℕ → List ReadImage → Option ℕ
 index_of name images = index_from 0 name images
+
+-- A map has the index of the first image of each name.
+pub record HasIndices (indices : BTreeMap (Bor (List ℕ)) ℕ) (images : List ReadImage) : Type 0 where
+  pub each : (name : List ℕ) → get_by (λ other. slice_cmp nat_cmp name other.now) indices
+      ≡ index_of name images
 
 -- The place of the image at an index, where there is one.
 abbrev pub place_or_absent : Option ReadImage → Place

@@ -1,6 +1,6 @@
-use Rattle.std.specs.Prelude.{◌≡◌, ℕ, List, map}
+use Rattle.std.specs.Prelude.{map}
 use Rattle.bi_fit.specs.declared.fit.Fit.TheInside.{Inside as Fields}
-use Rattle.bi_fit.specs.Content.{FitContent, read_image, IsHeld}
+use Rattle.bi_fit.specs.Content.{FitContent, read_image, IsHeld, HasIndices}
 
 -- What the fields of a flattened image tree that was read hold, and what is true of them.
 
@@ -11,3 +11,4 @@ content_of fit = record { blob = fit.blob; images = map read_image fit.images.it
 -- What is true of the fields.
 pub record IsConsistent (fit : Fields) : Type 0 where
   pub held : IsHeld (content_of fit)
+  pub indices : HasIndices fit.indices (content_of fit).images

@@ -8,6 +8,7 @@ pub mod Judgement
 pub mod Building
 pub mod Content
 pub mod Fields
+pub mod Images
 pub mod Reading
 pub mod Documents
 pub mod Laws

@@ -2,12 +2,13 @@
 
 ghost use Rattle.std.specs.Prelude.{◌≡◌, length, map, slice_get, IfOk, IfErr};
 ghost use Rattle.std.specs.Option.{option_map, option_and_then};
-ghost use Rattle.bi_fit.specs.Content.{index_of, place_or_absent, read_image};
+ghost use Rattle.bi_base.specs.declared.fault.Error.TheVariants.{OutOfMemory};
+ghost use Rattle.bi_fit.specs.Content.{index_of, place_or_absent, read_image, HasIndices};
 ghost use Rattle.bi_fit.specs.Reading.{IsReadFrom, IsReadError};
 
 use crate::image::{Image, Place};
 use crate::images::read_images;
-use bi_base::{Cause, Error, Limits, refuse};
+use bi_base::{Cause, Error, Fault, Limits};
 use bi_fdt::Blob;
 use std::alloc::Global;
 use std::collections::BTreeMap;
@@ -53,7 +54,10 @@ impl<'a> Fit<'a> {
         let blob = Blob::read(alloc, file, limits)?;
         let root = blob.root();
         let Some(node) = root.child(b"images") else {
-            return refuse(Cause::NoImages, root.place()).map_err(Error::from);
+            return Err(Error::Refused(Fault {
+                cause: Cause::NoImages,
+                offset: root.place(),
+            }));
         };
         let images = read_images(alloc, file, blob.total_size(), node)?;
         let indices = index_by_name(alloc, &images)?;
@@ -121,14 +125,18 @@ impl<'a> Fit<'a> {
     }
 }
 
-/// The index of each of these images by its name. No two of them have one name.
+/// The index of each of these images by its name, or that of the first of several with one name.
 fn index_by_name<'a>(
     alloc: Global,
     images: &[Image<'a>],
-) -> Result<BTreeMap<&'a [u8], usize>, Error> {
+) -> Result<BTreeMap<&'a [u8], usize>, Error>
+    ensures indices { IfOk result (λ indices. HasIndices indices (map read_image images.now)) }
+    ensures error { IfErr result (λ error. error ≡ OutOfMemory) }
+{
     let mut indices = BTreeMap::new(alloc);
-    for (index, image) in images.iter().enumerate() {
-        indices.insert(image.name, index)?;
+    // The first image of a name is inserted last, so its index stays.
+    for index in (0..images.len()).rev() {
+        indices.insert(images[index].name, index)?;
     }
     Ok(indices)
 }

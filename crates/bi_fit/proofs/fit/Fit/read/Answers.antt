@@ -1,0 +1,62 @@
+use Rattle.std.proofs.Common.{◌≡◌, ◌≤◌, map, Some, None, sym, ap, subst, ◌∙◌, arith}
+use Rattle.std.specs.Option.{option_map}
+use Rattle.bi_base.specs.declared.fault.Cause.TheVariants.{NoImages}
+use Rattle.bi_blob.specs.Tree.{FileNode}
+use Rattle.bi_blob.specs.Lookups.{Sibling}
+use Rattle.bi_fdt.specs.Content.{root_of}
+use Rattle.bi_fdt.specs.Views.{node_of}
+use Rattle.bi_fdt.proofs.Refusals.{error_passed_on}
+use Rattle.bi_fit.specs.ImageTree.{image_nodes}
+use Rattle.bi_fit.specs.Content.{read_image, HasIndices}
+use Rattle.bi_fit.specs.Reading.{IsOnlyFault}
+use Rattle.bi_fit.proofs.ReadErrors.{blob_error}
+use Rattle.bi_fit.proofs.ReadBlobs.{found_images, no_images, images_have_data, images_error, is_held, is_read}
+use Rattle.bi_fit.proofs.fit.Fit.read.Goals as goal
+use Rattle.bi_fit.proofs.fit.Fit.read.Goals.{In-Some}
+
+pub returns-in_err-blob-clause-failed : goal.returns-in_err-blob-clause-failed
+returns-in_err-blob-clause-failed c =
+    error_passed_on _ _ _ c.from_residual.ensures.1
+    (blob_error c.args.limits c.args.file.now c.in_err-blob.field-0.0 c.in_err-blob.ensures.refused)
+
+pub returns-in_default-clause-failed : goal.returns-in_default-clause-failed
+returns-in_default-clause-failed c =
+    let blob = c.in_ok-blob.blob in
+    let none : image_nodes (root_of blob) ≡ None =
+    found_images c.root-root.result blob c.child.result c.root-root.ensures c.child.ensures ∙ ap (option_map (λ images. (node_of images).children)) c.in_default.is in
+    subst (λ place. IsOnlyFault c.args.limits c.args.file.now (record { cause = NoImages; offset = place })) (sym (c.place.ensures ∙ ap (λ (root : Sibling FileNode). root.own.place) c.root-root.ensures))
+    (no_images c.args.limits c.args.file.now blob c.in_ok-blob.ensures.accepts c.in_ok-blob.ensures.content none)
+
+-- The image nodes of the blob.
+images_found : (c : In-Some) → image_nodes (root_of c.in_ok-blob.blob) ≡ Some (node_of c.in-Some.node).children
+images_found c =
+    found_images c.root-root.result c.in_ok-blob.blob c.child.result c.root-root.ensures c.child.ensures ∙ ap (option_map (λ images. (node_of images).children)) c.in-Some.is
+
+pub read_images-requires-clause-data : goal.read_images-requires-clause-data
+read_images-requires-clause-data c =
+    images_have_data c.args.limits c.args.file.now c.in_ok-blob.blob c.in_ok-blob.ensures.accepts c.in_ok-blob.ensures.content (node_of c.in-Some.node).children
+    (images_found (goal.at.read_images-requires-clause-data c).In-Some)
+
+pub returns-in_err-images-clause-failed : goal.returns-in_err-images-clause-failed
+returns-in_err-images-clause-failed c =
+    error_passed_on _ _ _ c.from_residual-in_err-images.ensures.1
+    (images_error c.args.limits c.args.file.now c.in_ok-blob.blob c.in_ok-blob.ensures.accepts c.in_ok-blob.ensures.content (node_of c.in-Some.node).children
+    (images_found (goal.at.returns-in_err-images-clause-failed c).In-Some) c.in_err-images.field-0.0 c.in_err-images.ensures.fault)
+
+pub invariant_of-result : goal.invariant_of-result
+invariant_of-result c =
+    let most : c.args.limits.file ≤ 0x7fffffff = omega arith in
+    let deepest : c.args.limits.depth ≤ 64 = omega arith in
+    record {
+      held =
+          is_held c.args.limits c.args.file.now c.in_ok-blob.blob c.in_ok-blob.ensures.accepts c.in_ok-blob.ensures.content (node_of c.in-Some.node).children
+          (images_found (goal.at.invariant_of-result c).In-Some) (map read_image c.in_ok-images.images.items) c.in_ok-images.ensures.images
+          c.in_ok-blob.ensures.file.0 c.in_ok-blob.ensures.file.1 most deepest;
+      indices = subst (λ images. HasIndices c.in_ok-indices.indices (map read_image images)) c.deref.ensures.value c.in_ok-indices.ensures.indices;
+    }
+
+pub returns-clause-read : goal.returns-clause-read
+returns-clause-read c =
+    is_read c.args.limits c.args.file.now c.in_ok-blob.blob c.in_ok-blob.ensures.accepts c.in_ok-blob.ensures.content (node_of c.in-Some.node).children
+    (images_found (goal.at.returns-clause-read c).In-Some) (map read_image c.in_ok-images.images.items) c.in_ok-images.ensures.images
+    c.in_ok-blob.ensures.file.0 (invariant_of-result c).held
