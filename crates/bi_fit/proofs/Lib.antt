@@ -24,3 +24,6 @@ pub mod ReadErrors
 pub mod ReadImages
 pub mod Indices
 pub mod ReadBlobs
+pub mod FileNodes
+pub mod Siblings
+pub mod FileVerdicts

@@ -4,13 +4,16 @@
 
 mod fit;
 mod form;
+mod hashes;
 mod image;
 mod images;
 mod key;
 pub mod known_files;
 pub mod laws;
+mod nodes;
 
 pub use fit::Fit;
 pub use form::Form;
+pub use hashes::Checked;
 pub use image::{Image, Place};
 pub use key::Key;
