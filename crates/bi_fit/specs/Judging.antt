@@ -1,6 +1,14 @@
+use Rattle.std.specs.Prelude.{◌≡◌, ◌∷◌, ℕ, ⊤, List, map, Option, Some, None}
 use Rattle.std.specs.Option.{option_map}
+use Rattle.bi_blob.specs.Tree.{names}
 use Rattle.bi_fit.specs.declared.hashes.Checked.{Checked}
-use Rattle.bi_fit.specs.Judgement.{CheckedHash}
+use Rattle.bi_fit.specs.declared.configurations.Named.{Named}
+use Rattle.bi_fit.specs.declared.configurations.ConfigError.{ConfigError}
+use Rattle.bi_fit.specs.declared.configurations.ConfigError.TheVariants as error
+use Rattle.bi_fit.specs.Content.{FitContent, tree_of}
+use Rattle.bi_fit.specs.Judgement.{CheckedHash, ListedImage, configuration_nodes}
+use Rattle.bi_fit.specs.Judgement.{Listed, NoConfiguration, NoKey, BadList, MissingImage}
+use Rattle.bi_fit.specs.Judgement.{ListedImages}
 
 -- What the calls on hash nodes and configurations return.
 
@@ -13,3 +21,37 @@ checked_hash_of checked = record {
   value = option_map (λ value. value.now) checked.value;
   verdict = checked.verdict;
 }
+
+-- A listed image, as the definitions see it.
+abbrev pub listed_image : Named → ListedImage
+listed_image named = record {
+  name = named.name.now;
+  payload = option_map (λ payload. payload.now) named.payload;
+}
+
+-- What a configuration lists is found in memory that may run out: images, or a name that no image
+-- has.
+abbrev pub NeedsMemory : Listed → Type 0
+NeedsMemory (MissingImage index) = ⊤
+NeedsMemory (ListedImages images) = ⊤
+NeedsMemory listed = ⊥
+
+-- The error of listing images: the first reason that applies, or memory ran out.
+abbrev pub IsListError : Listed → ConfigError → Type 0
+IsListError listed error.NoConfig = listed ≡ NoConfiguration
+IsListError listed error.NoKey = listed ≡ NoKey
+IsListError listed error.BadList = listed ≡ BadList
+IsListError listed (error.Missing index) = listed ≡ MissingImage index
+IsListError listed error.OutOfMemory = NeedsMemory listed
+
+-- A configuration of a flattened image tree, by its name.
+pub record NamedConfiguration : Type 0 where
+  pub content : FitContent
+  pub name : List ℕ
+
+-- The configurations of a flattened image tree, in their order.
+abbrev pub configurations_of : FitContent → List NamedConfiguration
+configurations_of content =
+    map
+    (λ name. record { content = content; name = name })
+    (names (configuration_nodes (tree_of content)))

@@ -1,16 +1,17 @@
 use Rattle.std.specs.Prelude.{◌≡◌, ℕ, ◌+◌, List, [], ◌∷◌, ◌++◌, map, filter, Option, Some, None}
-use Rattle.std.specs.Prelude.{option_map, option_and_then, bytes_eq}
-use Rattle.std.specs.List.{find}
+use Rattle.std.specs.Prelude.{option_map, option_and_then, bytes_eq, nat_eq, if◌then◌else◌}
+use Rattle.std.specs.List.{ends_with, find}
 use Rattle.bi_blob.specs.Tree.{Nodes, FileNode, properties_of}
 use Rattle.bi_blob.specs.Lookups.{Sibling, siblings, node_named, value_named}
 use Rattle.bi_fdt.specs.Content.{BlobContent, root_of}
 use Rattle.bi_hash.specs.Verdicts.{verdict_of, text_before_nul}
+use Rattle.bi_fit.specs.declared.key.Key.{Key}
 use Rattle.bi_fit.specs.Names.{configurations_name, algo_name, value_name}
-use Rattle.bi_fit.specs.Names.{is_hash_name, is_signature_name}
+use Rattle.bi_fit.specs.Names.{is_hash_name, is_signature_name, key_name}
 use Rattle.bi_fit.specs.ImageTree.{image_nodes, nodes_or_none, children_of}
 use Rattle.bi_fit.specs.Content.{FitContent, ReadImage}
 use Rattle.bi_fit.specs.Judgement.{CheckedHash, ListedImage, Listed, MissingImage, ListedImages}
-use Rattle.bi_fit.specs.Judgement.{with_image}
+use Rattle.bi_fit.specs.Judgement.{NoKey, BadList, with_image, listed_names}
 
 -- What follows from the nodes of a blob and the images that were read about hash nodes, listed
 -- images and signatures. It is what follows from the image tree that they mean.
@@ -78,3 +79,18 @@ with_images (image ∷ later) listed = with_image image (with_images later liste
 -- The node is a configuration, and the first of its name.
 pub record IsConfiguration (content : FitContent) (entry : Sibling FileNode) : Type 0 where
   pub is_found : node_named (file_configurations content.blob) entry.name ≡ Some entry
+
+-- What the value of a key lists.
+abbrev pub file_listed_in : List ReadImage → List ℕ → Listed
+file_listed_in images value =
+    if ends_with nat_eq value (0 ∷ []) then file_list images 0 (listed_names value) else BadList
+
+-- The same where there may be no such key.
+abbrev pub file_listed_at : List ReadImage → Option (List ℕ) → Listed
+file_listed_at images None = NoKey
+file_listed_at images (Some value) = file_listed_in images value
+
+-- What a node lists under a key.
+abbrev pub file_listed : List ReadImage → Sibling FileNode → Key → Listed
+file_listed images entry key =
+    file_listed_at images (value_named (properties_of entry.own) (key_name key))

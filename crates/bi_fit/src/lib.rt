@@ -2,6 +2,7 @@
 //! hashes, its configurations, and the document of its normal text.
 #![tactic(auto)]
 
+mod configurations;
 mod fit;
 mod form;
 mod hashes;
@@ -10,8 +11,10 @@ mod images;
 mod key;
 pub mod known_files;
 pub mod laws;
+mod lists;
 mod nodes;
 
+pub use configurations::{ConfigError, Configuration, Configurations, Named};
 pub use fit::Fit;
 pub use form::Form;
 pub use hashes::Checked;

@@ -77,4 +77,12 @@ impl<'a> Fit<'a> {
             None => Siblings { next: None },
         }
     }
+
+    /// The configuration node of this name. None exactly if there is no such node.
+    pub(crate) fn configuration_node<'b>(&'b self, name: &[u8]) -> Option<NodeRef<'a, 'b>>
+        ensures { option_map node_of result
+            ≡ node_named (file_configurations self.now.blob) name.now }
+    {
+        self.configurations_node()?.child(name)
+    }
 }
