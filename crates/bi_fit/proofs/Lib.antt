@@ -27,3 +27,5 @@ pub mod ReadBlobs
 pub mod FileNodes
 pub mod Siblings
 pub mod FileVerdicts
+pub mod FileConfigurations
+pub mod FileLists

@@ -1,4 +1,4 @@
-use Rattle.std.specs.Prelude.{◌≡◌, ℕ, ◌+◌, List, [], ◌∷◌, ◌++◌, map, filter, Option, Some, None}
+use Rattle.std.specs.Prelude.{◌≡◌, ℕ, ◌+◌, ◌<◌, length, List, [], ◌∷◌, ◌++◌, map, filter, Option, Some, None}
 use Rattle.std.specs.Prelude.{option_map, option_and_then, bytes_eq, nat_eq, if◌then◌else◌}
 use Rattle.std.specs.List.{ends_with, find}
 use Rattle.bi_blob.specs.Tree.{Nodes, FileNode, properties_of}
@@ -75,6 +75,11 @@ file_list images index (name ∷ later) =
 abbrev pub with_images : List ListedImage → Listed → Listed
 with_images [] listed = listed
 with_images (image ∷ later) listed = with_image image (with_images later listed)
+
+-- A value begins with this name, a zero and these bytes.
+pub record BeginsWithName (value name later : List ℕ) : Type 0 where
+  pub listed : listed_names value ≡ name ∷ listed_names later
+  pub shorter : length later < length value
 
 -- The node is a configuration, and the first of its name.
 pub record IsConfiguration (content : FitContent) (entry : Sibling FileNode) : Type 0 where

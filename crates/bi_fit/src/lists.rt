@@ -1,10 +1,10 @@
 //! The lists of images in configuration nodes.
 
-ghost use Rattle.std.specs.Prelude.{◌≡◌, map, IfOk, IfErr};
+ghost use Rattle.std.specs.Prelude.{◌≡◌, [], map, IfOk, IfErr, MatchOption};
 ghost use Rattle.bi_fdt.specs.Views.{node_of};
 ghost use Rattle.bi_fit.specs.Judgement.{listed_names, ListedImages};
 ghost use Rattle.bi_fit.specs.Judging.{listed_image, IsListError};
-ghost use Rattle.bi_fit.specs.Nodes.{file_list, file_listed};
+ghost use Rattle.bi_fit.specs.Nodes.{file_list, file_listed, BeginsWithName};
 
 use crate::configurations::{ConfigError, Named};
 use crate::fit::Fit;
@@ -47,13 +47,24 @@ fn find_images<'a>(
 {
     let mut listed = Vec::new(alloc);
     let mut rest = value;
-    while let Some(name) = text_before_nul(rest) {
+    while let Some((name, later)) = split_name(rest) {
         let Some(index) = fit.image(name) else {
             return Err(ConfigError::Missing(listed.len()));
         };
         let payload = fit.payload(index);
         listed.push(Named { name, payload })?;
-        rest = &rest[name.len() + 1..];
+        rest = later;
     }
     Ok(listed)
+}
+
+/// The first name that a value lists, and the bytes after the zero that ends it. None exactly if
+/// there is no zero.
+fn split_name(value: &[u8]) -> Option<(&[u8], &[u8])>
+    ensures { MatchOption result
+        (listed_names value.now ≡ [])
+        (λ split. BeginsWithName value.now split.0.now split.1.now) }
+{
+    let name = text_before_nul(value)?;
+    Some((name, &value[name.len() + 1..]))
 }
