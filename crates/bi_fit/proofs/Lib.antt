@@ -29,3 +29,4 @@ pub mod Siblings
 pub mod FileVerdicts
 pub mod FileConfigurations
 pub mod FileLists
+pub mod FileSignatures

@@ -13,6 +13,7 @@ pub mod known_files;
 pub mod laws;
 mod lists;
 mod nodes;
+mod signatures;
 
 pub use configurations::{ConfigError, Configuration, Configurations, Named};
 pub use fit::Fit;
