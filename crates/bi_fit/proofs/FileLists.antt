@@ -1,9 +1,9 @@
-use Rattle.std.proofs.Common.{◌≡◌, ◌≢◌, ℕ, zero, suc, ◌+◌, ◌≤◌, Bool, true, false, cond, ◌==◌, List, [], ◌∷◌, ◌++◌, length, drop, map, Option, Some, None, option_and_then, slice_get, bytes_eq, nat_eq, refl, sym, ap, ap₂, subst, ◌∙◌, arith, one-add, if◌then◌else◌, take, ◌-◌}
+use Rattle.std.proofs.Common.{◌≡◌, ℕ, suc, ◌+◌, ◌≤◌, Bool, true, false, cond, ◌==◌, List, [], ◌∷◌, ◌++◌, length, drop, map, Option, Some, None, option_and_then, slice_get, bytes_eq, nat_eq, refl, sym, ap, ap₂, subst, ◌∙◌, arith, one-add, if◌then◌else◌, take, ◌-◌}
 use Rattle.std.proofs.lemmas.List.{length-drop, take_rest}
 use Rattle.std.specs.Prelude.{Result, Ok, Err, IfErr}
 use Rattle.std.specs.Result.{IsErrAnd}
 use Rattle.std.specs.Option.{option_map}
-use Rattle.std.specs.List.{AllZip, list_any, before_first, find, ends_with}
+use Rattle.std.specs.List.{AllZip, list_any, before_first, ends_with}
 use Rattle.std.proofs.lemmas.Option.{cond_some, same_Some}
 use Rattle.bi_blob.specs.Tree.{Nodes, FileNode, PropertyMap, properties_of}
 use Rattle.bi_blob.specs.Lookups.{Sibling, siblings, node_named, value_named}
@@ -16,7 +16,7 @@ use Rattle.bi_fit.specs.declared.configurations.ConfigError.{ConfigError}
 use Rattle.bi_fit.specs.declared.configurations.ConfigError.TheVariants.{OutOfMemory}
 use Rattle.bi_fit.specs.Judging.{NeedsMemory, IsListError}
 use Rattle.bi_fit.specs.Nodes.{file_images, file_configurations, payload_named, listed_payload, file_list, BeginsWithName, file_listed_at, file_listed, with_images}
-use Rattle.bi_fit.proofs.FileNodes.{by_name, bare_image, sibling_by_name, get-by_name, named-by_name, image_siblings, configuration_nodes_are}
+use Rattle.bi_fit.proofs.FileNodes.{bare_image, sibling_by_name, get-by_name, named-by_name, image_siblings, configuration_nodes_are}
 
 -- What a configuration of an image tree that was read lists.
 

@@ -1,21 +1,18 @@
-use Rattle.std.proofs.Common.{◌≡◌, ℕ, ◌+◌, Bool, true, false, cond, List, [], ◌∷◌, ◌++◌, length, map, flat_map, filter, Option, Some, None, bytes_eq, codes, nat_cmp, option_and_then, refl, sym, ap, ap₂, subst, ◌∙◌}
-use Rattle.std.specs.Prelude.{⊤, option_map}
-use Rattle.std.specs.List.{AllZip}
-use Rattle.std.specs.Map.{lookup}
+use Rattle.std.proofs.Common.{◌≡◌, ℕ, Bool, true, false, List, [], ◌∷◌, map, Option, Some, None, bytes_eq, nat_cmp, refl, sym, ap, ◌∙◌}
+use Rattle.std.specs.Prelude.{option_map}
 use Rattle.std.specs.Cmp.Lexicographic.{slice_cmp}
 use Rattle.std.specs.FinMap.{get, from_entries, find, get-from_entries}
 use Rattle.std.proofs.lemmas.Cmp.{nat_list_cmp_total, nat_list_eq_equiv}
 use Rattle.std.proofs.lemmas.Slice.Eq.{bytes_eq-Decides}
 use Rattle.std.proofs.lemmas.Map.Text.{is_eq-slice_cmp}
-use Rattle.bi_blob.specs.Tree.{Nodes, none, node, Root, Property, PropertyMap, FileNode, properties_of, with_each, names}
+use Rattle.bi_blob.specs.Tree.{Nodes, none, node, Property, PropertyMap, FileNode, properties_of, with_each, names}
 use Rattle.bi_blob.specs.Lookups.{Sibling, siblings, node_named, value_named}
 use Rattle.bi_fdt.specs.Content.{root_of}
 use Rattle.bi_fit.specs.Names.{images_name, configurations_name}
-use Rattle.bi_fit.specs.ImageTree.{ImageTree, children_of, with_children_of, nodes_or_none, image_nodes, without_payload, without_payloads}
+use Rattle.bi_fit.specs.ImageTree.{children_of, with_children_of, nodes_or_none, image_nodes, without_payload, without_payloads}
 use Rattle.bi_fit.specs.Content.{FitContent, tree_of}
 use Rattle.bi_fit.specs.Judgement.{configuration_nodes}
 use Rattle.bi_fit.specs.Nodes.{file_images, file_configurations}
-use Rattle.bi_fit.proofs.Trees.{children_of-with_each}
 
 -- The nodes of an image tree that was read, and those of its blob.
 

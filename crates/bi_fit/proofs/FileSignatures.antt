@@ -2,9 +2,9 @@ use Rattle.std.proofs.Common.{◌≡◌, ℕ, suc, ◌+◌, ◌<◌, ◌≤◌, 
 use Rattle.std.specs.List.{AllZip}
 use Rattle.std.specs.Option.{option_map}
 use Rattle.std.proofs.lemmas.Bool.{cases_order}
-use Rattle.bi_blob.specs.Tree.{Nodes, none, FileNode, PropertyMap}
+use Rattle.bi_blob.specs.Tree.{Nodes, FileNode, PropertyMap}
 use Rattle.bi_blob.specs.Lookups.{Sibling, siblings}
-use Rattle.bi_fdt.specs.Table.{Item, NodeItem, PropertyItem, nodes_of, first_properties}
+use Rattle.bi_fdt.specs.Table.{Item, NodeItem, PropertyItem, nodes_of}
 use Rattle.bi_fdt.specs.Content.{first_sibling}
 use Rattle.bi_fdt.specs.declared.node.NodeRef.{NodeRef}
 use Rattle.bi_fdt.specs.Views.{node_of}
@@ -12,10 +12,10 @@ use Rattle.bi_fdt.proofs.Parsing.{nodes-same, nodes-above, nodes-deeper}
 use Rattle.bi_fdt.proofs.NodeViews.{children_few}
 use Rattle.bi_fit.specs.Names.{is_signature_name}
 use Rattle.bi_fit.specs.Content.{FitContent, ReadImage, IsReadImage, IsHeld, tree_of}
-use Rattle.bi_fit.specs.Judgement.{Image, images_with, images_of, signatures_in, configuration_nodes, signature_count}
+use Rattle.bi_fit.specs.Judgement.{images_with, signatures_in, signature_count}
 use Rattle.bi_fit.specs.Nodes.{file_images, file_configurations, file_signatures}
 use Rattle.bi_fit.specs.Siblings.{siblings_from}
-use Rattle.bi_fit.proofs.FileNodes.{bare_image, sibling_by_name, siblings-by_name, image_siblings, configuration_nodes_are}
+use Rattle.bi_fit.proofs.FileNodes.{bare_image, nodes_by_name, sibling_by_name, siblings-by_name, image_siblings, configuration_nodes_are}
 
 -- The signature nodes of an image tree that was read.
 
@@ -103,3 +103,44 @@ children_small node =
     let within : length (drop node.index node.blob.now.table) ≡ length node.blob.now.table - node.index = length-drop node.index node.blob.now.table in
     let small : length node.blob.now.table < 2 ^ 63 = node.small in
     omega arith
+
+-- Properties by name make no difference to the number of signature nodes.
+signatures_same : (children : List (Sibling FileNode)) → length (filter (λ child. is_signature_name child.name) (map sibling_by_name children)) ≡ length (filter (λ child. is_signature_name child.name) children)
+signatures_same [] = refl
+signatures_same (child ∷ later) = where_first (is_signature_name child.name) refl (signatures_same later)
+  where
+    where_first : (b : Bool) → is_signature_name child.name ≡ b → length (filter (λ child. is_signature_name child.name) (map sibling_by_name later)) ≡ length (filter (λ child. is_signature_name child.name) later) → length (filter (λ child. is_signature_name child.name) (map sibling_by_name (child ∷ later))) ≡ length (filter (λ child. is_signature_name child.name) (child ∷ later))
+    where_first true is rest = rw is (ap suc rest)
+    where_first false is rest = rw is rest
+
+signatures_by_name : (nodes : Nodes FileNode) → length (filter (λ child. is_signature_name child.name) (siblings (nodes_by_name nodes))) ≡ length (filter (λ child. is_signature_name child.name) (siblings nodes))
+signatures_by_name nodes =
+    ap (λ (l : List (Sibling PropertyMap)). length (filter (λ child. is_signature_name child.name) l)) (siblings-by_name nodes)
+    ∙ signatures_same (siblings nodes)
+
+-- The numbers of two lists after one another.
+both : {A B : Type 0} (a c : List A) (b d : List B) → length a ≡ length b → length c ≡ length d → length (a ++ c) ≡ length (b ++ d)
+both a c b d first later =
+    length-append a c ∙ ap₂ (λ m n. m + n) first later ∙ sym (length-append b d)
+
+in_images : (file : List ℕ) (entries : List (Sibling FileNode)) (images : List ReadImage) → AllZip (IsReadImage file) entries images → length (flat_map (λ image. signatures_in image.entry) (images_with (map bare_image entries) (map (λ image. image.payload) images))) ≡ length (flat_map file_signatures entries)
+in_images file [] [] read = refl
+in_images file [] (image ∷ images) read = absurd read
+in_images file (entry ∷ entries) [] read = absurd read
+in_images file (entry ∷ entries) (image ∷ images) read =
+    both _ _ (file_signatures entry) (flat_map file_signatures entries) (signatures_by_name entry.children) (in_images file entries images read.1)
+
+in_configurations : (entries : List (Sibling FileNode)) → length (flat_map signatures_in (map sibling_by_name entries)) ≡ length (flat_map file_signatures entries)
+in_configurations [] = refl
+in_configurations (entry ∷ entries) =
+    both _ _ (file_signatures entry) (flat_map file_signatures entries) (signatures_by_name entry.children) (in_configurations entries)
+
+-- The number of signature nodes.
+pub signature_count_is : (content : FitContent) → IsHeld content → signature_count (tree_of content) ≡ length (flat_map file_signatures (siblings (file_images content.blob))) + length (flat_map file_signatures (siblings (file_configurations content.blob)))
+signature_count_is content held =
+    ap₂ (λ m n. m + n)
+    (ap (λ (entries : List (Sibling PropertyMap)). length (flat_map (λ image. signatures_in image.entry) (images_with entries (map (λ image. image.payload) content.images)))) (image_siblings content)
+    ∙ in_images content.blob.file (siblings (file_images content.blob)) content.images held.images)
+    (ap (λ (nodes : Nodes PropertyMap). length (flat_map signatures_in (siblings nodes))) (configuration_nodes_are content)
+    ∙ ap (λ (entries : List (Sibling PropertyMap)). length (flat_map signatures_in entries)) (siblings-by_name (file_configurations content.blob))
+    ∙ in_configurations (siblings (file_configurations content.blob)))

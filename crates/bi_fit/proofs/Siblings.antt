@@ -1,7 +1,7 @@
-use Rattle.std.proofs.Common.{◌≡◌, ◌∷◌, Option, Some, None, refl, sym, ap, ◌∙◌}
+use Rattle.std.proofs.Common.{◌≡◌, ◌∷◌, Option, Some, refl, sym, ap, ◌∙◌}
 use Rattle.std.specs.Option.{option_map}
 use Rattle.bi_blob.specs.Tree.{Nodes, none, node, FileNode}
-use Rattle.bi_blob.specs.Lookups.{Sibling, siblings, node_at}
+use Rattle.bi_blob.specs.Lookups.{siblings, node_at}
 use Rattle.bi_fdt.specs.declared.node.NodeRef.{NodeRef}
 use Rattle.bi_fdt.specs.Views.{node_of}
 use Rattle.bi_fit.specs.Siblings.{siblings_from}

@@ -1,4 +1,4 @@
-use Rattle.std.specs.Prelude.{◌≡◌, ◌∷◌, ℕ, ⊤, List, map, Option, Some, None}
+use Rattle.std.specs.Prelude.{◌≡◌, ℕ, ⊤, List, map}
 use Rattle.std.specs.Option.{option_map}
 use Rattle.bi_blob.specs.Tree.{names}
 use Rattle.bi_fit.specs.declared.hashes.Checked.{Checked}

@@ -1,8 +1,7 @@
-use Rattle.std.proofs.Common.{◌≡◌, ◌+◌, map, vec_len, Some, sym, ap, ◌∙◌}
+use Rattle.std.proofs.Common.{map, vec_len, sym}
 use Rattle.std.proofs.lemmas.List.{map-append}
 use Rattle.bi_fit.specs.Judgement.{listed_names}
 use Rattle.bi_fit.specs.Judging.{listed_image}
-use Rattle.bi_fit.specs.Nodes.{file_list, with_images}
 use Rattle.bi_fit.proofs.FileLists.{next_is_missing, next_is_found, none_is_left, out_of_memory}
 use Rattle.bi_fit.proofs.lists.find_images.Goals as goal
 

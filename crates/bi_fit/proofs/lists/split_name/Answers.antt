@@ -1,6 +1,5 @@
-use Rattle.std.proofs.Common.{◌≡◌, ◌≤◌, ◌+◌, length, Some, sym, ap, ◌∙◌, rules, arith}
+use Rattle.std.proofs.Common.{◌≤◌, ◌+◌, length, sym, ap, ◌∙◌, rules}
 use Rattle.std.specs.Option.{option_copied}
-use Rattle.bi_hash.specs.Verdicts.{text_before_nul}
 use Rattle.bi_fit.proofs.FileLists.{no_name, name_is_shorter, begins_with_name}
 use Rattle.bi_fit.proofs.lists.split_name.Goals as goal
 

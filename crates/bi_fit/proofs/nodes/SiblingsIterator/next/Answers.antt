@@ -1,4 +1,4 @@
-use Rattle.std.proofs.Common.{◌≡◌, ◌<◌, ◌∷◌, length, suc, ap, rules}
+use Rattle.std.proofs.Common.{◌≡◌, length, suc, ap, rules}
 use Rattle.std.specs.Option.{option_map}
 use Rattle.bi_fdt.specs.Views.{node_of}
 use Rattle.bi_fit.specs.Siblings.{siblings_from}
