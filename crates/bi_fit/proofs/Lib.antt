@@ -24,3 +24,9 @@ pub mod ReadErrors
 pub mod ReadImages
 pub mod Indices
 pub mod ReadBlobs
+pub mod FileNodes
+pub mod Siblings
+pub mod FileVerdicts
+pub mod FileConfigurations
+pub mod FileLists
+pub mod FileSignatures

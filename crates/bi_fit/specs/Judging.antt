@@ -1,11 +1,11 @@
-use Rattle.std.specs.Prelude.{◌≡◌, ◌∷◌, ℕ, ⊤, List, map, Option, Some, None}
+use Rattle.std.specs.Prelude.{◌≡◌, ℕ, ⊤, List, map}
 use Rattle.std.specs.Option.{option_map}
 use Rattle.bi_blob.specs.Tree.{names}
 use Rattle.bi_fit.specs.declared.hashes.Checked.{Checked}
 use Rattle.bi_fit.specs.declared.configurations.Named.{Named}
 use Rattle.bi_fit.specs.declared.configurations.ConfigError.{ConfigError}
 use Rattle.bi_fit.specs.declared.configurations.ConfigError.TheVariants as error
-use Rattle.bi_fit.specs.ImageTree.{ImageTree}
+use Rattle.bi_fit.specs.Content.{FitContent, tree_of}
 use Rattle.bi_fit.specs.Judgement.{CheckedHash, ListedImage, configuration_nodes}
 use Rattle.bi_fit.specs.Judgement.{Listed, NoConfiguration, NoKey, BadList, MissingImage}
 use Rattle.bi_fit.specs.Judgement.{ListedImages}
@@ -44,12 +44,14 @@ IsListError listed error.BadList = listed ≡ BadList
 IsListError listed (error.Missing index) = listed ≡ MissingImage index
 IsListError listed error.OutOfMemory = NeedsMemory listed
 
--- A configuration of a tree, by its name.
+-- A configuration of a flattened image tree, by its name.
 pub record NamedConfiguration : Type 0 where
-  pub tree : ImageTree
+  pub content : FitContent
   pub name : List ℕ
 
--- The configurations of a tree, in their order.
-abbrev pub configurations_of : ImageTree → List NamedConfiguration
-configurations_of tree =
-    map (λ name. record { tree = tree; name = name }) (names (configuration_nodes tree))
+-- The configurations of a flattened image tree, in their order.
+abbrev pub configurations_of : FitContent → List NamedConfiguration
+configurations_of content =
+    map
+    (λ name. record { content = content; name = name })
+    (names (configuration_nodes (tree_of content)))

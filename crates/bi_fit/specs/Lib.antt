@@ -11,6 +11,9 @@ pub mod Fields
 pub mod Images
 pub mod Reading
 pub mod Documents
+pub mod Nodes
+pub mod Judging
+pub mod Siblings
 pub mod Laws
 pub mod KnownFiles
 pub mod KnownFaults

@@ -1,15 +1,18 @@
 //! The configurations of a flattened image tree.
 
-ghost use Rattle.std.specs.Prelude.{◌≡◌, ◌∷◌, [], ◌+◌, length, map, slice_get, IfOk, IfErr, List, MatchOption};
+ghost use Rattle.std.specs.Prelude.{◌≡◌, length, map, slice_get, IfOk, IfErr};
 ghost use Rattle.std.specs.Option.{option_map};
 ghost use Rattle.bi_blob.specs.Tree.{names};
 ghost use Rattle.bi_fit.specs.Content.{tree_of};
-ghost use Rattle.bi_fit.specs.Judgement.{configuration_nodes, default_of, listed_of, ListedImages, signature_count};
-ghost use Rattle.bi_fit.specs.Judging.{configurations_of, listed_image, IsListError};
+ghost use Rattle.bi_fit.specs.Judgement.{configuration_nodes, default_of, listed_of, ListedImages};
 
 use crate::fit::Fit;
 use crate::key::Key;
-use std::alloc::{AllocError, Global};
+use crate::lists::list_images;
+use crate::nodes::Siblings;
+use bi_fdt::NodeRef;
+use bi_hash::text_before_nul;
+use std::alloc::{AllocError, AllocFailed, Global};
 use std::marker::Model;
 
 /// A name that a configuration lists, and the payload of the image of that name.
@@ -41,8 +44,18 @@ pub enum ConfigError {
     OutOfMemory,
 }
 
+impl<T: Drop> From<AllocFailed<T>> for ConfigError {
+    ghost use Rattle.bi_fit.specs.declared.configurations.ConfigError.TheVariants.{OutOfMemory};
+
+    ghost from_gives = { λ _ error. error ≡ OutOfMemory };
+
+    fn from(_error: AllocFailed<T>) -> ConfigError {
+        ConfigError::OutOfMemory
+    }
+}
+
 /// A configuration of a flattened image tree.
-#[derive(Clone, Copy)]
+#[derive(Drop)]
 pub struct Configuration<'a, 'b> {
     fit: &'b Fit<'a>,
     node: NodeRef<'a, 'b>,
@@ -50,34 +63,42 @@ pub struct Configuration<'a, 'b> {
 
 impl<'a, 'b> Model for Configuration<'a, 'b> {
     ghost use Rattle.bi_fdt.specs.Views.{node_of};
-    ghost use Rattle.bi_fit.specs.Content.{tree_of};
     ghost use Rattle.bi_fit.specs.Judging.{NamedConfiguration};
+    ghost use Rattle.bi_fit.specs.Nodes.{IsConfiguration};
 
     ghost Value = { NamedConfiguration };
 
     ghost view = { λ configuration. record {
-      tree = tree_of configuration.fit.now;
+      content = configuration.fit.now;
       name = (node_of configuration.node).name;
     } };
+
+    ghost invariant = { λ configuration. IsConfiguration
+        configuration.fit.now (node_of configuration.node) };
 }
 
 impl<'a, 'b> Configuration<'a, 'b> {
+    ghost use Rattle.bi_fit.specs.Judging.{listed_image, IsListError};
+
     /// The name.
-    pub fn name(self) -> &'a [u8]
-        ensures { result.now ≡ self.entry.name }
+    pub fn name(&self) -> &'a [u8]
+        ensures { result.now ≡ self.now.name }
     {
         self.node.name()
     }
 
     /// Returns the images that the configuration lists under a key, in their order.
     ///
-    /// Errors, the first that applies: NoKey; BadList; Missing; OutOfMemory.
-    pub fn payloads(self, alloc: Global, key: Key) -> Result<Vec<Named<'a>>, ConfigError>
-        ensures listed { IfOk result (λ listed. listed_of self.entry.tree self.entry.name key
-            ≡ ListedImages (map listed_image listed.items)) }
-        ensures failed { IfErr result (IsListError (listed_of self.entry.tree self.entry.name key)) }
+    /// Errors, the first that applies: NoKey; BadList; Missing. OutOfMemory comes only if neither
+    /// of the first two applies.
+    pub fn payloads(&self, alloc: Global, key: Key) -> Result<Vec<Named<'a>>, ConfigError>
+        ensures listed { IfOk result (λ listed. listed_of (tree_of self.now.content) self.now.name
+            key ≡ ListedImages (map listed_image listed.items)) }
+        ensures failed { IfErr result (IsListError
+            (listed_of (tree_of self.now.content) self.now.name key)) }
     {
-        todo
+        self.fit.held();
+        list_images(alloc, self.fit, self.node, key)
     }
 }
 
@@ -85,41 +106,105 @@ impl<'a, 'b> Configuration<'a, 'b> {
 #[derive(Drop)]
 pub struct Configurations<'a, 'b> {
     fit: &'b Fit<'a>,
-    next: Option<NodeRef<'a, 'b>>,
+    nodes: Siblings<'a, 'b>,
 }
 
-impl<'a, 'b> Fit<'a> {
+impl<'a, 'b> Model for Configurations<'a, 'b> {
+    ghost use Rattle.std.specs.Prelude.{List, map};
+    ghost use Rattle.std.specs.List.{AllByRecursion};
+    ghost use Rattle.bi_fit.specs.Judging.{NamedConfiguration};
+    ghost use Rattle.bi_fit.specs.Nodes.{IsConfiguration};
+    ghost use Rattle.bi_fit.specs.Siblings.{siblings_left};
+
+    ghost Value = { List NamedConfiguration };
+
+    ghost view = { λ configurations. map
+        (λ node. record { content = configurations.fit.now; name = node.name })
+        (siblings_left configurations.nodes) };
+
+    ghost invariant = { λ configurations. AllByRecursion
+        (IsConfiguration configurations.fit.now) (siblings_left configurations.nodes) };
+}
+
+impl<'a, 'b> Iterator for Configurations<'a, 'b> {
+    ghost use Rattle.std.specs.Iterator.{YieldsFirst, item_count};
+
+    type Item = Configuration<'a, 'b>;
+
+    ghost next_gives = { YieldsFirst (λ configurations. configurations) };
+
+    ghost remaining = { item_count (λ configurations. configurations) };
+
+    fn next(&mut self) -> Option<Configuration<'a, 'b>> {
+        let node = self.nodes.next()?;
+        Some(Configuration {
+            fit: self.fit,
+            node,
+        })
+    }
+}
+
+impl<'a> Fit<'a> {
+    ghost use Rattle.bi_fit.specs.Judging.{configurations_of, listed_image, IsListError};
+
     /// The configurations, in their order in the file. Going over all of them takes time linear in
     /// their number.
-    pub fn configurations(&'b self) -> Configurations<'a, 'b>
-        ensures { result ≡ configurations_of (tree_of self.now) }
+    pub fn configurations<'b>(&'b self) -> Configurations<'a, 'b>
+        ensures { result ≡ configurations_of self.now }
+    {
+        self.held();
+        Configurations {
+            fit: self,
+            nodes: self.configuration_nodes(),
+        }
+    }
 
     /// The number of the configurations. Takes time linear in it.
     pub fn config_count(&self) -> usize
         ensures { result ≡ length (names (configuration_nodes (tree_of self.now))) }
+    {
+        match self.configurations_node() {
+            Some(node) => node.child_count(),
+            None => 0,
+        }
+    }
 
     /// The name of configuration `index`, from 0. None exactly if there is no such configuration.
+    /// Takes time linear in the configurations before it.
     pub fn config_name(&self, index: usize) -> Option<&'a [u8]>
         ensures { option_map (λ name. name.now) result
             ≡ slice_get (names (configuration_nodes (tree_of self.now))) index }
+    {
+        Some(self.configurations_node()?.child_at(index)?.name())
+    }
 
     /// The name of the default configuration: the bytes of the property `default` of
     /// `/configurations` before its first zero. None exactly if there is no such node or property,
     /// or no zero in it. Whether there is such a configuration is not asked.
     pub fn default_config(&self) -> Option<&'a [u8]>
         ensures { option_map (λ name. name.now) result ≡ default_of (tree_of self.now) }
+    {
+        text_before_nul(self.configurations_node()?.property(b"default")?)
+    }
 
     /// Returns the images that the configuration of this name lists under a key, in their order.
     ///
-    /// Errors, the first that applies: NoConfig; NoKey; BadList; Missing; OutOfMemory.
-    pub fn config_payloads(&self, alloc: Global, conf: &[u8], key: Key)
-        -> Result<Vec<Named<'a>>, ConfigError>
+    /// Errors, the first that applies: NoConfig; NoKey; BadList; Missing. OutOfMemory comes only if
+    /// none of the first three applies.
+    pub fn config_payloads(
+        &self,
+        alloc: Global,
+        conf: &[u8],
+        key: Key,
+    ) -> Result<Vec<Named<'a>>, ConfigError>
         ensures listed { IfOk result (λ listed. listed_of (tree_of self.now) conf.now key
             ≡ ListedImages (map listed_image listed.items)) }
         ensures failed { IfErr result (IsListError (listed_of (tree_of self.now) conf.now key)) }
-
-    /// The number of signature nodes: children of image nodes and of configuration nodes whose
-    /// names begin with `signature`. Takes time linear in the number of these children.
-    pub fn signature_count(&self) -> usize
-        ensures { result ≡ signature_count (tree_of self.now) }
+    {
+        self.held();
+        match self.configuration_node(conf) {
+            Some(node) => list_images(alloc, self, node, key),
+            None => Err(ConfigError::NoConfig),
+        }
+    }
 }

@@ -3,7 +3,8 @@
 ghost use Rattle.std.specs.Prelude.{◌≡◌, length, map, slice_get, IfOk, IfErr};
 ghost use Rattle.std.specs.Option.{option_map, option_and_then};
 ghost use Rattle.bi_base.specs.declared.fault.Error.TheVariants.{OutOfMemory};
-ghost use Rattle.bi_fit.specs.Content.{index_of, place_or_absent, read_image, HasIndices};
+ghost use Rattle.bi_fit.specs.Content.{index_of, place_or_absent, read_image};
+ghost use Rattle.bi_fit.specs.Content.{HasIndices, IsHeld};
 ghost use Rattle.bi_fit.specs.Reading.{IsReadFrom, IsReadError};
 
 use crate::image::{Image, Place};
@@ -122,6 +123,13 @@ impl<'a> Fit<'a> {
             Some(image) => image.place,
             None => Place::Absent,
         }
+    }
+
+    /// Does nothing. Proofs outside this module get the invariant from it.
+    pub(crate) fn held(&self)
+        ensures { IsHeld self.now }
+    {
+        let _ = &self.images;
     }
 }
 

@@ -1,15 +1,21 @@
 //! The hash nodes of a flattened image tree, and the verdicts on them.
 
-ghost use Rattle.std.specs.Prelude.{◌≡◌, map, IfOk, IfErr};
+ghost use Rattle.std.specs.Prelude.{◌≡◌, ◌++◌, map, IfOk, IfErr, OnOk};
+ghost use Rattle.std.specs.Option.{option_map};
 ghost use Rattle.bi_base.specs.declared.fault.Error.TheVariants.{OutOfMemory};
+ghost use Rattle.bi_blob.specs.Lookups.{siblings};
+ghost use Rattle.bi_fdt.specs.Views.{node_of};
 ghost use Rattle.bi_fit.specs.Content.{tree_of};
 ghost use Rattle.bi_fit.specs.Judgement.{verdicts_of};
 ghost use Rattle.bi_fit.specs.Judging.{checked_hash_of};
+ghost use Rattle.bi_fit.specs.Nodes.{file_hash, file_hashes};
 
 use crate::fit::Fit;
+use crate::nodes::Siblings;
 use bi_base::Error;
-use bi_hash::Verdict;
-use std::alloc::Global;
+use bi_fdt::NodeRef;
+use bi_hash::{PayloadDigests, Verdict, text_before_nul};
+use std::alloc::{AllocError, Global};
 
 /// A hash node, and the verdict on it.
 #[derive(Clone, Copy, Debug, PartialEq, Eq)]
@@ -37,7 +43,52 @@ impl<'a> Fit<'a> {
             ≡ verdicts_of (tree_of self.now)) }
         ensures error { IfErr result (λ error. error ≡ OutOfMemory) }
     {
-        let _ = alloc;
-        Err(Error::OutOfMemory)
+        let mut checked = Vec::new(alloc);
+        for (node, image) in self.image_nodes().zip(self.images()) {
+            check_image(&mut checked, node, image.payload)?;
+        }
+        Ok(checked)
+    }
+}
+
+/// Adds the hash nodes of an image with this payload, with their verdicts.
+fn check_image<'a>(
+    checked: &mut Vec<Checked<'a>>,
+    image: NodeRef<'a, '_>,
+    payload: Option<&[u8]>,
+) -> Result<(), AllocError>
+    ensures { OnOk result (map checked_hash_of checked.new.items
+        ≡ map checked_hash_of checked.old.items ++ file_hashes
+        (node_of image.entry).name
+        (option_map (λ payload. payload.now) payload.entry)
+        (siblings (node_of image.entry).children)) }
+{
+    let mut digests = PayloadDigests::new(payload);
+    for node in Siblings::children(image) {
+        if node.name().starts_with(b"hash") {
+            checked.push(check_hash(image.name(), node, &mut digests))?;
+        }
+    }
+    Ok(())
+}
+
+/// Judges a hash node of an image of this name, by the digests of its payload.
+fn check_hash<'a>(
+    image: &'a [u8],
+    node: NodeRef<'a, '_>,
+    digests: &mut PayloadDigests,
+) -> Checked<'a>
+    ensures checked { checked_hash_of result
+        ≡ file_hash image.entry.now digests.old (node_of node.entry) }
+    ensures same { digests.new ≡ digests.old }
+{
+    let algo = node.property(b"algo");
+    let value = node.property(b"value");
+    Checked {
+        image,
+        node: node.name(),
+        algo: algo.and_then(|algo| text_before_nul(algo)),
+        value,
+        verdict: digests.verdict(algo, value),
     }
 }

@@ -1,5 +1,8 @@
 //! The properties of a configuration that list images.
 
+ghost use Rattle.std.specs.Prelude.{◌≡◌};
+ghost use Rattle.bi_fit.specs.Names.{key_name};
+
 /// A property of a configuration node that lists images by their names.
 #[derive(Clone, Copy, Debug, PartialEq, Eq)]
 pub enum Key {
@@ -15,4 +18,20 @@ pub enum Key {
     Loadables,
     /// `script`.
     Script,
+}
+
+impl Key {
+    /// The name of the property.
+    pub fn name(self) -> &'static str
+        ensures { result.now ≡ key_name self }
+    {
+        match self {
+            Key::Kernel => "kernel",
+            Key::Fdt => "fdt",
+            Key::Ramdisk => "ramdisk",
+            Key::Firmware => "firmware",
+            Key::Loadables => "loadables",
+            Key::Script => "script",
+        }
+    }
 }

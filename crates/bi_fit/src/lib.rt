@@ -2,15 +2,22 @@
 //! hashes, its configurations, and the document of its normal text.
 #![tactic(auto)]
 
+mod configurations;
 mod fit;
 mod form;
+mod hashes;
 mod image;
 mod images;
 mod key;
 pub mod known_files;
 pub mod laws;
+mod lists;
+mod nodes;
+mod signatures;
 
+pub use configurations::{ConfigError, Configuration, Configurations, Named};
 pub use fit::Fit;
 pub use form::Form;
+pub use hashes::Checked;
 pub use image::{Image, Place};
 pub use key::Key;

@@ -3,3 +3,4 @@ pub mod DigestBytes
 pub mod GoodValues
 pub mod Names
 pub mod Texts
+pub mod KeptDigests

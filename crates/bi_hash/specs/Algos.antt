@@ -18,6 +18,15 @@ algorithm_name Sha512 = codes "sha512"
 abbrev pub all_algorithms : List Algo
 all_algorithms = Crc32 ∷ Md5 ∷ Sha1 ∷ Sha256 ∷ Sha384 ∷ Sha512 ∷ []
 
+-- The index of an algorithm among them.
+abbrev pub algorithm_index : Algo → ℕ
+algorithm_index Crc32 = 0
+algorithm_index Md5 = 1
+algorithm_index Sha1 = 2
+algorithm_index Sha256 = 3
+algorithm_index Sha384 = 4
+algorithm_index Sha512 = 5
+
 -- The algorithm with exactly this name, if there is one.
 unfoldable pub find_algorithm : List ℕ → Option Algo
 find_algorithm name = find (λ algo. bytes_eq (algorithm_name algo) name) all_algorithms

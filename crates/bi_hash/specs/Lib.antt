@@ -1,3 +1,4 @@
 pub mod Algos
 pub mod Digests
 pub mod Verdicts
+pub mod KeptDigests

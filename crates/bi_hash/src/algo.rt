@@ -4,7 +4,7 @@
 ghost use Rattle.std.specs.Prelude.{◌≡◌, ◌↔◌, ◌-◌, ◌++◌, length, replicate};
 ghost use Rattle.std.specs.List.{find};
 ghost use Rattle.std.specs.Str.{bytes_eq};
-ghost use Rattle.bi_hash.specs.Algos.{algorithm_name, find_algorithm};
+ghost use Rattle.bi_hash.specs.Algos.{algorithm_index, algorithm_name, find_algorithm};
 ghost use Rattle.bi_hash.specs.Digests.{digest_of, digest_size};
 
 use crate::pieces::digest_in_pieces;
@@ -65,6 +65,13 @@ impl Algo {
             Algo::Sha384 => "sha384",
             Algo::Sha512 => "sha512",
         }
+    }
+
+    /// The index of the algorithm in the order of `Algo`.
+    pub(crate) fn index(self) -> usize
+        ensures { result ≡ algorithm_index self }
+    {
+        self as usize
     }
 
     /// Writes the digest of a payload to the first bytes of `out`, and zeros after it. Returns the

@@ -5,7 +5,7 @@ ghost use Rattle.std.specs.Prelude.{◌≡◌, ◌==◌, position};
 ghost use Rattle.std.specs.Option.{option_copied};
 ghost use Rattle.bi_hash.specs.Verdicts.{text_before_nul, verdict_of};
 
-use crate::algo::Algo;
+use crate::payload_digests::PayloadDigests;
 use crate::verdicts::Verdict;
 
 #[cfg(test)]
@@ -20,34 +20,16 @@ mod tests;
 /// - `NoPayload`: there is no payload;
 /// - `Good`: the value is the payload's digest, of the same length;
 /// - `Bad`: none of these.
-#[tactic(auto, unfolding(crate::specs::Verdicts::verdict_of))]
 pub fn verdict(algo: Option<&[u8]>, value: Option<&[u8]>, payload: Option<&[u8]>) -> Verdict
     ensures { result ≡ verdict_of (option_copied algo.entry) (option_copied value.entry)
         (option_copied payload.entry) }
 {
-    let (Some(algo), Some(value)) = (algo, value) else {
-        return Verdict::Malformed;
-    };
-    let Some(name) = text_before_nul(algo) else {
-        return Verdict::Malformed;
-    };
-    let Some(algo) = Algo::from_name(name) else {
-        return Verdict::UnknownAlgo;
-    };
-    let Some(payload) = payload else {
-        return Verdict::NoPayload;
-    };
-    let mut digest = [0; 64];
-    let length = algo.digest(payload, &mut digest);
-    if value == &digest[..length] {
-        Verdict::Good
-    } else {
-        Verdict::Bad
-    }
+    PayloadDigests::new(payload).verdict(algo, value)
 }
 
-/// The text of a property's value: the bytes before its first NUL. None if it has no NUL.
-fn text_before_nul(value: &[u8]) -> Option<&[u8]>
+/// The text of the value of a property: the bytes before its first NUL. None exactly if there is no
+/// NUL.
+pub fn text_before_nul(value: &[u8]) -> Option<&[u8]>
     ensures { option_copied result ≡ text_before_nul value.now }
 {
     let end = position_of_nul(value)?;

@@ -1,0 +1,238 @@
+use Rattle.std.proofs.Common.{◌≡◌, ℕ, suc, ◌+◌, ◌≤◌, Bool, true, false, cond, ◌==◌, List, [], ◌∷◌, ◌++◌, length, drop, map, Option, Some, None, option_and_then, slice_get, bytes_eq, nat_eq, refl, sym, ap, ap₂, subst, ◌∙◌, arith, one-add, if◌then◌else◌, take, ◌-◌}
+use Rattle.std.proofs.lemmas.List.{length-drop, take_rest}
+use Rattle.std.specs.Prelude.{Result, Ok, Err, IfErr}
+use Rattle.std.specs.Result.{IsErrAnd}
+use Rattle.std.specs.Option.{option_map}
+use Rattle.std.specs.List.{AllZip, list_any, before_first, ends_with}
+use Rattle.std.proofs.lemmas.Option.{cond_some, same_Some}
+use Rattle.bi_blob.specs.Tree.{Nodes, FileNode, PropertyMap, properties_of}
+use Rattle.bi_blob.specs.Lookups.{Sibling, siblings, node_named, value_named}
+use Rattle.bi_hash.specs.Verdicts.{text_before_nul}
+use Rattle.bi_fit.specs.declared.key.Key.{Key}
+use Rattle.bi_fit.specs.Names.{key_name}
+use Rattle.bi_fit.specs.Content.{FitContent, ReadImage, IsReadImage, IsHeld, tree_of, index_from, index_of}
+use Rattle.bi_fit.specs.Judgement.{Image, images_with, images_of, image_named, ListedImage, Listed, NoConfiguration, NoKey, BadList, MissingImage, ListedImages, with_byte, with_image, listed_names, listed_from, list_images, listed_at, listed_under, listed_of, configuration_nodes}
+use Rattle.bi_fit.specs.declared.configurations.ConfigError.{ConfigError}
+use Rattle.bi_fit.specs.declared.configurations.ConfigError.TheVariants.{OutOfMemory}
+use Rattle.bi_fit.specs.Judging.{NeedsMemory, IsListError}
+use Rattle.bi_fit.specs.Nodes.{file_images, file_configurations, payload_named, listed_payload, file_list, BeginsWithName, file_listed_at, file_listed, with_images}
+use Rattle.bi_fit.proofs.FileNodes.{bare_image, sibling_by_name, get-by_name, named-by_name, image_siblings, configuration_nodes_are}
+
+-- What a configuration of an image tree that was read lists.
+
+-- Whether a byte is a zero.
+abbrev is_zero : ℕ → Bool
+is_zero byte = byte == 0
+
+-- A value with a zero lists the name before the first one, and what follows it.
+first_name : (value : List ℕ) → list_any is_zero value ≡ true → listed_names value ≡ before_first is_zero value ∷ listed_names (drop (suc (length (before_first is_zero value))) value)
+first_name [] some = absurd cc
+first_name (byte ∷ later) some = where_first (is_zero byte) refl some (λ some. first_name later some)
+  where
+    where_first : (b : Bool) → is_zero byte ≡ b → list_any is_zero (byte ∷ later) ≡ true → (list_any is_zero later ≡ true → listed_names later ≡ before_first is_zero later ∷ listed_names (drop (suc (length (before_first is_zero later))) later)) → listed_names (byte ∷ later) ≡ before_first is_zero (byte ∷ later) ∷ listed_names (drop (suc (length (before_first is_zero (byte ∷ later)))) (byte ∷ later))
+    where_first true is some rest = rw is refl
+    where_first false is some rest = rw (is, one-add) (ap (with_byte byte) (rest (rw is at some)))
+
+-- One without lists nothing.
+without_zero : (value : List ℕ) → list_any is_zero value ≡ false → listed_names value ≡ []
+without_zero [] none = refl
+without_zero (byte ∷ later) none = where_first (is_zero byte) refl none (λ none. without_zero later none)
+  where
+    where_first : (b : Bool) → is_zero byte ≡ b → list_any is_zero (byte ∷ later) ≡ false → (list_any is_zero later ≡ false → listed_names later ≡ []) → listed_names (byte ∷ later) ≡ []
+    where_first true is none rest = absurd (let e : true ≡ false = rw is at none in cc)
+    where_first false is none rest = rw is (ap (with_byte byte) (rest (rw is at none)))
+
+-- The text before a zero is shorter.
+shorter : (value : List ℕ) → list_any is_zero value ≡ true → length (before_first is_zero value) + 1 ≤ length value
+shorter [] some = absurd cc
+shorter (byte ∷ later) some = where_first (is_zero byte) refl some (λ some. shorter later some)
+  where
+    where_first : (b : Bool) → is_zero byte ≡ b → list_any is_zero (byte ∷ later) ≡ true → (list_any is_zero later ≡ true → length (before_first is_zero later) + 1 ≤ length later) → length (before_first is_zero (byte ∷ later)) + 1 ≤ length (byte ∷ later)
+    where_first true is some rest = rw is (omega arith)
+    where_first false is some rest =
+        let few : length (before_first is_zero later) + 1 ≤ length later = rest (rw is at some) in
+        rw (is, one-add) (omega arith)
+
+pub next_name : (value name : List ℕ) → text_before_nul value ≡ Some name → listed_names value ≡ name ∷ listed_names (drop (length name + 1) value)
+unfolding text_before_nul
+next_name value name is =
+    let there = cond_some (list_any is_zero value) (before_first is_zero value) name is in
+    subst (λ (text : List ℕ). listed_names value ≡ text ∷ listed_names (drop (length text + 1) value)) there.1
+    (first_name value there.0 ∙ ap (λ n. before_first is_zero value ∷ listed_names (drop n value)) (one (length (before_first is_zero value))))
+  where
+    one : (n : ℕ) → suc n ≡ n + 1
+    one n = omega arith
+
+pub no_name : (value : List ℕ) → text_before_nul value ≡ None → listed_names value ≡ []
+unfolding text_before_nul
+no_name value is = by_test (list_any is_zero value) refl
+  where
+    by_test : (b : Bool) → list_any is_zero value ≡ b → listed_names value ≡ []
+    by_test true some = absurd (let e : Some (before_first is_zero value) ≡ None = sym (ap (λ b. cond b (Some (before_first is_zero value)) None) some) ∙ is in cc)
+    by_test false none = without_zero value none
+
+pub name_is_shorter : (value name : List ℕ) → text_before_nul value ≡ Some name → length name + 1 ≤ length value
+unfolding text_before_nul
+name_is_shorter value name is =
+    let there = cond_some (list_any is_zero value) (before_first is_zero value) name is in
+    subst (λ (text : List ℕ). length text + 1 ≤ length value) there.1 (shorter value there.0)
+
+-- A value begins with its first name.
+pub begins_with_name : (value name : List ℕ) → text_before_nul value ≡ Some name → BeginsWithName value name (take (length value - (length name + 1)) (drop (length name + 1) value))
+begins_with_name value name is =
+    let few : length name + 1 ≤ length value = name_is_shorter value name is in
+    rw take_rest (record { listed = next_name value name is; shorter = simp length-drop (omega arith) })
+
+-- The payload at an index of images that were read.
+abbrev payload_at : List ReadImage → ℕ → Option (List ℕ)
+payload_at images index = option_and_then (λ image. image.payload) (slice_get images index)
+
+module _ (name : List ℕ) where
+  -- The image at the index that is found for a name is the one of this name.
+  found_from : (base : ℕ) (images : List ReadImage) (index : ℕ) → index_from base name images ≡ Some index → (k : ℕ) × (index ≡ base + k) × (payload_named name images ≡ Some (payload_at images k))
+  found_from base [] index is = absurd cc
+  found_from base (image ∷ later) index is = where_first (bytes_eq image.name name) refl is (λ is. found_from (base + 1) later index is)
+    where
+      Found : ℕ → List ReadImage → Type 0
+      Found base images = (k : ℕ) × (index ≡ base + k) × (payload_named name images ≡ Some (payload_at images k))
+
+      where_first : (b : Bool) → bytes_eq image.name name ≡ b → index_from base name (image ∷ later) ≡ Some index → (index_from (base + 1) name later ≡ Some index → Found (base + 1) later) → Found base (image ∷ later)
+      where_first true same is rest =
+          let here : Some base ≡ Some index = rw same at is in
+          let at : base ≡ index = same_Some base index here in
+          (0, omega arith, rw same refl)
+      where_first false other is rest =
+          let found = rest (rw other at is) in
+          let at : index ≡ base + 1 + found.0 = found.1 in
+          (suc found.0, omega arith, rw other found.2)
+
+  -- If none is found, no image has the name.
+  missing_from : (base : ℕ) (images : List ReadImage) → index_from base name images ≡ None → payload_named name images ≡ None
+  missing_from base [] is = refl
+  missing_from base (image ∷ later) is = where_first (bytes_eq image.name name) refl is (λ is. missing_from (base + 1) later is)
+    where
+      where_first : (b : Bool) → bytes_eq image.name name ≡ b → index_from base name (image ∷ later) ≡ None → (index_from (base + 1) name later ≡ None → payload_named name later ≡ None) → payload_named name (image ∷ later) ≡ None
+      where_first true same is rest = absurd (let e : Some base ≡ None = rw same at is in cc)
+      where_first false other is rest = rw other (rest (rw other at is))
+
+pub payload_found : (name : List ℕ) (images : List ReadImage) (index : ℕ) → index_of name images ≡ Some index → payload_named name images ≡ Some (payload_at images index)
+payload_found name images index is =
+    let found = found_from name 0 images index is in
+    let at : found.0 ≡ index = (let e : index ≡ 0 + found.0 = found.1 in omega arith) in
+    found.2 ∙ ap (λ k. Some (payload_at images k)) at
+
+pub payload_missing : (name : List ℕ) (images : List ReadImage) → index_of name images ≡ None → payload_named name images ≡ None
+payload_missing name images is = missing_from name 0 images is
+
+-- One more image after others that are listed.
+pub with_one_more : (images : List ListedImage) (image : ListedImage) (listed : Listed) → with_images (images ++ image ∷ []) listed ≡ with_images images (with_image image listed)
+with_one_more [] image listed = refl
+with_one_more (first ∷ later) image listed = ap (with_image first) (with_one_more later image listed)
+
+-- After images that are listed comes a missing one.
+pub missing_after : (images : List ListedImage) (index : ℕ) → with_images images (MissingImage index) ≡ MissingImage index
+missing_after [] index = refl
+missing_after (first ∷ later) index = ap (with_image first) (missing_after later index)
+
+-- Or nothing.
+pub listed_all : (images : List ListedImage) → with_images images (ListedImages []) ≡ ListedImages images
+listed_all [] = refl
+listed_all (first ∷ later) = ap (with_image first) (listed_all later)
+
+-- A list of names is found in memory.
+pub needs_memory : (images : List ReadImage) (index : ℕ) (names : List (List ℕ)) → NeedsMemory (file_list images index names)
+needs_memory images index [] = tt
+needs_memory images index (name ∷ later) = by_payload (payload_named name images) (needs_memory images (index + 1) later)
+  where
+    by_listed : (image : ListedImage) (listed : Listed) → NeedsMemory listed → NeedsMemory (with_image image listed)
+    by_listed image NoConfiguration needs = needs
+    by_listed image NoKey needs = needs
+    by_listed image BadList needs = needs
+    by_listed image (MissingImage index) needs = needs
+    by_listed image (ListedImages images) needs = tt
+
+    by_payload : (found : Option (Option (List ℕ))) → NeedsMemory (file_list images (index + 1) later) → NeedsMemory (listed_payload index name found (file_list images (index + 1) later))
+    by_payload None needs = tt
+    by_payload (Some payload) needs = by_listed (record { name = name; payload = payload }) (file_list images (index + 1) later) needs
+
+-- What a value lists where these images were found, and the names in `rest` are left.
+module _ (images : List ReadImage) (value rest : List ℕ) (done : List ListedImage) (index : ℕ) (so_far : file_list images 0 (listed_names value) ≡ with_images done (file_list images index (listed_names rest))) where
+  -- The next name is one that no image has.
+  pub next_is_missing : (name later : List ℕ) → BeginsWithName rest name later → index_of name images ≡ None → file_list images 0 (listed_names value) ≡ MissingImage index
+  next_is_missing name later begins none =
+      so_far
+      ∙ ap (λ names. with_images done (file_list images index names)) begins.listed
+      ∙ ap (λ found. with_images done (listed_payload index name found (file_list images (index + 1) (listed_names later)))) (payload_missing name images none)
+      ∙ missing_after done index
+
+  -- The next image is found.
+  pub next_is_found : (name later : List ℕ) (found : ℕ) (payload : Option (List ℕ)) → BeginsWithName rest name later → index_of name images ≡ Some found → payload ≡ payload_at images found → file_list images 0 (listed_names value) ≡ with_images (done ++ record { name = name; payload = payload } ∷ []) (file_list images (index + 1) (listed_names later))
+  next_is_found name later found payload begins there is =
+      so_far
+      ∙ ap (λ names. with_images done (file_list images index names)) begins.listed
+      ∙ ap (λ found. with_images done (listed_payload index name found (file_list images (index + 1) (listed_names later)))) (payload_found name images found there ∙ ap Some (sym is))
+      ∙ sym (with_one_more done (record { name = name; payload = payload }) (file_list images (index + 1) (listed_names later)))
+
+  -- No name is left.
+  pub none_is_left : listed_names rest ≡ [] → file_list images 0 (listed_names value) ≡ ListedImages done
+  none_is_left none =
+      so_far ∙ ap (λ names. with_images done (file_list images index names)) none ∙ listed_all done
+
+-- Memory runs out only where a list was read.
+pub out_of_memory : {T : Type 0} (result : Result T ConfigError) (images : List ReadImage) (names : List (List ℕ)) → IsErrAnd result (λ error. error ≡ OutOfMemory) → IfErr result (IsListError (file_list images 0 names))
+out_of_memory (Ok listed) images names is = tt
+out_of_memory (Err error) images names is =
+    subst (IsListError (file_list images 0 names)) (sym is) (needs_memory images 0 names)
+
+-- The image of a name has the same payload in the tree.
+payload_same : (name file : List ℕ) (entries : List (Sibling FileNode)) (images : List ReadImage) → AllZip (IsReadImage file) entries images → option_map (λ image. image.payload) (image_named name (images_with (map bare_image entries) (map (λ image. image.payload) images))) ≡ payload_named name images
+payload_same name file [] [] read = refl
+payload_same name file [] (image ∷ images) read = absurd read
+payload_same name file (entry ∷ entries) [] read = absurd read
+payload_same name file (entry ∷ entries) (image ∷ images) read =
+    where_first (bytes_eq entry.name name) refl (payload_same name file entries images read.1)
+  where
+    where_first : (b : Bool) → bytes_eq entry.name name ≡ b → option_map (λ image. image.payload) (image_named name (images_with (map bare_image entries) (map (λ image. image.payload) images))) ≡ payload_named name images → option_map (λ image. image.payload) (image_named name (images_with (map bare_image (entry ∷ entries)) (map (λ image. image.payload) (image ∷ images)))) ≡ payload_named name (image ∷ images)
+    where_first true same rest = rw (read.0.name, same) refl
+    where_first false other rest = rw (read.0.name, other) rest
+
+module _ (content : FitContent) (held : IsHeld content) where
+  payload_in_tree : (name : List ℕ) → option_map (λ image. image.payload) (image_named name (images_of (tree_of content))) ≡ payload_named name content.images
+  payload_in_tree name =
+      ap (λ (entries : List (Sibling PropertyMap)). option_map (λ image. image.payload) (image_named name (images_with entries (map (λ image. image.payload) content.images)))) (image_siblings content)
+      ∙ payload_same name content.blob.file (siblings (file_images content.blob)) content.images held.images
+
+  -- So names list the same images.
+  list_in_tree : (index : ℕ) (names : List (List ℕ)) → list_images (images_of (tree_of content)) index names ≡ file_list content.images index names
+  list_in_tree index [] = refl
+  list_in_tree index (name ∷ later) =
+      by_image (image_named name (images_of (tree_of content)))
+      ∙ ap₂ (listed_payload index name) (payload_in_tree name) (list_in_tree (index + 1) later)
+    where
+      by_image : (found : Option Image) → listed_from index name found (list_images (images_of (tree_of content)) (index + 1) later) ≡ listed_payload index name (option_map (λ image. image.payload) found) (list_images (images_of (tree_of content)) (index + 1) later)
+      by_image None = refl
+      by_image (Some image) = refl
+
+  -- And so does the value of a key.
+  value_in_tree : (value : Option (List ℕ)) → listed_at (images_of (tree_of content)) value ≡ file_listed_at content.images value
+  value_in_tree None = refl
+  value_in_tree (Some value) =
+      ap (λ (listed : Listed). if ends_with nat_eq value (0 ∷ []) then listed else BadList) (list_in_tree 0 (listed_names value))
+
+  -- The node of a name in the tree.
+  named_in_tree : (name : List ℕ) → node_named (configuration_nodes (tree_of content)) name ≡ option_map sibling_by_name (node_named (file_configurations content.blob) name)
+  named_in_tree name =
+      ap (λ (nodes : Nodes PropertyMap). node_named nodes name) (configuration_nodes_are content)
+      ∙ named-by_name (file_configurations content.blob) name
+
+  -- What a configuration lists under a key.
+  pub listed_is : (name : List ℕ) (entry : Sibling FileNode) (key : Key) → node_named (file_configurations content.blob) name ≡ Some entry → listed_of (tree_of content) name key ≡ file_listed content.images entry key
+  listed_is name entry key there =
+      ap (λ found. listed_under (images_of (tree_of content)) found key) (named_in_tree name ∙ ap (option_map sibling_by_name) there)
+      ∙ ap (listed_at (images_of (tree_of content))) (get-by_name (properties_of entry.own) (key_name key))
+      ∙ value_in_tree (value_named (properties_of entry.own) (key_name key))
+
+  -- No configuration has another name.
+  pub nothing_listed : (name : List ℕ) (key : Key) → node_named (file_configurations content.blob) name ≡ None → listed_of (tree_of content) name key ≡ NoConfiguration
+  nothing_listed name key none =
+      ap (λ found. listed_under (images_of (tree_of content)) found key) (named_in_tree name ∙ ap (option_map sibling_by_name) none)

@@ -1,0 +1,13 @@
+use Rattle.std.proofs.Common.{◌≡◌, ◌++◌, map}
+use Rattle.bi_fdt.specs.Views.{node_of}
+use Rattle.bi_fit.specs.Judging.{checked_hash_of}
+use Rattle.bi_fit.specs.Nodes.{file_hashes}
+use Rattle.bi_fit.specs.Siblings.{siblings_left}
+use Rattle.bi_fit.proofs.hashes.check_image.Given as goal
+
+abbrev pub invariant-loop-node : goal.invariant-loop-node
+invariant-loop-node l = record {
+  same_payload : l.digests ≡ l.initial.digests;
+  so_far : map checked_hash_of l.checked.items ++ file_hashes (node_of l.image).name l.initial.digests (siblings_left l.node-iterator)
+      ≡ map checked_hash_of l.initial.checked.items ++ file_hashes (node_of l.image).name l.initial.digests (siblings_left l.initial.node-iterator);
+}

@@ -1,0 +1,88 @@
+//! The image nodes and configuration nodes of a flattened image tree.
+
+ghost use Rattle.std.specs.Prelude.{◌≡◌};
+ghost use Rattle.std.specs.Option.{option_map};
+ghost use Rattle.bi_blob.specs.Lookups.{siblings, node_named};
+ghost use Rattle.bi_fdt.specs.Content.{root_of};
+ghost use Rattle.bi_fdt.specs.Views.{node_of};
+ghost use Rattle.bi_fit.specs.Names.{configurations_name};
+ghost use Rattle.bi_fit.specs.Nodes.{file_images, file_configurations};
+
+use crate::fit::Fit;
+use bi_fdt::NodeRef;
+
+/// The nodes that are left of some siblings, in their order in the file.
+#[derive(Drop)]
+pub(crate) struct Siblings<'a, 'b> {
+    next: Option<NodeRef<'a, 'b>>,
+}
+
+impl<'a, 'b> Siblings<'a, 'b> {
+    ghost use Rattle.bi_fit.specs.Siblings.{siblings_left};
+
+    /// The children of a node.
+    pub(crate) fn children(parent: NodeRef<'a, 'b>) -> Siblings<'a, 'b>
+        ensures { siblings_left result ≡ siblings (node_of parent.entry).children }
+    {
+        Siblings {
+            next: parent.first_child(),
+        }
+    }
+}
+
+impl<'a, 'b> Iterator for Siblings<'a, 'b> {
+    ghost use Rattle.std.specs.Iterator.{YieldsFirstBy, item_count};
+    ghost use Rattle.bi_fit.specs.Siblings.{siblings_left};
+
+    type Item = NodeRef<'a, 'b>;
+
+    ghost next_gives = { YieldsFirstBy node_of siblings_left };
+
+    ghost remaining = { item_count siblings_left };
+
+    fn next(&mut self) -> Option<NodeRef<'a, 'b>> {
+        let node = self.next?;
+        self.next = node.next_sibling();
+        Some(node)
+    }
+}
+
+impl<'a> Fit<'a> {
+    ghost use Rattle.bi_fit.specs.Siblings.{siblings_left};
+
+    /// The image nodes, in their order in the file.
+    pub(crate) fn image_nodes<'b>(&'b self) -> Siblings<'a, 'b>
+        ensures { siblings_left result ≡ siblings (file_images self.now.blob) }
+    {
+        match self.blob().root().child(b"images") {
+            Some(node) => Siblings::children(node),
+            None => Siblings { next: None },
+        }
+    }
+
+    /// The node `/configurations`. None exactly if there is no such node.
+    pub(crate) fn configurations_node<'b>(&'b self) -> Option<NodeRef<'a, 'b>>
+        ensures { option_map node_of result
+            ≡ node_named (root_of self.now.blob).children configurations_name }
+    {
+        self.blob().root().child(b"configurations")
+    }
+
+    /// The configuration nodes, in their order in the file.
+    pub(crate) fn configuration_nodes<'b>(&'b self) -> Siblings<'a, 'b>
+        ensures { siblings_left result ≡ siblings (file_configurations self.now.blob) }
+    {
+        match self.configurations_node() {
+            Some(node) => Siblings::children(node),
+            None => Siblings { next: None },
+        }
+    }
+
+    /// The configuration node of this name. None exactly if there is no such node.
+    pub(crate) fn configuration_node<'b>(&'b self, name: &[u8]) -> Option<NodeRef<'a, 'b>>
+        ensures { option_map node_of result
+            ≡ node_named (file_configurations self.now.blob) name.now }
+    {
+        self.configurations_node()?.child(name)
+    }
+}

@@ -1,0 +1,44 @@
+//! The signature nodes of a flattened image tree.
+
+ghost use Rattle.std.specs.Prelude.{◌≡◌, ◌<◌, ◌^◌, length, flat_map};
+ghost use Rattle.bi_fdt.specs.Views.{node_of};
+ghost use Rattle.bi_fit.specs.Content.{tree_of};
+ghost use Rattle.bi_fit.specs.Judgement.{signature_count};
+ghost use Rattle.bi_fit.specs.Nodes.{file_signatures};
+ghost use Rattle.bi_fit.specs.Siblings.{siblings_left};
+
+use crate::fit::Fit;
+use crate::nodes::Siblings;
+use bi_fdt::NodeRef;
+
+impl<'a> Fit<'a> {
+    /// The number of signature nodes: children of image nodes and of configuration nodes whose
+    /// names begin with `signature`. Takes time linear in the number of these children.
+    pub fn signature_count(&self) -> usize
+        ensures { result ≡ signature_count (tree_of self.now) }
+    {
+        self.held();
+        count_signatures(self.image_nodes()) + count_signatures(self.configuration_nodes())
+    }
+}
+
+/// The number of signature nodes among the children of these nodes.
+fn count_signatures(parents: Siblings) -> usize
+    ensures count { result ≡ length (flat_map file_signatures (siblings_left parents.entry)) }
+    ensures small { result < 2 ^ 63 }
+{
+    let mut count = 0;
+    for parent in parents {
+        count += count_children(parent);
+    }
+    count
+}
+
+/// The number of signature nodes among the children of a node.
+fn count_children(parent: NodeRef) -> usize
+    ensures { result ≡ length (file_signatures (node_of parent.entry)) }
+{
+    Siblings::children(parent)
+        .filter(|child| child.name().starts_with(b"signature"))
+        .count()
+}

@@ -1,0 +1,99 @@
+//! The digests of one payload.
+#![tactic(auto, unfolding(crate::specs::Verdicts::text_before_nul))]
+
+ghost use Rattle.std.specs.Prelude.{◌≡◌, ◌<◌, ◌≤◌, Option, Some, IfSome};
+ghost use Rattle.std.specs.Option.{option_copied};
+ghost use Rattle.bi_hash.specs.Algos.{algorithm_index};
+ghost use Rattle.bi_hash.specs.Verdicts.{verdict_of};
+ghost use Rattle.bi_hash.specs.KeptDigests.{IsDigest};
+
+use crate::algo::Algo;
+use crate::hash_node::text_before_nul;
+use crate::verdicts::Verdict;
+use std::marker::Model;
+
+/// A digest: the first bytes of a buffer.
+#[derive(Clone, Copy)]
+struct Digest {
+    buffer: [u8; 64],
+    length: usize,
+}
+
+/// The digests of a payload, each of which is made once, if a verdict needs it.
+#[derive(Drop)]
+pub struct PayloadDigests<'a> {
+    payload: Option<&'a [u8]>,
+    /// The digest of each algorithm, in the order of `Algo`, if it was made.
+    digests: [Option<Digest>; 6],
+}
+
+impl<'a> Model for PayloadDigests<'a> {
+    ghost use Rattle.std.specs.Prelude.{List, ℕ, Option};
+    ghost use Rattle.std.specs.Option.{option_copied};
+
+    ghost Value = { Option (List ℕ) };
+
+    ghost use Rattle.bi_hash.specs.KeptDigests.{AreKept};
+
+    ghost view = { λ digests. option_copied digests.payload };
+
+    ghost invariant = { AreKept };
+}
+
+impl<'a> PayloadDigests<'a> {
+    /// Makes no digest yet.
+    pub fn new(payload: Option<&'a [u8]>) -> PayloadDigests<'a>
+        ensures { result ≡ option_copied payload.entry }
+    {
+        PayloadDigests {
+            payload,
+            digests: [None; 6],
+        }
+    }
+
+    /// Judges a hash node of the payload by the values of its properties `algo` and `value`, as
+    /// `verdict` does. Reads the payload if the verdict needs a digest that was not made before.
+    #[tactic(auto, unfolding(crate::specs::Verdicts::verdict_of))]
+    pub fn verdict(&mut self, algo: Option<&[u8]>, value: Option<&[u8]>) -> Verdict
+        ensures verdict { result ≡ verdict_of
+            (option_copied algo.entry)
+            (option_copied value.entry)
+            self.old }
+        ensures same { self.new ≡ self.old }
+    {
+        let (Some(algo), Some(value)) = (algo, value) else {
+            return Verdict::Malformed;
+        };
+        let Some(name) = text_before_nul(algo) else {
+            return Verdict::Malformed;
+        };
+        let Some(algo) = Algo::from_name(name) else {
+            return Verdict::UnknownAlgo;
+        };
+        let Some(digest) = self.digest(algo) else {
+            return Verdict::NoPayload;
+        };
+        if value == &digest.buffer[..digest.length] {
+            Verdict::Good
+        } else {
+            Verdict::Bad
+        }
+    }
+
+    /// The digest of the payload. None exactly if there is no payload.
+    fn digest(&mut self, algo: Algo) -> Option<Digest>
+        ensures digest { IsDigest algo self.old result }
+        ensures same { self.new ≡ self.old }
+    {
+        let payload = self.payload?;
+        let index = algo.index();
+        if let Some(digest) = self.digests[index] {
+            return Some(digest);
+        }
+        let mut buffer = [0; 64];
+        let length = algo.digest(payload, &mut buffer);
+        let digest = Digest { buffer, length };
+        self.digests[index] = Some(digest);
+        Some(digest)
+    }
+}
