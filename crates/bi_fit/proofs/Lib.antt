@@ -21,3 +21,7 @@ pub mod BuildFacts
 pub mod NameLists
 pub mod BuiltConfigurations
 pub mod ReadErrors
+pub mod Adding
+pub mod PropertyMaps
+pub mod NodeEvents
+pub mod PayloadEnds

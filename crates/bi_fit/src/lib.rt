@@ -2,6 +2,7 @@
 //! hashes, its configurations, and the document of its normal text.
 #![tactic(auto)]
 
+mod document;
 mod fit;
 mod form;
 mod image;

@@ -1,0 +1,52 @@
+//! Adding nodes to a document.
+
+ghost use Rattle.std.specs.Prelude.{◌≡◌, OnOk, IfErr};
+ghost use Rattle.bi_base.specs.declared.fault.Error.TheVariants.{OutOfMemory};
+ghost use Rattle.bi_blob.specs.Tree.{EachOwn};
+ghost use Rattle.bi_blob.specs.Events.{events};
+ghost use Rattle.bi_fdt.specs.Views.{node_of};
+ghost use Rattle.bi_fit.specs.Documents.{MayAdd, with_events, HasDistinctNames, alone};
+ghost use Rattle.bi_fit.specs.Documents.{begin_events, sorted_nodes};
+
+use crate::document::property_map::PropertyMap;
+use bi_base::Error;
+use bi_fdt::NodeRef;
+use bi_lay::Doc;
+use std::alloc::Global;
+
+/// Begins a node, as a child of the innermost open node, and adds its properties.
+pub(super) fn begin_node<'a>(
+    alloc: Global,
+    doc: &mut Doc<'a>,
+    node: NodeRef<'a, '_>,
+) -> Result<(), Error>
+    requires distinct { HasDistinctNames (node_of node).own }
+    requires may { MayAdd doc.old (begin_events (node_of node)) }
+    ensures added { OnOk result (doc.new ≡ with_events doc.old (begin_events (node_of node.entry))) }
+    ensures failed { IfErr result (λ error. error ≡ OutOfMemory) }
+{
+    doc.begin(node.name())?;
+    PropertyMap::from_node(alloc, node)?.add_to(doc)
+}
+
+/// Adds a node, with all nodes below it, to the innermost open node.
+pub(super) fn add_node<'a>(
+    alloc: Global,
+    doc: &mut Doc<'a>,
+    node: NodeRef<'a, '_>,
+) -> Result<(), Error>
+    requires distinct { EachOwn HasDistinctNames (alone (node_of node)) }
+    requires may { MayAdd doc.old (events (sorted_nodes (alone (node_of node)))) }
+    ensures added { OnOk result (doc.new ≡ with_events doc.old
+        (events (sorted_nodes (alone (node_of node.entry))))) }
+    ensures failed { IfErr result (λ error. error ≡ OutOfMemory) }
+{
+    begin_node(alloc, doc, node)?;
+    let mut next = node.first_child();
+    while let Some(child) = next {
+        add_node(alloc, doc, child)?;
+        next = child.next_sibling();
+    }
+    doc.end();
+    Ok(())
+}
