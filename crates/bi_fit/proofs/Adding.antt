@@ -1,8 +1,8 @@
-use Rattle.std.proofs.Common.{◌≡◌, List, [], ◌∷◌, ◌++◌, fold, sym, ap, subst, append_assoc, append-nil}
+use Rattle.std.proofs.Common.{◌≡◌, List, [], ◌∷◌, ◌++◌, fold, sym, ap, subst, ◌∙◌, append_assoc, append-nil}
 use Rattle.std.proofs.lemmas.List.Sums.{fold-append}
-use Rattle.bi_blob.specs.Events.{Event}
+use Rattle.bi_blob.specs.Events.{Event, NodeEnd}
 use Rattle.bi_blob.specs.Stages.{Stage, BeforeRoot, next_stage}
-use Rattle.bi_blob.specs.Following.{AllFollow, MayFollowInText, stage_of_events}
+use Rattle.bi_blob.specs.Following.{AllFollow, MayFollowInText, stage_of_events, MayEnd}
 use Rattle.bi_lay.specs.Contents.{Content, with_event}
 use Rattle.bi_fit.specs.Documents.{with_events, MayAdd}
 
@@ -11,10 +11,6 @@ use Rattle.bi_fit.specs.Documents.{with_events, MayAdd}
 -- None change it.
 pub with_events-none : (document : Content) → with_events document [] ≡ document
 with_events-none document = ap (λ l. record document { events = l }) (append-nil document.events)
-
--- One event and others.
-pub with_events-cons : (document : Content) (event : Event) (later : List Event) → with_events (with_event document event) later ≡ with_events document (event ∷ later)
-with_events-cons document event later = ap (λ l. record document { events = l }) (append_assoc document.events (event ∷ []) later)
 
 -- Some events and others.
 pub with_events-append : (document : Content) (events later : List Event) → with_events (with_events document events) later ≡ with_events document (events ++ later)
@@ -40,6 +36,31 @@ MayAdd-back document events later may =
     subst (λ stage. AllFollow MayFollowInText stage later) (sym (fold-append next_stage BeforeRoot document.events events))
     (follow-back (stage_of_events document.events) events later may)
 
--- The events after the first may be added after it.
-pub MayAdd-later : (document : Content) (event : Event) (later : List Event) → MayAdd document (event ∷ later) → MayAdd (with_event document event) later
-MayAdd-later document event later may = MayAdd-back document (event ∷ []) later may
+-- A node is added by some events that begin it, those of its children, and its end.
+module _ (document : Content) (begin children : List Event) where
+  -- The whole of it.
+  abbrev pub whole : List Event
+  whole = begin ++ (children ++ (NodeEnd ∷ []))
+
+  -- Where the node may be added, it may begin,
+  pub may_begin : MayAdd document whole → MayAdd document begin
+  may_begin may = MayAdd-front document begin (children ++ (NodeEnd ∷ [])) may
+
+  -- its children may follow,
+  pub may_have_children : (begun : Content) → begun ≡ with_events document begin → MayAdd document whole → MayAdd begun children
+  may_have_children begun is may =
+      subst (λ document. MayAdd document children) (sym is)
+      (MayAdd-front (with_events document begin) children (NodeEnd ∷ []) (MayAdd-back document begin (children ++ (NodeEnd ∷ [])) may))
+
+  -- it may end,
+  pub may_end : (begun filled : Content) → begun ≡ with_events document begin → filled ≡ with_events begun children → MayAdd document whole → MayEnd (stage_of_events filled.events)
+  may_end begun filled is is_filled may =
+      subst (λ document. MayEnd (stage_of_events document.events)) (sym (is_filled ∙ ap (λ document. with_events document children) is))
+      (MayAdd-back (with_events document begin) children (NodeEnd ∷ []) (MayAdd-back document begin (children ++ (NodeEnd ∷ [])) may)).0
+
+  -- and then all of it was added.
+  pub whole_added : (begun filled : Content) → begun ≡ with_events document begin → filled ≡ with_events begun children → with_event filled NodeEnd ≡ with_events document whole
+  whole_added begun filled is is_filled =
+      ap (λ document. with_event document NodeEnd) (is_filled ∙ ap (λ document. with_events document children) is)
+      ∙ with_events-append (with_events document begin) children (NodeEnd ∷ [])
+      ∙ with_events-append document begin (children ++ (NodeEnd ∷ []))

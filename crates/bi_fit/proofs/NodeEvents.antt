@@ -1,12 +1,12 @@
-use Rattle.std.proofs.Common.{◌≡◌, ℕ, ◌<◌, ◌≤◌, List, [], ◌∷◌, ◌++◌, map, Option, Some, None, refl, sym, ap, subst, ◌∙◌, append_assoc, arith}
-use Rattle.bi_blob.specs.Tree.{Nodes, none, node, Property, depth}
+use Rattle.std.proofs.Common.{◌≡◌, ℕ, List, [], ◌∷◌, ◌++◌, Option, Some, None, refl, sym, ap, subst, ◌∙◌, append_assoc}
+use Rattle.bi_blob.specs.Tree.{Nodes, none, node, Property}
 use Rattle.bi_blob.specs.Lookups.{Sibling, node_at}
-use Rattle.bi_blob.specs.Events.{Event, NodeStart, NodeProperty, NodeEnd, events}
+use Rattle.bi_blob.specs.Events.{NodeStart, events}
 use Rattle.bi_lay.specs.Contents.{Content}
 use Rattle.bi_fit.specs.Documents.{with_events, MayAdd}
-use Rattle.bi_fit.proofs.Adding.{with_events-append, MayAdd-front, MayAdd-back}
+use Rattle.bi_fit.proofs.Adding.{with_events-none, with_events-append, MayAdd-front, MayAdd-back}
 
--- The events of nodes, as they are added to a document.
+-- Nodes that are added to a document in turn.
 
 -- The nodes from a node on, if there is one.
 abbrev pub nodes_from : {Own : Type 0} → Option (Sibling Own) → Nodes Own
@@ -18,23 +18,36 @@ pub nodes_from_first : {Own : Type 0} (nodes : Nodes Own) → nodes_from (node_a
 nodes_from_first none = refl
 nodes_from_first (node name own children later) = refl
 
--- The events of a node, of those after it, and others.
-pub events-first : (name : List ℕ) (own : List Property) (children later : Nodes (List Property)) (trailing : List Event) → events (node name own children later) ++ trailing ≡ events (node name own children none) ++ (events later ++ trailing)
-events-first name own children later trailing = ap (λ l. NodeStart name ∷ l) (simp append_assoc refl)
+-- The events of a node and of those after it.
+events-first : (name : List ℕ) (own : List Property) (children later : Nodes (List Property)) → events (node name own children later) ≡ events (node name own children none) ++ events later
+events-first name own children later = ap (λ l. NodeStart name ∷ l) (simp append_assoc refl)
 
-module _ (document : Content) (name : List ℕ) (own : List Property) (children later : Nodes (List Property)) (trailing : List Event) where
-  -- Where nodes may be added, the first may,
-  pub may_add_first : MayAdd document (events (node name own children later) ++ trailing) → MayAdd document (events (node name own children none))
-  may_add_first may =
-      MayAdd-front document (events (node name own children none)) (events later ++ trailing) (subst (MayAdd document) (events-first name own children later trailing) may)
+-- Nodes are left to be added to a document, which it may be, and it is another with them.
+pub record IsAdding (document target : Content) (left : Nodes (List Property)) : Type 0 where
+  pub added : with_events document (events left) ≡ target
+  pub may : MayAdd document (events left)
 
-  -- and the others after it.
-  pub may_add_later : MayAdd document (events (node name own children later) ++ trailing) → MayAdd (with_events document (events (node name own children none))) (events later ++ trailing)
-  may_add_later may =
-      MayAdd-back document (events (node name own children none)) (events later ++ trailing) (subst (MayAdd document) (events-first name own children later trailing) may)
+-- At first it is all of them.
+pub adding_all : (document : Content) (nodes : Nodes (List Property)) → MayAdd document (events nodes) → IsAdding document (with_events document (events nodes)) nodes
+adding_all document nodes may = record { added = refl; may = may }
 
-  -- The first and then the others are all of them.
-  pub added_in_turn : with_events (with_events document (events (node name own children none))) (events later ++ trailing) ≡ with_events document (events (node name own children later) ++ trailing)
-  added_in_turn =
-      with_events-append document (events (node name own children none)) (events later ++ trailing)
-      ∙ ap (with_events document) (sym (events-first name own children later trailing))
+-- In the end it is none.
+pub adding_none : (document target : Content) → IsAdding document target none → document ≡ target
+adding_none document target adding = sym (with_events-none document) ∙ adding.added
+
+module _ (document target : Content) (name : List ℕ) (own : List Property) (children later : Nodes (List Property)) (adding : IsAdding document target (node name own children later)) where
+  -- The first of them may be added,
+  pub may_add_first : MayAdd document (events (node name own children none))
+  may_add_first =
+      MayAdd-front document (events (node name own children none)) (events later) (subst (MayAdd document) (events-first name own children later) adding.may)
+
+  -- and then the others are left.
+  pub adding_later : (more : Content) → more ≡ with_events document (events (node name own children none)) → IsAdding more target later
+  adding_later more is = record {
+    added = ap (λ document. with_events document (events later)) is
+        ∙ with_events-append document (events (node name own children none)) (events later)
+        ∙ ap (with_events document) (sym (events-first name own children later))
+        ∙ adding.added;
+    may = subst (λ document. MayAdd document (events later)) (sym is)
+        (MayAdd-back document (events (node name own children none)) (events later) (subst (MayAdd document) (events-first name own children later) adding.may));
+  }

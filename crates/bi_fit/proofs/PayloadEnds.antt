@@ -1,19 +1,25 @@
-use Rattle.std.proofs.Common.{◌≡◌, ℕ, ◌+◌, ◌<◌, ◌≤◌, suc, List, ◌∷◌, drop, get_or, length, Option, Some, sym, ap, subst, ◌∙◌}
-use Rattle.std.specs.Borrow.{Bor}
-use Rattle.std.specs.Option.{option_map}
+use Rattle.std.proofs.Common.{◌≡◌, ℕ, ◌<◌, ◌≤◌, suc, List, [], ◌∷◌, drop, get_or, length, None, sym, ap, subst}
 use Rattle.std.proofs.Math.Seq.{drop-cons}
-use Rattle.bi_base.specs.Cells.{up4}
 use Rattle.bi_fit.specs.declared.image.Image.{Image}
+use Rattle.bi_fit.specs.declared.image.Place.TheVariants.{Absent}
 use Rattle.bi_fit.specs.Text.{payloads_end, end_after}
+use Rattle.bi_fit.specs.Content.{read_image}
 use Rattle.bi_fit.specs.Documents.{payloads_of}
 use Rattle.bi_fit.proofs.Areas.{payloads_end-le}
 
 -- Where the payloads of images end.
 
--- They end where one of them does or after.
-pub one_end-le : (images : List Image) (index end : ℕ) (default : Image) (payload : Bor (List ℕ)) → index < length images → (get_or images index default).payload ≡ Some payload → up4 end + length payload.now ≤ payloads_end end (payloads_of (drop index images))
-one_end-le images index end default payload within is =
-    let all : payloads_end end (payloads_of (drop index images)) ≡ payloads_end (up4 end + length payload.now) (payloads_of (drop (suc index) images)) =
-    ap (λ l. payloads_end end (payloads_of l)) (drop-cons images index default within)
-    ∙ ap (λ o. payloads_end (end_after end (option_map (λ payload. payload.now) o)) (payloads_of (drop (suc index) images))) is in
-    subst (λ n. up4 end + length payload.now ≤ n) (sym all) (payloads_end-le (up4 end + length payload.now) (payloads_of (drop (suc index) images)))
+-- What a list of images gives past its end.
+abbrev pub no_image : Image
+no_image = record { name = record { ref_ptr = (0, 0); now = [] }; payload = None; place = Absent }
+
+module _ (images : List Image) (index : ℕ) (within : index < length images) where
+  -- The payloads from an image on are its payload and those after it.
+  pub payloads_from : payloads_of (drop index images) ≡ (read_image (get_or images index no_image)).payload ∷ payloads_of (drop (suc index) images)
+  payloads_from = ap payloads_of (drop-cons images index no_image within)
+
+  -- Where they end is not before the end of this payload.
+  pub one_end-le : (end : ℕ) → end_after end (read_image (get_or images index no_image)).payload ≤ payloads_end end (payloads_of (drop index images))
+  one_end-le end =
+      subst (λ payloads. end_after end (read_image (get_or images index no_image)).payload ≤ payloads_end end payloads) (sym payloads_from)
+      (payloads_end-le (end_after end (read_image (get_or images index no_image)).payload) (payloads_of (drop (suc index) images)))

@@ -29,7 +29,8 @@ pub(super) fn begin_node<'a>(
     PropertyMap::from_node(alloc, node)?.add_to(doc)
 }
 
-/// Adds a node, with all nodes below it, to the innermost open node.
+/// Adds a node, with all nodes below it, as a child of the innermost open node.
+#[cycle(nodes)]
 pub(super) fn add_node<'a>(
     alloc: Global,
     doc: &mut Doc<'a>,
@@ -42,11 +43,28 @@ pub(super) fn add_node<'a>(
     ensures failed { IfErr result (λ error. error ≡ OutOfMemory) }
 {
     begin_node(alloc, doc, node)?;
+    add_children(alloc, doc, node)?;
+    doc.end();
+    Ok(())
+}
+
+/// Adds the children of a node, with all nodes below them, as children of the innermost open node.
+#[cycle(nodes)]
+pub(super) fn add_children<'a>(
+    alloc: Global,
+    doc: &mut Doc<'a>,
+    node: NodeRef<'a, '_>,
+) -> Result<(), Error>
+    requires distinct { EachOwn HasDistinctNames (node_of node).children }
+    requires may { MayAdd doc.old (events (sorted_nodes (node_of node).children)) }
+    ensures added { OnOk result (doc.new ≡ with_events doc.old
+        (events (sorted_nodes (node_of node.entry).children))) }
+    ensures failed { IfErr result (λ error. error ≡ OutOfMemory) }
+{
     let mut next = node.first_child();
     while let Some(child) = next {
         add_node(alloc, doc, child)?;
         next = child.next_sibling();
     }
-    doc.end();
     Ok(())
 }
