@@ -1,10 +1,11 @@
-use Rattle.std.proofs.Common.{◌≡◌, List, [], ◌∷◌, ◌++◌, fold, sym, ap, subst, ◌∙◌, append_assoc, append-nil}
+use Rattle.std.proofs.Common.{◌≡◌, ℕ, List, [], ◌∷◌, ◌++◌, fold, sym, ap, subst, ◌∙◌, append_assoc, append-nil}
 use Rattle.std.proofs.lemmas.List.Sums.{fold-append}
+use Rattle.bi_blob.specs.Tree.{PropertyMap}
 use Rattle.bi_blob.specs.Events.{Event, NodeEnd}
 use Rattle.bi_blob.specs.Stages.{Stage, BeforeRoot, next_stage}
 use Rattle.bi_blob.specs.Following.{AllFollow, MayFollowInText, stage_of_events, MayEnd}
 use Rattle.bi_lay.specs.Contents.{Content, with_event}
-use Rattle.bi_fit.specs.Documents.{with_events, MayAdd}
+use Rattle.bi_fit.specs.Additions.{with_events, MayAdd, begin_events}
 
 -- Events that are added to a document in turn.
 
@@ -35,6 +36,10 @@ pub MayAdd-back : (document : Content) (events later : List Event) → MayAdd do
 MayAdd-back document events later may =
     subst (λ stage. AllFollow MayFollowInText stage later) (sym (fold-append next_stage BeforeRoot document.events events))
     (follow-back (stage_of_events document.events) events later may)
+
+-- Nodes of one name and of the same properties begin in the same way.
+pub begin_events-same : (name other : List ℕ) (properties others : PropertyMap) → name ≡ other → properties ≡ others → begin_events name properties ≡ begin_events other others
+begin_events-same name other properties others same_name same = ap (λ name. begin_events name properties) same_name ∙ ap (begin_events other) same
 
 -- A node is added by some events that begin it, those of its children, and its end.
 module _ (document : Content) (begin children : List Event) where

@@ -25,3 +25,4 @@ pub mod Adding
 pub mod PropertyMaps
 pub mod NodeEvents
 pub mod PayloadEnds
+pub mod ImageNodes

@@ -3,7 +3,7 @@ use Rattle.bi_blob.specs.Tree.{Nodes, none, node, Property}
 use Rattle.bi_blob.specs.Lookups.{Sibling, node_at}
 use Rattle.bi_blob.specs.Events.{NodeStart, events}
 use Rattle.bi_lay.specs.Contents.{Content}
-use Rattle.bi_fit.specs.Documents.{with_events, MayAdd}
+use Rattle.bi_fit.specs.Additions.{with_events, MayAdd}
 use Rattle.bi_fit.proofs.Adding.{with_events-none, with_events-append, MayAdd-front, MayAdd-back}
 
 -- Nodes that are added to a document in turn.

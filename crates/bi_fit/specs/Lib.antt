@@ -10,6 +10,7 @@ pub mod Content
 pub mod Fields
 pub mod Reading
 pub mod Documents
+pub mod Additions
 pub mod PropertyMaps
 pub mod Laws
 pub mod KnownFiles

@@ -1,5 +1,6 @@
 //! The document of a flattened image tree's normal text.
 
+mod image_nodes;
 mod nodes;
 mod payload_area;
 mod property_map;

@@ -5,8 +5,8 @@ ghost use Rattle.bi_base.specs.declared.fault.Error.TheVariants.{OutOfMemory};
 ghost use Rattle.bi_blob.specs.Tree.{EachOwn};
 ghost use Rattle.bi_blob.specs.Events.{events};
 ghost use Rattle.bi_fdt.specs.Views.{node_of};
-ghost use Rattle.bi_fit.specs.Documents.{MayAdd, with_events, HasDistinctNames, alone};
-ghost use Rattle.bi_fit.specs.Documents.{begin_events, sorted_nodes};
+ghost use Rattle.bi_fit.specs.Additions.{MayAdd, with_events, HasDistinctNames, alone};
+ghost use Rattle.bi_fit.specs.Additions.{begin_events, sorted_nodes};
 
 use crate::document::property_map::PropertyMap;
 use bi_base::Error;
@@ -14,19 +14,20 @@ use bi_fdt::NodeRef;
 use bi_lay::Doc;
 use std::alloc::Global;
 
-/// Begins a node, as a child of the innermost open node, and adds its properties.
+/// Begins a node of this name, as a child of the innermost open node or as the root, and adds its
+/// properties.
 pub(super) fn begin_node<'a>(
-    alloc: Global,
     doc: &mut Doc<'a>,
-    node: NodeRef<'a, '_>,
+    name: &'a [u8],
+    properties: &PropertyMap<'a>,
 ) -> Result<(), Error>
-    requires distinct { HasDistinctNames (node_of node).own }
-    requires may { MayAdd doc.old (begin_events (node_of node)) }
-    ensures added { OnOk result (doc.new ≡ with_events doc.old (begin_events (node_of node.entry))) }
+    requires { MayAdd doc.old (begin_events name.now properties.now) }
+    ensures added { OnOk result (doc.new ≡ with_events doc.old
+        (begin_events name.entry.now properties.entry.now)) }
     ensures failed { IfErr result (λ error. error ≡ OutOfMemory) }
 {
-    doc.begin(node.name())?;
-    PropertyMap::from_node(alloc, node)?.add_to(doc)
+    doc.begin(name)?;
+    properties.add_to(doc)
 }
 
 /// Adds a node, with all nodes below it, as a child of the innermost open node.
@@ -42,7 +43,8 @@ pub(super) fn add_node<'a>(
         (events (sorted_nodes (alone (node_of node.entry))))) }
     ensures failed { IfErr result (λ error. error ≡ OutOfMemory) }
 {
-    begin_node(alloc, doc, node)?;
+    let properties = PropertyMap::from_node(alloc, node)?;
+    begin_node(doc, node.name(), &properties)?;
     add_children(alloc, doc, node)?;
     doc.end();
     Ok(())

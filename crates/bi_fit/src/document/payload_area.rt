@@ -4,7 +4,7 @@ ghost use Rattle.std.specs.Prelude.{◌≡◌, ◌+◌, ◌-◌, ◌^◌, ◌<�
 ghost use Rattle.std.specs.Option.{option_map};
 ghost use Rattle.bi_base.specs.Reading.{too_large};
 ghost use Rattle.bi_fit.specs.Text.{end_after as end_after_of, payloads_end as payloads_end_of};
-ghost use Rattle.bi_fit.specs.Documents.{payloads_of};
+ghost use Rattle.bi_fit.specs.Additions.{payloads_of};
 
 use crate::image::Image;
 use bi_base::{Cause, Fault, refuse, up4};

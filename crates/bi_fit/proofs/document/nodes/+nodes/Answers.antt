@@ -1,11 +1,12 @@
-use Rattle.std.proofs.Common.{◌≡◌, ℕ, ◌+◌, ◌*◌, ◌<◌, ◌≤◌, suc, length, max, Some, ap, subst, ◌∙◌, arith}
+use Rattle.std.proofs.Common.{◌≡◌, ℕ, ◌+◌, ◌*◌, ◌<◌, ◌≤◌, suc, List, length, max, Some, sym, ap, subst, ◌∙◌, arith}
 use Rattle.std.specs.Option.{option_map}
+use Rattle.std.specs.FinMap.{entries}
 use Rattle.bi_blob.specs.Tree.{EachOwn, depth}
 use Rattle.bi_blob.specs.Lookups.{siblings}
 use Rattle.bi_blob.specs.Events.{events}
 use Rattle.bi_fdt.specs.Views.{node_of}
-use Rattle.bi_fit.specs.Documents.{with_events, HasDistinctNames, begin_events, sorted_properties, sorted_nodes}
-use Rattle.bi_fit.proofs.Adding.{may_begin, may_have_children, may_end, whole_added}
+use Rattle.bi_fit.specs.Additions.{MayAdd, with_events, HasDistinctNames, begin_events, properties_by_name, sorted_nodes}
+use Rattle.bi_fit.proofs.Adding.{begin_events-same, may_begin, may_have_children, may_end, whole_added}
 use Rattle.bi_fit.proofs.NodeEvents.{nodes_from, nodes_from_first, IsAdding, adding_all, adding_none, may_add_first, adding_later}
 use Rattle.bi_fit.proofs.document.nodes.+nodes.Goals as goal
 
@@ -31,7 +32,7 @@ add_children-add_node-requires t c =
       omega arith,
       (
         (distinct.0, distinct.1, tt),
-        may_add_first c.loop-next.doc target s.name (sorted_properties s.own) (sorted_nodes s.children) (sorted_nodes s.later) adding,
+        may_add_first c.loop-next.doc target s.name (entries (properties_by_name s.own)) (sorted_nodes s.children) (sorted_nodes s.later) adding,
       ),
     )
 
@@ -55,27 +56,32 @@ add_children-loop-next-preserved t c =
     let shallow : max (depth s.children + 1) (depth s.later) ≤ depth (node_of c.args.node).children =
     subst (λ nodes. depth nodes ≤ depth (node_of c.args.node).children) here c.loop-next.invariant.shallow in
     rw rest (record {
-      adding = adding_later c.loop-next.doc target s.name (sorted_properties s.own) (sorted_nodes s.children) (sorted_nodes s.later) adding c.add_node.new.doc c.in_ok-add_node.ensures.added;
+      adding = adding_later c.loop-next.doc target s.name (entries (properties_by_name s.own)) (sorted_nodes s.children) (sorted_nodes s.later) adding c.add_node.new.doc c.in_ok-add_node.ensures.added;
       distinct = distinct.2;
       shallow = omega arith;
     })
 
-pub add_node-begin_node-requires-clause-may : goal.add_node-begin_node-requires-clause-may
-add_node-begin_node-requires-clause-may t c =
+pub add_node-begin_node-requires : goal.add_node-begin_node-requires
+add_node-begin_node-requires t c =
     let s = node_of c.args.node in
-    may_begin c.args.doc.now (begin_events s) (events (sorted_nodes s.children)) c.requires.may
+    subst (MayAdd c.args.doc.now) (sym (begin_events-same c.name.result.now s.name c.in_ok-properties.properties (properties_by_name s.own) c.name.ensures c.in_ok-properties.ensures.all))
+    (may_begin c.args.doc.now (begin_events s.name (properties_by_name s.own)) (events (sorted_nodes s.children)) c.requires.may)
 
 pub add_node-add_children-requires : goal.add_node-add_children-requires
 add_node-add_children-requires t c =
-    let s = node_of c.args.node in (
+    let s = node_of c.args.node in
+    let begun : c.begin_node.new.doc ≡ with_events c.args.doc.now (begin_events s.name (properties_by_name s.own)) =
+    c.in_ok-begin_node.ensures.added ∙ ap (with_events c.args.doc.now) (begin_events-same c.name.result.now s.name c.in_ok-properties.properties (properties_by_name s.own) c.name.ensures c.in_ok-properties.ensures.all) in (
       omega arith,
       (
         c.requires.distinct.1,
-        may_have_children c.args.doc.now (begin_events s) (events (sorted_nodes s.children)) c.begin_node.new.doc c.in_ok-begin_node.ensures.added c.requires.may,
+        may_have_children c.args.doc.now (begin_events s.name (properties_by_name s.own)) (events (sorted_nodes s.children)) c.begin_node.new.doc begun c.requires.may,
       ),
     )
 
 pub add_node-end-requires : goal.add_node-end-requires
 add_node-end-requires t c =
     let s = node_of c.args.node in
-    may_end c.args.doc.now (begin_events s) (events (sorted_nodes s.children)) c.begin_node.new.doc c.add_children.new.doc c.in_ok-begin_node.ensures.added c.in_ok-add_children.ensures.added c.requires.may
+    let begun : c.begin_node.new.doc ≡ with_events c.args.doc.now (begin_events s.name (properties_by_name s.own)) =
+    c.in_ok-begin_node.ensures.added ∙ ap (with_events c.args.doc.now) (begin_events-same c.name.result.now s.name c.in_ok-properties.properties (properties_by_name s.own) c.name.ensures c.in_ok-properties.ensures.all) in
+    may_end c.args.doc.now (begin_events s.name (properties_by_name s.own)) (events (sorted_nodes s.children)) c.begin_node.new.doc c.add_children.new.doc begun c.in_ok-add_children.ensures.added c.requires.may
