@@ -1,8 +1,9 @@
-use Rattle.std.specs.Prelude.{ℕ, ◌<◌, ◌≤◌, ◌^◌, ⊤, List, [], ◌∷◌, ◌++◌, map, length, Option, Some, None}
+use Rattle.std.specs.Prelude.{◌≡◌, ℕ, ◌<◌, ◌≤◌, ◌^◌, ⊤, List, [], ◌∷◌, ◌++◌, map, length, Option}
+use Rattle.std.specs.Prelude.{Some, bytes_eq, if◌then◌else◌}
 use Rattle.std.specs.FinMap.{from_entries, entries}
 use Rattle.bi_blob.specs.Tree.{Nodes, none, node, Property, PropertyMap, FileNode, AreDistinct}
 use Rattle.bi_blob.specs.Tree.{properties_of, with_each}
-use Rattle.bi_blob.specs.Lookups.{Sibling}
+use Rattle.bi_blob.specs.Lookups.{Sibling, siblings}
 use Rattle.bi_blob.specs.Events.{Event, NodeStart, NodeProperty}
 use Rattle.bi_blob.specs.Layout.{longest_text}
 use Rattle.bi_blob.specs.Following.{AllFollow, MayFollowInText, stage_of_events}
@@ -10,6 +11,7 @@ use Rattle.bi_lay.specs.Contents.{Content}
 use Rattle.bi_fit.specs.declared.form.Form.{Form}
 use Rattle.bi_fit.specs.declared.form.Form.TheVariants.{Embedded, External}
 use Rattle.bi_fit.specs.declared.image.Image.{Image}
+use Rattle.bi_fit.specs.Names.{images_name}
 use Rattle.bi_fit.specs.ImageTree.{without_payload, without_payloads}
 use Rattle.bi_fit.specs.Text.{with_payload, with_payloads, payloads_end}
 use Rattle.bi_fit.specs.Content.{read_image}
@@ -70,6 +72,13 @@ abbrev pub sorted_images : Form → (end : ℕ) → List (Option (List ℕ)) →
 sorted_images form end payloads nodes =
     with_each entries (with_payloads form end payloads (without_payloads (nodes_by_name nodes)))
 
+-- The node whose children are the image nodes, without its siblings.
+abbrev pub sorted_images_node : Form → List (Option (List ℕ)) → Sibling FileNode
+    → Nodes (List Property)
+sorted_images_node form payloads sibling =
+    node sibling.name (entries (properties_by_name sibling.own))
+    (sorted_images form 0 payloads sibling.children) none
+
 -- The size of a payload fits a cell, if the form has it in one.
 abbrev pub HasCellSize : Form → Option (List ℕ) → Type 0
 HasCellSize External (Some payload) = length payload < 2 ^ 32
@@ -79,3 +88,31 @@ HasCellSize form payload = ⊤
 abbrev pub AreWithin : Form → (end : ℕ) → List (Option (List ℕ)) → Type 0
 AreWithin Embedded end payloads = ⊤
 AreWithin External end payloads = payloads_end end payloads ≤ longest_text
+
+-- The children of a child of the root, with the properties of each in byte order: they are image
+-- nodes, if the child has the name `images`.
+abbrev pub sorted_below : Form → List (Option (List ℕ)) → (name : List ℕ) → Nodes FileNode
+    → Nodes (List Property)
+sorted_below form payloads name children =
+    if bytes_eq name images_name then sorted_images form 0 payloads children
+    else sorted_nodes children
+
+-- The children of the root with the properties of each in byte order.
+abbrev pub sorted_root_children : Form → List (Option (List ℕ)) → Nodes FileNode
+    → Nodes (List Property)
+sorted_root_children form payloads none = none
+sorted_root_children form payloads (node name own children later) =
+    node name (entries (properties_by_name own)) (sorted_below form payloads name children)
+    (sorted_root_children form payloads later)
+
+-- Each of these nodes that has the name `images` has so many children.
+abbrev pub HaveImages : ℕ → Nodes FileNode → Type 0
+HaveImages count none = ⊤
+HaveImages count (node name own children later) =
+    (name ≡ images_name → length (siblings children) ≡ count) × HaveImages count later
+
+-- The root as a list of one node, with the properties of each node in byte order.
+abbrev pub sorted_root : Form → List (Option (List ℕ)) → Sibling FileNode → Nodes (List Property)
+sorted_root form payloads root =
+    node root.name (entries (properties_by_name root.own))
+    (sorted_root_children form payloads root.children) none

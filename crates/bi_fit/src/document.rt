@@ -4,3 +4,4 @@ mod image_nodes;
 mod nodes;
 mod payload_area;
 mod property_map;
+mod tree;

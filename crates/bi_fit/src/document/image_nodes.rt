@@ -9,9 +9,9 @@ ghost use Rattle.bi_blob.specs.Events.{events};
 ghost use Rattle.bi_fdt.specs.Views.{node_of};
 ghost use Rattle.bi_fit.specs.Additions.{MayAdd, with_events, HasDistinctNames, HasCellSize};
 ghost use Rattle.bi_fit.specs.Additions.{AreWithin, alone, payloads_of, sorted_image};
-ghost use Rattle.bi_fit.specs.Additions.{sorted_images};
+ghost use Rattle.bi_fit.specs.Additions.{sorted_images, sorted_images_node};
 
-use crate::document::nodes::{add_children, begin_node};
+use crate::document::nodes::{add_children, begin_node, begin_with};
 use crate::document::payload_area::end_after;
 use crate::document::property_map::PropertyMap;
 use crate::form::Form;
@@ -21,23 +21,48 @@ use bi_fdt::NodeRef;
 use bi_lay::Doc;
 use std::alloc::Global;
 
-/// Adds the children of a node, which are the nodes of these images, with all nodes below them, as
-/// children of the innermost open node.
-pub(super) fn add_image_nodes<'a>(
+/// Adds a node with all nodes below it, as a child of the innermost open node. Its children are the
+/// nodes of these images.
+pub(super) fn add_images<'a>(
     alloc: Global,
     doc: &mut Doc<'a>,
     node: NodeRef<'a, '_>,
     form: Form,
     images: &[Image<'a>],
 ) -> Result<(), Error>
-    requires same_count { length images.now ≡ length (siblings (node_of node).children) }
+    requires same_count { length (siblings (node_of node).children) ≡ length images.now }
+    requires within { AreWithin form 0 (payloads_of images.now) }
+    requires distinct { EachOwn HasDistinctNames (alone (node_of node)) }
+    requires may { let payloads = payloads_of images.now in
+        MayAdd doc.old (events (sorted_images_node form payloads (node_of node))) }
+    ensures added { let payloads = payloads_of images.entry.now in
+        OnOk result (doc.new ≡ with_events doc.old
+        (events (sorted_images_node form payloads (node_of node.entry)))) }
+    ensures failed { IfErr result (λ error. error ≡ OutOfMemory) }
+{
+    begin_node(alloc, doc, node)?;
+    add_image_nodes(alloc, doc, node, form, images)?;
+    doc.end();
+    Ok(())
+}
+
+/// Adds the children of a node, which are the nodes of these images, with all nodes below them, as
+/// children of the innermost open node.
+fn add_image_nodes<'a>(
+    alloc: Global,
+    doc: &mut Doc<'a>,
+    node: NodeRef<'a, '_>,
+    form: Form,
+    images: &[Image<'a>],
+) -> Result<(), Error>
+    requires same_count { length (siblings (node_of node).children) ≡ length images.now }
     requires within { AreWithin form 0 (payloads_of images.now) }
     requires distinct { EachOwn HasDistinctNames (node_of node).children }
-    requires may { let images = sorted_images form 0 (payloads_of images.now) in
-        MayAdd doc.old (events (images (node_of node).children)) }
-    ensures added { let images = sorted_images form 0 (payloads_of images.entry.now) in
+    requires may { let payloads = payloads_of images.now in
+        MayAdd doc.old (events (sorted_images form 0 payloads (node_of node).children)) }
+    ensures added { let payloads = payloads_of images.entry.now in
         OnOk result (doc.new ≡ with_events doc.old
-        (events (images (node_of node.entry).children))) }
+        (events (sorted_images form 0 payloads (node_of node.entry).children))) }
     ensures failed { IfErr result (λ error. error ≡ OutOfMemory) }
 {
     let mut next = node.first_child();
@@ -77,7 +102,7 @@ fn add_image_node<'a>(
 {
     let mut properties = PropertyMap::from_node(alloc, node)?;
     properties.set_payload(form, begin, payload)?;
-    begin_node(doc, node.name(), &properties)?;
+    begin_with(doc, node.name(), &properties)?;
     add_children(alloc, doc, node)?;
     doc.end();
     Ok(())

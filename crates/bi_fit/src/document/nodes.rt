@@ -6,7 +6,7 @@ ghost use Rattle.bi_blob.specs.Tree.{EachOwn};
 ghost use Rattle.bi_blob.specs.Events.{events};
 ghost use Rattle.bi_fdt.specs.Views.{node_of};
 ghost use Rattle.bi_fit.specs.Additions.{MayAdd, with_events, HasDistinctNames, alone};
-ghost use Rattle.bi_fit.specs.Additions.{begin_events, sorted_nodes};
+ghost use Rattle.bi_fit.specs.Additions.{begin_events, properties_by_name, sorted_nodes};
 
 use crate::document::property_map::PropertyMap;
 use bi_base::Error;
@@ -14,9 +14,27 @@ use bi_fdt::NodeRef;
 use bi_lay::Doc;
 use std::alloc::Global;
 
-/// Begins a node of this name, as a child of the innermost open node or as the root, and adds its
-/// properties.
+/// Begins a node with its properties, as a child of the innermost open node or as the root.
 pub(super) fn begin_node<'a>(
+    alloc: Global,
+    doc: &mut Doc<'a>,
+    node: NodeRef<'a, '_>,
+) -> Result<(), Error>
+    requires distinct { HasDistinctNames (node_of node).own }
+    requires may { let properties = properties_by_name (node_of node).own in
+        MayAdd doc.old (begin_events (node_of node).name properties) }
+    ensures added { let properties = properties_by_name (node_of node.entry).own in
+        OnOk result (doc.new ≡ with_events doc.old
+        (begin_events (node_of node.entry).name properties)) }
+    ensures failed { IfErr result (λ error. error ≡ OutOfMemory) }
+{
+    let properties = PropertyMap::from_node(alloc, node)?;
+    begin_with(doc, node.name(), &properties)
+}
+
+/// Begins a node of this name with these properties, as a child of the innermost open node or as
+/// the root.
+pub(super) fn begin_with<'a>(
     doc: &mut Doc<'a>,
     name: &'a [u8],
     properties: &PropertyMap<'a>,
@@ -43,8 +61,7 @@ pub(super) fn add_node<'a>(
         (events (sorted_nodes (alone (node_of node.entry))))) }
     ensures failed { IfErr result (λ error. error ≡ OutOfMemory) }
 {
-    let properties = PropertyMap::from_node(alloc, node)?;
-    begin_node(doc, node.name(), &properties)?;
+    begin_node(alloc, doc, node)?;
     add_children(alloc, doc, node)?;
     doc.end();
     Ok(())

@@ -6,7 +6,7 @@ use Rattle.bi_blob.specs.Lookups.{siblings}
 use Rattle.bi_blob.specs.Events.{events}
 use Rattle.bi_fdt.specs.Views.{node_of}
 use Rattle.bi_fit.specs.Additions.{MayAdd, with_events, HasDistinctNames, begin_events, properties_by_name, sorted_nodes}
-use Rattle.bi_fit.proofs.Adding.{begin_events-same, may_begin, may_have_children, may_end, whole_added}
+use Rattle.bi_fit.proofs.Adding.{may_begin, may_have_children, may_end, whole_added}
 use Rattle.bi_fit.proofs.NodeEvents.{nodes_from, nodes_from_first, IsAdding, adding_all, adding_none, may_add_first, adding_later}
 use Rattle.bi_fit.proofs.document.nodes.+nodes.Goals as goal
 
@@ -61,27 +61,22 @@ add_children-loop-next-preserved t c =
       shallow = omega arith;
     })
 
-pub add_node-begin_node-requires : goal.add_node-begin_node-requires
-add_node-begin_node-requires t c =
+pub add_node-begin_node-requires-clause-may : goal.add_node-begin_node-requires-clause-may
+add_node-begin_node-requires-clause-may t c =
     let s = node_of c.args.node in
-    subst (MayAdd c.args.doc.now) (sym (begin_events-same c.name.result.now s.name c.in_ok-properties.properties (properties_by_name s.own) c.name.ensures c.in_ok-properties.ensures.all))
-    (may_begin c.args.doc.now (begin_events s.name (properties_by_name s.own)) (events (sorted_nodes s.children)) c.requires.may)
+    may_begin c.args.doc.now (begin_events s.name (properties_by_name s.own)) (events (sorted_nodes s.children)) c.requires.may
 
 pub add_node-add_children-requires : goal.add_node-add_children-requires
 add_node-add_children-requires t c =
-    let s = node_of c.args.node in
-    let begun : c.begin_node.new.doc ≡ with_events c.args.doc.now (begin_events s.name (properties_by_name s.own)) =
-    c.in_ok-begin_node.ensures.added ∙ ap (with_events c.args.doc.now) (begin_events-same c.name.result.now s.name c.in_ok-properties.properties (properties_by_name s.own) c.name.ensures c.in_ok-properties.ensures.all) in (
+    let s = node_of c.args.node in (
       omega arith,
       (
         c.requires.distinct.1,
-        may_have_children c.args.doc.now (begin_events s.name (properties_by_name s.own)) (events (sorted_nodes s.children)) c.begin_node.new.doc begun c.requires.may,
+        may_have_children c.args.doc.now (begin_events s.name (properties_by_name s.own)) (events (sorted_nodes s.children)) c.begin_node.new.doc c.in_ok-begin_node.ensures.added c.requires.may,
       ),
     )
 
 pub add_node-end-requires : goal.add_node-end-requires
 add_node-end-requires t c =
     let s = node_of c.args.node in
-    let begun : c.begin_node.new.doc ≡ with_events c.args.doc.now (begin_events s.name (properties_by_name s.own)) =
-    c.in_ok-begin_node.ensures.added ∙ ap (with_events c.args.doc.now) (begin_events-same c.name.result.now s.name c.in_ok-properties.properties (properties_by_name s.own) c.name.ensures c.in_ok-properties.ensures.all) in
-    may_end c.args.doc.now (begin_events s.name (properties_by_name s.own)) (events (sorted_nodes s.children)) c.begin_node.new.doc c.add_children.new.doc begun c.in_ok-add_children.ensures.added c.requires.may
+    may_end c.args.doc.now (begin_events s.name (properties_by_name s.own)) (events (sorted_nodes s.children)) c.begin_node.new.doc c.add_children.new.doc c.in_ok-begin_node.ensures.added c.in_ok-add_children.ensures.added c.requires.may
