@@ -26,3 +26,6 @@ pub mod PropertyMaps
 pub mod NodeEvents
 pub mod PayloadEnds
 pub mod ImageNodes
+pub mod Reservations
+pub mod NormalTrees
+pub mod NormalDocuments

@@ -4,6 +4,7 @@ use Rattle.std.specs.FinMap.{from_entries, entries}
 use Rattle.bi_blob.specs.Tree.{Nodes, none, node, Property, PropertyMap, FileNode, AreDistinct}
 use Rattle.bi_blob.specs.Tree.{properties_of, with_each}
 use Rattle.bi_blob.specs.Lookups.{Sibling, siblings}
+use Rattle.bi_blob.specs.Blob.{Reservation}
 use Rattle.bi_blob.specs.Events.{Event, NodeStart, NodeProperty}
 use Rattle.bi_blob.specs.Layout.{longest_text}
 use Rattle.bi_blob.specs.Following.{AllFollow, MayFollowInText, stage_of_events}
@@ -116,3 +117,8 @@ abbrev pub sorted_root : Form → List (Option (List ℕ)) → Sibling FileNode 
 sorted_root form payloads root =
     node root.name (entries (properties_by_name root.own))
     (sorted_root_children form payloads root.children) none
+
+-- A document with more memory reservations.
+abbrev pub with_reservations : Content → List Reservation → Content
+with_reservations document reservations =
+    record document { reservations = document.reservations ++ reservations }
