@@ -30,3 +30,11 @@ pub mod FileVerdicts
 pub mod FileConfigurations
 pub mod FileLists
 pub mod FileSignatures
+pub mod Adding
+pub mod PropertyMaps
+pub mod NodeEvents
+pub mod PayloadEnds
+pub mod ImageNodes
+pub mod Reservations
+pub mod NormalTrees
+pub mod NormalDocuments

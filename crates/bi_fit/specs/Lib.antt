@@ -14,6 +14,8 @@ pub mod Documents
 pub mod Nodes
 pub mod Judging
 pub mod Siblings
+pub mod Additions
+pub mod PropertyMaps
 pub mod Laws
 pub mod KnownFiles
 pub mod KnownFaults

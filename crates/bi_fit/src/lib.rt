@@ -3,6 +3,7 @@
 #![tactic(auto)]
 
 mod configurations;
+mod document;
 mod fit;
 mod form;
 mod hashes;

@@ -1,0 +1,99 @@
+use Rattle.std.proofs.Common.{◌≡◌, ℕ, ◌+◌, ◌<◌, ◌≤◌, List, map, length, Option, Result, sym, ap, subst, ◌∙◌, arith}
+use Rattle.std.proofs.lemmas.List.{length-map}
+use Rattle.std.specs.Result.{IfErr, IsErrAnd}
+use Rattle.bi_base.specs.declared.fault.Error.{Error}
+use Rattle.bi_base.specs.declared.fault.Error.TheVariants.{Refused}
+use Rattle.bi_base.specs.declared.fault.Fault.{Fault}
+use Rattle.bi_base.specs.Limits.{Bounds}
+use Rattle.bi_base.specs.Reading.{too_large}
+use Rattle.bi_blob.specs.Tree.{FileNode, EachOwn}
+use Rattle.bi_blob.specs.Lookups.{Sibling, root_node}
+use Rattle.bi_blob.specs.Events.{Event, events, events_of}
+use Rattle.bi_blob.specs.Stages.{AfterRoot}
+use Rattle.bi_blob.specs.Following.{stage_of_events}
+use Rattle.bi_fdt.specs.Content.{BlobContent, root_of}
+use Rattle.bi_lay.specs.Contents.{Content, empty_content, text_of}
+use Rattle.bi_fit.specs.declared.form.Form.{Form}
+use Rattle.bi_fit.specs.declared.form.Form.TheVariants.{External}
+use Rattle.bi_fit.specs.declared.image.Image.{Image}
+use Rattle.bi_fit.specs.ImageTree.{ImageTree}
+use Rattle.bi_fit.specs.Text.{normal_tree, payloads_end, blob_of, fit_text}
+use Rattle.bi_fit.specs.Content.{FitContent, read_image, tree_of, IsHeld}
+use Rattle.bi_fit.specs.Documents.{document_of, IsDocumentError}
+use Rattle.bi_fit.specs.Additions.{MayAdd, with_events, with_reservations, HasDistinctNames, HaveImages, alone, payloads_of, sorted_root}
+use Rattle.bi_fdt.proofs.Refusals.{error_passed_on}
+use Rattle.bi_fit.proofs.NormalTrees.{held_distinct, held_count, held_events, held_closed, length_after_blob, length-fit_text}
+
+-- The document of a normal text, as it is built of a blob, its root and its images.
+
+module _ (content : FitContent) (held : IsHeld content) (form : Form)
+    (blob : BlobContent) (is_blob : blob ≡ content.blob)
+    (images : List Image) (is_images : map read_image images ≡ content.images)
+    (root : Sibling FileNode) (is_root : root ≡ root_node (root_of blob)) where
+  same_root : root ≡ root_node (root_of content.blob)
+  same_root = is_root ∙ ap (λ blob. root_node (root_of blob)) is_blob
+
+  -- There are as many images as image nodes.
+  pub images_count : HaveImages (length images) root.children
+  images_count =
+      subst (λ root. HaveImages (length images) root.children) (sym same_root)
+      (subst (λ n. HaveImages n (root_of content.blob).children) (sym (ap length is_images) ∙ length-map images read_image) (held_count content held))
+
+  -- The names of each node's properties are distinct.
+  pub names_distinct : EachOwn HasDistinctNames (alone root)
+  names_distinct = subst (λ root. EachOwn HasDistinctNames (alone root)) (sym same_root) (held_distinct content held)
+
+  -- The events of the tree.
+  abbrev pub tree_events : List Event
+  tree_events = events (sorted_root form (payloads_of images) root)
+
+  same_events : tree_events ≡ events_of (normal_tree form (tree_of content))
+  same_events =
+      ap (λ payloads. events (sorted_root form payloads root)) (ap (map (λ image. image.payload)) is_images)
+      ∙ ap (λ root. events (sorted_root form (tree_of content).payloads root)) same_root
+      ∙ held_events content held form
+
+  module _ (cpu : ℕ) (is_cpu : cpu ≡ blob.cpu)
+      (started reserved : Content) (is_started : started ≡ empty_content cpu) (is_reserved : reserved ≡ with_reservations started blob.reservations) where
+    same_reserved : reserved ≡ with_reservations (empty_content cpu) blob.reservations
+    same_reserved = is_reserved ∙ ap (λ document. with_reservations document blob.reservations) is_started
+
+    -- The tree may be added.
+    pub may_add_tree : MayAdd reserved tree_events
+    may_add_tree =
+        subst (MayAdd reserved) (sym same_events)
+        (subst (λ document. MayAdd document (events_of (normal_tree form (tree_of content)))) (sym same_reserved) (held_closed content held form).follow)
+
+    module _ (filled : Content) (is_filled : filled ≡ with_events reserved tree_events) where
+      -- Then the document is the one of the normal text.
+      pub is_document_of : filled ≡ document_of form (tree_of content)
+      is_document_of =
+          is_filled
+          ∙ ap (λ document. with_events document tree_events) same_reserved
+          ∙ ap (with_events (with_reservations (empty_content cpu) blob.reservations)) same_events
+          ∙ ap (λ cpu. record { boot_cpu = cpu; reservations = blob.reservations; events = events_of (normal_tree form (tree_of content)) }) (is_cpu ∙ ap (λ blob. blob.cpu) is_blob)
+          ∙ ap (λ reservations. record { boot_cpu = content.blob.cpu; reservations = reservations; events = events_of (normal_tree form (tree_of content)) }) (ap (λ blob. blob.reservations) is_blob)
+
+      -- Its root has ended.
+      pub document_closed : stage_of_events filled.events ≡ AfterRoot
+      document_closed = subst (λ document. stage_of_events document.events ≡ AfterRoot) (sym is_document_of) (held_closed content held form).closed
+
+      -- Its text and the payloads after it are the normal text.
+      pub length-document : (after : ℕ) → after ≡ length_after_blob form (tree_of content).payloads → length (text_of filled) + after ≡ length (fit_text form (tree_of content))
+      length-document after is_after =
+          ap (λ document. length (text_of document) + after) is_document_of
+          ∙ ap (λ n. length (text_of (document_of form (tree_of content))) + n) is_after
+          ∙ sym (length-fit_text form (tree_of content))
+
+-- A normal text is too long where the payloads after its blob are.
+pub payloads_too_long : (form : Form) (tree : ImageTree) (payloads : List (Option (List ℕ))) (limit : ℕ) → form ≡ External → payloads ≡ tree.payloads → limit < payloads_end 0 payloads → limit < length (fit_text form tree)
+payloads_too_long form tree payloads limit is_form same late =
+    let is_length : length (fit_text External tree) ≡ length (blob_of External tree) + payloads_end 0 tree.payloads = length-fit_text External tree in
+    let late_there : limit < payloads_end 0 tree.payloads = subst (λ payloads. limit < payloads_end 0 payloads) same late in
+    subst (λ form. limit < length (fit_text form tree)) (sym is_form) (omega arith)
+
+-- The fault of a normal text that is too long is passed on.
+pub too_long : {A : Type 0} (r : Result A Error) (limits : Bounds) (form : Form) (tree : ImageTree) (limit : ℕ) (fault : Fault) → limit ≡ limits.file → IsErrAnd r (λ error. error ≡ Refused fault) → fault ≡ too_large limit → limit < length (fit_text form tree) → IfErr r (IsDocumentError limits form tree)
+too_long r limits form tree limit fault is_limit is is_fault late =
+    error_passed_on r (Refused fault) (IsDocumentError limits form tree) is
+    (is_fault ∙ ap too_large is_limit, subst (λ n. n < length (fit_text form tree)) is_limit late)

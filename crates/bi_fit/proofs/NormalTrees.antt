@@ -1,0 +1,176 @@
+use Rattle.std.proofs.Common.{◌≡◌, ℕ, ◌+◌, ◌≤◌, Bool, true, false, List, [], ◌∷◌, map, length, bytes_eq, Option, Some, None, refl, sym, ap, subst, ◌∙◌, true≢false, arith, length-append}
+use Rattle.std.specs.Prelude.{IsSome}
+use Rattle.std.specs.List.{AllByRecursion, AllZip}
+use Rattle.std.specs.FinMap.{entries}
+use Rattle.std.proofs.lemmas.Slice.Eq.{bytes_eq-Decides}
+use Rattle.std.proofs.lemmas.Slice.Zip.{AllZip-long}
+use Rattle.bi_blob.specs.Tree.{Nodes, none, node, Property, FileNode, names, with_each, properties_of, IsNew, AreDistinct, AreProperties, AreNodes, EachOwn}
+use Rattle.bi_blob.specs.Lookups.{siblings, root_node}
+use Rattle.bi_blob.specs.Events.{events, events_of}
+use Rattle.bi_blob.specs.Following.{most_open_nodes, AreClosedEvents, MayFollowInText}
+use Rattle.bi_blob.specs.Blob.{IsReservation}
+use Rattle.bi_blob.proofs.Texts.Content.{blob_has_content}
+use Rattle.bi_blob.proofs.Blobs.EventTrees.{same_events}
+use Rattle.bi_blob.proofs.Texts.NormalEvents.{normal_events_have_one_tree}
+use Rattle.bi_blob.proofs.Texts.Normal.{has_one_order}
+use Rattle.bi_fdt.specs.Content.{root_of}
+use Rattle.bi_fit.specs.declared.form.Form.{Form}
+use Rattle.bi_fit.specs.declared.form.Form.TheVariants.{Embedded, External}
+use Rattle.bi_fit.specs.Names.{images_name}
+use Rattle.bi_fit.specs.ImageTree.{ImageTree, IsImageTree, each_own, children_of, image_nodes, nodes_or_none, with_children_of, with_image_nodes, without_payloads}
+use Rattle.bi_fit.specs.Payloads.{HasPayload}
+use Rattle.bi_fit.specs.File.{IsFitFile}
+use Rattle.bi_fit.specs.Text.{with_payloads, normal_tree, payloads_end, blob_of, after_blob, fit_text}
+use Rattle.bi_fit.specs.Content.{FitContent, ReadImage, tree_of, IsReadImage, IsHeld}
+use Rattle.bi_fit.specs.Additions.{HasDistinctNames, HaveImages, alone, properties_by_name, nodes_by_name, sorted_nodes, sorted_images, sorted_root_children, sorted_root}
+use Rattle.bi_fit.proofs.Meanings.{same_in_some}
+use Rattle.bi_fit.proofs.Areas.{length-payload_area}
+use Rattle.bi_fit.proofs.FileTrees.{is_image_tree, depth-image_tree}
+use Rattle.bi_fit.proofs.Contents.{content-normal_tree}
+use Rattle.bi_fit.proofs.Shapes.{names-with_each}
+use Rattle.bi_fit.proofs.Texts.{depth-normal_tree}
+
+-- The normal tree, node by node of the file.
+
+-- A name that is not `images` fails the test.
+other_name : (name : List ℕ) → (name ≡ images_name → ⊥) → bytes_eq name images_name ≡ false
+other_name name differs = where_same (bytes_eq name images_name) refl
+  where
+    where_same : (b : Bool) → bytes_eq name images_name ≡ b → bytes_eq name images_name ≡ false
+    where_same true is = absurd (differs ((bytes_eq-Decides name images_name).0 is))
+    where_same false is = is
+
+-- Nodes none of which has the name `images`.
+others_sorted : (form : Form) (payloads : List (Option (List ℕ))) (nodes : Nodes FileNode) → IsNew images_name (names nodes) → sorted_root_children form payloads nodes ≡ sorted_nodes nodes
+others_sorted form payloads none new = refl
+others_sorted form payloads (node name own children later) new =
+    rw (other_name name new.0) (ap (node name (entries (properties_by_name own)) (sorted_nodes children)) (others_sorted form payloads later new.1))
+
+-- The children of the root of the normal tree, of which one at most has the name `images`.
+root_children : (IsOwn : FileNode → Type 0) (form : Form) (payloads : List (Option (List ℕ))) (nodes : Nodes FileNode) → AreNodes IsOwn nodes → with_each entries (with_children_of images_name (with_payloads form 0 payloads) (with_children_of images_name without_payloads (nodes_by_name nodes))) ≡ sorted_root_children form payloads nodes
+root_children IsOwn form payloads none are = refl
+root_children IsOwn form payloads (node name own children later) are =
+    where_first (bytes_eq name images_name) refl (root_children IsOwn form payloads later are.2)
+  where
+    changed : Nodes FileNode → Nodes (List Property)
+    changed nodes = with_each entries (with_children_of images_name (with_payloads form 0 payloads) (with_children_of images_name without_payloads (nodes_by_name nodes)))
+
+    where_first : (b : Bool) → bytes_eq name images_name ≡ b → changed later ≡ sorted_root_children form payloads later → changed (node name own children later) ≡ sorted_root_children form payloads (node name own children later)
+    where_first true is rest =
+        let new : IsNew images_name (names later) = subst (λ name. IsNew name (names later)) ((bytes_eq-Decides name images_name).0 is) are.0.is_new in
+        rw (is, is) (ap (node name (entries (properties_by_name own)) (sorted_images form 0 payloads children)) (sym (others_sorted form payloads later new)))
+    where_first false is rest =
+        rw (is, is) (ap (node name (entries (properties_by_name own)) (sorted_nodes children)) rest)
+
+-- Nodes that a tree can have have what each of them has.
+each_own_from : {Own : Type 0} (P Q : Own → Type 0) → ((own : Own) → P own → Q own) → (nodes : Nodes Own) → AreNodes P nodes → EachOwn Q nodes
+each_own_from P Q follows none are = tt
+each_own_from P Q follows (node name own children later) are =
+    (follows own are.0.is_own, each_own_from P Q follows children are.1, each_own_from P Q follows later are.2)
+
+-- What holds of nodes without the places holds of them with the places.
+nodes_with_places : (P : List Property → Type 0) (nodes : Nodes FileNode) → AreNodes P (with_each properties_of nodes) → AreNodes (λ own. P (properties_of own)) nodes
+nodes_with_places P none are = tt
+nodes_with_places P (node name own children later) are = (
+  record { is_name = are.0.is_name; is_own = are.0.is_own; is_new = subst (IsNew name) (names-with_each properties_of later) are.0.is_new },
+  nodes_with_places P children are.1,
+  nodes_with_places P later are.2,
+)
+
+-- None of these nodes has the name `images`.
+no_images : (count : ℕ) (nodes : Nodes FileNode) → IsNew images_name (names nodes) → HaveImages count nodes
+no_images count none new = tt
+no_images count (node name own children later) new = ((λ is. absurd (new.0 is)), no_images count later new.1)
+
+-- The node of the name `images` has the image nodes as its children.
+images_counted : (IsOwn : FileNode → Type 0) (nodes inner : Nodes FileNode) → children_of images_name nodes ≡ Some inner → AreNodes IsOwn nodes → HaveImages (length (siblings inner)) nodes
+images_counted IsOwn none inner has are = tt
+images_counted IsOwn (node name own children later) inner has are =
+    where_first (bytes_eq name images_name) refl has (λ has. images_counted IsOwn later inner has are.2)
+  where
+    where_first : (b : Bool) → bytes_eq name images_name ≡ b → children_of images_name (node name own children later) ≡ Some inner → (children_of images_name later ≡ Some inner → HaveImages (length (siblings inner)) later) → HaveImages (length (siblings inner)) (node name own children later)
+    where_first true is has rest =
+        let found : children ≡ inner = same_in_some children inner (rw is at has) in
+        let new : IsNew images_name (names later) = subst (λ name. IsNew name (names later)) ((bytes_eq-Decides name images_name).0 is) are.0.is_new in
+        ((λ same. ap (λ nodes. length (siblings nodes)) found), no_images (length (siblings inner)) later new)
+    where_first false is has rest =
+        ((λ same. absurd (true≢false (sym ((bytes_eq-Decides name images_name).1 same) ∙ is))), rest (rw is at has))
+
+-- Images that were read have the payloads of their nodes.
+payloads_read : (file : List ℕ) (nodes : Nodes FileNode) (images : List ReadImage) → AllZip (IsReadImage file) (siblings nodes) images → AllZip (HasPayload file) (each_own nodes) (map (λ image. image.payload) images)
+payloads_read file none [] are = tt
+payloads_read file none (image ∷ images) are = absurd are
+payloads_read file (node name own children later) [] are = absurd are
+payloads_read file (node name own children later) (image ∷ images) are = (are.0.payload, payloads_read file later images are.1)
+
+-- Nodes that are there.
+some_nodes : (nodes : Option (Nodes FileNode)) → IsSome nodes → nodes ≡ Some (nodes_or_none nodes)
+some_nodes None is = absurd cc
+some_nodes (Some nodes) is = refl
+
+module _ (content : FitContent) (held : IsHeld content) where
+  -- Its file means its image tree.
+  pub held_means : IsFitFile content.blob.file (tree_of content)
+  held_means = record {
+    root = root_of content.blob;
+    blob = held.is_blob;
+    images = nodes_or_none (image_nodes (root_of content.blob));
+    has_images = some_nodes (image_nodes (root_of content.blob)) held.has_images;
+    payloads = payloads_read content.blob.file (nodes_or_none (image_nodes (root_of content.blob))) content.images held.images;
+    is_root = refl;
+  }
+
+  -- The nodes of its file are nodes that a tree can have.
+  held_nodes : AreNodes (λ own. AreProperties (properties_of own)) (root_of content.blob).children
+  held_nodes = nodes_with_places AreProperties (root_of content.blob).children
+      (blob_has_content content.blob.file content.blob.cpu content.blob.reservations (root_of content.blob) held.is_blob).is_tree.children
+
+  -- The names of each node's properties are distinct.
+  pub held_distinct : EachOwn HasDistinctNames (alone (root_node (root_of content.blob)))
+  held_distinct = (
+    (blob_has_content content.blob.file content.blob.cpu content.blob.reservations (root_of content.blob) held.is_blob).is_tree.is_own.distinct,
+    each_own_from (λ own. AreProperties (properties_of own)) HasDistinctNames (λ own are. are.distinct) (root_of content.blob).children held_nodes,
+    tt,
+  )
+
+  -- There are as many images as image nodes.
+  pub held_count : HaveImages (length content.images) (root_of content.blob).children
+  held_count =
+      subst (λ n. HaveImages n (root_of content.blob).children) (sym (AllZip-long (IsReadImage content.blob.file) (siblings (nodes_or_none (image_nodes (root_of content.blob)))) content.images held.images))
+      (images_counted (λ own. AreProperties (properties_of own)) (root_of content.blob).children (nodes_or_none (image_nodes (root_of content.blob))) (some_nodes (image_nodes (root_of content.blob)) held.has_images) held_nodes)
+
+  -- The memory reservations are reservations.
+  pub held_reservations : AllByRecursion IsReservation content.blob.reservations
+  held_reservations = (is_image_tree content.blob.file (tree_of content) held_means).are_reservations
+
+  module _ (form : Form) where
+    -- The events of the normal tree are those of the nodes in their order.
+    pub held_events : events (sorted_root form (tree_of content).payloads (root_node (root_of content.blob))) ≡ events_of (normal_tree form (tree_of content))
+    held_events =
+        ap (λ children. events (node [] (entries (properties_by_name (root_of content.blob).own)) children none))
+        (sym (root_children (λ own. AreProperties (properties_of own)) form (tree_of content).payloads (root_of content.blob).children held_nodes))
+
+    -- They may follow one another, and they end the root.
+    pub held_closed : AreClosedEvents MayFollowInText (events_of (normal_tree form (tree_of content)))
+    unfolding held_means
+    held_closed = (normal_events_have_one_tree (events_of (normal_tree form (tree_of content)))).1 (record {
+      tree = record {
+        root = normal_tree form (tree_of content);
+        same = refl;
+        only = λ other also. same_events other (normal_tree form (tree_of content)) also;
+        is_tree = (content-normal_tree form (tree_of content) (is_image_tree content.blob.file (tree_of content) held_means)).is_tree;
+        shallow = subst (λ n. n ≤ most_open_nodes) (sym (depth-normal_tree form (tree_of content) ∙ depth-image_tree content.blob.file (tree_of content) held_means)) held.shallow;
+      };
+      is_normal = (has_one_order (with_image_nodes (with_payloads form 0 (tree_of content).payloads) (tree_of content).root)).is_normal;
+    })
+
+-- How many bytes follow the blob.
+abbrev pub length_after_blob : Form → List (Option (List ℕ)) → ℕ
+length_after_blob Embedded payloads = 0
+length_after_blob External payloads = payloads_end 0 payloads
+
+-- The length of a normal text.
+pub length-fit_text : (form : Form) (tree : ImageTree) → length (fit_text form tree) ≡ length (blob_of form tree) + length_after_blob form tree.payloads
+length-fit_text Embedded tree = length-append (blob_of Embedded tree) []
+length-fit_text External tree =
+    omega (arith, length-append (blob_of External tree) (after_blob External tree), length-payload_area 0 tree.payloads)

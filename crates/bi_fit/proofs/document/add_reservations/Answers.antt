@@ -1,0 +1,24 @@
+use Rattle.std.proofs.Common.{◌≡◌, ℕ, ◌+◌, ◌∷◌, suc, drop, map, Some, slice_get, sym, ap, subst, ◌∙◌, add-one}
+use Rattle.std.specs.List.{AllByRecursion}
+use Rattle.bi_blob.specs.Blob.{IsReservation}
+use Rattle.bi_fit.specs.Additions.{with_reservations}
+use Rattle.bi_fit.proofs.Reservations.{pair_of, reservations_from, with_reservations-cons}
+use Rattle.bi_fit.proofs.document.add_reservations.Goals as goal
+
+pub reserve-requires : goal.reserve-requires
+reserve-requires c =
+    let found : slice_get (map pair_of c.args.blob.now.reservations) c.loop-index.index ≡ Some (c.in-Some.address, c.in-Some.size) = sym c.in-Some.ensures in
+    (subst (AllByRecursion IsReservation) (reservations_from c.args.blob.now.reservations c.loop-index.index (c.in-Some.address, c.in-Some.size) found) c.loop-index.invariant.valid).0.some
+
+pub loop-index-preserved : goal.loop-index-preserved
+loop-index-preserved c =
+    let found : slice_get (map pair_of c.args.blob.now.reservations) c.loop-index.index ≡ Some (c.in-Some.address, c.in-Some.size) = sym c.in-Some.ensures in
+    let later = drop (suc c.loop-index.index) c.args.blob.now.reservations in
+    let all = reservations_from c.args.blob.now.reservations c.loop-index.index (c.in-Some.address, c.in-Some.size) found in
+    rw add-one (record {
+      added = ap (λ document. with_reservations document later) c.in_ok-reserve.ensures.reserved
+          ∙ with_reservations-cons c.loop-index.doc c.in-Some.address c.in-Some.size later
+          ∙ ap (with_reservations c.loop-index.doc) (sym all)
+          ∙ c.loop-index.invariant.added;
+      valid = (subst (AllByRecursion IsReservation) all c.loop-index.invariant.valid).1;
+    })

@@ -1,0 +1,86 @@
+use Rattle.std.proofs.Common.{◌≡◌, ℕ, ◌+◌, ◌<◌, ◌≤◌, suc, List, ◌∷◌, drop, get_or, length, Option, Some, sym, ap, subst, ◌∙◌, arith}
+use Rattle.std.specs.Option.{option_map}
+use Rattle.std.specs.FinMap.{entries}
+use Rattle.bi_base.specs.Cells.{up4}
+use Rattle.bi_blob.specs.Tree.{Nodes, EachOwn}
+use Rattle.bi_blob.specs.Lookups.{siblings}
+use Rattle.bi_blob.specs.Events.{events}
+use Rattle.bi_blob.specs.Layout.{longest_text}
+use Rattle.bi_fdt.specs.Views.{node_of}
+use Rattle.bi_fit.specs.declared.form.Form.{Form}
+use Rattle.bi_fit.specs.declared.form.Form.TheVariants.{External}
+use Rattle.bi_fit.specs.Text.{end_after}
+use Rattle.bi_fit.specs.Content.{read_image}
+use Rattle.bi_fit.specs.Additions.{MayAdd, with_events, HasDistinctNames, HasCellSize, AreWithin, payloads_of, image_properties, sorted_image, sorted_nodes, sorted_images}
+use Rattle.bi_fit.proofs.NodeEvents.{nodes_from, nodes_from_first, IsAdding, adding_all, may_add_first, adding_later}
+use Rattle.bi_fit.proofs.PayloadEnds.{no_image, payloads_from}
+use Rattle.bi_fit.proofs.ImageNodes.{next_end, images-later, within_sized, within_first, within_later}
+use Rattle.bi_fit.proofs.document.image_nodes.add_image_nodes.Goals as goal
+use Rattle.bi_fit.proofs.document.image_nodes.add_image_nodes.Goals.{in-Embedded, in-External}
+
+pub loop-image-init : goal.loop-image-init
+loop-image-init c =
+    let s = node_of c.args.node in
+    let all : nodes_from (option_map node_of c.first_child-next.result) ≡ s.children = ap nodes_from c.first_child-next.ensures ∙ nodes_from_first s.children in
+    rw all (record {
+      adding = adding_all c.args.doc.now (sorted_images c.args.form 0 (payloads_of c.args.images.now) s.children) c.requires.may;
+      distinct = c.requires.distinct;
+      same_count = omega (arith, c.requires.same_count);
+      within = c.requires.within;
+      small = omega arith;
+    })
+
+pub add_image_node-requires-clause-sized : goal.add_image_node-requires-clause-sized
+add_image_node-requires-clause-sized c =
+    let payload : Option (List ℕ) = (read_image (get_or c.args.images.now c.loop-image.image-index no_image)).payload in
+    let later = payloads_of (drop (c.loop-image.image-index + 1) c.args.images.now) in
+    within_sized c.args.form c.loop-image.end payload later
+    (subst (AreWithin c.args.form c.loop-image.end) (payloads_from c.args.images.now c.loop-image.image-index c.loop-image-test.true) c.loop-image.invariant.within)
+
+pub add_image_node-requires-clause-may : goal.add_image_node-requires-clause-may
+add_image_node-requires-clause-may c =
+    let s = node_of c.in-Some.child in
+    let payload : Option (List ℕ) = (read_image (get_or c.args.images.now c.loop-image.image-index no_image)).payload in
+    let later = payloads_of (drop (c.loop-image.image-index + 1) c.args.images.now) in
+    let target = with_events c.args.doc.now (events (sorted_images c.args.form 0 (payloads_of c.args.images.now) (node_of c.args.node).children)) in
+    let adding : IsAdding c.loop-image.doc target (sorted_images c.args.form c.loop-image.end (payload ∷ later) (nodes_from (Some s))) =
+    subst (λ payloads. IsAdding c.loop-image.doc target (sorted_images c.args.form c.loop-image.end payloads (nodes_from (Some s)))) (payloads_from c.args.images.now c.loop-image.image-index c.loop-image-test.true)
+    (subst (λ nodes. IsAdding c.loop-image.doc target (sorted_images c.args.form c.loop-image.end (payloads_of (drop c.loop-image.image-index c.args.images.now)) nodes))
+    (ap (λ next. nodes_from (option_map node_of next)) c.in-Some.is) c.loop-image.invariant.adding) in
+    subst (λ begin. MayAdd c.loop-image.doc (events (sorted_image c.args.form begin payload s))) (sym c.up4.ensures)
+    (may_add_first c.loop-image.doc target s.name (entries (image_properties c.args.form (up4 c.loop-image.end) payload s.own)) (sorted_nodes s.children)
+    (sorted_images c.args.form (end_after c.loop-image.end payload) later s.later) adding)
+
+pub loop-image-preserved : goal.loop-image-preserved
+loop-image-preserved c =
+    let s = node_of c.in-Some.child in
+    let payload : Option (List ℕ) = (read_image (get_or c.args.images.now c.loop-image.image-index no_image)).payload in
+    let later = payloads_of (drop (c.loop-image.image-index + 1) c.args.images.now) in
+    let target = with_events c.args.doc.now (events (sorted_images c.args.form 0 (payloads_of c.args.images.now) (node_of c.args.node).children)) in
+    let here : nodes_from (option_map node_of c.loop-image.next) ≡ nodes_from (Some s) = ap (λ next. nodes_from (option_map node_of next)) c.in-Some.is in
+    let rest : nodes_from (option_map node_of c.next_sibling-next.result) ≡ s.later = ap nodes_from c.next_sibling-next.ensures ∙ nodes_from_first s.later in
+    let adding : IsAdding c.loop-image.doc target (sorted_images c.args.form c.loop-image.end (payload ∷ later) (nodes_from (Some s))) =
+    subst (λ payloads. IsAdding c.loop-image.doc target (sorted_images c.args.form c.loop-image.end payloads (nodes_from (Some s)))) (payloads_from c.args.images.now c.loop-image.image-index c.loop-image-test.true)
+    (subst (λ nodes. IsAdding c.loop-image.doc target (sorted_images c.args.form c.loop-image.end (payloads_of (drop c.loop-image.image-index c.args.images.now)) nodes)) here c.loop-image.invariant.adding) in
+    let within : AreWithin c.args.form c.loop-image.end (payload ∷ later) =
+    subst (AreWithin c.args.form c.loop-image.end) (payloads_from c.args.images.now c.loop-image.image-index c.loop-image-test.true) c.loop-image.invariant.within in
+    let small : next_end c.args.form c.loop-image.end payload ≤ longest_text = within_first c.args.form c.loop-image.end payload later within c.loop-image.invariant.small in
+    let at : c.match-form.end ≡ next_end c.args.form c.loop-image.end payload = elim c.match-form.branch [
+      | in-Embedded w ↦ w.end-is ∙ ap (λ form. next_end form c.loop-image.end payload) (sym w.in-Embedded.is)
+      | in-External w ↦ (let is : next_end c.args.form c.loop-image.end payload ≡ end_after c.loop-image.end payload = ap (λ form. next_end form c.loop-image.end payload) w.in-External.is in
+          omega (arith, w.end-is, w.end_after-end.ensures))
+    ] in
+    let distinct : EachOwn HasDistinctNames (nodes_from (Some s)) = subst (EachOwn HasDistinctNames) here c.loop-image.invariant.distinct in
+    let count : c.loop-image.image-index + suc (length (siblings s.later)) ≡ length c.args.images.now =
+    subst (λ nodes. c.loop-image.image-index + length (siblings nodes) ≡ length c.args.images.now) here c.loop-image.invariant.same_count in
+    let added : c.add_image_node.new.doc ≡ with_events c.loop-image.doc (events (sorted_image c.args.form (up4 c.loop-image.end) payload s)) =
+    c.in_ok-add_image_node.ensures.added ∙ ap (λ begin. with_events c.loop-image.doc (events (sorted_image c.args.form begin payload s))) c.up4.ensures in
+    rw (rest, at) (record {
+      adding = subst (IsAdding c.add_image_node.new.doc target) (images-later c.args.form c.loop-image.end payload later s.later)
+          (adding_later c.loop-image.doc target s.name (entries (image_properties c.args.form (up4 c.loop-image.end) payload s.own)) (sorted_nodes s.children)
+          (sorted_images c.args.form (end_after c.loop-image.end payload) later s.later) adding c.add_image_node.new.doc added);
+      distinct = distinct.2;
+      same_count = omega arith;
+      within = within_later c.args.form c.loop-image.end payload later within;
+      small = small;
+    })

@@ -1,0 +1,11 @@
+use Rattle.std.proofs.Common.{◌≤◌, drop, get_or, refl, arith}
+use Rattle.bi_fit.specs.Text.{payloads_end, end_after}
+use Rattle.bi_fit.specs.Content.{read_image}
+use Rattle.bi_fit.specs.Additions.{payloads_of}
+use Rattle.bi_fit.proofs.PayloadEnds.{one_end-le}
+use Rattle.bi_fit.proofs.document.payload_area.payloads_end.Goals as goal
+
+pub returns-then-end-limit-clause-refused : goal.returns-then-end-limit-clause-refused
+returns-then-end-limit-clause-refused c =
+    let least = one_end-le c.args.images.now c.loop-image.image-index c.loop-image-test.true c.loop-image.end in
+    rw c.refuse.ensures (refl, omega (arith, least))

@@ -1,0 +1,91 @@
+//! The document of a flattened image tree's normal text.
+
+ghost use Rattle.std.specs.Prelude.{◌≡◌, ◌+◌, ◌<◌, ◌≤◌, length, OnOk, IfOk, IfErr};
+ghost use Rattle.std.specs.List.{AllByRecursion};
+ghost use Rattle.bi_base.specs.declared.fault.Error.TheVariants.{OutOfMemory};
+ghost use Rattle.bi_base.specs.Reading.{too_large};
+ghost use Rattle.bi_blob.specs.Blob.{IsReservation};
+ghost use Rattle.bi_blob.specs.Stages.{AfterRoot};
+ghost use Rattle.bi_blob.specs.Following.{stage_of_events};
+ghost use Rattle.bi_blob.specs.Layout.{longest_text};
+ghost use Rattle.bi_lay.specs.Contents.{text_of};
+ghost use Rattle.bi_fit.specs.Content.{tree_of};
+ghost use Rattle.bi_fit.specs.Documents.{IsDocument, IsDocumentError};
+ghost use Rattle.bi_fit.specs.Additions.{with_reservations};
+
+mod image_nodes;
+mod nodes;
+mod payload_area;
+mod property_map;
+mod tree;
+
+use crate::document::payload_area::payloads_end;
+use crate::document::tree::add_tree;
+use crate::fit::Fit;
+use crate::form::Form;
+use bi_base::{Cause, Error, Fault, Limits, refuse};
+use bi_fdt::Blob;
+use bi_lay::Doc;
+use std::alloc::Global;
+
+impl<'a> Fit<'a> {
+    /// Returns the document of the normal text in a form. Its text is the blob of the normal text:
+    /// the boot processor, the memory reservations and the nodes are those of the file in their
+    /// order, and the properties of each node are in byte order of their names. The image nodes
+    /// have the properties of the form in place of `data`, `data-offset`, `data-position` and
+    /// `data-size`. In the form External the payloads follow the blob. The form Embedded repeats
+    /// the bytes of a region that several images share. No value is copied.
+    ///
+    /// It takes time n log n in the number n of the nodes and properties.
+    ///
+    /// Errors: TooLarge at `limits.file()`, exactly if the normal text, with the payloads after the
+    /// blob, is longer than that, if memory suffices; OutOfMemory. ReadFailed and WriteFailed never
+    /// come.
+    pub fn to_doc(&self, alloc: Global, form: Form, limits: Limits) -> Result<Doc<'a>, Error>
+        ensures document { IfOk result (IsDocument limits form (tree_of self.now)) }
+        ensures failed { IfErr result (IsDocumentError limits form (tree_of self.now)) }
+    {
+        let limit = limits.file();
+        let end = match form {
+            Form::Embedded => 0,
+            Form::External => payloads_end(self.images(), limit)?,
+        };
+        self.held();
+        let blob = self.blob();
+        let mut doc = Doc::new(alloc, blob.boot_cpu())?;
+        add_reservations(&mut doc, blob)?;
+        add_tree(alloc, &mut doc, blob.root(), form, self.images())?;
+        check_size(&doc, end, limit)?;
+        Ok(doc)
+    }
+}
+
+/// Adds the memory reservations of a blob.
+fn add_reservations(doc: &mut Doc<'_>, blob: &Blob<'_>) -> Result<(), Error>
+    requires { AllByRecursion IsReservation blob.now.reservations }
+    ensures added { OnOk result (doc.new ≡ with_reservations doc.old blob.now.reservations) }
+    ensures failed { IfErr result (λ error. error ≡ OutOfMemory) }
+{
+    for index in 0..blob.reservation_count() {
+        let Some((address, size)) = blob.reservation(index) else {
+            unreachable!();
+        };
+        doc.reserve(address, size)?;
+    }
+    Ok(())
+}
+
+/// TooLarge at the limit, exactly if the text of a document and `after` bytes are longer than that.
+fn check_size(doc: &Doc<'_>, after: u32, limit: u32) -> Result<(), Fault>
+    requires closed { stage_of_events doc.now.events ≡ AfterRoot }
+    requires within { after ≤ limit }
+    requires small { limit ≤ longest_text }
+    ensures fits { OnOk result (length (text_of doc.now) + after ≤ limit) }
+    ensures refused { IfErr result (λ fault. (fault ≡ too_large limit)
+        × (limit < length (text_of doc.now) + after)) }
+{
+    match doc.size() {
+        Some(size) if size + after <= limit => Ok(()),
+        _ => refuse(Cause::TooLarge, limit),
+    }
+}

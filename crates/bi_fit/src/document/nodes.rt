@@ -1,0 +1,89 @@
+//! Adding nodes to a document.
+
+ghost use Rattle.std.specs.Prelude.{◌≡◌, OnOk, IfErr};
+ghost use Rattle.bi_base.specs.declared.fault.Error.TheVariants.{OutOfMemory};
+ghost use Rattle.bi_blob.specs.Tree.{EachOwn};
+ghost use Rattle.bi_blob.specs.Events.{events};
+ghost use Rattle.bi_fdt.specs.Views.{node_of};
+ghost use Rattle.bi_fit.specs.Additions.{MayAdd, with_events, HasDistinctNames, alone};
+ghost use Rattle.bi_fit.specs.Additions.{begin_events, properties_by_name, sorted_nodes};
+
+use crate::document::property_map::PropertyMap;
+use bi_base::Error;
+use bi_fdt::NodeRef;
+use bi_lay::Doc;
+use std::alloc::Global;
+
+/// Begins a node with its properties, as a child of the innermost open node or as the root.
+pub(super) fn begin_node<'a>(
+    alloc: Global,
+    doc: &mut Doc<'a>,
+    node: NodeRef<'a, '_>,
+) -> Result<(), Error>
+    requires distinct { HasDistinctNames (node_of node).own }
+    requires may { let properties = properties_by_name (node_of node).own in
+        MayAdd doc.old (begin_events (node_of node).name properties) }
+    ensures added { let properties = properties_by_name (node_of node.entry).own in
+        OnOk result (doc.new ≡ with_events doc.old
+        (begin_events (node_of node.entry).name properties)) }
+    ensures failed { IfErr result (λ error. error ≡ OutOfMemory) }
+{
+    let properties = PropertyMap::from_node(alloc, node)?;
+    begin_with(doc, node.name(), &properties)
+}
+
+/// Begins a node of this name with these properties, as a child of the innermost open node or as
+/// the root.
+pub(super) fn begin_with<'a>(
+    doc: &mut Doc<'a>,
+    name: &'a [u8],
+    properties: &PropertyMap<'a>,
+) -> Result<(), Error>
+    requires { MayAdd doc.old (begin_events name.now properties.now) }
+    ensures added { OnOk result (doc.new ≡ with_events doc.old
+        (begin_events name.entry.now properties.entry.now)) }
+    ensures failed { IfErr result (λ error. error ≡ OutOfMemory) }
+{
+    doc.begin(name)?;
+    properties.add_to(doc)
+}
+
+/// Adds a node, with all nodes below it, as a child of the innermost open node.
+#[cycle(nodes)]
+pub(super) fn add_node<'a>(
+    alloc: Global,
+    doc: &mut Doc<'a>,
+    node: NodeRef<'a, '_>,
+) -> Result<(), Error>
+    requires distinct { EachOwn HasDistinctNames (alone (node_of node)) }
+    requires may { MayAdd doc.old (events (sorted_nodes (alone (node_of node)))) }
+    ensures added { OnOk result (doc.new ≡ with_events doc.old
+        (events (sorted_nodes (alone (node_of node.entry))))) }
+    ensures failed { IfErr result (λ error. error ≡ OutOfMemory) }
+{
+    begin_node(alloc, doc, node)?;
+    add_children(alloc, doc, node)?;
+    doc.end();
+    Ok(())
+}
+
+/// Adds the children of a node, with all nodes below them, as children of the innermost open node.
+#[cycle(nodes)]
+pub(super) fn add_children<'a>(
+    alloc: Global,
+    doc: &mut Doc<'a>,
+    node: NodeRef<'a, '_>,
+) -> Result<(), Error>
+    requires distinct { EachOwn HasDistinctNames (node_of node).children }
+    requires may { MayAdd doc.old (events (sorted_nodes (node_of node).children)) }
+    ensures added { OnOk result (doc.new ≡ with_events doc.old
+        (events (sorted_nodes (node_of node.entry).children))) }
+    ensures failed { IfErr result (λ error. error ≡ OutOfMemory) }
+{
+    let mut next = node.first_child();
+    while let Some(child) = next {
+        add_node(alloc, doc, child)?;
+        next = child.next_sibling();
+    }
+    Ok(())
+}

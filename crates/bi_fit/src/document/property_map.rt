@@ -1,0 +1,131 @@
+//! The properties of a node, by name.
+
+ghost use Rattle.std.specs.Prelude.{◌≡◌, map, OnOk, IfOk, IfErr};
+ghost use Rattle.std.specs.FinMap.{insert, entries};
+ghost use Rattle.std.specs.Option.{option_map};
+ghost use Rattle.bi_base.specs.declared.fault.Error.TheVariants.{OutOfMemory};
+ghost use Rattle.bi_blob.specs.Events.{NodeProperty};
+ghost use Rattle.bi_fdt.specs.Views.{node_of};
+ghost use Rattle.bi_lay.specs.Items.{value_bytes};
+ghost use Rattle.bi_fit.specs.Names.{is_payload_name as is_payload_name_of};
+ghost use Rattle.bi_fit.specs.ImageTree.{without_payload};
+ghost use Rattle.bi_fit.specs.Text.{with_payload};
+ghost use Rattle.bi_fit.specs.Additions.{MayAdd, with_events, HasDistinctNames, HasCellSize};
+ghost use Rattle.bi_fit.specs.Additions.{properties_by_name};
+
+use crate::form::Form;
+use bi_base::Error;
+use bi_fdt::NodeRef;
+use bi_lay::{Doc, Value};
+use std::alloc::Global;
+use std::collections::BTreeMap;
+use std::marker::Model;
+
+/// The properties of a node, by name.
+#[derive(Drop)]
+pub(super) struct PropertyMap<'a> {
+    values: BTreeMap<&'a [u8], Value<'a>>,
+}
+
+impl<'a> Model for PropertyMap<'a> {
+    ghost use Rattle.std.specs.FinMap.{code};
+    ghost use Rattle.std.specs.Coded.{coded_list, coded_ℕ};
+    ghost use Rattle.bi_blob.specs.Tree.{PropertyMap as Properties};
+
+    ghost Value = { Properties };
+
+    ghost coded = { code (coded_list coded_ℕ) (coded_list coded_ℕ) };
+
+    ghost use Rattle.bi_fit.specs.PropertyMaps.{by_name, IsConsistent};
+
+    ghost view = { by_name };
+
+    ghost invariant = { IsConsistent };
+}
+
+impl<'a> PropertyMap<'a> {
+    /// The properties of a node.
+    pub(super) fn from_node(
+        alloc: Global,
+        node: NodeRef<'a, '_>,
+    ) -> Result<PropertyMap<'a>, Error>
+        requires { HasDistinctNames (node_of node).own }
+        ensures all { IfOk result (λ properties. properties
+            ≡ properties_by_name (node_of node.entry).own) }
+        ensures failed { IfErr result (λ error. error ≡ OutOfMemory) }
+    {
+        let mut properties = PropertyMap {
+            values: BTreeMap::new(alloc),
+        };
+        for property in node.properties() {
+            properties.insert(property.name, Value::Slice(property.value))?;
+        }
+        Ok(properties)
+    }
+
+    /// Adds a property, or gives the property of this name another value.
+    pub(super) fn insert(&mut self, name: &'a [u8], value: Value<'a>) -> Result<(), Error>
+        ensures inserted { OnOk result (self.new ≡ insert self.old name.entry.now
+            (value_bytes value.entry)) }
+        ensures failed { IfErr result (λ error. error ≡ OutOfMemory) }
+    {
+        self.values.insert(name, value)?;
+        Ok(())
+    }
+
+    /// Gives an image node this payload in place of any other. `begin` is the offset of an external
+    /// payload from the end of the blob.
+    pub(super) fn set_payload(
+        &mut self,
+        form: Form,
+        begin: u32,
+        payload: Option<&'a [u8]>,
+    ) -> Result<(), Error>
+        requires { HasCellSize form (option_map (λ payload. payload.now) payload) }
+        ensures set { let given = option_map (λ payload. payload.now) payload.entry in
+            OnOk result (self.new ≡ with_payload form begin given (without_payload self.old)) }
+        ensures failed { IfErr result (λ error. error ≡ OutOfMemory) }
+    {
+        self.remove_payload();
+        let Some(payload) = payload else {
+            return Ok(());
+        };
+        match form {
+            Form::Embedded => self.insert(b"data", Value::Slice(payload)),
+            Form::External => {
+                self.insert(b"data-offset", Value::Cell(begin))?;
+                self.insert(b"data-size", Value::Cell(payload.len() as u32))
+            }
+        }
+    }
+
+    /// Removes the four properties that hold a payload or name its region.
+    fn remove_payload(&mut self)
+        ensures { self.new ≡ without_payload self.old }
+    {
+        self.values.retain(|name, _| !is_payload_name(name));
+    }
+
+    /// Adds the properties to the innermost open node, in byte order of their names.
+    pub(super) fn add_to(&self, doc: &mut Doc<'a>) -> Result<(), Error>
+        requires { MayAdd doc.old (map NodeProperty (entries self.now)) }
+        ensures added { OnOk result (doc.new ≡ with_events doc.old
+            (map NodeProperty (entries self.now))) }
+        ensures failed { IfErr result (λ error. error ≡ OutOfMemory) }
+    {
+        for (name, value) in &self.values {
+            doc.property(name, *value)?;
+        }
+        Ok(())
+    }
+}
+
+/// Whether a property of this name holds a payload or names its region.
+fn is_payload_name(name: &[u8]) -> bool
+    ensures { result ≡ is_payload_name_of name.now }
+{
+    name == b"data".as_slice()
+        || name == b"data-offset".as_slice()
+        || name == b"data-position".as_slice()
+        || name == b"data-size".as_slice()
+}

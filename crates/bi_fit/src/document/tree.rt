@@ -1,0 +1,95 @@
+//! Adding the tree of the normal text to a document.
+
+ghost use Rattle.std.specs.Prelude.{◌≡◌, [], ◌∷◌, length, OnOk, IfErr};
+ghost use Rattle.bi_base.specs.declared.fault.Error.TheVariants.{OutOfMemory};
+ghost use Rattle.bi_blob.specs.Tree.{EachOwn};
+ghost use Rattle.bi_blob.specs.Events.{events};
+ghost use Rattle.bi_fdt.specs.Views.{node_of};
+ghost use Rattle.bi_fit.specs.Additions.{MayAdd, with_events, HasDistinctNames, AreWithin};
+ghost use Rattle.bi_fit.specs.Additions.{HaveImages, alone, payloads_of, sorted_root};
+ghost use Rattle.bi_fit.specs.Additions.{sorted_root_children};
+
+use crate::document::image_nodes::add_images;
+use crate::document::nodes::{add_node, begin_node};
+use crate::form::Form;
+use crate::image::Image;
+use bi_base::Error;
+use bi_fdt::NodeRef;
+use bi_lay::Doc;
+use std::alloc::Global;
+
+/// Adds the tree with this root, whose images are these.
+pub(super) fn add_tree<'a>(
+    alloc: Global,
+    doc: &mut Doc<'a>,
+    root: NodeRef<'a, '_>,
+    form: Form,
+    images: &[Image<'a>],
+) -> Result<(), Error>
+    requires same_count { HaveImages (length images.now) (node_of root).children }
+    requires within { AreWithin form 0 (payloads_of images.now) }
+    requires distinct { EachOwn HasDistinctNames (alone (node_of root)) }
+    requires may { let payloads = payloads_of images.now in
+        MayAdd doc.old (events (sorted_root form payloads (node_of root))) }
+    ensures added { let payloads = payloads_of images.entry.now in
+        OnOk result (doc.new ≡ with_events doc.old
+        (events (sorted_root form payloads (node_of root.entry)))) }
+    ensures failed { IfErr result (λ error. error ≡ OutOfMemory) }
+{
+    begin_node(alloc, doc, root)?;
+    add_root_children(alloc, doc, root, form, images)?;
+    doc.end();
+    Ok(())
+}
+
+/// Adds the children of the root, with all nodes below them.
+fn add_root_children<'a>(
+    alloc: Global,
+    doc: &mut Doc<'a>,
+    root: NodeRef<'a, '_>,
+    form: Form,
+    images: &[Image<'a>],
+) -> Result<(), Error>
+    requires same_count { HaveImages (length images.now) (node_of root).children }
+    requires within { AreWithin form 0 (payloads_of images.now) }
+    requires distinct { EachOwn HasDistinctNames (node_of root).children }
+    requires may { let payloads = payloads_of images.now in
+        MayAdd doc.old (events (sorted_root_children form payloads (node_of root).children)) }
+    ensures added { let payloads = payloads_of images.entry.now in
+        OnOk result (doc.new ≡ with_events doc.old
+        (events (sorted_root_children form payloads (node_of root.entry).children))) }
+    ensures failed { IfErr result (λ error. error ≡ OutOfMemory) }
+{
+    let mut next = root.first_child();
+    while let Some(child) = next {
+        add_root_child(alloc, doc, child, form, images)?;
+        next = child.next_sibling();
+    }
+    Ok(())
+}
+
+/// Adds a child of the root, with all nodes below it. The children of the one of the name `images`
+/// are the nodes of these images.
+fn add_root_child<'a>(
+    alloc: Global,
+    doc: &mut Doc<'a>,
+    node: NodeRef<'a, '_>,
+    form: Form,
+    images: &[Image<'a>],
+) -> Result<(), Error>
+    requires same_count { HaveImages (length images.now) (alone (node_of node)) }
+    requires within { AreWithin form 0 (payloads_of images.now) }
+    requires distinct { EachOwn HasDistinctNames (alone (node_of node)) }
+    requires may { let payloads = payloads_of images.now in
+        MayAdd doc.old (events (sorted_root_children form payloads (alone (node_of node)))) }
+    ensures added { let payloads = payloads_of images.entry.now in
+        OnOk result (doc.new ≡ with_events doc.old
+        (events (sorted_root_children form payloads (alone (node_of node.entry))))) }
+    ensures failed { IfErr result (λ error. error ≡ OutOfMemory) }
+{
+    if node.name() == b"images".as_slice() {
+        add_images(alloc, doc, node, form, images)
+    } else {
+        add_node(alloc, doc, node)
+    }
+}
