@@ -1,5 +1,9 @@
 //! The command line.
 
+ghost use Rattle.std.specs.Prelude.{◌≡◌, Some, IfSome};
+ghost use Rattle.bi_fit.specs.declared.key.Key.{Key};
+ghost use Rattle.bi_fit.specs.Names.{key_name};
+
 use crate::extract::Select;
 use crate::failure::Failure;
 use crate::numbers::parse_number;
@@ -140,12 +144,13 @@ fn normalise<'a>(alloc: Global) -> Result<Command<'a>, AllocError> {
         .override_usage("bootimg normalise [OPTIONS] < IMAGE > NORMAL")
         .after_help(
             "Reads an image from standard input, and writes its normal form to standard output.\n\
-             Two images of one kind have the same normal form exactly if they mean the same, \
-             both\n\
-             with or both without --external, which has no effect on a legacy image.\n\n\
-             Signatures are kept, but they may no longer be valid. If there are any, a note on \
-             standard\n\
-             error has their number.\n\n\
+             Two images of one kind have the same normal form exactly if they mean the same. \
+             A\n\
+             flattened image tree has one normal form with --external, and another without \
+             it.\n\n\
+             Signature nodes are kept, and not checked: a signature may no longer be valid. A \
+             note on\n\
+             standard error has their number, if there are any.\n\n\
              Example: bootimg normalise < kernel.uimage > normal.uimage",
         )
         .arg(external)?
@@ -200,8 +205,8 @@ fn extract<'a>(alloc: Global) -> Result<Command<'a>, AllocError> {
              or a\n\
              script, and one part in any other image. The images of a flattened image tree have \
              payloads.\n\n\
-             Nothing is checked against its digest: verify does that. Numbers are decimal, or\n\
-             hexadecimal with 0x.\n\n\
+             Hash nodes are not checked: verify does that.\n\n\
+             Numbers are decimal, or hexadecimal with 0x.\n\n\
              Example: bootimg extract --part 1 < multi.uimage > ramdisk\n\
              Example: bootimg extract --config conf-1 --key fdt < kernel.itb > board.dtb",
         )
@@ -321,7 +326,10 @@ fn number(value: &str) -> Result<u32, Failure> {
 }
 
 /// Parses the name of a key. Returns None exactly for any other text.
-fn parse_key(name: &str) -> Option<Key> {
+fn parse_key(name: &str) -> Option<Key>
+    ensures some { IfSome result (λ key. name.now ≡ key_name key) }
+    ensures exactly { (key : Key) → name.now ≡ key_name key → result ≡ Some key }
+{
     match name {
         "kernel" => Some(Key::Kernel),
         "fdt" => Some(Key::Fdt),

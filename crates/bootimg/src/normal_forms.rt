@@ -26,6 +26,7 @@ fn normal_forms(rt: HostRuntime) -> Result<(), Fail> {
         (PARTS.as_slice(), PARTS.as_slice()),
         (NO_PARTS.as_slice(), NO_PARTS.as_slice()),
         (SCRIPT.as_slice(), SCRIPT.as_slice()),
+        (TREE.as_slice(), TREE.as_slice()),
     ] {
         let text = normalise(alloc, file, Form::Embedded, limits(0x7fff_ffff)?)?;
         assert_eq!(rt; text.as_slice(), normal);
@@ -61,7 +62,7 @@ fn refusals(rt: HostRuntime) -> Result<(), Fail> {
         (LESS_THAN_A_SIZE.as_slice(), 100, Cause::BadPartTable, 64),
         (FIRST_PART_TOO_LONG.as_slice(), 100, Cause::BadPart, 64),
         (SECOND_PART_TOO_LONG.as_slice(), 100, Cause::BadPart, 68),
-        (TREE.as_slice(), 88, Cause::Unsupported, 0),
+        (&TREE[..87], 88, Cause::Truncated, 4),
         (TREE.as_slice(), 87, Cause::TooLarge, 87),
     ] {
         let refused = Some(Error::Refused(Fault { cause, offset }));

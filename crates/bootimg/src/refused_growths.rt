@@ -3,10 +3,11 @@
 //! one refused.
 
 use crate::extract::{ExtractError, Select, extract_to};
-use crate::images::{PADDED_PARTS, PARTS, PARTS_LISTING};
+use crate::images::{CONFIGURED, PADDED_PARTS, PARTS, PARTS_LISTING};
 use crate::listing::list_to;
 use crate::run::run;
 use bi_base::{Error, Limits, Sink, VecSink, read_all};
+use bi_fit::Key;
 use bi_norm::{Form, normalise, normalise_into, normalise_to};
 use scripted_io::{Script, ScriptedReader, Turn};
 use std::alloc::Global;
@@ -168,6 +169,22 @@ fn extracts_to(rt: &(impl Abort + AllocGlobal), number: u64) -> Result<bool, Fai
     Ok(check(rt, was_refused, succeeded, failed))
 }
 
+fn extracts_listed_to(rt: &(impl Abort + AllocGlobal), number: u64) -> Result<bool, Fail> {
+    let limits = limits()?;
+    let mut reader = CONFIGURED.as_slice();
+    let mut buffer = [0u8; 1024];
+    let mut writer = buffer.as_mut_slice();
+    let trial = Trial::new(rt.alloc(), number);
+    let select = Select::Config(b"conf-1", Key::Kernel, 0);
+    let result = extract_to(rt.alloc(), &mut reader, &mut writer, select, limits);
+    let was_refused = trial.was_refused();
+    let left = writer.len();
+    let bytes = written(&buffer, left);
+    let succeeded = result == Ok(()) && bytes == b"abc".as_slice();
+    let failed = result == Err(ExtractError::Failed(Error::OutOfMemory)) && bytes.is_empty();
+    Ok(check(rt, was_refused, succeeded, failed))
+}
+
 /// What a run of the program did: its exit status, and what it wrote to standard output and
 /// standard error, each with how many bytes of the buffer are left.
 #[derive(Clone, Copy, PartialEq, Eq)]
@@ -225,7 +242,7 @@ fn runs_extract(rt: &(impl Abort + AllocGlobal), number: u64) -> Result<bool, Fa
 }
 
 fn runs_help(rt: &(impl Abort + AllocGlobal), number: u64) -> Result<bool, Fail> {
-    Ok(runs(rt, number, &["help", "extract"], 0))
+    Ok(runs(rt, number, &["help", "list"], 0))
 }
 
 fn runs_version(rt: &(impl Abort + AllocGlobal), number: u64) -> Result<bool, Fail> {
@@ -233,7 +250,7 @@ fn runs_version(rt: &(impl Abort + AllocGlobal), number: u64) -> Result<bool, Fa
 }
 
 fn runs_unknown_argument(rt: &(impl Abort + AllocGlobal), number: u64) -> Result<bool, Fail> {
-    Ok(runs(rt, number, &["normalise", "--external"], 2))
+    Ok(runs(rt, number, &["list", "--external"], 2))
 }
 
 fn runs_no_selection(rt: &(impl Abort + AllocGlobal), number: u64) -> Result<bool, Fail> {
@@ -249,6 +266,7 @@ fn each_call_succeeds_where_no_allocation_is_refused(rt: HostRuntime) -> Result<
     assert!(rt; !normalises_to(&rt, 0)?);
     assert!(rt; !lists_to(&rt, 0)?);
     assert!(rt; !extracts_to(&rt, 0)?);
+    assert!(rt; !extracts_listed_to(&rt, 0)?);
     assert!(rt; !runs_normalise(&rt, 0)?);
     assert!(rt; !runs_list(&rt, 0)?);
     assert!(rt; !runs_extract(&rt, 0)?);
