@@ -12,6 +12,7 @@ mod normal_forms;
 mod numbers;
 #[cfg(test)]
 mod refused_growths;
+mod report;
 mod run;
 mod shown;
 
