@@ -80,6 +80,7 @@ pub memory_for_tree : (limits : Bounds) (file : List ℕ) (content : FitContent)
 memory_for_tree limits file content is = ForTree other (by (fault_before_tree_comes_first limits file).decided) where
   other : ¬ (BeginsAs file Legacy)
   other begins = omega (arith, begins.magic, is.means.is_file.blob.header.is_magic)
+
   by : HasNoFaultBeforeTree limits file ⊎ ((fault : Fault) × IsFaultBeforeTree limits file fault) → HasNoFaultBeforeTree limits file
   by (inl fine) = fine
   by (inr faulty) = absurd (is.no_fault faulty.0 (InBlob ((fault_before_tree_comes_first limits file).first faulty.0 faulty.1)))

@@ -123,7 +123,7 @@ glyphs-bytes (suc k) n later =
     let two : List ℕ = digits_of_byte false (n % 256) in
     let before : List ℕ = flat_map (digits_of_byte false) (bytes_high_first k (n / 256)) in
     let same : glyphs false (twice k) (n / 16 / 16) (digit_glyph false (n / 16 % 16) ∷ digit_glyph false (n % 16) ∷ later)
-        ≡ glyphs false (twice k) (n / 256) (two ++ later) =
+    ≡ glyphs false (twice k) (n / 256) (two ++ later) =
     ap₂ (λ m ds. glyphs false (twice k) m ds) rest (ap₂ (λ a b. digit_glyph false a ∷ digit_glyph false b ∷ later) high low) in
     same ∙ glyphs-bytes k (n / 256) (two ++ later) ∙ sym (append_assoc before two later)
     ∙ ap (λ bytes. bytes ++ later) (sym (flat_map-append (digits_of_byte false) (bytes_high_first k (n / 256)) (n % 256 ∷ [])))

@@ -1,5 +1,6 @@
 pub mod Hexadecimal
 pub mod Lines
+pub mod Reported
 pub mod FitLines
 pub mod FitListings
 pub mod PartLines

@@ -1,6 +1,6 @@
-use Rattle.std.specs.Prelude.{◌≡◌, ◌↔◌, ℕ, Bool, false, IsTrue, List, [], ◌∷◌, ◌++◌, Option, None}
+use Rattle.std.specs.Prelude.{◌≡◌, ◌↔◌, ℕ, Bool, true, false, IsTrue, List, [], ◌∷◌, ◌++◌, Option, None}
 use Rattle.std.specs.Prelude.{Some}
-use Rattle.std.specs.Prelude.{length, flat_map, filter, codes, bytes_eq, if◌then◌else◌}
+use Rattle.std.specs.Prelude.{flat_map, count_by, codes, bytes_eq, if◌then◌else◌}
 use Rattle.std.specs.List.{AllByRecursion}
 use Rattle.std.specs.Fmt.{decimal}
 use Rattle.bi_base.specs.Limits.{Bounds}
@@ -40,10 +40,18 @@ hash_line hash =
     (shown hash.image ∷ shown hash.node_name ∷ shown_or_none hash.algo ∷ verdict_word hash.verdict
     ∷ value_word hash.value ∷ [])
 
--- How many of these hash nodes have a verdict, by its word.
+-- Whether a verdict is the wanted one.
+abbrev pub is_verdict : (wanted verdict : Verdict) → Bool
+is_verdict Good Good = true
+is_verdict Bad Bad = true
+is_verdict UnknownAlgo UnknownAlgo = true
+is_verdict NoPayload NoPayload = true
+is_verdict Malformed Malformed = true
+is_verdict wanted verdict = false
+
+-- How many of these hash nodes have a verdict.
 abbrev pub count_of : Verdict → List CheckedHash → ℕ
-count_of verdict hashes =
-    length (filter (λ hash. bytes_eq (verdict_word hash.verdict) (verdict_word verdict)) hashes)
+count_of wanted hashes = count_by (λ hash. is_verdict wanted hash.verdict) hashes
 
 -- The last line: how many hash nodes have each verdict.
 abbrev pub summary_line : List CheckedHash → List ℕ

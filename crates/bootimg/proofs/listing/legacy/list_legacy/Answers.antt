@@ -1,6 +1,11 @@
+use Rattle.std.proofs.Common.{refl}
 use Rattle.std.proofs.lemmas.Result.{err_from_is_err_and}
 use Rattle.bi_norm.specs.NormalForm.{ForLegacyImage}
+use Rattle.bootimg.specs.Listing.{OfLegacyImage}
 use Rattle.bootimg.proofs.listing.legacy.list_legacy.Goals as goal
+
+pub returns-clause-lists : goal.returns-clause-lists
+returns-clause-lists c limits file opened = OfLegacyImage c.args.image.now opened c.in_ok-text.ensures
 
 pub returns-in_err-text-clause-failed : goal.returns-in_err-text-clause-failed
 returns-in_err-text-clause-failed c limits file opened =
