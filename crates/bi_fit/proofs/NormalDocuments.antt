@@ -64,26 +64,26 @@ module _ (content : FitContent) (held : IsHeld content) (form : Form)
         subst (MayAdd reserved) (sym same_events)
         (subst (λ document. MayAdd document (events_of (normal_tree form (tree_of content)))) (sym same_reserved) (held_closed content held form).follow)
 
-    module _ (filled : Content) (is_filled : filled ≡ with_events reserved tree_events) where
-      -- Then the document is the one of the normal text.
-      pub is_document_of : filled ≡ document_of form (tree_of content)
-      is_document_of =
-          is_filled
-          ∙ ap (λ document. with_events document tree_events) same_reserved
-          ∙ ap (with_events (with_reservations (empty_content cpu) blob.reservations)) same_events
-          ∙ ap (λ cpu. record { boot_cpu = cpu; reservations = blob.reservations; events = events_of (normal_tree form (tree_of content)) }) (is_cpu ∙ ap (λ blob. blob.cpu) is_blob)
-          ∙ ap (λ reservations. record { boot_cpu = content.blob.cpu; reservations = reservations; events = events_of (normal_tree form (tree_of content)) }) (ap (λ blob. blob.reservations) is_blob)
+    -- Then the document is the one of the normal text.
+    pub is_document_of : (filled : Content) → filled ≡ with_events reserved tree_events → filled ≡ document_of form (tree_of content)
+    is_document_of filled is_filled =
+        is_filled
+        ∙ ap (λ document. with_events document tree_events) same_reserved
+        ∙ ap (with_events (with_reservations (empty_content cpu) blob.reservations)) same_events
+        ∙ ap (λ cpu. record { boot_cpu = cpu; reservations = blob.reservations; events = events_of (normal_tree form (tree_of content)) }) (is_cpu ∙ ap (λ blob. blob.cpu) is_blob)
+        ∙ ap (λ reservations. record { boot_cpu = content.blob.cpu; reservations = reservations; events = events_of (normal_tree form (tree_of content)) }) (ap (λ blob. blob.reservations) is_blob)
 
-      -- Its root has ended.
-      pub document_closed : stage_of_events filled.events ≡ AfterRoot
-      document_closed = subst (λ document. stage_of_events document.events ≡ AfterRoot) (sym is_document_of) (held_closed content held form).closed
+-- The root of the document has ended.
+pub document_closed : (content : FitContent) → IsHeld content → (form : Form) (filled : Content) → filled ≡ document_of form (tree_of content) → stage_of_events filled.events ≡ AfterRoot
+document_closed content held form filled is =
+    subst (λ document. stage_of_events document.events ≡ AfterRoot) (sym is) (held_closed content held form).closed
 
-      -- Its text and the payloads after it are the normal text.
-      pub length-document : (after : ℕ) → after ≡ length_after_blob form (tree_of content).payloads → length (text_of filled) + after ≡ length (fit_text form (tree_of content))
-      length-document after is_after =
-          ap (λ document. length (text_of document) + after) is_document_of
-          ∙ ap (λ n. length (text_of (document_of form (tree_of content))) + n) is_after
-          ∙ sym (length-fit_text form (tree_of content))
+-- Its text and the payloads after it are the normal text.
+pub length-document : (form : Form) (tree : ImageTree) (filled : Content) (after : ℕ) → filled ≡ document_of form tree → after ≡ length_after_blob form tree.payloads → length (text_of filled) + after ≡ length (fit_text form tree)
+length-document form tree filled after is is_after =
+    ap (λ document. length (text_of document) + after) is
+    ∙ ap (λ n. length (text_of (document_of form tree)) + n) is_after
+    ∙ sym (length-fit_text form tree)
 
 -- A normal text is too long where the payloads after its blob are.
 pub payloads_too_long : (form : Form) (tree : ImageTree) (payloads : List (Option (List ℕ))) (limit : ℕ) → form ≡ External → payloads ≡ tree.payloads → limit < payloads_end 0 payloads → limit < length (fit_text form tree)

@@ -10,8 +10,8 @@ ghost use Rattle.bi_blob.specs.Following.{stage_of_events};
 ghost use Rattle.bi_blob.specs.Layout.{longest_text};
 ghost use Rattle.bi_lay.specs.Contents.{text_of};
 ghost use Rattle.bi_fit.specs.Content.{tree_of};
-ghost use Rattle.bi_fit.specs.Documents.{IsDocument, IsDocumentError};
-ghost use Rattle.bi_fit.specs.Additions.{with_reservations};
+ghost use Rattle.bi_fit.specs.Documents.{document_of, IsDocument, IsDocumentError};
+ghost use Rattle.bi_fit.specs.Additions.{with_reservations, AreWithin};
 
 mod image_nodes;
 mod nodes;
@@ -31,16 +31,18 @@ use std::alloc::Global;
 impl<'a> Fit<'a> {
     /// Returns the document of the normal text in a form. Its text is the blob of the normal text:
     /// the boot processor, the memory reservations and the nodes are those of the file in their
-    /// order, and the properties of each node are in byte order of their names. The image nodes
-    /// have the properties of the form in place of `data`, `data-offset`, `data-position` and
-    /// `data-size`. In the form External the payloads follow the blob. The form Embedded repeats
-    /// the bytes of a region that several images share. No value is copied.
+    /// order, and the properties of each node are in byte order of their names.
     ///
-    /// It takes time n log n in the number n of the nodes and properties.
+    /// Image nodes with a payload have the properties of the form in place of `data`,
+    /// `data-offset`, `data-position` and `data-size`, and those without have none of the four. In
+    /// the form External the payloads follow the blob. The document borrows names and values, and
+    /// copies none.
+    ///
+    /// Takes time n log n in the number n of nodes and properties.
     ///
     /// Errors: TooLarge at `limits.file()`, exactly if the normal text, with the payloads after the
-    /// blob, is longer than that, if memory suffices; OutOfMemory. ReadFailed and WriteFailed never
-    /// come.
+    /// blob, is longer than that, unless memory runs out; OutOfMemory. ReadFailed and WriteFailed
+    /// never come.
     pub fn to_doc(&self, alloc: Global, form: Form, limits: Limits) -> Result<Doc<'a>, Error>
         ensures document { IfOk result (IsDocument limits form (tree_of self.now)) }
         ensures failed { IfErr result (IsDocumentError limits form (tree_of self.now)) }
@@ -50,12 +52,23 @@ impl<'a> Fit<'a> {
             Form::Embedded => 0,
             Form::External => payloads_end(self.images(), limit)?,
         };
+        let doc = self.build_doc(alloc, form)?;
+        check_size(&doc, end, limit)?;
+        Ok(doc)
+    }
+
+    /// Builds the document of the normal text in a form, however long the text is.
+    fn build_doc(&self, alloc: Global, form: Form) -> Result<Doc<'a>, Error>
+        requires { AreWithin form 0 (tree_of self.now).payloads }
+        ensures document { IfOk result (λ doc. doc ≡ document_of form (tree_of self.now)) }
+        ensures closed { IfOk result (λ doc. stage_of_events doc.events ≡ AfterRoot) }
+        ensures failed { IfErr result (λ error. error ≡ OutOfMemory) }
+    {
         self.held();
         let blob = self.blob();
         let mut doc = Doc::new(alloc, blob.boot_cpu())?;
         add_reservations(&mut doc, blob)?;
         add_tree(alloc, &mut doc, blob.root(), form, self.images())?;
-        check_size(&doc, end, limit)?;
         Ok(doc)
     }
 }

@@ -1,12 +1,10 @@
 use Rattle.std.proofs.Common.{◌≡◌, ℕ, ◌+◌, ◌<◌, ◌≤◌, length, map, sym, ap, subst, ◌∙◌}
-use Rattle.bi_lay.specs.Contents.{Content, text_of}
-use Rattle.bi_fdt.specs.Views.{node_of}
+use Rattle.bi_lay.specs.Contents.{text_of}
 use Rattle.bi_fit.specs.Text.{payloads_end, fit_text}
 use Rattle.bi_fit.specs.Content.{tree_of}
-use Rattle.bi_fit.specs.Documents.{document_of}
 use Rattle.bi_fit.specs.Additions.{payloads_of}
 use Rattle.bi_fit.proofs.NormalTrees.{length_after_blob}
-use Rattle.bi_fit.proofs.NormalDocuments.{images_count, names_distinct, may_add_tree, is_document_of, document_closed, length-document, payloads_too_long, too_long}
+use Rattle.bi_fit.proofs.NormalDocuments.{length-document, payloads_too_long, too_long}
 use Rattle.bi_fit.proofs.fit.Fit.to_doc.Goals as goal
 use Rattle.bi_fit.proofs.fit.Fit.to_doc.Goals.{After-check_size, in-Embedded, in-External+in_ok-end-in-External}
 
@@ -17,27 +15,8 @@ returns-in_err-end-in-External-clause-failed c =
     c.file-limit.ensures.value c.from_residual.ensures.1 refused.0
     (payloads_too_long c.args.form (tree_of c.args.self.now) (payloads_of c.images.result.now) c.file-limit.result c.in-External.is (ap (map (λ image. image.payload)) c.images.ensures) refused.1)
 
-pub add_tree-requires-clause-same_count : goal.add_tree-requires-clause-same_count
-add_tree-requires-clause-same_count c =
-    images_count c.args.self.now c.blob-blob.ensures.held c.args.form c.blob-blob.result.now c.blob-blob.ensures.blob c.images-2.result.now c.images-2.ensures (node_of c.root.result) c.root.ensures
-
-pub add_tree-requires-clause-distinct : goal.add_tree-requires-clause-distinct
-add_tree-requires-clause-distinct c =
-    names_distinct c.args.self.now c.blob-blob.ensures.held c.args.form c.blob-blob.result.now c.blob-blob.ensures.blob c.images-2.result.now c.images-2.ensures (node_of c.root.result) c.root.ensures
-
-pub add_tree-requires-clause-may : goal.add_tree-requires-clause-may
-add_tree-requires-clause-may c =
-    may_add_tree c.args.self.now c.blob-blob.ensures.held c.args.form c.blob-blob.result.now c.blob-blob.ensures.blob c.images-2.result.now c.images-2.ensures (node_of c.root.result) c.root.ensures
-    c.boot_cpu.result c.boot_cpu.ensures c.in_ok-doc.doc c.add_reservations.new.doc c.in_ok-doc.ensures.empty c.in_ok-add_reservations.ensures.added
-
-pub check_size-requires-clause-closed : goal.check_size-requires-clause-closed
-check_size-requires-clause-closed c =
-    document_closed c.args.self.now c.blob-blob.ensures.held c.args.form c.blob-blob.result.now c.blob-blob.ensures.blob c.images-2.result.now c.images-2.ensures (node_of c.root.result) c.root.ensures
-    c.boot_cpu.result c.boot_cpu.ensures c.in_ok-doc.doc c.add_reservations.new.doc c.in_ok-doc.ensures.empty c.in_ok-add_reservations.ensures.added
-    c.add_tree.new.doc c.in_ok-add_tree.ensures.added
-
 -- The length of the text and of what follows it.
-length_of_all : (c : After-check_size) → length (text_of c.add_tree.new.doc) + c.match-form.end ≡ length (fit_text c.args.form (tree_of c.args.self.now))
+length_of_all : (c : After-check_size) → length (text_of c.in_ok-doc.doc) + c.match-form.end ≡ length (fit_text c.args.form (tree_of c.args.self.now))
 length_of_all c =
     let after : c.match-form.end ≡ length_after_blob c.args.form (tree_of c.args.self.now).payloads = elim c.match-form.branch [
       | in-Embedded w ↦ w.end-is ∙ ap (λ form. length_after_blob form (tree_of c.args.self.now).payloads) (sym w.in-Embedded.is)
@@ -45,9 +24,7 @@ length_of_all c =
           ∙ ap (λ images. payloads_end 0 (map (λ image. image.payload) images)) w.images.ensures
           ∙ ap (λ form. length_after_blob form (tree_of c.args.self.now).payloads) (sym w.in-External.is)
     ] in
-    length-document c.args.self.now c.blob-blob.ensures.held c.args.form c.blob-blob.result.now c.blob-blob.ensures.blob c.images-2.result.now c.images-2.ensures (node_of c.root.result) c.root.ensures
-    c.boot_cpu.result c.boot_cpu.ensures c.in_ok-doc.doc c.add_reservations.new.doc c.in_ok-doc.ensures.empty c.in_ok-add_reservations.ensures.added
-    c.add_tree.new.doc c.in_ok-add_tree.ensures.added c.match-form.end after
+    length-document c.args.form (tree_of c.args.self.now) c.in_ok-doc.doc c.match-form.end c.in_ok-doc.ensures.document after
 
 pub returns-in_err-check_size-clause-failed : goal.returns-in_err-check_size-clause-failed
 returns-in_err-check_size-clause-failed c =
@@ -58,15 +35,10 @@ returns-in_err-check_size-clause-failed c =
 
 pub returns-clause-document : goal.returns-clause-document
 returns-clause-document c =
-    let fits : length (text_of c.add_tree.new.doc) + c.match-form.end ≤ c.args.limits.file = subst (λ n. length (text_of c.add_tree.new.doc) + c.match-form.end ≤ n) c.file-limit.ensures.value c.in_ok-check_size.ensures.fits in
-    let is : c.add_tree.new.doc ≡ document_of c.args.form (tree_of c.args.self.now) =
-    is_document_of c.args.self.now c.blob-blob.ensures.held c.args.form c.blob-blob.result.now c.blob-blob.ensures.blob c.images-2.result.now c.images-2.ensures (node_of c.root.result) c.root.ensures
-    c.boot_cpu.result c.boot_cpu.ensures c.in_ok-doc.doc c.add_reservations.new.doc c.in_ok-doc.ensures.empty c.in_ok-add_reservations.ensures.added
-    c.add_tree.new.doc c.in_ok-add_tree.ensures.added in
+    let fits : length (text_of c.in_ok-doc.doc) + c.match-form.end ≤ c.args.limits.file =
+    subst (λ n. length (text_of c.in_ok-doc.doc) + c.match-form.end ≤ n) c.file-limit.ensures.value c.in_ok-check_size.ensures.fits in
     record {
-      is = is;
-      is_closed = document_closed c.args.self.now c.blob-blob.ensures.held c.args.form c.blob-blob.result.now c.blob-blob.ensures.blob c.images-2.result.now c.images-2.ensures (node_of c.root.result) c.root.ensures
-          c.boot_cpu.result c.boot_cpu.ensures c.in_ok-doc.doc c.add_reservations.new.doc c.in_ok-doc.ensures.empty c.in_ok-add_reservations.ensures.added
-          c.add_tree.new.doc c.in_ok-add_tree.ensures.added;
+      is = c.in_ok-doc.ensures.document;
+      is_closed = c.in_ok-doc.ensures.closed;
       fits = subst (λ n. n ≤ c.args.limits.file) (length_of_all (goal.at.returns-clause-document c).After-check_size) fits;
     }
