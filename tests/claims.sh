@@ -35,13 +35,6 @@ prints() {
     [ $? = "$status" ] && grep -Fq -e "$text" output || { cat output; false; }
 }
 
-# lacks TEXT ARGUMENT..: the program with these arguments does not print this text.
-lacks() {
-    text=$1
-    shift
-    ! "$root/bootimg" "$@" < /dev/null 2>&1 | grep -F -e "$text"
-}
-
 kernel=$root/examples/kernel.uimage
 
 # Arguments.
@@ -60,13 +53,12 @@ check "a file is no argument, and comes on standard input" prints "Usage: bootim
 check "a failed write" sh -c '"$1" list < "$2" > /dev/full; [ $? = 2 ]' sh "$root/bootimg" "$kernel"
 
 # Help.
-for command in normalise list extract; do
+for command in normalise list verify extract; do
     check "help of $command names the default" prints "[default: 2147483647]" 0 "$command" --help
     check "help of $command names the number format" prints "in hexadecimal with 0x" 0 "$command" --help
     check "help of $command has an example" prints "Example: bootimg $command" 0 "$command" --help
     check "help of $command says what it reads" prints "Reads an image from standard input" 0 "$command" --help
 done
-check "help of extract does not offer what no image has" lacks --image extract --help
 
 # Any file.
 printf '\047\005\031' > short

@@ -66,6 +66,11 @@ run_tests bi_fdt
     tests_of normalises_to 20
     tests_of lists_to 30
     tests_of extracts_to 20
+    tests_of extracts_listed_to 40
+    tests_of normalises_embedded 100
+    tests_of normalises_external 100
+    tests_of lists_tree 60
+    tests_of verifies_to 60
     tests_of runs_normalise 100
     tests_of runs_list 100
     tests_of runs_extract 100

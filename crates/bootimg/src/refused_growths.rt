@@ -3,8 +3,12 @@
 //! one refused.
 
 use crate::extract::{ExtractError, Select, extract_to};
-use crate::images::{CONFIGURED, PADDED_PARTS, PARTS, PARTS_LISTING};
+use crate::images::{
+    CONFIGURED, CONFIGURED_LISTING, EMPTY_PAYLOAD_HASHED, PADDED_PARTS, PARTS, PARTS_LISTING,
+    THREE_PAYLOADS, THREE_PAYLOADS_EXTERNAL,
+};
 use crate::listing::list_to;
+use crate::report::verify_to;
 use crate::run::run;
 use bi_base::{Error, Limits, Sink, VecSink, read_all};
 use bi_fit::Key;
@@ -185,6 +189,67 @@ fn extracts_listed_to(rt: &(impl Abort + AllocGlobal), number: u64) -> Result<bo
     Ok(check(rt, was_refused, succeeded, failed))
 }
 
+/// Normalises the tree with three payloads in a form, from a reader to a writer.
+fn normalises_tree(
+    rt: &(impl Abort + AllocGlobal),
+    number: u64,
+    form: Form,
+    normal: &[u8],
+) -> Result<bool, Fail> {
+    let limits = limits()?;
+    let mut reader = THREE_PAYLOADS_EXTERNAL.as_slice();
+    let mut buffer = [0u8; 1024];
+    let mut writer = buffer.as_mut_slice();
+    let trial = Trial::new(rt.alloc(), number);
+    let result = normalise_to(rt.alloc(), &mut reader, &mut writer, form, limits);
+    let was_refused = trial.was_refused();
+    let left = writer.len();
+    let text = written(&buffer, left);
+    let succeeded = result == Ok(0) && text == normal;
+    let failed = result == Err(Error::OutOfMemory) && text.is_empty();
+    Ok(check(rt, was_refused, succeeded, failed))
+}
+
+fn normalises_embedded(rt: &(impl Abort + AllocGlobal), number: u64) -> Result<bool, Fail> {
+    normalises_tree(rt, number, Form::Embedded, THREE_PAYLOADS)
+}
+
+fn normalises_external(rt: &(impl Abort + AllocGlobal), number: u64) -> Result<bool, Fail> {
+    normalises_tree(rt, number, Form::External, THREE_PAYLOADS_EXTERNAL)
+}
+
+fn lists_tree(rt: &(impl Abort + AllocGlobal), number: u64) -> Result<bool, Fail> {
+    let limits = limits()?;
+    let mut reader = CONFIGURED.as_slice();
+    let mut buffer = [0u8; 1024];
+    let mut writer = buffer.as_mut_slice();
+    let trial = Trial::new(rt.alloc(), number);
+    let result = list_to(rt.alloc(), &mut reader, &mut writer, limits);
+    let was_refused = trial.was_refused();
+    let left = writer.len();
+    let text = written(&buffer, left);
+    let succeeded = result == Ok(()) && text == CONFIGURED_LISTING;
+    let failed = result == Err(Error::OutOfMemory) && text.is_empty();
+    Ok(check(rt, was_refused, succeeded, failed))
+}
+
+fn verifies_to(rt: &(impl Abort + AllocGlobal), number: u64) -> Result<bool, Fail> {
+    let limits = limits()?;
+    let mut reader = EMPTY_PAYLOAD_HASHED.as_slice();
+    let mut buffer = [0u8; 1024];
+    let mut writer = buffer.as_mut_slice();
+    let trial = Trial::new(rt.alloc(), number);
+    let result = verify_to(rt.alloc(), &mut reader, &mut writer, limits);
+    let was_refused = trial.was_refused();
+    let left = writer.len();
+    let text = written(&buffer, left);
+    let report = b"a hash-1 crc32 good 00000000\n\
+        summary good 1 bad 0 unknown-algorithm 0 no-payload 0 malformed 0\n";
+    let succeeded = result == Ok(true) && text == report.as_slice();
+    let failed = result == Err(Error::OutOfMemory) && text.is_empty();
+    Ok(check(rt, was_refused, succeeded, failed))
+}
+
 /// What a run of the program did: its exit status, and what it wrote to standard output and
 /// standard error, each with how many bytes of the buffer are left.
 #[derive(Clone, Copy, PartialEq, Eq)]
@@ -267,6 +332,10 @@ fn each_call_succeeds_where_no_allocation_is_refused(rt: HostRuntime) -> Result<
     assert!(rt; !lists_to(&rt, 0)?);
     assert!(rt; !extracts_to(&rt, 0)?);
     assert!(rt; !extracts_listed_to(&rt, 0)?);
+    assert!(rt; !normalises_embedded(&rt, 0)?);
+    assert!(rt; !normalises_external(&rt, 0)?);
+    assert!(rt; !lists_tree(&rt, 0)?);
+    assert!(rt; !verifies_to(&rt, 0)?);
     assert!(rt; !runs_normalise(&rt, 0)?);
     assert!(rt; !runs_list(&rt, 0)?);
     assert!(rt; !runs_extract(&rt, 0)?);

@@ -105,7 +105,7 @@ fn normal_forms_are_written(rt: HostRuntime) {
         NO_PAYLOAD,
         EMPTY_PAYLOAD,
         THREE_PAYLOADS,
-        CONFIGURED,
+        LISTED,
     ] {
         writes(&rt, &["normalise"], tree, tree);
     }
