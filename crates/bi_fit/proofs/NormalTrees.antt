@@ -4,7 +4,7 @@ use Rattle.std.specs.List.{AllByRecursion, AllZip}
 use Rattle.std.specs.FinMap.{entries}
 use Rattle.std.proofs.lemmas.Slice.Eq.{bytes_eq-Decides}
 use Rattle.std.proofs.lemmas.Slice.Zip.{AllZip-long}
-use Rattle.bi_blob.specs.Tree.{Nodes, none, node, Property, FileNode, names, with_each, properties_of, IsNew, AreDistinct, AreProperties, AreNodes, EachOwn}
+use Rattle.bi_blob.specs.Tree.{Nodes, none, node, Property, FileNode, names, with_each, properties_of, IsNew, AreProperties, AreNodes, EachOwn}
 use Rattle.bi_blob.specs.Lookups.{siblings, root_node}
 use Rattle.bi_blob.specs.Events.{events, events_of}
 use Rattle.bi_blob.specs.Following.{most_open_nodes, AreClosedEvents, MayFollowInText}
@@ -17,7 +17,7 @@ use Rattle.bi_fdt.specs.Content.{root_of}
 use Rattle.bi_fit.specs.declared.form.Form.{Form}
 use Rattle.bi_fit.specs.declared.form.Form.TheVariants.{Embedded, External}
 use Rattle.bi_fit.specs.Names.{images_name}
-use Rattle.bi_fit.specs.ImageTree.{ImageTree, IsImageTree, each_own, children_of, image_nodes, nodes_or_none, with_children_of, with_image_nodes, without_payloads}
+use Rattle.bi_fit.specs.ImageTree.{ImageTree, each_own, children_of, image_nodes, nodes_or_none, with_children_of, with_image_nodes, without_payloads}
 use Rattle.bi_fit.specs.Payloads.{HasPayload}
 use Rattle.bi_fit.specs.File.{IsFitFile}
 use Rattle.bi_fit.specs.Text.{with_payloads, normal_tree, payloads_end, blob_of, after_blob, fit_text}

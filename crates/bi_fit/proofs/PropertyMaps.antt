@@ -1,4 +1,4 @@
-use Rattle.std.proofs.Common.{◌≡◌, ◌≢◌, ℕ, Bool, true, false, cond, not, T, List, [], ◌∷◌, map, filter, bytes_eq, Ordering, Less, Equal, Greater, is_lt, Option, Some, None, fold, refl, sym, ap, subst, ◌∙◌, nat_cmp}
+use Rattle.std.proofs.Common.{◌≡◌, ◌≢◌, ℕ, Bool, true, false, cond, not, T, List, [], ◌∷◌, map, filter, bytes_eq, Ordering, Less, Equal, Greater, is_lt, Some, None, refl, sym, ap, subst, ◌∙◌, nat_cmp}
 use Rattle.std.specs.Prelude.{◌&&◌}
 use Rattle.std.specs.Borrow.{Bor}
 use Rattle.std.specs.Cmp.Lexicographic.{slice_cmp}
@@ -7,7 +7,7 @@ use Rattle.std.specs.Map.{keys_of}
 use Rattle.std.specs.BTreeMap.{insert_entry}
 use Rattle.std.specs.List.{AllByRecursion}
 use Rattle.std.specs.List.Sorted.{IsStrictlySortedBy}
-use Rattle.std.specs.FinMap.{FinMap, get, empty, insert, entries, from_entries, from_sorted, is_sorted, put, find, same_entries_map, entries-from_sorted, entries-insert, get-empty, get-from_sorted}
+use Rattle.std.specs.FinMap.{get, empty, insert, from_entries, from_sorted, is_sorted, put, find, same_entries_map, entries-from_sorted, entries-insert, get-empty, get-from_sorted}
 use Rattle.std.specs.FinMap.Entries.{below_all, by_order, where_key, find-where_key, is_sorted-where_key}
 use Rattle.std.proofs.lemmas.Cmp.{nat_list_cmp_total}
 use Rattle.std.proofs.lemmas.Map.Keys.{sorted_head, sorted_tail}

@@ -1,4 +1,4 @@
-use Rattle.std.proofs.Common.{◌≡◌, ℕ, zero, suc, List, [], ◌∷◌, ◌++◌, drop, map, Some, slice_get, ap, ◌∙◌, append_assoc}
+use Rattle.std.proofs.Common.{◌≡◌, ℕ, zero, suc, List, [], ◌∷◌, drop, map, Some, slice_get, ap, append_assoc}
 use Rattle.bi_blob.specs.Blob.{Reservation}
 use Rattle.bi_lay.specs.Contents.{Content, with_reservation}
 use Rattle.bi_fit.specs.Additions.{with_reservations}

@@ -1,4 +1,4 @@
-use Rattle.std.specs.Prelude.{◌≡◌, ℕ, ◌<◌, ◌≤◌, ◌^◌, ⊤, List, [], ◌∷◌, ◌++◌, map, length, Option}
+use Rattle.std.specs.Prelude.{◌≡◌, ℕ, ◌<◌, ◌≤◌, ◌^◌, ⊤, List, ◌∷◌, ◌++◌, map, length, Option}
 use Rattle.std.specs.Prelude.{Some, bytes_eq, if◌then◌else◌}
 use Rattle.std.specs.FinMap.{from_entries, entries}
 use Rattle.bi_blob.specs.Tree.{Nodes, none, node, Property, PropertyMap, FileNode, AreDistinct}

@@ -20,4 +20,5 @@ by_name properties = from_sorted (properties_in properties.values.entries)
 
 -- What is true of the fields: the names are in byte order.
 abbrev pub IsConsistent : Fields → Type 0
-IsConsistent properties = T (is_sorted (slice_cmp nat_cmp) (properties_in properties.values.entries))
+IsConsistent properties =
+    T (is_sorted (slice_cmp nat_cmp) (properties_in properties.values.entries))

@@ -17,6 +17,8 @@ mod image_nodes;
 mod nodes;
 mod payload_area;
 mod property_map;
+#[cfg(test)]
+mod tests;
 mod tree;
 
 use crate::document::payload_area::payloads_end;

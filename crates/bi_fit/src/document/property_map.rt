@@ -45,10 +45,7 @@ impl<'a> Model for PropertyMap<'a> {
 
 impl<'a> PropertyMap<'a> {
     /// The properties of a node.
-    pub(super) fn from_node(
-        alloc: Global,
-        node: NodeRef<'a, '_>,
-    ) -> Result<PropertyMap<'a>, Error>
+    pub(super) fn from_node(alloc: Global, node: NodeRef<'a, '_>) -> Result<PropertyMap<'a>, Error>
         requires { HasDistinctNames (node_of node).own }
         ensures all { IfOk result (λ properties. properties
             ≡ properties_by_name (node_of node.entry).own) }

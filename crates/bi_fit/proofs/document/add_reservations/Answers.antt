@@ -1,4 +1,4 @@
-use Rattle.std.proofs.Common.{◌≡◌, ℕ, ◌+◌, ◌∷◌, suc, drop, map, Some, slice_get, sym, ap, subst, ◌∙◌, add-one}
+use Rattle.std.proofs.Common.{◌≡◌, suc, drop, map, Some, slice_get, sym, ap, subst, ◌∙◌, add-one}
 use Rattle.std.specs.List.{AllByRecursion}
 use Rattle.bi_blob.specs.Blob.{IsReservation}
 use Rattle.bi_fit.specs.Additions.{with_reservations}

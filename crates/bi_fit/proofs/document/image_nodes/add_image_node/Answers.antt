@@ -1,7 +1,6 @@
-use Rattle.std.proofs.Common.{◌≡◌, List, Option, sym, ap, subst, ◌∙◌}
+use Rattle.std.proofs.Common.{sym, ap, subst, ◌∙◌}
 use Rattle.std.specs.Option.{option_map}
 use Rattle.bi_blob.specs.Events.{events}
-use Rattle.bi_lay.specs.Contents.{Content}
 use Rattle.bi_fdt.specs.Views.{node_of}
 use Rattle.bi_fit.specs.Additions.{MayAdd, with_events, sorted_nodes}
 use Rattle.bi_fit.proofs.Adding.{may_begin, may_have_children, may_end}

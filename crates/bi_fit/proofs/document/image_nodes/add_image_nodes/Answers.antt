@@ -1,17 +1,15 @@
-use Rattle.std.proofs.Common.{◌≡◌, ℕ, ◌+◌, ◌<◌, ◌≤◌, suc, List, ◌∷◌, drop, get_or, length, Option, Some, sym, ap, subst, ◌∙◌, arith}
+use Rattle.std.proofs.Common.{◌≡◌, ℕ, ◌+◌, ◌≤◌, suc, List, ◌∷◌, drop, get_or, length, Option, Some, sym, ap, subst, ◌∙◌, arith}
 use Rattle.std.specs.Option.{option_map}
 use Rattle.std.specs.FinMap.{entries}
 use Rattle.bi_base.specs.Cells.{up4}
-use Rattle.bi_blob.specs.Tree.{Nodes, EachOwn}
+use Rattle.bi_blob.specs.Tree.{EachOwn}
 use Rattle.bi_blob.specs.Lookups.{siblings}
 use Rattle.bi_blob.specs.Events.{events}
 use Rattle.bi_blob.specs.Layout.{longest_text}
 use Rattle.bi_fdt.specs.Views.{node_of}
-use Rattle.bi_fit.specs.declared.form.Form.{Form}
-use Rattle.bi_fit.specs.declared.form.Form.TheVariants.{External}
 use Rattle.bi_fit.specs.Text.{end_after}
 use Rattle.bi_fit.specs.Content.{read_image}
-use Rattle.bi_fit.specs.Additions.{MayAdd, with_events, HasDistinctNames, HasCellSize, AreWithin, payloads_of, image_properties, sorted_image, sorted_nodes, sorted_images}
+use Rattle.bi_fit.specs.Additions.{MayAdd, with_events, HasDistinctNames, AreWithin, payloads_of, image_properties, sorted_image, sorted_nodes, sorted_images}
 use Rattle.bi_fit.proofs.NodeEvents.{nodes_from, nodes_from_first, IsAdding, adding_all, may_add_first, adding_later}
 use Rattle.bi_fit.proofs.PayloadEnds.{no_image, payloads_from}
 use Rattle.bi_fit.proofs.ImageNodes.{next_end, images-later, within_sized, within_first, within_later}

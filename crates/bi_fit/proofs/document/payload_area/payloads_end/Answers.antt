@@ -1,7 +1,4 @@
-use Rattle.std.proofs.Common.{◌≤◌, drop, get_or, refl, arith}
-use Rattle.bi_fit.specs.Text.{payloads_end, end_after}
-use Rattle.bi_fit.specs.Content.{read_image}
-use Rattle.bi_fit.specs.Additions.{payloads_of}
+use Rattle.std.proofs.Common.{refl, arith}
 use Rattle.bi_fit.proofs.PayloadEnds.{one_end-le}
 use Rattle.bi_fit.proofs.document.payload_area.payloads_end.Goals as goal
 

@@ -1,7 +1,4 @@
-use Rattle.std.proofs.Common.{◌≡◌}
 use Rattle.bi_fdt.specs.Views.{node_of}
-use Rattle.bi_fit.specs.Content.{tree_of}
-use Rattle.bi_fit.specs.Documents.{document_of}
 use Rattle.bi_fit.proofs.NormalDocuments.{images_count, names_distinct, may_add_tree, is_document_of, document_closed}
 use Rattle.bi_fit.proofs.fit.Fit.build_doc.Goals as goal
 

@@ -1,4 +1,4 @@
-use Rattle.std.proofs.Common.{◌≡◌, ℕ, ◌+◌, ◌<◌, ◌≤◌, length, map, sym, ap, subst, ◌∙◌}
+use Rattle.std.proofs.Common.{◌≡◌, ◌+◌, ◌<◌, ◌≤◌, length, map, sym, ap, subst, ◌∙◌}
 use Rattle.bi_lay.specs.Contents.{text_of}
 use Rattle.bi_fit.specs.Text.{payloads_end, fit_text}
 use Rattle.bi_fit.specs.Content.{tree_of}

@@ -1,4 +1,3 @@
-use Rattle.std.proofs.Common.{◌≡◌}
 use Rattle.bi_fit.proofs.PropertyMaps.{properties_sorted, by_name-insert}
 use Rattle.bi_fit.proofs.document.property_map.PropertyMap.insert.Goals as goal
 

@@ -1,4 +1,4 @@
-use Rattle.std.proofs.Common.{◌≡◌, rules}
+use Rattle.std.proofs.Common.{rules}
 use Rattle.std.proofs.lemmas.Map.Made.{filter_same_pairs}
 use Rattle.bi_fit.proofs.PropertyMaps.{properties_sorted, is_kept, by_name-filter}
 use Rattle.bi_fit.proofs.document.property_map.PropertyMap.remove_payload.Goals as goal
