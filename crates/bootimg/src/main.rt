@@ -15,6 +15,8 @@ mod refused_growths;
 mod report;
 mod run;
 mod shown;
+#[cfg(test)]
+mod trees;
 
 use run::run;
 use std::io::{self, Write};

@@ -256,3 +256,6 @@ fn verdict_word(verdict: Verdict) -> &'static str
         Verdict::Malformed => "malformed",
     }
 }
+
+#[cfg(test)]
+mod tests;

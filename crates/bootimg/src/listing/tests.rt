@@ -2,6 +2,7 @@ use super::*;
 use crate::images::{
     KERNEL, KERNEL_LISTING, NO_PARTS, PADDED_KERNEL, PADDED_PARTS, PARTS_LISTING, TREE,
 };
+use crate::trees::{CONFIGURED, EACH_LINE, EXTERNAL_PAYLOAD, EXTERNAL_PAYLOADS};
 use bi_base::{Cause, Fault};
 use scripted_io::{Script, ScriptedReader, ScriptedWriter, Turn};
 use std::test::Fail;
@@ -127,12 +128,76 @@ fn codes_without_names_are_listed_as_numbers(rt: HostRuntime) -> Result<(), Fail
 }
 
 #[test]
-fn files_that_are_not_legacy_images_are_refused(rt: HostRuntime) {
+fn each_payload_is_listed_with_its_offset_in_the_file(rt: HostRuntime) -> Result<(), Fail> {
+    for (file, listing) in [
+        (
+            TREE.as_slice(),
+            b"kind fit\nboot-cpu 0\ntotal-size 88\n".as_slice(),
+        ),
+        (
+            EXTERNAL_PAYLOAD.as_slice(),
+            b"kind fit\n\
+                boot-cpu 0\n\
+                total-size 157\n\
+                image a size 3 data-offset at 160\n"
+                .as_slice(),
+        ),
+        (
+            EXTERNAL_PAYLOADS.as_slice(),
+            b"kind fit\n\
+                boot-cpu 0\n\
+                total-size 244\n\
+                image a size 5 data-offset at 244\n\
+                image b size 0 data-offset at 252\n\
+                image c size 1 data-offset at 252\n"
+                .as_slice(),
+        ),
+    ] {
+        let text = list_of(rt.alloc(), file)?;
+        assert_eq!(rt; text.as_slice(), listing);
+    }
+    Ok(())
+}
+
+#[test]
+fn each_key_is_listed_with_its_images_or_why_it_has_none(rt: HostRuntime) -> Result<(), Fail> {
+    let text = list_of(rt.alloc(), CONFIGURED.as_slice())?;
+    let listing = b"kind fit\n\
+        boot-cpu 0\n\
+        total-size 228\n\
+        image a size 3 data at 96\n\
+        config conf-1\n\
+        key conf-1 kernel ok a\n\
+        key conf-1 fdt missing 1\n\
+        key conf-1 ramdisk bad-list\n";
+    assert_eq!(rt; text.as_slice(), listing.as_slice());
+    Ok(())
+}
+
+#[test]
+fn reservations_names_and_the_default_are_listed(rt: HostRuntime) -> Result<(), Fail> {
+    let text = list_of(rt.alloc(), EACH_LINE.as_slice())?;
+    let listing = b"kind fit\n\
+        boot-cpu 3\n\
+        total-size 272\n\
+        reservation 0x0000000040000000 0x0000000000100000\n\
+        image a%20b size 3 data-position at 272\n\
+        image n none\n\
+        config c\n\
+        key c firmware missing 0\n\
+        default c\n";
+    assert_eq!(rt; text.as_slice(), listing.as_slice());
+    Ok(())
+}
+
+#[test]
+fn files_that_are_no_boot_images_are_refused(rt: HostRuntime) {
     for (file, cause, offset) in [
-        (TREE.as_slice(), Cause::Unsupported, 0),
         (b"\x01\x02\x03\x04".as_slice(), Cause::BadMagic, 0),
         (&KERNEL[..3], Cause::Truncated, 0),
         (&KERNEL[..64], Cause::Truncated, 12),
+        (&TREE[..87], Cause::Truncated, 4),
+        (&EXTERNAL_PAYLOADS[..252], Cause::OutsideFile, 172),
     ] {
         let fault = Fault { cause, offset };
         assert_eq!(rt;
