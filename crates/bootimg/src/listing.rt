@@ -25,9 +25,7 @@ use std::io::{Read, Write};
 /// Returns the listing of a boot image.
 ///
 /// Errors, the first that applies: TooLarge at the limit, if the file is longer; Truncated at 0
-/// below four bytes; BadMagic at 0; for a legacy image those of `Legacy::read`; Unsupported at 0
-/// for a flattened image tree. A file in memory is refused without an allocation, so OutOfMemory
-/// comes only for a file that means something.
+/// below four bytes; BadMagic at 0; those of `Legacy::read` or of `Fit::read`; OutOfMemory.
 pub fn listing(alloc: Global, file: &[u8], limits: Limits) -> Result<String, Error>
     ensures lists { IfOk result (λ text. IsListing limits file.now (string_bytes text)) }
     ensures failed { IfErr result (IsOpenError limits file.now) }
