@@ -40,7 +40,8 @@ fn find_images<'a>(
     fit: &Fit<'a>,
     value: &'a [u8],
 ) -> Result<Vec<Named<'a>>, ConfigError>
-    ensures listed { IfOk result (λ listed. file_list fit.now.images 0 (listed_names value.entry.now)
+    ensures listed { IfOk result
+        (λ listed. file_list fit.now.images 0 (listed_names value.entry.now)
         ≡ ListedImages (map listed_image listed.items)) }
     ensures failed { IfErr result (IsListError
         (file_list fit.now.images 0 (listed_names value.entry.now))) }

@@ -167,8 +167,9 @@ fn normalise_and_finish<T: TracedWrite>(
 /// reading it allocates. ReadFailed comes after a read that failed with an error other than an
 /// interruption, or after 1,024 interrupted reads in a row; WriteFailed after a write or flush that
 /// failed with such an error, after a write that wrote none of the remaining bytes, or after 1,024
-/// interruptions in a row. No such failure is ignored. After WriteFailed a prefix of the normal form
-/// was written, the whole of it if the flush failed; after any other error nothing was written.
+/// interruptions in a row. No such failure is ignored. After WriteFailed a prefix of the normal
+/// form was written, the whole of it if the flush failed; after any other error nothing was
+/// written.
 pub fn normalise_traced<S: TracedRead, T: TracedWrite>(
     alloc: Global,
     source: &mut S,

@@ -61,11 +61,12 @@ pub fn verify(alloc: Global, file: &[u8], limits: Limits) -> Result<Report, Erro
 /// Reads a boot image to its end, writes the report on it, and flushes: `verify` from a reader to a
 /// writer that record the outcome of their calls. Returns whether no verdict is other than Good.
 ///
-/// ReadFailed comes after a read that failed with an error other than an interruption, or after 1,024
-/// interrupted reads in a row; WriteFailed after a write or flush that failed so, after a write
-/// that wrote none of the remaining bytes, or after 1,024 interruptions in a row. No such failure
-/// is ignored. After WriteFailed a prefix of the report was written, the whole of it if the flush
-/// failed; after any other error nothing was written. A call that allocates may return OutOfMemory.
+/// ReadFailed comes after a read that failed with an error other than an interruption, or after
+/// 1,024 interrupted reads in a row; WriteFailed after a write or flush that failed with such an
+/// error, after a write that wrote none of the remaining bytes, or after 1,024 interruptions in a
+/// row. No such failure is ignored. After WriteFailed a prefix of the report was written, the whole
+/// of it if the flush failed; after any other error nothing was written. A call that allocates may
+/// return OutOfMemory.
 pub fn verify_traced<S: TracedRead, T: TracedWrite>(
     alloc: Global,
     source: &mut S,
