@@ -66,7 +66,7 @@ check "a file of three bytes" fails "Truncated at 0" short list
 printf 'ELF, or so' > other
 check "a file of no kind" fails "BadMagic at 0" other list
 printf '\320\015\376\355' > tree
-check "a tree" fails "Unsupported at 0" tree list
+check "the magic number of a tree alone" fails "Truncated at 0" tree list
 
 # Images of mkimage that are refused.
 make() {

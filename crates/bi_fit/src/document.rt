@@ -17,8 +17,6 @@ mod image_nodes;
 mod nodes;
 mod payload_area;
 mod property_map;
-#[cfg(test)]
-mod tests;
 mod tree;
 
 use crate::document::payload_area::payloads_end;
