@@ -130,10 +130,12 @@ def judge(name, good, text):
     failures += not good
 
 
-make("large", [os.urandom(64 * MIB)])
-make("many", [b"%d" % index for index in range(10_000)])
-make("more", [b"%d" % index for index in range(100_000)])
-make("configured", [b"%d" % index for index in range(10_000)], 10_000)
+if sys.argv[1] == "make":
+    make("large", [os.urandom(64 * MIB)])
+    make("many", [b"%d" % index for index in range(10_000)])
+    make("more", [b"%d" % index for index in range(100_000)])
+    make("configured", [b"%d" % index for index in range(10_000)], 10_000)
+    sys.exit()
 times = {}
 for path in "large", "many", "more", "configured":
     size = os.path.getsize(path)
@@ -152,7 +154,9 @@ for name in COMMANDS:
     judge(f"{name} of ten times as many images", ratio <= 12, f"{ratio:.1f} times as long")
 sys.exit(failures != 0)
 END
+# The trees are made by another process: what a process has used counts for the memory of those that it starts.
 program=$root/crates/bootimg/out/bootimg
+python3 costs.py make
 python3 costs.py "$program" | tee costs
 passed=$((passed + $(grep -c '^ok: ' costs)))
 failed=$((failed + $(grep -c '^FAILED: ' costs)))

@@ -235,9 +235,9 @@ check "a part of a tree" prints made.itb 2 "bootimg: the selection does not fit 
 check "an unknown key" prints made.itb 2 "bootimg: usage: bad value" extract --config with --key dtb
 check "no selection" prints made.itb 2 "bootimg: usage: give one of --part, --image, --config" extract
 size=$(wc -c < normal.itb)
-check "a limit that holds the image alone" prints external.itb 2 "bootimg: TooLarge at $(wc -c < external.itb)" \
-    normalise --limit "$(wc -c < external.itb)"
-check "a limit that holds the normal form" prints external.itb 2 "bootimg: TooLarge at $((size - 1))" \
+check "a limit that holds the normal form alone" prints normal.itb 2 "bootimg: TooLarge at $size" \
+    normalise --external --limit "$size"
+check "a limit that does not hold the image" prints external.itb 2 "bootimg: TooLarge at $((size - 1))" \
     normalise --limit "$((size - 1))"
 
 # The lines of the listing that follow those of the images.

@@ -12,7 +12,7 @@ use crate::lists::list_images;
 use crate::nodes::Siblings;
 use bi_fdt::NodeRef;
 use bi_hash::text_before_nul;
-use std::alloc::{AllocError, AllocFailed, Global};
+use std::alloc::{AllocFailed, Global};
 use std::marker::Model;
 
 /// A name that a configuration lists, and the payload of the image of that name.
