@@ -107,7 +107,7 @@ reads() {
 verdicts() {
     for name in $(fdtget -l "$1" /images); do
         "$root/bootimg" extract --image "$name" < "$1" > output || return 1
-        for hash in $(fdtget -l "$1" "/images/$name"); do
+        for hash in $(fdtget -l "$1" "/images/$name" | grep '^hash'); do
             algo=$(fdtget "$1" "/images/$name/$hash" algo)
             case $algo in
             crc32) value=$(python3 -c 'import sys, zlib
@@ -272,6 +272,8 @@ check "the image is signed" fdtget signed.itb /configurations/with/signature-1 v
 check "the note on signatures" prints signed.itb 0 "bootimg: note: 2 signature nodes carried, not checked" normalise
 cp output signed-normal.itb
 check "fdtget prints the same nodes of the signed image" same_nodes signed.itb signed-normal.itb
+check "verify of the signed image prints what the tools do" verdicts signed.itb
+check "verify of its normal form prints the same" verdicts signed-normal.itb
 check "no note after list" sh -c "'$root/bootimg' list < signed.itb 2>&1 > listing | cmp - empty"
 
 finish
