@@ -3,4 +3,4 @@ pub mod PayloadAreas
 pub mod NormalForms
 pub mod Writing
 pub mod KindLaws
-pub mod Converting
+pub mod ConvertedImages

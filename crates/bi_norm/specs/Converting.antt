@@ -1,12 +1,17 @@
-use Rattle.std.specs.Prelude.{◌≡◌, ◌≢◌, ℕ, ◌≤◌, ◌==◌, Bool, true, false, List, [], ◌∷◌, Option}
+use Rattle.std.specs.Prelude.{◌≡◌, ◌≢◌, ℕ, ◌<◌, ◌≤◌, ◌==◌, Bool, true, false, List, [], ◌∷◌, Option}
 use Rattle.std.specs.Prelude.{None, Some, IsSome, length, map, codes, unwrap_or, if◌then◌else◌}
 use Rattle.std.specs.List.{AllByRecursion}
 use Rattle.bi_base.specs.declared.fault.Fault.{Fault}
 use Rattle.bi_base.specs.declared.fault.Cause.TheVariants.{NoCodeName, TooManyParts, EmptyPart}
+use Rattle.bi_base.specs.declared.fault.Error.{Error}
+use Rattle.bi_base.specs.declared.fault.Error.TheVariants.{Refused, OutOfMemory, ReadFailed}
+use Rattle.bi_base.specs.declared.fault.Error.TheVariants.{WriteFailed}
 use Rattle.bi_base.specs.Checks.{IsFirstFault, HasNoFault}
 use Rattle.bi_base.specs.Limits.{Bounds}
+use Rattle.bi_base.specs.Reading.{too_large}
 use Rattle.bi_blob.specs.Layout.{longest_text}
 use Rattle.bi_fit.specs.declared.form.Form.{Form}
+use Rattle.bi_fit.specs.declared.form.Form.TheVariants.{Embedded}
 use Rattle.bi_fit.specs.declared.key.Key.{Key}
 use Rattle.bi_fit.specs.declared.key.Key.TheVariants.{Kernel, Fdt, Ramdisk, Firmware, Loadables}
 use Rattle.bi_fit.specs.declared.key.Key.TheVariants.{Script}
@@ -18,6 +23,8 @@ use Rattle.bi_fit.specs.Text.{fit_text}
 use Rattle.bi_hash.specs.declared.verdicts.Verdict.TheVariants.{Good}
 use Rattle.bi_legacy.specs.Codes.{CodeName, os_names, arch_names, type_names, compression_names}
 use Rattle.bi_legacy.specs.Codes.{name_of_code}
+use Rattle.bi_legacy.specs.Faults.{IsLegacyFault}
+use Rattle.bi_legacy.specs.File.{LegacyMeans}
 use Rattle.bi_legacy.specs.Meaning.{LegacyImage}
 use Rattle.bi_legacy.specs.Text.{IsLegacyImage}
 
@@ -179,3 +186,38 @@ ConvertedIsAccepted =
     → 4 ≤ bounds.depth → length (fit_text form (fit_of image)) ≤ bounds.file
     → bounds.file ≤ longest_text
     → IsConverted bounds form image
+
+-- The text is that of the flattened image tree to which the legacy image in the file is converted.
+-- Under the same limit of the file and four open nodes it is accepted and means that tree.
+pub record IsConvertedFile (limits : Bounds) (file text : List ℕ) : Type 0 where
+  pub image : LegacyImage
+  pub means : LegacyMeans limits file image
+  pub only : (other : LegacyImage) → LegacyMeans limits file other → other ≡ image
+  pub can : CanBeConverted image
+  pub is_text : text ≡ fit_text Embedded (fit_of image)
+  pub converted : (bounds : Bounds) → bounds.file ≡ limits.file → 4 ≤ bounds.depth
+      → IsConverted bounds Embedded image
+
+-- The file is a legacy image that can be converted.
+pub record IsConvertible (limits : Bounds) (file : List ℕ) : Type 0 where
+  pub image : LegacyImage
+  pub means : LegacyMeans limits file image
+  pub can : CanBeConverted image
+
+-- The fault of a file to be converted, in the order of the checks.
+pub data IsFileConvertFault (limits : Bounds) (file : List ℕ) (fault : Fault) : Type 0 where
+  NotLegacy : IsLegacyFault limits file fault
+      → ((image : LegacyImage) → ¬ (LegacyMeans limits file image))
+      → IsFileConvertFault limits file fault
+  NotConvertible : (image : LegacyImage) → LegacyMeans limits file image
+      → IsConvertFault image fault → IsFileConvertFault limits file fault
+  TextTooLong : (image : LegacyImage) → LegacyMeans limits file image → CanBeConverted image
+      → limits.file < length (fit_text Embedded (fit_of image)) → fault ≡ too_large limits.file
+      → IsFileConvertFault limits file fault
+
+-- The error that converting a file in memory can have, except those of a sink.
+abbrev pub IsConvertError : Bounds → List ℕ → Error → Type 0
+IsConvertError limits file (Refused fault) = IsFileConvertFault limits file fault
+IsConvertError limits file OutOfMemory = IsConvertible limits file
+IsConvertError limits file ReadFailed = ⊥
+IsConvertError limits file WriteFailed = ⊥

@@ -2,6 +2,11 @@ pub mod Kinds
 pub mod Opening
 pub mod Meaning
 pub mod Faults
+pub mod Outputs
 pub mod NormalForm
 pub mod Converting
+pub mod Cutting
+pub mod LegacyBuilding
+pub mod Building
+pub mod Comparing
 pub mod Laws

@@ -1,0 +1,83 @@
+//! Building a flattened image tree.
+
+ghost use Rattle.std.specs.Prelude.{OnOk, IfOk, IfErr};
+ghost use Rattle.bi_norm.specs.Building.{IsBuilt, IsBuildError};
+ghost use Rattle.bi_norm.specs.Outputs.{Appended, AppendFailed};
+
+use bi_base::{Error, Limits, Sink};
+use bi_fit::Form;
+use std::alloc::Global;
+
+/// What a flattened image tree to be built has beside its images.
+#[derive(Clone, Copy, Debug, PartialEq, Eq)]
+pub struct Head<'a> {
+    /// The description of the tree, of each image and of the configuration, without a zero byte.
+    pub description: &'a [u8],
+    /// The time of creation, in seconds since 1970.
+    pub time: u32,
+}
+
+/// An image to be built. Its codes are those of a legacy header (U-Boot, include/image.h).
+#[derive(Clone, Copy, Debug, PartialEq, Eq)]
+pub struct ImageSpec<'a> {
+    /// The name of the image node.
+    pub name: &'a [u8],
+    /// The code of the image type.
+    pub image_type: u8,
+    /// The code of the processor architecture.
+    pub arch: u8,
+    /// The code of the operating system.
+    pub os: u8,
+    /// The code of the compression.
+    pub compression: u8,
+    /// The load address, if there is one.
+    pub load: Option<u32>,
+    /// The entry point, if there is one.
+    pub entry: Option<u32>,
+    /// The payload.
+    pub payload: &'a [u8],
+}
+
+/// Returns a flattened image tree with these images, each with the SHA-256 of its payload, and one
+/// configuration, `conf-1`, that lists them by their types.
+///
+/// Errors, the first that applies: TooLarge at the limit, if there are more images than that;
+/// BadField at 0, if the description has a zero byte; then for each image in order, at its index
+/// from 0: BadField, if its name is empty or has a zero byte or a `/`, or its type is multi;
+/// NoCodeName, if one of its codes has no name; DuplicateNode, if an earlier image has its name;
+/// then TooLarge at the limit, if the text is longer. OutOfMemory may come in place of any of them.
+/// ReadFailed and WriteFailed never come.
+pub fn build_fit(
+    alloc: Global,
+    head: Head<'_>,
+    images: &[ImageSpec<'_>],
+    form: Form,
+    limits: Limits,
+) -> Result<Vec<u8>, Error>
+    ensures built { IfOk result (λ text. IsBuilt limits form head.entry images.now text.items) }
+    ensures failed { IfErr result (IsBuildError limits form head.entry images.now) }
+{
+    Err(Error::OutOfMemory)
+}
+
+/// Appends a flattened image tree with these images to a sink, as `build_fit` returns it.
+///
+/// The errors are those of `build_fit`, and those of the sink. After an error of the images, the
+/// sink is unchanged. After an error of the sink, it is as a failed `put` of the text leaves it.
+/// All allocations but those of the sink are made before the first byte is appended.
+pub fn build_fit_into<S: Sink>(
+    alloc: Global,
+    head: Head<'_>,
+    images: &[ImageSpec<'_>],
+    form: Form,
+    limits: Limits,
+    sink: &mut S,
+) -> Result<(), Error>
+    ensures built { OnOk result (Appended S.appends (IsBuilt limits form head.entry images.now)
+        sink.old sink.new) }
+    ensures failed { IfErr result (AppendFailed S.fails
+        (IsBuilt limits form head.entry images.now)
+        (IsBuildError limits form head.entry images.now) sink.old sink.new) }
+{
+    Err(Error::OutOfMemory)
+}

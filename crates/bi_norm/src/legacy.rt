@@ -1,0 +1,31 @@
+//! Building a legacy image.
+
+ghost use Rattle.std.specs.Prelude.{IfOk, IfErr};
+ghost use Rattle.bi_legacy.specs.Emitting.{image_of_parts};
+ghost use Rattle.bi_norm.specs.LegacyBuilding.{IsBuiltLegacy, IsBuildLegacyError};
+
+use bi_base::{Error, Limits};
+use bi_legacy::Fields;
+use std::alloc::Global;
+
+/// Returns the normal text of a legacy image with these fields and parts: `bi_legacy::emit` into
+/// memory.
+///
+/// Errors, the first that applies: BadField at 32, if the name is longer than 32 bytes or has a
+/// zero byte; BadField at 30, if the image is neither multi nor script and does not have exactly
+/// one part; TooLarge at the limit, if the text is longer than that; EmptyPart at `64 + 4 * index`
+/// for the first empty part of a multi or script image; OutOfMemory. ReadFailed and WriteFailed
+/// never come.
+pub fn build_legacy(
+    alloc: Global,
+    fields: Fields<'_>,
+    parts: &[&[u8]],
+    limits: Limits,
+) -> Result<Vec<u8>, Error>
+    ensures built { let image = image_of_parts fields.entry parts.now in
+        IfOk result (λ text. IsBuiltLegacy limits image text.items) }
+    ensures failed { let image = image_of_parts fields.entry parts.now in
+        IfErr result (IsBuildLegacyError limits image) }
+{
+    Err(Error::OutOfMemory)
+}
