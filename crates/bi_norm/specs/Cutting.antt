@@ -1,4 +1,5 @@
-use Rattle.std.specs.Prelude.{ℕ, ◌≡◌, ◌+◌, ◌<◌, ◌≤◌, ⊤, List, ◌∷◌, ◌++◌, length, map, concat, sum}
+use Rattle.std.specs.Prelude.{ℕ, ◌≡◌, ◌+◌, ◌<◌, ◌≤◌, ⊤, List, ◌∷◌, ◌++◌, length, map}
+use Rattle.std.specs.List.{concat, sum}
 use Rattle.bi_base.specs.declared.fault.Fault.{Fault}
 use Rattle.bi_base.specs.declared.fault.Cause.TheVariants.{BadPart}
 use Rattle.bi_base.specs.declared.fault.Error.{Error}
