@@ -138,3 +138,14 @@ pub record IsBuilt (limits : Bounds) (form : Form) (head : Head) (images : List 
       → IsAcceptedAs bounds text (tree_of_images head images)
   pub payloads : HasGoodPayloads (head_of head) (specifications_of images)
   pub configuration : HasConfiguration (head_of head) (specifications_of images)
+
+-- The text is that of the tree, and is no longer than the limit.
+pub record IsTextOfTree (limits : Bounds) (form : Form) (tree : ImageTree) (text : List ℕ) : Type 0
+  where
+    pub is_text : text ≡ fit_text form tree
+    pub short : length text ≤ limits.file
+
+-- The image can be built: its codes have names, and it is no multi-file image.
+pub record HasBuildableType (image : ImageSpec) : Type 0 where
+  pub names : HasNames image
+  pub single : image.image_type ≢ multi

@@ -15,7 +15,7 @@ pub record Appended {S : Type 0} (appends : S → List ℕ → S → Type 0) (Is
 -- sink.
 pub data AppendFailed {S : Type 0} (fails : S → List ℕ → S → Error → Type 0)
     (IsText : List ℕ → Type 0) (HasError : Error → Type 0) (old new : S) (error : Error) : Type 0
-    where
-  WasRefused : HasError error → new ≡ old → AppendFailed fails IsText HasError old new error
-  SinkFailed : (text : List ℕ) → IsText text → fails old text new error
-      → AppendFailed fails IsText HasError old new error
+  where
+    WasRefused : HasError error → new ≡ old → AppendFailed fails IsText HasError old new error
+    SinkFailed : (text : List ℕ) → IsText text → fails old text new error
+        → AppendFailed fails IsText HasError old new error

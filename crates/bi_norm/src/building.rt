@@ -1,6 +1,11 @@
 //! Building a flattened image tree.
 
 ghost use Rattle.std.specs.Prelude.{OnOk, IfOk, IfErr};
+ghost use Rattle.std.specs.List.{AllByRecursion};
+ghost use Rattle.bi_fit.specs.Building.{CanBeBuilt};
+ghost use Rattle.bi_fit.specs.Documents.{IsDocumentError};
+ghost use Rattle.bi_norm.specs.Building.{head_of, specifications_of, tree_of_images, IsTextOfTree};
+ghost use Rattle.bi_norm.specs.Building.{HasBuildableType};
 ghost use Rattle.bi_norm.specs.Building.{IsBuilt, IsBuildError};
 ghost use Rattle.bi_norm.specs.Outputs.{Appended, AppendFailed};
 
@@ -78,6 +83,28 @@ pub fn build_fit_into<S: Sink>(
     ensures failed { IfErr result (AppendFailed S.fails
         (IsBuilt limits form head.entry images.now)
         (IsBuildError limits form head.entry images.now) sink.old sink.new) }
+{
+    Err(Error::OutOfMemory)
+}
+
+/// Appends the text of a flattened image tree whose description and images can be built to a sink.
+/// Fails with TooLarge at the limit, if the text is longer, with OutOfMemory, or as the sink does.
+/// All allocations but those of the sink are made before the first byte is appended.
+pub(crate) fn append_tree<S: Sink>(
+    alloc: Global,
+    head: Head<'_>,
+    images: &[ImageSpec<'_>],
+    form: Form,
+    limits: Limits,
+    sink: &mut S,
+) -> Result<(), Error>
+    requires can { CanBeBuilt (head_of head) (specifications_of images.now) }
+    requires types { AllByRecursion HasBuildableType images.now }
+    ensures appended { let tree = tree_of_images head.entry images.entry.now in
+        OnOk result (Appended S.appends (IsTextOfTree limits form tree) sink.old sink.new) }
+    ensures failed { let tree = tree_of_images head.entry images.entry.now in
+        IfErr result (AppendFailed S.fails (IsTextOfTree limits form tree)
+        (IsDocumentError limits form tree) sink.old sink.new) }
 {
     Err(Error::OutOfMemory)
 }

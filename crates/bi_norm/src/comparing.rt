@@ -12,12 +12,7 @@ use std::alloc::Global;
 /// Errors, the first that applies: those of `BootImage::read` for the first file; those for the
 /// second file. OutOfMemory comes only if reading the first file may run out of memory. ReadFailed
 /// and WriteFailed never come.
-pub fn same_meaning(
-    alloc: Global,
-    one: &[u8],
-    other: &[u8],
-    limits: Limits,
-) -> Result<bool, Error>
+pub fn same_meaning(alloc: Global, one: &[u8], other: &[u8], limits: Limits) -> Result<bool, Error>
     ensures compared { IfOk result (AreCompared limits one.now other.now) }
     ensures failed { IfErr result (IsCompareError limits one.now other.now) }
 {
