@@ -9,4 +9,5 @@ pub mod Cutting
 pub mod LegacyBuilding
 pub mod Building
 pub mod Comparing
+pub mod KnownConversions
 pub mod Laws

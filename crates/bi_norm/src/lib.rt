@@ -8,6 +8,7 @@ mod converting;
 mod cutting;
 mod image;
 mod kind;
+pub mod known_files;
 pub mod laws;
 mod legacy;
 mod normal_form;
