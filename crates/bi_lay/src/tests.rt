@@ -133,6 +133,47 @@ fn a_text_ends_with_a_zero(rt: HostRuntime) -> Result<(), Fail> {
     Ok(())
 }
 
+/// A root with these values of the properties `a` and `b`, for this boot processor.
+fn with_values<'a>(
+    rt: &(impl Abort + AllocGlobal),
+    boot_cpu: u32,
+    values: [Value<'a>; 2],
+) -> Result<Doc<'a>, Error> {
+    let mut doc = Doc::new(rt.alloc(), boot_cpu)?;
+    begin(rt, &mut doc, b"")?;
+    property(rt, &mut doc, b"a", values[0])?;
+    property(rt, &mut doc, b"b", values[1])?;
+    end(rt, &mut doc);
+    Ok(doc)
+}
+
+#[test]
+fn values_are_compared_by_their_bytes(rt: HostRuntime) -> Result<(), Fail> {
+    let bytes = with_values(&rt, 0, [Value::Slice(b"abc\0"), Value::Slice(b"abc\0")])?;
+    let others = with_values(&rt, 0, [Value::Text(b"abc"), Value::Cell(0x6162_6300)])?;
+    assert!(rt; bytes.has_same_content(&bytes));
+    assert!(rt; bytes.has_same_content(&others));
+    assert!(rt; others.has_same_content(&bytes));
+    let shorter = with_values(&rt, 0, [Value::Text(b"abc"), Value::Slice(b"abc")])?;
+    assert!(rt; !others.has_same_content(&shorter));
+    assert!(rt; !shorter.has_same_content(&others));
+    Ok(())
+}
+
+#[test]
+fn documents_differ_in_each_part(rt: HostRuntime) -> Result<(), Fail> {
+    let one = with_values(&rt, 0, [Value::Cell(1), Value::Cell(2)])?;
+    let other_cpu = with_values(&rt, 1, [Value::Cell(1), Value::Cell(2)])?;
+    assert!(rt; !one.has_same_content(&other_cpu));
+    let mut reserved = with_values(&rt, 0, [Value::Cell(1), Value::Cell(2)])?;
+    assert!(rt; one.has_same_content(&reserved));
+    reserved.reserve(0x1000, 0)?;
+    assert!(rt; !one.has_same_content(&reserved));
+    let other_values = with_values(&rt, 0, [Value::Cell(2), Value::Cell(1)])?;
+    assert!(rt; !one.has_same_content(&other_values));
+    Ok(())
+}
+
 #[test]
 fn properties_come_in_byte_order(rt: HostRuntime) -> Result<(), Fail> {
     let mut doc = Doc::new(rt.alloc(), 0)?;
