@@ -2,6 +2,7 @@
 //! hashes, its configurations, and the document of its normal text.
 #![tactic(auto)]
 
+mod comparing;
 mod configurations;
 mod document;
 mod fit;

@@ -81,9 +81,9 @@ impl<'a> PropertyMap<'a> {
     }
 
     /// Gives an image node this payload in place of any other, or none: removes `data`,
-    /// `data-offset`, `data-position` and `data-size`, and adds the properties of the payload. In the
-    /// form Embedded these are `data`, which has its bytes. In the form External these are
-    /// `data-offset`, which is `begin`, and `data-size`, and the payload has fewer than 2^32 bytes.
+    /// `data-offset`, `data-position` and `data-size`, and adds the properties of the payload. In
+    /// the form Embedded, that is `data`, which has its bytes. In the form External, these are
+    /// `data-offset`, which is `begin`, and `data-size`; the payload has fewer than 2^32 bytes.
     /// `begin` is the offset of an external payload in bytes from the end of the blob.
     ///
     /// The only error is `OutOfMemory`. It is not specified which properties the map has then.
@@ -123,8 +123,8 @@ impl<'a> PropertyMap<'a> {
     /// It may only be called if these events may come next in the document: for each property in
     /// turn, `Doc::may_property` is true of its name after those before it were added.
     ///
-    /// The only error is `OutOfMemory`. It is not specified which of the properties the document has
-    /// then.
+    /// The only error is `OutOfMemory`. It is not specified which of the properties the document
+    /// has then.
     pub fn add_to(&self, doc: &mut Doc<'a>) -> Result<(), Error>
         requires { MayAdd doc.old (map NodeProperty (entries self.now)) }
         ensures added { OnOk result (doc.new ≡ with_events doc.old
