@@ -86,12 +86,13 @@ fn put_value<S: Sink>(value: Value<'_>, sink: &mut S) -> Result<(), Error>
     match value {
         Value::Slice(bytes) => sink.put(bytes),
         Value::Cell(number) => put_cell(sink, number),
-        Value::Text(bytes) => put_with_zero(bytes, sink),
+        Value::Text(bytes) => put_string(bytes, sink),
     }
 }
 
-/// Appends these bytes and a zero. Fails as the sink does.
-fn put_with_zero<S: Sink>(bytes: &[u8], sink: &mut S) -> Result<(), Error>
+/// Appends a string: these bytes and a zero (Devicetree Specification, 2.2.4.2). Fails as the sink
+/// does.
+pub(crate) fn put_string<S: Sink>(bytes: &[u8], sink: &mut S) -> Result<(), Error>
     ensures { Wrote S.appends S.fails sink.old (bytes.now ++ 0 ∷ []) result sink.new }
 {
     sink.put(bytes)?;

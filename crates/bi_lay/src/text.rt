@@ -10,7 +10,7 @@ ghost use Rattle.bi_lay.specs.Items.{structure_of_items, reservations_of, bytes_
 
 use crate::items::Item;
 use crate::sizes::BlockSizes;
-use crate::structure::{put_padding, put_structure};
+use crate::structure::{put_padding, put_string, put_structure};
 use bi_base::{Error, Sink, put_cells};
 
 /// The number that a blob begins with (Devicetree Specification, 5.2).
@@ -125,15 +125,7 @@ fn put_names<S: Sink>(names: &[&[u8]], sink: &mut S) -> Result<(), Error>
     ensures { Wrote S.appends S.fails sink.old (strings_of (bytes_of names.now)) result sink.new }
 {
     for name in names {
-        put_name(name, sink)?;
+        put_string(name, sink)?;
     }
     Ok(())
-}
-
-/// Appends a name and a zero. Fails as the sink does.
-fn put_name<S: Sink>(name: &[u8], sink: &mut S) -> Result<(), Error>
-    ensures { Wrote S.appends S.fails sink.old (name.now ++ 0 ∷ []) result sink.new }
-{
-    sink.put(name)?;
-    sink.put(&[0])
 }
