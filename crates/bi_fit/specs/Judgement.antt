@@ -3,7 +3,7 @@ use Rattle.std.specs.Prelude.{option_and_then, length, filter, bytes_eq, nat_eq,
 use Rattle.std.specs.Prelude.{if◌then◌else◌}
 use Rattle.std.specs.List.{ends_with, find}
 use Rattle.std.specs.FinMap.{get}
-use Rattle.bi_blob.specs.Tree.{Nodes, none, PropertyMap, names}
+use Rattle.bi_blob.specs.Tree.{Nodes, PropertyMap, names}
 use Rattle.bi_blob.specs.Lookups.{Sibling, siblings, node_named}
 use Rattle.bi_hash.specs.declared.verdicts.Verdict.{Verdict}
 use Rattle.bi_hash.specs.Verdicts.{verdict_of, text_before_nul}

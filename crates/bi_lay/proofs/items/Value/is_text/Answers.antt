@@ -1,4 +1,4 @@
-use Rattle.std.proofs.Common.{◌∷◌, [], ◌++◌, ap}
+use Rattle.std.proofs.Common.{ap}
 use Rattle.bi_lay.specs.Items.{value_bytes}
 use Rattle.bi_lay.proofs.SameContents.{tells_with_zero}
 use Rattle.bi_lay.proofs.items.Value.is_text.Goals as goal

@@ -1,4 +1,4 @@
-use Rattle.std.proofs.Common.{◌≡◌, ap, ◌∙◌, nat_cmp}
+use Rattle.std.proofs.Common.{ap, ◌∙◌, nat_cmp}
 use Rattle.std.specs.Cmp.Lexicographic.{slice_cmp}
 use Rattle.std.specs.FinMap.{from_sorted}
 use Rattle.bi_fit.specs.PropertyMaps.{properties_in}
