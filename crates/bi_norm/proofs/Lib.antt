@@ -6,3 +6,4 @@ pub mod KindLaws
 pub mod ConvertedImages
 pub mod Pieces
 pub mod BuiltLegacy
+pub mod ConvertedParts
