@@ -7,3 +7,5 @@ pub mod ConvertedImages
 pub mod Pieces
 pub mod BuiltLegacy
 pub mod ConvertedParts
+pub mod Appending
+pub mod Conversions
