@@ -1,9 +1,8 @@
-use Rattle.std.proofs.Common.{◌≡◌, ◌+◌, ◌<◌, ◌≤◌, ℕ, List, [], ◌∷◌, ◌++◌, length, map, get_or, Bor, refl, ap, sym, ◌∙◌, subst, append_assoc, append-nil, zero, suc, true, false, arith}
+use Rattle.std.proofs.Common.{◌≡◌, ◌<◌, ◌≤◌, ℕ, List, [], ◌∷◌, ◌++◌, length, map, get_or, refl, ap, sym, ◌∙◌, subst, append_assoc, append-nil, zero, suc, false, arith}
 use Rattle.std.specs.Prelude.{◌==◌}
 use Rattle.std.proofs.lemmas.List.{map-append, length-map, length-append}
 use Rattle.bi_legacy.specs.PlacedParts.{PlacedPart}
 use Rattle.bi_fit.specs.declared.key.Key.{Key}
-use Rattle.bi_fit.specs.Building.{ImageSpecification}
 use Rattle.bi_legacy.specs.Meaning.{LegacyImage}
 use Rattle.bi_norm.specs.declared.building.ImageSpec.{ImageSpec}
 use Rattle.bi_norm.specs.Building.{specification_of, specifications_of, HasBuildableType}

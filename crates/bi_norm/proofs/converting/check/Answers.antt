@@ -1,5 +1,4 @@
 use Rattle.std.proofs.Common.{arith, rules}
-use Rattle.std.proofs.lemmas.Grind.{common_steps}
 use Rattle.bi_norm.proofs.ConvertedParts.{no_elements}
 use Rattle.bi_norm.proofs.converting.check.Goals as goal
 

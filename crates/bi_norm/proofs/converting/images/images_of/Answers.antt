@@ -1,12 +1,12 @@
-use Rattle.std.proofs.Common.{◌≡◌, ◌<◌, ◌≤◌, ◌∷◌, ◌++◌, List, [], get_or, length, ap, ◌∙◌, subst, sym, map, arith, rules}
+use Rattle.std.proofs.Common.{◌≡◌, ◌<◌, ◌≤◌, ◌∷◌, ◌++◌, List, [], get_or, length, ap, ◌∙◌, subst, sym, map, rules}
 use Rattle.bi_fit.specs.declared.key.Key.{Key}
 use Rattle.bi_fit.specs.declared.key.Key.TheVariants.{Kernel}
-use Rattle.bi_legacy.specs.PlacedParts.{PlacedPart, placed_part_of}
+use Rattle.bi_legacy.specs.PlacedParts.{placed_part_of}
 use Rattle.bi_legacy.specs.Meaning.{LegacyImage}
 use Rattle.bi_norm.specs.declared.building.ImageSpec.{ImageSpec}
 use Rattle.bi_norm.specs.Building.{specification_of}
 use Rattle.bi_norm.specs.Converting.{first_image, later_image, keys_of_type}
-use Rattle.bi_norm.proofs.ConvertedParts.{bytes_of, not_empty, IsPartWay, begins, key_of_next, after_first, after_later, ends}
+use Rattle.bi_norm.proofs.ConvertedParts.{bytes_of, not_empty, IsPartWay, begins, after_first, after_later}
 use Rattle.bi_norm.proofs.converting.images.images_of.Goals.{then-is_empty, else-is_empty}
 use Rattle.bi_norm.proofs.converting.images.images_of.Goals as goal
 
