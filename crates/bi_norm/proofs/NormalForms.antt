@@ -1,4 +1,4 @@
-use Rattle.std.proofs.Common.{◌≡◌, ◌<◌, ◌≤◌, ◌⊎◌, ◌↔◌, ℕ, List, ◌∷◌, length, Option, refl, sym, ap, ◌∙◌, subst, inl, inr, arith}
+use Rattle.std.proofs.Common.{◌≡◌, ◌<◌, ◌≤◌, ◌⊎◌, ◌↔◌, ℕ, List, ◌∷◌, length, Option, refl, sym, ap, ◌∙◌, inl, inr, arith}
 use Rattle.bi_base.specs.Cells.{cell, u32_at}
 use Rattle.bi_base.specs.Limits.{Bounds}
 use Rattle.bi_base.specs.Reading.{IsReadError, too_large}

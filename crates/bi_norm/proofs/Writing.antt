@@ -60,3 +60,9 @@ pub result_failed : {V : Type 0} (IsOutput : List ℕ → List ℕ → Type 0) (
 result_failed IsOutput HasError source new_source target new_target file bytes (Ok value) read same no_read no_write failed = tt
 result_failed IsOutput HasError source new_source target new_target file bytes (Err error) read same no_read no_write failed =
     transfer_failed IsOutput HasError source new_source target new_target file bytes error read same no_read no_write failed
+
+-- Writing failed between traces that are equal to these.
+pub failed_between : {V : Type 0} (IsText : List ℕ → Type 0) (HasError : Error → Type 0) (old other_old new other_new : WriteTrace) (result : Result V Error) → old ≡ other_old → new ≡ other_new → IfErr result (AppendFailed WriteOrFlushStopped IsText HasError old new) → IfErr result (AppendFailed WriteOrFlushStopped IsText HasError other_old other_new)
+failed_between IsText HasError old other_old new other_new result same_old same_new failed =
+    subst (λ (trace : WriteTrace). IfErr result (AppendFailed WriteOrFlushStopped IsText HasError other_old trace)) same_new
+    (subst (λ (trace : WriteTrace). IfErr result (AppendFailed WriteOrFlushStopped IsText HasError trace new)) same_old failed)
