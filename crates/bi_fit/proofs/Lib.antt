@@ -38,3 +38,4 @@ pub mod ImageNodes
 pub mod Reservations
 pub mod NormalTrees
 pub mod NormalDocuments
+pub mod SameMeanings

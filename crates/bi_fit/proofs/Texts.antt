@@ -70,7 +70,7 @@ text_has_payloads External tree is short =
     (omega (arith, short))
 
 -- The image nodes of the tree of a text.
-normal_images : (form : Form) (tree : ImageTree) (is : IsImageTree tree) → image_nodes (normal_tree form tree) ≡ Some (with_each entries (with_payloads form 0 tree.payloads is.images))
+pub normal_images : (form : Form) (tree : ImageTree) (is : IsImageTree tree) → image_nodes (normal_tree form tree) ≡ Some (with_each entries (with_payloads form 0 tree.payloads is.images))
 normal_images form tree is =
     children_of-with_each entries images_name (with_image_nodes (with_payloads form 0 tree.payloads) tree.root).children
     ∙ ap (option_map (with_each entries)) (children_of-with_children_of images_name (with_payloads form 0 tree.payloads) tree.root.children is.images is.has_images)
@@ -81,7 +81,7 @@ text_images form tree is =
     children_of-with_places _ images_name (normal_tree form tree).children (with_each entries (with_payloads form 0 tree.payloads is.images)) (normal_images form tree is)
 
 -- The tree of a text is the tree, with the properties that give payloads.
-normal_root : (form : Form) (tree : ImageTree) → IsImageTree tree → tree_without_payloads (tree_without_order (normal_tree form tree)) ≡ tree.root
+pub normal_root : (form : Form) (tree : ImageTree) → IsImageTree tree → tree_without_payloads (tree_without_order (normal_tree form tree)) ≡ tree.root
 normal_root form tree is =
     ap tree_without_payloads (has_one_order (with_image_nodes (with_payloads form 0 tree.payloads) tree.root)).is_same
     ∙ ap (λ children. record { own = tree.root.own; children = children })

@@ -19,7 +19,9 @@ mod payload_area;
 mod property_map;
 mod tree;
 
+pub use crate::document::nodes::begin_with;
 use crate::document::payload_area::payloads_end;
+pub use crate::document::property_map::PropertyMap;
 use crate::document::tree::add_tree;
 use crate::fit::Fit;
 use crate::form::Form;
@@ -58,7 +60,7 @@ impl<'a> Fit<'a> {
     }
 
     /// Builds the document of the normal text in a form, however long the text is.
-    fn build_doc(&self, alloc: Global, form: Form) -> Result<Doc<'a>, Error>
+    pub(crate) fn build_doc(&self, alloc: Global, form: Form) -> Result<Doc<'a>, Error>
         requires { AreWithin form 0 (tree_of self.now).payloads }
         ensures document { IfOk result (λ doc. doc ≡ document_of form (tree_of self.now)) }
         ensures closed { IfOk result (λ doc. stage_of_events doc.events ≡ AfterRoot) }

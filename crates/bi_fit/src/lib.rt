@@ -2,6 +2,7 @@
 //! hashes, its configurations, and the document of its normal text.
 #![tactic(auto)]
 
+mod comparing;
 mod configurations;
 mod document;
 mod fit;
@@ -17,6 +18,7 @@ mod nodes;
 mod signatures;
 
 pub use configurations::{ConfigError, Configuration, Configurations, Named};
+pub use document::{PropertyMap, begin_with};
 pub use fit::Fit;
 pub use form::Form;
 pub use hashes::Checked;

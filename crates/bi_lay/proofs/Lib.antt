@@ -9,3 +9,4 @@ pub mod BlockBytes
 pub mod Texts
 pub mod Closed
 pub mod Building
+pub mod SameContents

@@ -5,6 +5,7 @@ ghost use Rattle.std.specs.Prelude.{IfErr, MatchOption};
 ghost use Rattle.bi_base.specs.Sinks.{Wrote};
 ghost use Rattle.bi_base.specs.declared.fault.Error.TheVariants.{OutOfMemory};
 
+use crate::comparing::{have_same_events, have_same_reservations};
 use crate::conditions::{is_child_name, is_property_name};
 use crate::items::{Item, Property, Value};
 use crate::names::Names;
@@ -22,8 +23,8 @@ const MAX_DEPTH: usize = 64;
 /// a tree, which come in the order of the structure block (Devicetree Specification, 5.4.2). Names
 /// and values are borrowed and not copied.
 ///
-/// Each call but `may_begin`, `size` and `emit` takes time linear in the length of its name, if it
-/// has one, apart from allocations.
+/// Each call but `may_begin`, `has_same_content`, `size` and `emit` takes time linear in the length
+/// of its name, if it has one, apart from allocations.
 #[derive(Drop)]
 pub struct Doc<'a> {
     boot_cpu: u32,
@@ -175,6 +176,17 @@ impl<'a> Doc<'a> {
         ensures tree { IsTrue result → HasOneNormalTree self.now.events }
     {
         self.depth == 0 && !self.items.is_empty()
+    }
+
+    /// Whether both documents have the same boot processor, the same memory reservations and the
+    /// same events, each in the same order. Values are the same if their bytes are. It takes time
+    /// linear in both documents, and allocates nothing.
+    pub fn has_same_content(&self, other: &Doc<'_>) -> bool
+        ensures { IsTrue result ↔ (self.now ≡ other.now) }
+    {
+        self.boot_cpu == other.boot_cpu
+            && have_same_reservations(&self.reservations, &other.reservations)
+            && have_same_events(&self.items, &other.items)
     }
 
     /// Returns the length of the document's text in bytes, or None if it has more than 0x7fffffff

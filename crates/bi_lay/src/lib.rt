@@ -2,6 +2,7 @@
 //! written to a sink.
 #![tactic(auto)]
 
+mod comparing;
 mod conditions;
 mod document;
 mod items;

@@ -114,6 +114,66 @@ fn a_name_that_is_used_again_takes_no_more_bytes(rt: HostRuntime) -> Result<(), 
     Ok(())
 }
 
+/// A root with the property `model`, a string (Devicetree Specification, 2.2.4.2 and 2.3.2).
+const WITH_STRING: [u8; 96] = *b"\xd0\x0d\xfe\xed\x00\x00\x00\x60\x00\x00\x00\x38\x00\x00\x00\x58\
+    \x00\x00\x00\x28\x00\x00\x00\x11\x00\x00\x00\x10\x00\x00\x00\x00\
+    \x00\x00\x00\x06\x00\x00\x00\x20\
+    \0\0\0\0\0\0\0\0\0\0\0\0\0\0\0\0\
+    \x00\x00\x00\x01\x00\x00\x00\x00\
+    \x00\x00\x00\x03\x00\x00\x00\x04\x00\x00\x00\x00abc\x00\
+    \x00\x00\x00\x02\x00\x00\x00\x09model\x00\x00\x00";
+
+#[test]
+fn a_text_ends_with_a_zero(rt: HostRuntime) -> Result<(), Fail> {
+    let mut doc = Doc::new(rt.alloc(), 0)?;
+    begin(&rt, &mut doc, b"")?;
+    property(&rt, &mut doc, b"model", Value::Text(b"abc"))?;
+    end(&rt, &mut doc);
+    assert!(rt; has_text(&rt, &doc, &WITH_STRING)?);
+    Ok(())
+}
+
+/// A root with these values of the properties `a` and `b`, for this boot processor.
+fn with_values<'a>(
+    rt: &(impl Abort + AllocGlobal),
+    boot_cpu: u32,
+    values: [Value<'a>; 2],
+) -> Result<Doc<'a>, Error> {
+    let mut doc = Doc::new(rt.alloc(), boot_cpu)?;
+    begin(rt, &mut doc, b"")?;
+    property(rt, &mut doc, b"a", values[0])?;
+    property(rt, &mut doc, b"b", values[1])?;
+    end(rt, &mut doc);
+    Ok(doc)
+}
+
+#[test]
+fn values_are_compared_by_their_bytes(rt: HostRuntime) -> Result<(), Fail> {
+    let bytes = with_values(&rt, 0, [Value::Slice(b"abc\0"), Value::Slice(b"abc\0")])?;
+    let others = with_values(&rt, 0, [Value::Text(b"abc"), Value::Cell(0x6162_6300)])?;
+    assert!(rt; bytes.has_same_content(&bytes));
+    assert!(rt; bytes.has_same_content(&others));
+    assert!(rt; others.has_same_content(&bytes));
+    let shorter = with_values(&rt, 0, [Value::Text(b"abc"), Value::Slice(b"abc")])?;
+    assert!(rt; !others.has_same_content(&shorter));
+    assert!(rt; !shorter.has_same_content(&others));
+    Ok(())
+}
+
+#[test]
+fn documents_differ_in_each_part(rt: HostRuntime) -> Result<(), Fail> {
+    let one = with_values(&rt, 0, [Value::Cell(1), Value::Cell(2)])?;
+    let other_cpu = with_values(&rt, 1, [Value::Cell(1), Value::Cell(2)])?;
+    assert!(rt; !one.has_same_content(&other_cpu));
+    let mut reserved = with_values(&rt, 0, [Value::Cell(1), Value::Cell(2)])?;
+    assert!(rt; one.has_same_content(&reserved));
+    reserved.reserve(0x1000, 0)?;
+    assert!(rt; !one.has_same_content(&reserved));
+    let other_values = with_values(&rt, 0, [Value::Cell(2), Value::Cell(1)])?;
+    assert!(rt; !one.has_same_content(&other_values));
+    Ok(())
+}
+
 #[test]
 fn properties_come_in_byte_order(rt: HostRuntime) -> Result<(), Fail> {
     let mut doc = Doc::new(rt.alloc(), 0)?;
