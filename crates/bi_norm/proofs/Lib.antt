@@ -9,3 +9,4 @@ pub mod BuiltLegacy
 pub mod ConvertedParts
 pub mod Appending
 pub mod Conversions
+pub mod Comparisons

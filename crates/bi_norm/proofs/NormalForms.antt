@@ -55,7 +55,7 @@ texts_differ form image tree same =
     omega (arith, legacy_text_begins image, tree_text_begins form tree, ap (λ text. u32_at text 0) same)
 
 -- A file that means a legacy image means nothing else.
-only_legacy : (limits : Bounds) (file : List ℕ) (parsed : ParsedImage) → IsParsedImage limits file parsed → (other : Meaning) → Means limits file other → other ≡ OfLegacy parsed.image
+pub only_legacy : (limits : Bounds) (file : List ℕ) (parsed : ParsedImage) → IsParsedImage limits file parsed → (other : Meaning) → Means limits file other → other ≡ OfLegacy parsed.image
 only_legacy limits file parsed opened (OfLegacy other) means = ap OfLegacy (opened.only_meaning other means)
 only_legacy limits file parsed opened (OfFit tree) means =
     absurd (means_tree limits file tree means (means_legacy limits file parsed.image opened.means))
@@ -89,7 +89,7 @@ unfolding legacy_normal_form
 legacy_normalised limits form file parsed opened = record { normal = legacy_normal_form limits form file parsed opened; signatures = refl }
 
 -- A file that means a flattened image tree means nothing else.
-only_tree : (limits : Bounds) (file : List ℕ) (content : FitContent) → IsReadFrom limits file content → (other : Meaning) → Means limits file other → other ≡ OfFit (tree_of content)
+pub only_tree : (limits : Bounds) (file : List ℕ) (content : FitContent) → IsReadFrom limits file content → (other : Meaning) → Means limits file other → other ≡ OfFit (tree_of content)
 only_tree limits file content opened (OfFit other) means = ap OfFit (opened.only other means)
 only_tree limits file content opened (OfLegacy image) means =
     absurd (means_tree limits file (tree_of content) opened.means (means_legacy limits file image means))
@@ -128,7 +128,7 @@ unfolding tree_normal_form
 tree_normalised limits form file content count opened fits most is = record { normal = tree_normal_form limits form file content opened fits most; signatures = is }
 
 -- A file that means something needs memory.
-needs_memory : (limits : Bounds) (file : List ℕ) (meaning : Meaning) → Means limits file meaning → NeedsMemory limits file
+pub needs_memory : (limits : Bounds) (file : List ℕ) (meaning : Meaning) → Means limits file meaning → NeedsMemory limits file
 needs_memory limits file (OfLegacy image) means = ForLegacyImage image means
 needs_memory limits file (OfFit tree) means = by (fault_before_tree_comes_first limits file).decided where
   by : HasNoFaultBeforeTree limits file ⊎ ((fault : Fault) × IsFaultBeforeTree limits file fault) → NeedsMemory limits file

@@ -22,10 +22,7 @@ use std::alloc::Global;
 const NO_COMPRESSION: u8 = 0;
 
 /// Returns the images of a legacy image that can be converted, in the order of its parts.
-pub(super) fn images_of<'a>(
-    alloc: Global,
-    image: &Legacy<'a>,
-) -> Result<Vec<ImageSpec<'a>>, Error>
+pub(super) fn images_of<'a>(alloc: Global, image: &Legacy<'a>) -> Result<Vec<ImageSpec<'a>>, Error>
     requires { CanBeConverted image.now.image }
     ensures images { IfOk result (λ images.
         specifications_of images.items ≡ converted_images image.now.image) }

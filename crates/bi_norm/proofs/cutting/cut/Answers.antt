@@ -40,7 +40,7 @@ loop-piece_length-preserved c =
       is_sum = omega (arith, loop.is_sum, sum_more lengths i within);
       have_lengths = ap (map length) items ∙ lengths_more before c.in-Some.piece.now lengths i within loop.have_lengths (omega (arith, size));
       are_before =
-        ap concat items
-        ∙ ap (λ bytes. concat (before ++ (bytes ∷ []))) piece
-        ∙ pieces_more before input start end (omega arith) loop.are_before;
+          ap concat items
+          ∙ ap (λ bytes. concat (before ++ (bytes ∷ []))) piece
+          ∙ pieces_more before input start end (omega arith) loop.are_before;
     }
