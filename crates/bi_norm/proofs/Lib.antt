@@ -4,3 +4,9 @@ pub mod NormalForms
 pub mod Writing
 pub mod KindLaws
 pub mod ConvertedImages
+pub mod Pieces
+pub mod BuiltLegacy
+pub mod ConvertedParts
+pub mod Appending
+pub mod Conversions
+pub mod Comparisons

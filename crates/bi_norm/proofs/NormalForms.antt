@@ -1,4 +1,4 @@
-use Rattle.std.proofs.Common.{◌≡◌, ◌<◌, ◌≤◌, ◌⊎◌, ◌↔◌, ℕ, List, ◌∷◌, length, Option, refl, sym, ap, ◌∙◌, subst, inl, inr, arith}
+use Rattle.std.proofs.Common.{◌≡◌, ◌<◌, ◌≤◌, ◌⊎◌, ◌↔◌, ℕ, List, ◌∷◌, length, Option, refl, sym, ap, ◌∙◌, inl, inr, arith}
 use Rattle.bi_base.specs.Cells.{cell, u32_at}
 use Rattle.bi_base.specs.Limits.{Bounds}
 use Rattle.bi_base.specs.Reading.{IsReadError, too_large}
@@ -26,7 +26,7 @@ use Rattle.bi_fit.specs.Text.{fit_text}
 use Rattle.bi_fit.proofs.Faults.{meaning_has_no_fault}
 use Rattle.bi_fit.proofs.TextLaws.{file_means_image_tree, normal_text_is_accepted, same_text_same_tree, text_keeps_judgement}
 use Rattle.bi_norm.specs.Meaning.{Meaning, OfLegacy, OfFit, Means, normal_text}
-use Rattle.bi_norm.specs.NormalForm.{IsNormalForm, IsOpenError, IsNormaliseError, IsStreamError, FailedInto, WasRefused, SinkFailed, Normalised, NeedsMemory, ForLegacyImage, ForTree}
+use Rattle.bi_norm.specs.NormalForm.{IsNormalForm, IsOpenError, IsNormaliseError, IsStreamError, Normalised, NeedsMemory, ForLegacyImage, ForTree}
 use Rattle.bi_norm.proofs.Opening.{means_legacy, means_tree, too_long_is_file_fault, too_long_means_nothing}
 
 -- Normal forms of files that were read.
@@ -55,7 +55,7 @@ texts_differ form image tree same =
     omega (arith, legacy_text_begins image, tree_text_begins form tree, ap (λ text. u32_at text 0) same)
 
 -- A file that means a legacy image means nothing else.
-only_legacy : (limits : Bounds) (file : List ℕ) (parsed : ParsedImage) → IsParsedImage limits file parsed → (other : Meaning) → Means limits file other → other ≡ OfLegacy parsed.image
+pub only_legacy : (limits : Bounds) (file : List ℕ) (parsed : ParsedImage) → IsParsedImage limits file parsed → (other : Meaning) → Means limits file other → other ≡ OfLegacy parsed.image
 only_legacy limits file parsed opened (OfLegacy other) means = ap OfLegacy (opened.only_meaning other means)
 only_legacy limits file parsed opened (OfFit tree) means =
     absurd (means_tree limits file tree means (means_legacy limits file parsed.image opened.means))
@@ -89,7 +89,7 @@ unfolding legacy_normal_form
 legacy_normalised limits form file parsed opened = record { normal = legacy_normal_form limits form file parsed opened; signatures = refl }
 
 -- A file that means a flattened image tree means nothing else.
-only_tree : (limits : Bounds) (file : List ℕ) (content : FitContent) → IsReadFrom limits file content → (other : Meaning) → Means limits file other → other ≡ OfFit (tree_of content)
+pub only_tree : (limits : Bounds) (file : List ℕ) (content : FitContent) → IsReadFrom limits file content → (other : Meaning) → Means limits file other → other ≡ OfFit (tree_of content)
 only_tree limits file content opened (OfFit other) means = ap OfFit (opened.only other means)
 only_tree limits file content opened (OfLegacy image) means =
     absurd (means_tree limits file (tree_of content) opened.means (means_legacy limits file image means))
@@ -128,7 +128,7 @@ unfolding tree_normal_form
 tree_normalised limits form file content count opened fits most is = record { normal = tree_normal_form limits form file content opened fits most; signatures = is }
 
 -- A file that means something needs memory.
-needs_memory : (limits : Bounds) (file : List ℕ) (meaning : Meaning) → Means limits file meaning → NeedsMemory limits file
+pub needs_memory : (limits : Bounds) (file : List ℕ) (meaning : Meaning) → Means limits file meaning → NeedsMemory limits file
 needs_memory limits file (OfLegacy image) means = ForLegacyImage image means
 needs_memory limits file (OfFit tree) means = by (fault_before_tree_comes_first limits file).decided where
   by : HasNoFaultBeforeTree limits file ⊎ ((fault : Fault) × IsFaultBeforeTree limits file fault) → NeedsMemory limits file
@@ -161,11 +161,10 @@ open_error limits form file OutOfMemory is = is
 open_error limits form file ReadFailed is = is
 open_error limits form file WriteFailed is = is
 
--- An error of appending a normal form to memory is one of normalising the file.
-pub memory_error : {S : Type 0} (fails : S → List ℕ → S → Error → Type 0) (limits : Bounds) (form : Form) (file : List ℕ) (old new : S) (error : Error) → ((text : List ℕ) → fails old text new error → error ≡ OutOfMemory) → FailedInto fails limits form file old new error → IsNormaliseError limits form file error
-memory_error fails limits form file old new error full (WasRefused is same) = is
-memory_error fails limits form file old new error full (SinkFailed text normal failed) =
-    subst (IsNormaliseError limits form file) (sym (full text failed)) (normal_form_needs_memory limits form file text normal)
+-- An error of reading is one that a call which refuses files that are too long can have.
+pub error_of_stream : (HasError : List ℕ → Error → Type 0) (remaining : Option (List ℕ)) (most : ℕ) (MustStop : Type 0) (error : Error) → ((file : List ℕ) → most < length file → HasError file (Refused (too_large most))) → IsReadError remaining most MustStop error → IsErrorOfReading remaining most MustStop (λ file. IsStreamError HasError file error) error
+error_of_stream HasError remaining most MustStop error too_long is =
+    error_of_reading remaining most MustStop (λ error file. IsStreamError HasError file error) error is too_long (λ file. tt) (λ file. tt)
 
 -- A file that is too long is refused.
 pub too_long_is_refused : (limits : Bounds) (form : Form) (file : List ℕ) → limits.file < length file → IsNormaliseError limits form file (Refused (too_large limits.file))
@@ -174,5 +173,4 @@ too_long_is_refused limits form file longer = inl (too_long_is_file_fault limits
 -- An error of reading is one that normalising from a reader can have.
 pub reading_error : (limits : Bounds) (form : Form) (remaining : Option (List ℕ)) (MustStop : Type 0) (error : Error) → IsReadError remaining limits.file MustStop error → IsErrorOfReading remaining limits.file MustStop (λ file. IsStreamError (IsNormaliseError limits form) file error) error
 reading_error limits form remaining MustStop error is =
-    error_of_reading remaining limits.file MustStop (λ error file. IsStreamError (IsNormaliseError limits form) file error) error is
-    (λ file longer. too_long_is_refused limits form file longer) (λ file. tt) (λ file. tt)
+    error_of_stream (IsNormaliseError limits form) remaining limits.file MustStop error (too_long_is_refused limits form) is

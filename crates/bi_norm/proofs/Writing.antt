@@ -2,7 +2,6 @@ use Rattle.std.proofs.Common.{◌≡◌, ◌++◌, ℕ, List, [], Result, Ok, Er
 use Rattle.std.proofs.KnownBytes.{Keeps-refl}
 use Rattle.std.specs.Io.KnownBytes.{Keeps}
 use Rattle.bi_base.specs.BufferedSinks.{buffered, BufferAppends, BufferFails}
-use Rattle.bi_base.specs.Limits.{Bounds}
 use Rattle.bi_base.specs.Sinks.{Wrote}
 use Rattle.bi_base.specs.Reading.{ReadWhole}
 use Rattle.bi_base.specs.Traces.{ReadTrace, WriteTrace}
@@ -12,52 +11,58 @@ use Rattle.bi_base.specs.Writing.{WriteStopped, WroteAndFlushed, WriteOrFlushSto
 use Rattle.bi_base.specs.declared.buffered_sink.BufferedSink.{BufferedSink}
 use Rattle.bi_base.specs.declared.fault.Error.{Error}
 use Rattle.bi_base.proofs.TransferLaws.{stopped_writing, finished_after, write_stopped, refused_after}
-use Rattle.bi_fit.specs.declared.form.Form.{Form}
-use Rattle.bi_norm.specs.NormalForm.{Appended, FailedInto, WasRefused, SinkFailed, IsNormalForm, IsNormaliseError, IsStreamError}
+use Rattle.bi_norm.specs.NormalForm.{IsStreamError}
+use Rattle.bi_norm.specs.Outputs.{Appended, AppendFailed, WasRefused, SinkFailed}
 use Rattle.bi_norm.proofs.NormalForms.{stream_error}
 
--- The normal form of a file, written through a sink that holds bytes back.
+-- A text, such as the normal form of a file, written through a sink that holds bytes back. `IsText` and `HasError` say what
+-- the text is and which errors the call has, as in `Appended` and `AppendFailed`.
 
 -- Where appending to a new sink failed, writing failed.
-pub failed_writing : {T : Type 0} (trace : T → WriteTrace) (limits : Bounds) (form : Form) (file : List ℕ) (old new : BufferedSink T) (error : Error) → (buffered trace old).held ≡ [] → FailedInto (BufferFails trace) limits form file old new error → FailedInto WriteOrFlushStopped limits form file (buffered trace old).trace (buffered trace new).trace error
-failed_writing trace limits form file old new error none (WasRefused is same) = WasRefused is (ap (λ sink. (buffered trace sink).trace) same)
-failed_writing trace limits form file old new error none (SinkFailed text normal stops) =
-    SinkFailed text normal
+pub failed_writing : {T : Type 0} (trace : T → WriteTrace) (IsText : List ℕ → Type 0) (HasError : Error → Type 0) (old new : BufferedSink T) (error : Error) → (buffered trace old).held ≡ [] → AppendFailed (BufferFails trace) IsText HasError old new error → AppendFailed WriteOrFlushStopped IsText HasError (buffered trace old).trace (buffered trace new).trace error
+failed_writing trace IsText HasError old new error none (WasRefused is same) = WasRefused is (ap (λ sink. (buffered trace sink).trace) same)
+failed_writing trace IsText HasError old new error none (SinkFailed text is stops) =
+    SinkFailed text is
     (stopped_writing (buffered trace old).trace text (buffered trace new).trace error
     (subst (λ l. WriteStopped (buffered trace old).trace (l ++ text) (buffered trace new).trace error) none stops.stopped))
 
--- Where a new sink took the normal form, finishing it writes and flushes the normal form, or that stops.
-pub finished_writing : {T : Type 0} (trace : T → WriteTrace) (limits : Bounds) (form : Form) (count : ℕ) (file : List ℕ) (old mid : BufferedSink T) (new : WriteTrace) (result : Result (Unit {0}) Error) → (buffered trace old).held ≡ [] → (appended : Appended (BufferAppends trace) limits form count file old mid) → Wrote WroteAndFlushed WriteOrFlushStopped (buffered trace mid).trace (buffered trace mid).held result new → Wrote WroteAndFlushed WriteOrFlushStopped (buffered trace old).trace appended.text result new
-finished_writing trace limits form count file old mid new result none appended finished =
+-- Where a new sink took the text, finishing it writes and flushes the text, or that stops.
+pub finished_writing : {T : Type 0} (trace : T → WriteTrace) (IsText : List ℕ → Type 0) (old mid : BufferedSink T) (new : WriteTrace) (result : Result (Unit {0}) Error) → (buffered trace old).held ≡ [] → (appended : Appended (BufferAppends trace) IsText old mid) → Wrote WroteAndFlushed WriteOrFlushStopped (buffered trace mid).trace (buffered trace mid).held result new → Wrote WroteAndFlushed WriteOrFlushStopped (buffered trace old).trace appended.text result new
+finished_writing trace IsText old mid new result none appended finished =
     finished_after (buffered trace old) (buffered trace mid) appended.text new result none appended.appended finished
 
--- A sink that failed to take the normal form still has its writer.
-pub failed_same_borrow : {T : Type 0} (trace : T → WriteTrace) (limits : Bounds) (form : Form) (file : List ℕ) (old new : BufferedSink T) (error : Error) → FailedInto (BufferFails trace) limits form file old new error → new.target.ghost_name ≡ old.target.ghost_name
-failed_same_borrow trace limits form file old new error (WasRefused is same) = ap (λ sink. (buffered trace sink).borrow) same
-failed_same_borrow trace limits form file old new error (SinkFailed text normal stops) = stops.same_borrow
+-- A sink that failed to take the text still has its writer.
+pub failed_same_borrow : {T : Type 0} (trace : T → WriteTrace) (IsText : List ℕ → Type 0) (HasError : Error → Type 0) (old new : BufferedSink T) (error : Error) → AppendFailed (BufferFails trace) IsText HasError old new error → new.target.ghost_name ≡ old.target.ghost_name
+failed_same_borrow trace IsText HasError old new error (WasRefused is same) = ap (λ sink. (buffered trace sink).borrow) same
+failed_same_borrow trace IsText HasError old new error (SinkFailed text is stops) = stops.same_borrow
 
 -- A failed write is no failed read.
 write_is_no_read : ¬ (WriteFailed ≡ ReadFailed)
 write_is_no_read e = absurd cc
 
--- After a whole input was read, normalising it failed.
-pub transfer_failed : (limits : Bounds) (form : Form) (source new_source : ReadTrace) (target new_target : WriteTrace) (file bytes : List ℕ) (error : Error) → ReadWhole source.remaining new_source.remaining bytes → file ≡ bytes → FailedInto WriteOrFlushStopped limits form file target new_target error → TransferFailed source new_source target new_target (IsNormalForm limits form) (λ input. IsStreamError (IsNormaliseError limits form) input error) (error ≡ ReadFailed) (error ≡ WriteFailed)
-transfer_failed limits form source new_source target new_target file bytes error read same (WasRefused is kept) =
+-- After a whole input was read, a call that has no errors of streams for it failed.
+pub transfer_failed : (IsOutput : List ℕ → List ℕ → Type 0) (HasError : List ℕ → Error → Type 0) (source new_source : ReadTrace) (target new_target : WriteTrace) (file bytes : List ℕ) (error : Error) → ReadWhole source.remaining new_source.remaining bytes → file ≡ bytes → ¬ (HasError file ReadFailed) → ¬ (HasError file WriteFailed) → AppendFailed WriteOrFlushStopped (IsOutput file) (HasError file) target new_target error → TransferFailed source new_source target new_target IsOutput (λ input. IsStreamError HasError input error) (error ≡ ReadFailed) (error ≡ WriteFailed)
+transfer_failed IsOutput HasError source new_source target new_target file bytes error read same no_read no_write (WasRefused is kept) =
     let read_file = subst (ReadWhole source.remaining new_source.remaining) (sym same) read in
-    refused_after source new_source target new_target (IsNormalForm limits form)
-    (λ input. IsStreamError (IsNormaliseError limits form) input error) (error ≡ ReadFailed) (error ≡ WriteFailed) file
-    read_file (stream_error (IsNormaliseError limits form) file error is)
-    (λ e. subst (IsNormaliseError limits form file) e is) (λ e. subst (IsNormaliseError limits form file) e is)
+    refused_after source new_source target new_target IsOutput (λ input. IsStreamError HasError input error) (error ≡ ReadFailed)
+    (error ≡ WriteFailed) file read_file (stream_error HasError file error is)
+    (λ e. no_read (subst (HasError file) e is)) (λ e. no_write (subst (HasError file) e is))
     (subst (λ (trace : WriteTrace). Keeps target.contents trace.contents) (sym kept) (Keeps-refl target.contents))
-transfer_failed limits form source new_source target new_target file bytes error read same (SinkFailed text normal stopped) =
+transfer_failed IsOutput HasError source new_source target new_target file bytes error read same no_read no_write (SinkFailed text is stopped) =
     let read_file = subst (ReadWhole source.remaining new_source.remaining) (sym same) read in
-    write_stopped source new_source target new_target (IsNormalForm limits form)
-    (λ input. IsStreamError (IsNormaliseError limits form) input error) (error ≡ ReadFailed) (error ≡ WriteFailed) file text
-    error read_file normal (subst (IsStreamError (IsNormaliseError limits form) file) (sym stopped.is) tt)
+    write_stopped source new_source target new_target IsOutput (λ input. IsStreamError HasError input error) (error ≡ ReadFailed)
+    (error ≡ WriteFailed) file text error read_file is
+    (subst (IsStreamError HasError file) (sym stopped.is) tt)
     (λ e. absurd (write_is_no_read (sym stopped.is ∙ e))) stopped.is stopped
 
 -- The same of a call's result.
-pub result_failed : {V : Type 0} (limits : Bounds) (form : Form) (source new_source : ReadTrace) (target new_target : WriteTrace) (file bytes : List ℕ) (result : Result V Error) → ReadWhole source.remaining new_source.remaining bytes → file ≡ bytes → IfErr result (FailedInto WriteOrFlushStopped limits form file target new_target) → IfErr result (λ error. TransferFailed source new_source target new_target (IsNormalForm limits form) (λ input. IsStreamError (IsNormaliseError limits form) input error) (error ≡ ReadFailed) (error ≡ WriteFailed))
-result_failed limits form source new_source target new_target file bytes (Ok value) read same failed = tt
-result_failed limits form source new_source target new_target file bytes (Err error) read same failed =
-    transfer_failed limits form source new_source target new_target file bytes error read same failed
+pub result_failed : {V : Type 0} (IsOutput : List ℕ → List ℕ → Type 0) (HasError : List ℕ → Error → Type 0) (source new_source : ReadTrace) (target new_target : WriteTrace) (file bytes : List ℕ) (result : Result V Error) → ReadWhole source.remaining new_source.remaining bytes → file ≡ bytes → ¬ (HasError file ReadFailed) → ¬ (HasError file WriteFailed) → IfErr result (AppendFailed WriteOrFlushStopped (IsOutput file) (HasError file) target new_target) → IfErr result (λ error. TransferFailed source new_source target new_target IsOutput (λ input. IsStreamError HasError input error) (error ≡ ReadFailed) (error ≡ WriteFailed))
+result_failed IsOutput HasError source new_source target new_target file bytes (Ok value) read same no_read no_write failed = tt
+result_failed IsOutput HasError source new_source target new_target file bytes (Err error) read same no_read no_write failed =
+    transfer_failed IsOutput HasError source new_source target new_target file bytes error read same no_read no_write failed
+
+-- Writing failed between traces that are equal to these.
+pub failed_between : {V : Type 0} (IsText : List ℕ → Type 0) (HasError : Error → Type 0) (old other_old new other_new : WriteTrace) (result : Result V Error) → old ≡ other_old → new ≡ other_new → IfErr result (AppendFailed WriteOrFlushStopped IsText HasError old new) → IfErr result (AppendFailed WriteOrFlushStopped IsText HasError other_old other_new)
+failed_between IsText HasError old other_old new other_new result same_old same_new failed =
+    subst (λ (trace : WriteTrace). IfErr result (AppendFailed WriteOrFlushStopped IsText HasError other_old trace)) same_new
+    (subst (λ (trace : WriteTrace). IfErr result (AppendFailed WriteOrFlushStopped IsText HasError trace new)) same_old failed)

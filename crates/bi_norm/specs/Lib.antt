@@ -1,5 +1,6 @@
 pub mod Kinds
 pub mod Opening
+pub mod OpenedMeaning
 pub mod Meaning
 pub mod Faults
 pub mod Outputs

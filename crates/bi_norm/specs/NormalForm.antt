@@ -80,21 +80,3 @@ IsStreamError HasError file (Refused fault) = HasError file (Refused fault)
 IsStreamError HasError file OutOfMemory = ⊤
 IsStreamError HasError file ReadFailed = ⊤
 IsStreamError HasError file WriteFailed = ⊤
-
--- The normal form of a file was appended to a sink.
-pub record Appended {S : Type 0} (appends : S → List ℕ → S → Type 0) (limits : Bounds) (form : Form)
-    (count : ℕ)
-    (file : List ℕ) (old new : S) : Type 0 where
-  pub text : List ℕ
-  pub normal : Normalised limits form count file text
-  pub appended : appends old text new
-
--- Normalising a file into a sink failed: with an error of the file, and the sink is unchanged; or
--- with an error of the sink.
-pub data FailedInto {S : Type 0} (fails : S → List ℕ → S → Error → Type 0) (limits : Bounds)
-    (form : Form)
-    (file : List ℕ) (old new : S) (error : Error) : Type 0 where
-  WasRefused : IsNormaliseError limits form file error → new ≡ old
-      → FailedInto fails limits form file old new error
-  SinkFailed : (text : List ℕ) → IsNormalForm limits form file text → fails old text new error
-      → FailedInto fails limits form file old new error

@@ -1,13 +1,18 @@
 //! Comparing what two files mean.
 
-ghost use Rattle.std.specs.Prelude.{IfOk, IfErr};
+ghost use Rattle.std.specs.Prelude.{◌≡◌, ◌↔◌, IsTrue, IfOk, IfErr};
 ghost use Rattle.bi_norm.specs.Comparing.{AreCompared, IsCompareError};
+ghost use Rattle.bi_norm.specs.OpenedMeaning.{meaning_of};
 
+use crate::image::BootImage;
 use bi_base::{Error, Limits};
+use bi_legacy::Legacy;
 use std::alloc::Global;
 
 /// Returns whether two boot images mean the same. Images of different kinds do not. The images are
-/// compared without their normal texts, so these may be longer than the limit.
+/// compared without their normal texts, so these may be longer than the limit. If images of a
+/// flattened image tree share regions of its file, this takes time in the sum of the lengths of the
+/// payloads.
 ///
 /// Errors, the first that applies: those of `BootImage::read` for the first file; those for the
 /// second file. OutOfMemory comes only if reading the first file may run out of memory. ReadFailed
@@ -16,5 +21,46 @@ pub fn same_meaning(alloc: Global, one: &[u8], other: &[u8], limits: Limits) -> 
     ensures compared { IfOk result (AreCompared limits one.now other.now) }
     ensures failed { IfErr result (IsCompareError limits one.now other.now) }
 {
-    Err(Error::OutOfMemory)
+    let image = BootImage::read(alloc, one, limits)?;
+    let other_image = BootImage::read(alloc, other, limits)?;
+    image.has_same_meaning(alloc, &other_image)
+}
+
+impl<'a> BootImage<'a> {
+    /// Whether both images mean the same. The only error is OutOfMemory.
+    fn has_same_meaning(&self, alloc: Global, other: &BootImage<'_>) -> Result<bool, Error>
+        ensures compared { IfOk result (λ same. IsTrue same
+            ↔ (meaning_of self.now ≡ meaning_of other.now)) }
+        ensures failed { IfErr result (λ error. error ≡ Error.OutOfMemory) }
+    {
+        match (self, other) {
+            (BootImage::Legacy(image), BootImage::Legacy(other)) => {
+                Ok(is_same_image(image, other))
+            }
+            (BootImage::Fit(fit), BootImage::Fit(other)) => fit.has_same_meaning(alloc, other),
+            _ => Ok(false),
+        }
+    }
+}
+
+/// Whether two legacy images have the same fields and the same parts.
+fn is_same_image(image: &Legacy<'_>, other: &Legacy<'_>) -> bool
+    ensures { IsTrue result ↔ (image.now.image ≡ other.now.image) }
+{
+    image.fields() == other.fields() && have_same_parts(image, other)
+}
+
+/// Whether two legacy images have the same parts, in the same order.
+fn have_same_parts(image: &Legacy<'_>, other: &Legacy<'_>) -> bool
+    ensures { IsTrue result ↔ (image.now.image.parts ≡ other.now.image.parts) }
+{
+    if image.part_count() != other.part_count() {
+        return false;
+    }
+    for (part, other_part) in image.parts().zip(other.parts()) {
+        if part.bytes != other_part.bytes {
+            return false;
+        }
+    }
+    true
 }

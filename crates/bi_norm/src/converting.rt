@@ -1,10 +1,18 @@
 //! Converting a legacy image to a flattened image tree.
 
 ghost use Rattle.std.specs.Prelude.{OnOk, IfOk, IfErr};
-ghost use Rattle.bi_norm.specs.Converting.{IsConvertedFile, IsConvertError};
+ghost use Rattle.bi_norm.specs.Converting.{IsConvertedFile, IsConvertError, CanBeConverted};
+ghost use Rattle.bi_norm.specs.Converting.{IsConvertFault};
 ghost use Rattle.bi_norm.specs.Outputs.{Appended, AppendFailed};
 
-use bi_base::{Error, Limits, Sink};
+mod images;
+
+use crate::building::{Head, append_tree};
+use bi_base::{Cause, Error, Fault, Limits, Sink, VecSink, refuse};
+use bi_fit::Form;
+use bi_legacy::Legacy;
+use bi_legacy::codes::{arch_name, compression_name, os_name, type_name};
+use images::{images_of, keys_of_type};
 use std::alloc::Global;
 
 /// Returns the flattened image tree of a legacy image, with its payloads embedded.
@@ -18,7 +26,9 @@ pub fn convert(alloc: Global, file: &[u8], limits: Limits) -> Result<Vec<u8>, Er
     ensures converted { IfOk result (λ text. IsConvertedFile limits file.now text.items) }
     ensures failed { IfErr result (IsConvertError limits file.now) }
 {
-    Err(Error::OutOfMemory)
+    let mut sink = VecSink::new(alloc);
+    convert_into(alloc, file, limits, &mut sink)?;
+    Ok(sink.into_vec())
 }
 
 /// Appends the flattened image tree of a legacy image, with its payloads embedded, to a sink.
@@ -37,5 +47,41 @@ pub fn convert_into<S: Sink>(
     ensures failed { IfErr result (AppendFailed S.fails (IsConvertedFile limits file.now)
         (IsConvertError limits file.now) sink.old sink.new) }
 {
-    Err(Error::OutOfMemory)
+    let image = Legacy::read(file, limits)?;
+    check(&image)?;
+    let images = images_of(alloc, &image)?;
+    let fields = image.fields();
+    let head = Head {
+        description: fields.name,
+        time: fields.time,
+    };
+    append_tree(alloc, head, &images, Form::Embedded, limits, sink)
+}
+
+/// Checks that a legacy image can be converted. Fails with NoCodeName at the first code without a
+/// name, EmptyPart at 64 if there are no parts, or TooManyParts at 64.
+fn check(image: &Legacy<'_>) -> Result<(), Fault>
+    ensures ok { OnOk result (CanBeConverted image.now.image) }
+    ensures fault { IfErr result (IsConvertFault image.now.image) }
+{
+    let fields = image.fields();
+    if os_name(fields.os).is_none() {
+        return refuse(Cause::NoCodeName, 28);
+    }
+    if arch_name(fields.arch).is_none() {
+        return refuse(Cause::NoCodeName, 29);
+    }
+    if type_name(fields.image_type).is_none() {
+        return refuse(Cause::NoCodeName, 30);
+    }
+    if compression_name(fields.compression).is_none() {
+        return refuse(Cause::NoCodeName, 31);
+    }
+    if image.part_count() == 0 {
+        return refuse(Cause::EmptyPart, 64);
+    }
+    if image.part_count() > keys_of_type(fields.image_type).len() {
+        return refuse(Cause::TooManyParts, 64);
+    }
+    Ok(())
 }

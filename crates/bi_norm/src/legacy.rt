@@ -1,11 +1,12 @@
 //! Building a legacy image.
 
 ghost use Rattle.std.specs.Prelude.{IfOk, IfErr};
+ghost use Rattle.bi_base.specs.Cells.{AreBytes};
 ghost use Rattle.bi_legacy.specs.Emitting.{image_of_parts};
 ghost use Rattle.bi_norm.specs.LegacyBuilding.{IsBuiltLegacy, IsBuildLegacyError};
 
-use bi_base::{Error, Limits};
-use bi_legacy::Fields;
+use bi_base::{Error, Limits, VecSink};
+use bi_legacy::{Fields, emit};
 use std::alloc::Global;
 
 /// Returns the normal text of a legacy image with these fields and parts: `bi_legacy::emit` into
@@ -27,5 +28,15 @@ pub fn build_legacy(
     ensures failed { let image = image_of_parts fields.entry parts.now in
         IfErr result (IsBuildLegacyError limits image) }
 {
-    Err(Error::OutOfMemory)
+    let mut sink = VecSink::new(alloc);
+    emit(fields, parts, limits, &mut sink)?;
+    let text = sink.into_vec();
+    are_bytes(&text);
+    Ok(text)
 }
+
+/// Does nothing: each item of a slice of bytes is a byte, so the name and the parts in a text are
+/// bytes.
+fn are_bytes(bytes: &[u8])
+    ensures { AreBytes bytes.now }
+{}

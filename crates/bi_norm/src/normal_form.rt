@@ -10,8 +10,9 @@ ghost use Rattle.bi_base.specs.Transfers.{SameStreams};
 ghost use Rattle.bi_fit.specs.declared.form.Form.{Form};
 ghost use Rattle.bi_fit.specs.Reading.{IsReadFrom};
 ghost use Rattle.bi_legacy.specs.Reading.{IsParsedImage};
-ghost use Rattle.bi_norm.specs.NormalForm.{Appended, FailedInto, IsNormalForm, IsNormaliseError};
-ghost use Rattle.bi_norm.specs.NormalForm.{IsStreamError, Normalised};
+ghost use Rattle.bi_norm.specs.NormalForm.{IsNormalForm, IsNormaliseError, IsStreamError};
+ghost use Rattle.bi_norm.specs.NormalForm.{Normalised};
+ghost use Rattle.bi_norm.specs.Outputs.{Appended, AppendFailed};
 
 use crate::image::BootImage;
 use crate::payloads::put_payloads;
@@ -56,9 +57,10 @@ pub fn normalise_into<S: Sink>(
     limits: Limits,
     sink: &mut S,
 ) -> Result<usize, Error>
-    ensures appended { IfOk result (λ count. Appended S.appends limits form count file.now sink.old
-        sink.new) }
-    ensures failed { IfErr result (FailedInto S.fails limits form file.now sink.old sink.new) }
+    ensures appended { IfOk result (λ count. Appended S.appends
+        (Normalised limits form count file.now) sink.old sink.new) }
+    ensures failed { IfErr result (AppendFailed S.fails (IsNormalForm limits form file.now)
+        (IsNormaliseError limits form file.now) sink.old sink.new) }
 {
     match BootImage::read(alloc, file, limits)? {
         BootImage::Legacy(image) => emit_legacy(alloc, &image, limits, sink),
@@ -75,9 +77,11 @@ fn emit_legacy<S: Sink>(
     sink: &mut S,
 ) -> Result<usize, Error>
     ensures appended { (form : Form) (file : List ℕ) → IsParsedImage limits file image.now →
-        IfOk result (λ count. Appended S.appends limits form count file sink.old sink.new) }
+        IfOk result (λ count. Appended S.appends (Normalised limits form count file)
+        sink.old sink.new) }
     ensures failed { (form : Form) (file : List ℕ) → IsParsedImage limits file image.now →
-        IfErr result (FailedInto S.fails limits form file sink.old sink.new) }
+        IfErr result (AppendFailed S.fails (IsNormalForm limits form file)
+        (IsNormaliseError limits form file) sink.old sink.new) }
 {
     let parts = parts_of(alloc, image)?;
     emit_image(image, &parts, limits, sink)?;
@@ -94,9 +98,11 @@ fn emit_fit<S: Sink>(
     sink: &mut S,
 ) -> Result<usize, Error>
     ensures appended { (file : List ℕ) → IsReadFrom limits file fit.now →
-        IfOk result (λ count. Appended S.appends limits form count file sink.old sink.new) }
+        IfOk result (λ count. Appended S.appends (Normalised limits form count file)
+        sink.old sink.new) }
     ensures failed { (file : List ℕ) → IsReadFrom limits file fit.now →
-        IfErr result (FailedInto S.fails limits form file sink.old sink.new) }
+        IfErr result (AppendFailed S.fails (IsNormalForm limits form file)
+        (IsNormaliseError limits form file) sink.old sink.new) }
 {
     let document = fit.to_doc(alloc, form, limits)?;
     document.emit(sink)?;
@@ -128,12 +134,11 @@ fn write_normal_form<T: TracedWrite>(
     limits: Limits,
     target: &mut T,
 ) -> Result<usize, Error>
-    ensures written { IfOk result (λ count.
-        Appended WroteAndFlushed limits form count file.now (T.trace target.old)
-        (T.trace target.new)) }
-    ensures failed { IfErr result
-        (FailedInto WriteOrFlushStopped limits form file.now (T.trace target.old)
-        (T.trace target.new)) }
+    ensures written { IfOk result (λ count. Appended WroteAndFlushed
+        (Normalised limits form count file.now) (T.trace target.old) (T.trace target.new)) }
+    ensures failed { IfErr result (AppendFailed WriteOrFlushStopped
+        (IsNormalForm limits form file.now) (IsNormaliseError limits form file.now)
+        (T.trace target.old) (T.trace target.new)) }
 {
     let mut sink = BufferedSink::new(target);
     normalise_and_finish(alloc, file, form, limits, &mut sink)
@@ -149,9 +154,11 @@ fn normalise_and_finish<T: TracedWrite>(
 ) -> Result<usize, Error>
     requires { (buffered T.trace sink.now).held ≡ [] }
     ensures same_borrow { (buffered T.trace sink.new).borrow ≡ (buffered T.trace sink.old).borrow }
-    ensures written { IfOk result (λ count. Appended WroteAndFlushed limits form count file.now
+    ensures written { IfOk result (λ count. Appended WroteAndFlushed
+        (Normalised limits form count file.now)
         (buffered T.trace sink.old).trace (buffered T.trace sink.new).trace) }
-    ensures failed { IfErr result (FailedInto WriteOrFlushStopped limits form file.now
+    ensures failed { IfErr result (AppendFailed WriteOrFlushStopped
+        (IsNormalForm limits form file.now) (IsNormaliseError limits form file.now)
         (buffered T.trace sink.old).trace (buffered T.trace sink.new).trace) }
 {
     let count = normalise_into(alloc, file, form, limits, sink)?;

@@ -1,7 +1,8 @@
 use Rattle.std.proofs.Common.{map, ap, ◌∙◌, ℕ, List, Bor, refl, subst, sym}
 use Rattle.std.proofs.lemmas.Result.{err_from_is_err_and}
 use Rattle.bi_legacy.specs.Text.{legacy_text}
-use Rattle.bi_norm.specs.NormalForm.{IsNormaliseError, ForLegacyImage, WasRefused, SinkFailed}
+use Rattle.bi_norm.specs.NormalForm.{IsNormaliseError, ForLegacyImage}
+use Rattle.bi_norm.specs.Outputs.{WasRefused, SinkFailed}
 use Rattle.bi_norm.proofs.NormalForms.{legacy_normal_form, legacy_normalised}
 use Rattle.bi_norm.proofs.normal_form.emit_legacy.Goals as goal
 
@@ -25,6 +26,6 @@ returns-clause-appended g c form file opened =
     let parsed = c.args.image.now in
     record {
       text = legacy_text parsed.image;
-      normal = legacy_normalised c.args.limits form file parsed opened;
+      is_text = legacy_normalised c.args.limits form file parsed opened;
       appended = c.in_ok-emit_image.ensures.written opened.normal_form.can_be_written;
     }

@@ -1,5 +1,6 @@
 use Rattle.std.proofs.lemmas.Result.{err_from_is_err_and}
 use Rattle.bi_base.proofs.TransferLaws.{read_stopped}
+use Rattle.bi_norm.specs.NormalForm.{IsNormalForm, IsNormaliseError}
 use Rattle.bi_norm.proofs.NormalForms.{reading_error}
 use Rattle.bi_norm.proofs.Writing.{result_failed}
 use Rattle.bi_norm.proofs.normal_form.normalise_traced.Goals as goal
@@ -12,4 +13,4 @@ returns-in_err-file-clause-failed g c =
 
 pub returns-clause-failed : goal.returns-clause-failed
 returns-clause-failed g c =
-    result_failed c.args.limits c.args.form _ _ _ _ c.deref.result.now c.in_ok-file.file.items c.write_normal_form.result c.in_ok-file.ensures.whole c.deref.ensures.value c.write_normal_form.ensures.failed
+    result_failed (IsNormalForm c.args.limits c.args.form) (IsNormaliseError c.args.limits c.args.form) _ _ _ _ c.deref.result.now c.in_ok-file.file.items c.write_normal_form.result c.in_ok-file.ensures.whole c.deref.ensures.value (λ no. no) (λ no. no) c.write_normal_form.ensures.failed
