@@ -13,22 +13,18 @@ use Rattle.bi_legacy.specs.Meaning.{LegacyImage}
 use Rattle.bi_legacy.specs.Reading.{ParsedImage, IsParsedImage}
 use Rattle.bi_legacy.proofs.ImageOfFile.{image_of_file}
 use Rattle.bi_norm.specs.Building.{IsTextOfTree}
-use Rattle.bi_norm.specs.Converting.{converted_images, fit_of, CanBeConverted, IsConvertedFile, IsConvertError, TextTooLong}
+use Rattle.bi_norm.specs.Converting.{converted_images, fit_of, CanBeConverted, IsConvertedFile, IsConvertError, TextTooLong, head_of_image}
 use Rattle.bi_norm.proofs.ConvertedImages.{converted_can_be_built, converted_is_accepted}
 
 -- Legacy images that were read and are converted.
 
--- What the tree of a legacy image has beside its images.
-abbrev pub head_for : LegacyImage → FitHead
-head_for image = record { description = image.name; time = image.time }
-
 -- The images of a legacy image that was read can be built, and give its tree.
-pub can_be_built : (limits : Bounds) (file : List ℕ) (image : LegacyImage) (head : FitHead) (images : List ImageSpecification) → LegacyMeans limits file image → head ≡ head_for image → images ≡ converted_images image → CanBeBuilt head images
+pub can_be_built : (limits : Bounds) (file : List ℕ) (image : LegacyImage) (head : FitHead) (images : List ImageSpecification) → LegacyMeans limits file image → head ≡ head_of_image image → images ≡ converted_images image → CanBeBuilt head images
 can_be_built limits file image head images means same are =
     subst (λ (images : List ImageSpecification). CanBeBuilt head images) (sym are)
     (subst (λ (head : FitHead). CanBeBuilt head (converted_images image)) (sym same) (converted_can_be_built image (image_of_file file image means.is_file)))
 
-pub tree_is : (image : LegacyImage) (head : FitHead) (images : List ImageSpecification) → head ≡ head_for image → images ≡ converted_images image → built head images ≡ fit_of image
+pub tree_is : (image : LegacyImage) (head : FitHead) (images : List ImageSpecification) → head ≡ head_of_image image → images ≡ converted_images image → built head images ≡ fit_of image
 tree_is image head images same are = ap (λ (images : List ImageSpecification). built head images) are ∙ ap (λ (head : FitHead). built head (converted_images image)) same
 
 -- The text of this tree is that of the converted file.

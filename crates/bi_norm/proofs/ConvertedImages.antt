@@ -10,13 +10,14 @@ use Rattle.bi_fit.specs.Building.{ImageSpecification, FitHead, IsText, IsSpecifi
 use Rattle.bi_fit.specs.Judgement.{CheckedHash}
 use Rattle.bi_fit.specs.Laws.{good_hash}
 use Rattle.bi_fit.proofs.Building.{built_is_accepted, built_has_good_payloads}
+use Rattle.bi_fit.proofs.BuiltConfigurations.{built_has_configuration}
 use Rattle.bi_fit.proofs.BuiltTrees.{tested_child, tested_apart}
 use Rattle.bi_fit.proofs.Contents.{tested_name}
 use Rattle.bi_hash.specs.declared.verdicts.Verdict.TheVariants.{Good}
 use Rattle.bi_legacy.specs.Codes.{CodeName, os_names, arch_names, compression_names, name_of_code}
 use Rattle.bi_legacy.specs.Meaning.{LegacyImage}
 use Rattle.bi_legacy.specs.Text.{IsLegacyImage}
-use Rattle.bi_norm.specs.Converting.{Conversion, conversions, keys_in, keys_of_type, image_name, code_name, later_images, images_of_parts, converted_images, ConvertedIsAccepted}
+use Rattle.bi_norm.specs.Converting.{Conversion, conversions, keys_in, keys_of_type, image_name, code_name, later_images, images_of_parts, converted_images, ConvertedIsAccepted, head_of_image, ConvertedHasItsParts}
 
 -- The tree that a legacy image is converted to.
 
@@ -198,21 +199,28 @@ all_good [] = tt
 all_good (image ∷ images) = (refl, all_good images)
 
 -- The images of a legacy image can be built.
-pub converted_can_be_built : (image : LegacyImage) → IsLegacyImage image → CanBeBuilt (record { description = image.name; time = image.time }) (converted_images image)
+pub converted_can_be_built : (image : LegacyImage) → IsLegacyImage image → CanBeBuilt (head_of_image image) (converted_images image)
 converted_can_be_built image is = record {
   description = record { bytes = is.name_bytes; no_zero = is.name.no_zero };
   each = each_can image (keys_of_type image.image_type) image.parts is.parts_bytes;
   distinct = images_distinct image (keys_of_type image.image_type) image.parts (keys_distinct image.image_type);
 }
 
--- The text of a converted image is accepted.
-pub converted_is_accepted : ConvertedIsAccepted
-converted_is_accepted bounds form image is can deep short small =
-    let head : FitHead = record { description = image.name; time = image.time } in
+-- The tree of a converted image has the parts as its payloads.
+pub converted_has_its_parts : ConvertedHasItsParts
+converted_has_its_parts image is can =
+    let head = head_of_image image in
     let images = converted_images image in
     let good = built_has_good_payloads head images in
     record {
-      accepted = built_is_accepted bounds form head images (converted_can_be_built image is) deep short small;
       payloads = good.payloads ∙ payloads_are_parts image (keys_of_type image.image_type) image.parts can.1.1.1.1.1.0;
       verdicts = subst (AllByRecursion (λ (hash : CheckedHash). hash.verdict ≡ Good)) (sym good.verdicts) (all_good images);
+      configuration = built_has_configuration head images (converted_can_be_built image is);
     }
+
+-- The text of a converted image is accepted.
+pub converted_is_accepted : ConvertedIsAccepted
+converted_is_accepted bounds form image is can deep short small = record {
+  accepted = built_is_accepted bounds form (head_of_image image) (converted_images image) (converted_can_be_built image is) deep short small;
+  parts = converted_has_its_parts image is can;
+}

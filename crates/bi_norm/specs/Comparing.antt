@@ -28,7 +28,7 @@ pub record IsErrorOfSecond (limits : Bounds) (one other : List ℕ) (error : Err
   pub has_error : IsOpenError limits other error
 
 -- The error that comparing two files can have: one of reading the first, or else one of reading the
--- second. Comparing needs memory only if the first file does.
+-- second. Memory never runs out if the first file fails a check that needs none.
 abbrev pub IsCompareError : Bounds → List ℕ → List ℕ → Error → Type 0
 IsCompareError limits one other (Refused fault) =
     IsOpenError limits one (Refused fault) ⊎ IsErrorOfSecond limits one other (Refused fault)

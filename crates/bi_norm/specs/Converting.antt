@@ -15,10 +15,10 @@ use Rattle.bi_fit.specs.declared.form.Form.TheVariants.{Embedded}
 use Rattle.bi_fit.specs.declared.key.Key.{Key}
 use Rattle.bi_fit.specs.declared.key.Key.TheVariants.{Kernel, Fdt, Ramdisk, Firmware, Loadables}
 use Rattle.bi_fit.specs.declared.key.Key.TheVariants.{Script}
-use Rattle.bi_fit.specs.Building.{ImageSpecification, built}
+use Rattle.bi_fit.specs.Building.{FitHead, ImageSpecification, built}
 use Rattle.bi_fit.specs.ImageTree.{ImageTree}
 use Rattle.bi_fit.specs.Judgement.{verdicts_of}
-use Rattle.bi_fit.specs.Laws.{IsAcceptedAs}
+use Rattle.bi_fit.specs.Laws.{IsAcceptedAs, HasConfiguration}
 use Rattle.bi_fit.specs.Text.{fit_text}
 use Rattle.bi_hash.specs.declared.verdicts.Verdict.TheVariants.{Good}
 use Rattle.bi_legacy.specs.Codes.{CodeName, os_names, arch_names, type_names, compression_names}
@@ -55,10 +55,11 @@ keys_in [] image_type = []
 keys_in (conversion ∷ later) image_type =
     if conversion.image_type == image_type then conversion.keys else keys_in later image_type
 
+-- The keys of the images that the parts of an image of this type become.
 abbrev pub keys_of_type : ℕ → List Key
 keys_of_type image_type = keys_in conversions image_type
 
--- The name of the image node of a key.
+-- The name of the image node of a key. It is named after the type of its images.
 abbrev pub image_name : Key → List ℕ
 image_name Kernel = codes "kernel-1"
 image_name Fdt = codes "fdt-1"
@@ -79,7 +80,7 @@ abbrev pub given : Bool → ℕ → Option ℕ
 given true number = Some number
 given false number = None
 
--- The name of a code, or none.
+-- The name of a code. A code without a name is refused before this is used.
 abbrev pub code_name : List CodeName → ℕ → List ℕ
 code_name names code = unwrap_or (name_of_code names code) []
 
@@ -125,10 +126,14 @@ images_of_parts image keys parts = []
 abbrev pub converted_images : LegacyImage → List ImageSpecification
 converted_images image = images_of_parts image (keys_of_type image.image_type) image.parts
 
--- The tree that a legacy image is converted to: its description is the name of the legacy image.
+-- The description of the tree is the name of the legacy image, and its time is that of the legacy
+-- image.
+abbrev pub head_of_image : LegacyImage → FitHead
+head_of_image image = record { description = image.name; time = image.time }
+
+-- The tree that a legacy image is converted to.
 abbrev pub fit_of : LegacyImage → ImageTree
-fit_of image =
-    built (record { description = image.name; time = image.time }) (converted_images image)
+fit_of image = built (head_of_image image) (converted_images image)
 
 -- The checks of a legacy image to be converted.
 pub data ConvertCheck : Type 0 where
@@ -170,15 +175,25 @@ IsConvertFault image fault = IsFirstFault (ConvertPasses image) convert_fault co
 abbrev pub CanBeConverted : LegacyImage → Type 0
 CanBeConverted image = HasNoFault (ConvertPasses image) convert_checks
 
--- What the text of a converted image is: it is accepted and means the tree, whose payloads are the
--- parts in their order, and all of whose verdicts are Good.
-pub record IsConverted (bounds : Bounds) (form : Form) (image : LegacyImage) : Type 0 where
-  pub accepted : IsAcceptedAs bounds (fit_text form (fit_of image)) (fit_of image)
+-- What the tree of a converted image has, however long its text is: its payloads are the parts in
+-- their order, all of its verdicts are Good, and its configuration lists the images.
+pub record HasConvertedParts (image : LegacyImage) : Type 0 where
   pub payloads : (fit_of image).payloads ≡ map Some image.parts
   pub verdicts : AllByRecursion (λ hash. hash.verdict ≡ Good) (verdicts_of (fit_of image))
+  pub configuration : HasConfiguration (head_of_image image) (converted_images image)
 
--- The law that this is what the text of a converted image is, within limits that hold it and four
--- open nodes.
+-- The law that each legacy image that can be converted has such a tree.
+abbrev pub ConvertedHasItsParts : Type 0
+ConvertedHasItsParts =
+    (image : LegacyImage) → IsLegacyImage image → CanBeConverted image → HasConvertedParts image
+
+-- What the text of a converted image is: it is accepted and means the tree.
+pub record IsConverted (bounds : Bounds) (form : Form) (image : LegacyImage) : Type 0 where
+  pub accepted : IsAcceptedAs bounds (fit_text form (fit_of image)) (fit_of image)
+  pub parts : HasConvertedParts image
+
+-- The law that this is what the text of a converted image is, within limits that hold it, if four
+-- nodes or more may be open.
 abbrev pub ConvertedIsAccepted : Type 0
 ConvertedIsAccepted =
     (bounds : Bounds) (form : Form) (image : LegacyImage)
@@ -188,7 +203,8 @@ ConvertedIsAccepted =
     → IsConverted bounds form image
 
 -- The text is that of the flattened image tree to which the legacy image in the file is converted.
--- Under the same limit of the file and four open nodes it is accepted and means that tree.
+-- Under the same limit on files, if four nodes or more may be open, it is accepted and means that
+-- tree.
 pub record IsConvertedFile (limits : Bounds) (file text : List ℕ) : Type 0 where
   pub image : LegacyImage
   pub means : LegacyMeans limits file image

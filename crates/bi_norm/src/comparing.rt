@@ -15,8 +15,8 @@ use std::alloc::Global;
 /// payloads.
 ///
 /// Errors, the first that applies: those of `BootImage::read` for the first file; those for the
-/// second file. OutOfMemory comes only if reading the first file may run out of memory. ReadFailed
-/// and WriteFailed never come.
+/// second file. OutOfMemory never comes if the first file fails a check that needs no memory.
+/// ReadFailed and WriteFailed never come.
 pub fn same_meaning(alloc: Global, one: &[u8], other: &[u8], limits: Limits) -> Result<bool, Error>
     ensures compared { IfOk result (AreCompared limits one.now other.now) }
     ensures failed { IfErr result (IsCompareError limits one.now other.now) }

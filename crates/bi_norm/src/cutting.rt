@@ -11,7 +11,8 @@ use std::alloc::Global;
 /// together are the whole input.
 ///
 /// Errors: BadPart at the beginning of the first piece that does not fit, or at the end of the
-/// pieces, if bytes are left; OutOfMemory. ReadFailed and WriteFailed never come.
+/// pieces, if bytes are left. OutOfMemory may come in place of it. ReadFailed and WriteFailed never
+/// come.
 pub fn cut<'a>(alloc: Global, input: &'a [u8], lengths: &[u32]) -> Result<Vec<&'a [u8]>, Error>
     requires { length input.now ≤ longest_text }
     ensures pieces { IfOk result (λ pieces. IsCut input.entry.now lengths.now

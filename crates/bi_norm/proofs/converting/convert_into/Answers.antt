@@ -6,10 +6,10 @@ use Rattle.bi_fit.specs.declared.form.Form.TheVariants.{Embedded}
 use Rattle.bi_fit.specs.Building.{FitHead, built}
 use Rattle.bi_fit.specs.Documents.{IsDocumentError}
 use Rattle.bi_norm.specs.Building.{specifications_of, IsTextOfTree}
-use Rattle.bi_norm.specs.Converting.{converted_images, IsConvertedFile, IsConvertError, NotLegacy, NotConvertible}
+use Rattle.bi_norm.specs.Converting.{converted_images, IsConvertedFile, IsConvertError, NotLegacy, NotConvertible, head_of_image}
 use Rattle.bi_norm.specs.Outputs.{WasRefused}
 use Rattle.bi_norm.proofs.Appending.{result_appended_as, result_failed_as}
-use Rattle.bi_norm.proofs.Conversions.{head_for, can_be_built, tree_is, is_converted, is_convert_error}
+use Rattle.bi_norm.proofs.Conversions.{can_be_built, tree_is, is_converted, is_convert_error}
 use Rattle.bi_norm.proofs.converting.convert_into.Goals as goal
 
 pub returns-in_err-image-clause-failed : goal.returns-in_err-image-clause-failed
@@ -28,7 +28,7 @@ append_tree-requires-clause-can g c =
     let fields = c.fields-fields.result in
     let head : FitHead = record { description = fields.name.now; time = fields.time } in
     let are : specifications_of c.deref.result.now ≡ converted_images c.in_ok-image.image.image = ap specifications_of c.deref.ensures.value ∙ c.in_ok-images.ensures.images in
-    can_be_built c.args.limits c.args.file.now c.in_ok-image.image.image head (specifications_of c.deref.result.now) c.in_ok-image.ensures.parsed.means (ap head_for c.fields-fields.ensures) are
+    can_be_built c.args.limits c.args.file.now c.in_ok-image.image.image head (specifications_of c.deref.result.now) c.in_ok-image.ensures.parsed.means (ap head_of_image c.fields-fields.ensures) are
 
 pub returns-clause-converted : goal.returns-clause-converted
 returns-clause-converted g c =
@@ -39,7 +39,7 @@ returns-clause-converted g c =
     let head : FitHead = record { description = fields.name.now; time = fields.time } in
     let images = specifications_of c.deref.result.now in
     let are : images ≡ converted_images parsed.image = ap specifications_of c.deref.ensures.value ∙ c.in_ok-images.ensures.images in
-    let same = tree_is parsed.image head images (ap head_for c.fields-fields.ensures) are in
+    let same = tree_is parsed.image head images (ap head_of_image c.fields-fields.ensures) are in
     let most : limits.file ≤ longest_text = omega arith in
     result_appended_as g.S.Sink.appends (IsTextOfTree limits Embedded (built head images)) (IsConvertedFile limits file) c.args.sink.now c.append_tree.new.sink c.append_tree.result
     (λ text is. is_converted limits file parsed (built head images) text c.in_ok-image.ensures.parsed c.in_ok-check.ensures.ok most same is) c.append_tree.ensures.appended
@@ -56,7 +56,7 @@ returns-clause-failed g c =
     let images = specifications_of c.deref.result.now in
     let are : images ≡ converted_images parsed.image = ap specifications_of c.deref.ensures.value ∙ c.in_ok-images.ensures.images in
     let tree = built head images in
-    let same = tree_is parsed.image head images (ap head_for c.fields-fields.ensures) are in
+    let same = tree_is parsed.image head images (ap head_of_image c.fields-fields.ensures) are in
     let most : limits.file ≤ longest_text = omega arith in
     result_failed_as g.S.Sink.fails (IsTextOfTree limits Embedded tree) (IsConvertedFile limits file) (IsDocumentError limits Embedded tree) (IsConvertError limits file) c.args.sink.now c.append_tree.new.sink c.append_tree.result
     (λ text is. is_converted limits file parsed tree text opened can most same is)
