@@ -19,7 +19,9 @@ mod payload_area;
 mod property_map;
 mod tree;
 
+pub use crate::document::nodes::begin_with;
 use crate::document::payload_area::payloads_end;
+pub use crate::document::property_map::PropertyMap;
 use crate::document::tree::add_tree;
 use crate::fit::Fit;
 use crate::form::Form;

@@ -17,6 +17,7 @@ mod nodes;
 mod signatures;
 
 pub use configurations::{ConfigError, Configuration, Configurations, Named};
+pub use document::{PropertyMap, begin_with};
 pub use fit::Fit;
 pub use form::Form;
 pub use hashes::Checked;

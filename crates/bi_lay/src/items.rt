@@ -10,6 +10,8 @@ pub enum Value<'a> {
     Slice(&'a [u8]),
     /// The four big-endian bytes of this number (Devicetree Specification, 2.2.4.2: u32).
     Cell(u32),
+    /// These bytes and a zero (Devicetree Specification, 2.2.4.2: string).
+    Text(&'a [u8]),
 }
 
 impl<'a> Value<'a> {
@@ -22,6 +24,7 @@ impl<'a> Value<'a> {
         match self {
             Value::Slice(bytes) => bytes.len(),
             Value::Cell(_) => 4,
+            Value::Text(bytes) => bytes.len() + 1,
         }
     }
 }

@@ -1,7 +1,8 @@
 //! Writing the structure block (Devicetree Specification, 5.4).
 #![tactic(auto, unfolding(bi_base::specs::Cells::cell))]
 
-ghost use Rattle.std.specs.Prelude.{◌≡◌, ◌-◌, ◌%◌, ◌^◌, ◌≤◌, length, replicate, min};
+ghost use Rattle.std.specs.Prelude.{◌≡◌, ◌-◌, ◌%◌, ◌^◌, ◌≤◌, [], ◌∷◌, ◌++◌, length};
+ghost use Rattle.std.specs.Prelude.{replicate, min};
 ghost use Rattle.bi_base.specs.Cells.{cell};
 ghost use Rattle.bi_base.specs.Sinks.{Wrote};
 ghost use Rattle.bi_blob.specs.Tokens.{BeginNode, Prop, End};
@@ -85,7 +86,16 @@ fn put_value<S: Sink>(value: Value<'_>, sink: &mut S) -> Result<(), Error>
     match value {
         Value::Slice(bytes) => sink.put(bytes),
         Value::Cell(number) => put_cell(sink, number),
+        Value::Text(bytes) => put_with_zero(bytes, sink),
     }
+}
+
+/// Appends these bytes and a zero. Fails as the sink does.
+fn put_with_zero<S: Sink>(bytes: &[u8], sink: &mut S) -> Result<(), Error>
+    ensures { Wrote S.appends S.fails sink.old (bytes.now ++ 0 ∷ []) result sink.new }
+{
+    sink.put(bytes)?;
+    sink.put(&[0])
 }
 
 /// Appends the zeros that pad this many bytes to a multiple of four. Fails as the sink does.

@@ -114,6 +114,25 @@ fn a_name_that_is_used_again_takes_no_more_bytes(rt: HostRuntime) -> Result<(), 
     Ok(())
 }
 
+/// A root with the property `model`, a string (Devicetree Specification, 2.2.4.2 and 2.3.2).
+const WITH_STRING: [u8; 96] = *b"\xd0\x0d\xfe\xed\x00\x00\x00\x60\x00\x00\x00\x38\x00\x00\x00\x58\
+    \x00\x00\x00\x28\x00\x00\x00\x11\x00\x00\x00\x10\x00\x00\x00\x00\
+    \x00\x00\x00\x06\x00\x00\x00\x20\
+    \0\0\0\0\0\0\0\0\0\0\0\0\0\0\0\0\
+    \x00\x00\x00\x01\x00\x00\x00\x00\
+    \x00\x00\x00\x03\x00\x00\x00\x04\x00\x00\x00\x00abc\x00\
+    \x00\x00\x00\x02\x00\x00\x00\x09model\x00\x00\x00";
+
+#[test]
+fn a_text_ends_with_a_zero(rt: HostRuntime) -> Result<(), Fail> {
+    let mut doc = Doc::new(rt.alloc(), 0)?;
+    begin(&rt, &mut doc, b"")?;
+    property(&rt, &mut doc, b"model", Value::Text(b"abc"))?;
+    end(&rt, &mut doc);
+    assert!(rt; has_text(&rt, &doc, &WITH_STRING)?);
+    Ok(())
+}
+
 #[test]
 fn properties_come_in_byte_order(rt: HostRuntime) -> Result<(), Fail> {
     let mut doc = Doc::new(rt.alloc(), 0)?;

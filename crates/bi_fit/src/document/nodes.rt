@@ -32,9 +32,14 @@ pub(super) fn begin_node<'a>(
     begin_with(doc, node.name(), &properties)
 }
 
-/// Begins a node of this name with these properties, as a child of the innermost open node or as
-/// the root.
-pub(super) fn begin_with<'a>(
+/// Begins a node of this name, as a child of the innermost open node or as the root, and adds these
+/// properties to it, in byte order of their names.
+///
+/// It may only be called if these events may come next in the document: `Doc::may_begin` is true of
+/// the name, and the name of each property has a byte and no zero.
+///
+/// The only error is `OutOfMemory`. It is not specified which of the events the document has then.
+pub fn begin_with<'a>(
     doc: &mut Doc<'a>,
     name: &'a [u8],
     properties: &PropertyMap<'a>,

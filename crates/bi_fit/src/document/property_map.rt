@@ -1,7 +1,7 @@
 //! The properties of a node, by name.
 
 ghost use Rattle.std.specs.Prelude.{◌≡◌, map, OnOk, IfOk, IfErr};
-ghost use Rattle.std.specs.FinMap.{insert, entries};
+ghost use Rattle.std.specs.FinMap.{empty, insert, entries};
 ghost use Rattle.std.specs.Option.{option_map};
 ghost use Rattle.bi_base.specs.declared.fault.Error.TheVariants.{OutOfMemory};
 ghost use Rattle.bi_blob.specs.Events.{NodeProperty};
@@ -21,9 +21,9 @@ use std::alloc::Global;
 use std::collections::BTreeMap;
 use std::marker::Model;
 
-/// The properties of a node, by name.
+/// The properties of a node, by name. Names and values are borrowed and not copied.
 #[derive(Drop)]
-pub(super) struct PropertyMap<'a> {
+pub struct PropertyMap<'a> {
     values: BTreeMap<&'a [u8], Value<'a>>,
 }
 
@@ -44,6 +44,15 @@ impl<'a> Model for PropertyMap<'a> {
 }
 
 impl<'a> PropertyMap<'a> {
+    /// A map without properties. It allocates nothing.
+    pub fn new(alloc: Global) -> PropertyMap<'a>
+        ensures { result ≡ empty }
+    {
+        PropertyMap {
+            values: BTreeMap::new(alloc),
+        }
+    }
+
     /// The properties of a node.
     pub(super) fn from_node(alloc: Global, node: NodeRef<'a, '_>) -> Result<PropertyMap<'a>, Error>
         requires { HasDistinctNames (node_of node).own }
@@ -51,17 +60,18 @@ impl<'a> PropertyMap<'a> {
             ≡ properties_by_name (node_of node.entry).own) }
         ensures failed { IfErr result (λ error. error ≡ OutOfMemory) }
     {
-        let mut properties = PropertyMap {
-            values: BTreeMap::new(alloc),
-        };
+        let mut properties = PropertyMap::new(alloc);
         for property in node.properties() {
             properties.insert(property.name, Value::Slice(property.value))?;
         }
         Ok(properties)
     }
 
-    /// Adds a property, or gives the property of this name another value.
-    pub(super) fn insert(&mut self, name: &'a [u8], value: Value<'a>) -> Result<(), Error>
+    /// Adds a property, or gives the property of this name another value. Takes time log n in the
+    /// number n of properties.
+    ///
+    /// The only error is `OutOfMemory`. It is not specified which properties the map has then.
+    pub fn insert(&mut self, name: &'a [u8], value: Value<'a>) -> Result<(), Error>
         ensures inserted { OnOk result (self.new ≡ insert self.old name.entry.now
             (value_bytes value.entry)) }
         ensures failed { IfErr result (λ error. error ≡ OutOfMemory) }
@@ -70,9 +80,14 @@ impl<'a> PropertyMap<'a> {
         Ok(())
     }
 
-    /// Gives an image node this payload in place of any other. `begin` is the offset of an external
-    /// payload from the end of the blob.
-    pub(super) fn set_payload(
+    /// Gives an image node this payload in place of any other, or none: removes `data`,
+    /// `data-offset`, `data-position` and `data-size`, and adds the properties of the payload. In the
+    /// form Embedded these are `data`, which has its bytes. In the form External these are
+    /// `data-offset`, which is `begin`, and `data-size`, and the payload has fewer than 2^32 bytes.
+    /// `begin` is the offset of an external payload in bytes from the end of the blob.
+    ///
+    /// The only error is `OutOfMemory`. It is not specified which properties the map has then.
+    pub fn set_payload(
         &mut self,
         form: Form,
         begin: u32,
@@ -104,7 +119,13 @@ impl<'a> PropertyMap<'a> {
     }
 
     /// Adds the properties to the innermost open node, in byte order of their names.
-    pub(super) fn add_to(&self, doc: &mut Doc<'a>) -> Result<(), Error>
+    ///
+    /// It may only be called if these events may come next in the document: for each property in
+    /// turn, `Doc::may_property` is true of its name after those before it were added.
+    ///
+    /// The only error is `OutOfMemory`. It is not specified which of the properties the document has
+    /// then.
+    pub fn add_to(&self, doc: &mut Doc<'a>) -> Result<(), Error>
         requires { MayAdd doc.old (map NodeProperty (entries self.now)) }
         ensures added { OnOk result (doc.new ≡ with_events doc.old
             (map NodeProperty (entries self.now))) }

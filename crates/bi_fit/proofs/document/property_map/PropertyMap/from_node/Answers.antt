@@ -1,16 +1,13 @@
-use Rattle.std.proofs.Common.{◌≡◌, map, ap, ◌∙◌, nat_cmp, rules}
-use Rattle.std.specs.Cmp.Lexicographic.{slice_cmp}
-use Rattle.std.specs.FinMap.{empty, from_sorted}
+use Rattle.std.proofs.Common.{◌≡◌, map, ap, ◌∙◌, rules}
+use Rattle.std.specs.FinMap.{empty}
 use Rattle.bi_blob.specs.Tree.{property_of, properties_of}
 use Rattle.bi_fdt.specs.Views.{node_of}
-use Rattle.bi_fit.specs.PropertyMaps.{properties_in}
-use Rattle.bi_fit.proofs.PropertyMaps.{inserted, inserted-all, by_name-none}
+use Rattle.bi_fit.proofs.PropertyMaps.{inserted, inserted-all}
 use Rattle.bi_fit.proofs.document.property_map.PropertyMap.from_node.Goals as goal
 
 pub loop-property-init : goal.loop-property-init
 loop-property-init c =
     let here : c.into_iter-property-iterator.result ≡ (node_of c.args.node).own.properties = search rules in
-    ap (λ l. inserted (from_sorted {R = slice_cmp nat_cmp} (properties_in l)) (map property_of c.into_iter-property-iterator.result)) c.new.ensures.empty
-    ∙ ap (λ m. inserted m (map property_of c.into_iter-property-iterator.result)) by_name-none
+    ap (λ m. inserted m (map property_of c.into_iter-property-iterator.result)) c.new-properties.ensures
     ∙ ap (λ l. inserted empty (map property_of l)) here
     ∙ inserted-all (properties_of (node_of c.args.node).own) c.requires
