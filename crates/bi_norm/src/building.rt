@@ -9,6 +9,10 @@ ghost use Rattle.bi_norm.specs.Building.{HasBuildableType};
 ghost use Rattle.bi_norm.specs.Building.{IsBuilt, IsBuildError};
 ghost use Rattle.bi_norm.specs.Outputs.{Appended, AppendFailed};
 
+mod checks;
+mod digests;
+mod lists;
+
 use bi_base::{Error, Limits, Sink};
 use bi_fit::Form;
 use std::alloc::Global;
