@@ -4,3 +4,5 @@ pub mod NormalForms
 pub mod Writing
 pub mod KindLaws
 pub mod ConvertedImages
+pub mod ListedNames
+pub mod ImageChecks

@@ -1,22 +1,17 @@
-use Rattle.std.specs.Prelude.{◌≡◌, ℕ, ◌≤◌, List, [], ◌∷◌, ◌++◌, map, Option, Some, ⊤}
+use Rattle.std.specs.Prelude.{◌≡◌, ℕ, List, [], ◌∷◌, map, Option, Some}
 use Rattle.std.specs.Ordering.{nat_cmp}
 use Rattle.std.specs.Cmp.Lexicographic.{slice_cmp}
 use Rattle.std.specs.FinMap.{entries, from_entries}
-use Rattle.bi_base.specs.Cells.{up4}
 use Rattle.bi_blob.specs.Tree.{Nodes, none, node, Property, PropertyMap, with_each}
 use Rattle.bi_blob.specs.Layout.{strings_of}
-use Rattle.bi_hash.specs.declared.algo.Algo.TheVariants.{Sha256}
-use Rattle.bi_hash.specs.Digests.{digest_of}
 use Rattle.bi_fit.specs.declared.form.Form.{Form}
-use Rattle.bi_fit.specs.declared.key.Key.{Key}
 use Rattle.bi_fit.specs.declared.key.Key.TheVariants.{Kernel, Fdt, Ramdisk, Firmware, Loadables}
 use Rattle.bi_fit.specs.declared.key.Key.TheVariants.{Script}
 use Rattle.bi_fit.specs.Building.{FitHead, ImageSpecification, image_properties, hash_properties}
 use Rattle.bi_fit.specs.Building.{hash_node_name, configuration_name, built_images, names_under}
-use Rattle.bi_fit.specs.Building.{root_properties, configuration_properties, text_value}
+use Rattle.bi_fit.specs.Building.{configuration_properties, text_value}
 use Rattle.bi_fit.specs.Names.{images_name, configurations_name, default_name}
 use Rattle.bi_fit.specs.Text.{with_payload, with_payloads}
-use Rattle.bi_norm.specs.declared.building.ImageSpec.{ImageSpec}
 use Rattle.bi_norm.specs.declared.building.lists.KeyLists.{KeyLists}
 
 -- What is added to the document of a tree to be built, node by node.

@@ -1,7 +1,6 @@
 use Rattle.std.proofs.Common.{[], refl, inl, inr, rules}
 use Rattle.bi_norm.specs.Building.{BuildPasses, HasFields, HasCodeNames}
-use Rattle.bi_norm.specs.BuildChecks.{at_index, HasBytes}
-use Rattle.bi_base.specs.Cells.{AreBytes}
+use Rattle.bi_norm.specs.BuildChecks.{at_index}
 use Rattle.bi_norm.proofs.building.checks.check_image.Goals as goal
 
 pub returns-then-not-has_code_names-clause-failed : goal.returns-then-not-has_code_names-clause-failed
