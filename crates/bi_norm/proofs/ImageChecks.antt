@@ -1,5 +1,5 @@
-use Rattle.std.proofs.Common.{◌≡◌, ℕ, ◌+◌, ◌<◌, List, [], ◌∷◌, ◌++◌, map, take, drop, get_or, length, refl, sym, ap, subst, ◌∙◌, inl, inr}
-use Rattle.std.proofs.lemmas.List.{drop_more, take_more, map-append}
+use Rattle.std.proofs.Common.{◌≡◌, ℕ, ◌+◌, ◌<◌, ◌≤◌, List, [], ◌∷◌, ◌++◌, map, take, drop, get_or, length, None, refl, sym, ap, subst, ◌∙◌, inl, inr}
+use Rattle.std.proofs.lemmas.List.{drop_more, drop_all, take_more, map-append}
 use Rattle.std.specs.List.{AllByRecursion}
 use Rattle.bi_base.specs.declared.fault.Fault.{Fault}
 use Rattle.bi_base.specs.declared.fault.Cause.TheVariants.{DuplicateNode}
@@ -13,6 +13,19 @@ use Rattle.bi_norm.specs.BuildChecks.{AllPass, IsFirstFailure, at_index, fields_
 -- The names of images.
 abbrev pub names_of : List ImageSpec → List (List ℕ)
 names_of images = map (λ image. image.name.now) images
+
+-- What a list of images gives past its end.
+abbrev pub no_image : ImageSpec
+no_image = record {
+  name = record { ref_ptr = (0, 0); now = [] };
+  image_type = 0;
+  arch = 0;
+  os = 0;
+  compression = 0;
+  load = None;
+  entry = None;
+  payload = record { ref_ptr = (0, 0); now = [] };
+}
 
 -- The checks of the images from one on.
 abbrev pub checks_from : List ImageSpec → ℕ → List BuildCheck
@@ -70,10 +83,15 @@ module _ (images : List ImageSpec) (index : ℕ) (d : ImageSpec) (within : index
     passes = λ later.
         passed.passes (subst AllPass (sym first_checks) (λ limits form head all.
         let both = fine limits form head all in
-        (both.0, both.1.0, new, later limits form head all)));
+        (both.0, (both.1.0, (new, later limits form head all)))));
     fails = λ fault later.
         passed.fails fault (subst (λ checks. IsFirstFailure checks fault) (sym first_checks) (λ limits form head all.
         let both = fine limits form head all in
         inr (both.0, inr (both.1.0, inr (new, later limits form head all)))));
     bytes = λ later. passed.bytes (subst (AllByRecursion HasBytes) (sym (drop_more images index d within)) (bytes, later));
   }
+
+-- After the last image none are left.
+pub passed_all : (images : List ImageSpec) (index : ℕ) → length images ≤ index → AllPass (checks_from images index)
+passed_all images index past =
+    subst (λ left. AllPass (image_checks index (names_of (take index images)) left)) (sym (drop_all index images past)) (λ limits form head all. tt)

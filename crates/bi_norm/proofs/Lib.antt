@@ -6,3 +6,5 @@ pub mod KindLaws
 pub mod ConvertedImages
 pub mod ListedNames
 pub mod ImageChecks
+pub mod BuiltChecks
+pub mod BuiltProperties

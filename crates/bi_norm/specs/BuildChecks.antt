@@ -7,7 +7,7 @@ use Rattle.bi_fit.specs.declared.form.Form.{Form}
 use Rattle.bi_norm.specs.declared.building.Head.{Head}
 use Rattle.bi_norm.specs.declared.building.ImageSpec.{ImageSpec}
 use Rattle.bi_norm.specs.Building.{BuildCheck, HasFewImages, HasTextDescription, HasFields}
-use Rattle.bi_norm.specs.Building.{HasCodeNames, HasNewName, BuildPasses, build_fault, image_checks}
+use Rattle.bi_norm.specs.Building.{HasCodeNames, BuildPasses, build_fault, image_checks}
 use Rattle.bi_norm.specs.Building.{IndexedImage}
 
 -- The checks of what is to be built, one after the other.

@@ -1,8 +1,9 @@
-use Rattle.std.specs.Prelude.{◌≡◌, ℕ, List, [], ◌∷◌, map, Option, Some}
+use Rattle.std.specs.Prelude.{◌≡◌, ℕ, List, [], ◌∷◌, map, Option, None, Some}
 use Rattle.std.specs.Ordering.{nat_cmp}
 use Rattle.std.specs.Cmp.Lexicographic.{slice_cmp}
-use Rattle.std.specs.FinMap.{entries, from_entries}
+use Rattle.std.specs.FinMap.{insert, entries, from_entries}
 use Rattle.bi_blob.specs.Tree.{Nodes, none, node, Property, PropertyMap, with_each}
+use Rattle.bi_base.specs.Cells.{cell}
 use Rattle.bi_blob.specs.Layout.{strings_of}
 use Rattle.bi_fit.specs.declared.form.Form.{Form}
 use Rattle.bi_fit.specs.declared.key.Key.TheVariants.{Kernel, Fdt, Ramdisk, Firmware, Loadables}
@@ -69,3 +70,8 @@ abbrev pub configurations_node : FitHead → List ImageSpecification → Nodes (
 configurations_node head images =
     node configurations_name (in_order ((default_name, text_value configuration_name) ∷ []))
     (configuration_node head images) none
+
+-- Properties with one of one cell, if its number is given.
+abbrev pub with_cell : List ℕ → Option ℕ → PropertyMap → PropertyMap
+with_cell name None properties = properties
+with_cell name (Some number) properties = insert properties name (cell number)

@@ -12,6 +12,7 @@ ghost use Rattle.bi_norm.specs.Outputs.{Appended, AppendFailed};
 mod checks;
 mod digests;
 mod lists;
+mod properties;
 
 use bi_base::{Error, Limits, Sink};
 use bi_fit::Form;

@@ -42,7 +42,8 @@ pub(super) fn check(
         return refuse(Cause::TooLarge, limits.file()).map_err(Error::from);
     }
     check_description(head.description)?;
-    check_images(alloc, images)
+    check_images(alloc, images)?;
+    Ok(())
 }
 
 /// Fails with BadField at 0, if a description has a zero byte.
