@@ -1,4 +1,4 @@
-use Rattle.std.proofs.Common.{◌≡◌, ◌≢◌, ℕ, Bool, true, false, ◌++◌, codes, Option, Some, None, nat_cmp, refl, sym, ap, ◌∙◌, arith}
+use Rattle.std.proofs.Common.{◌≡◌, ◌≢◌, ℕ, Bool, true, false, ◌++◌, codes, Option, Some, None, nat_cmp, refl, sym}
 use Rattle.std.specs.Prelude.{◌==◌, IsSome}
 use Rattle.std.specs.Cmp.Lexicographic.{slice_cmp}
 use Rattle.std.proofs.lemmas.Bool.{eqb-true, false≢true}
@@ -27,7 +27,7 @@ type_of_key code some single = standalone (1 == code) refl
 
     flat_dt : 1 == code ≡ false → 2 == code ≡ false → 3 == code ≡ false → 4 == code ≡ false → 5 == code ≡ false → 6 == code ≡ false → (b : Bool) → 8 == code ≡ b → Same
     flat_dt a b c d e f true is = rw (a, b, c, d, e, f, is) refl
-    flat_dt a b c d e f false is = false≢true (rw (a, b, c, d, e, f, is) at some)
+    flat_dt a b c d e f false is = absurd (false≢true (rw (a, b, c, d, e, f, is) at some))
 
     script : 1 == code ≡ false → 2 == code ≡ false → 3 == code ≡ false → 4 == code ≡ false → 5 == code ≡ false → (b : Bool) → 6 == code ≡ b → Same
     script a b c d e true is = rw (a, b, c, d, e, is) refl

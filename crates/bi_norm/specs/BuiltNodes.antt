@@ -9,11 +9,17 @@ use Rattle.bi_fit.specs.declared.form.Form.{Form}
 use Rattle.bi_fit.specs.declared.key.Key.TheVariants.{Kernel, Fdt, Ramdisk, Firmware, Loadables}
 use Rattle.bi_fit.specs.declared.key.Key.TheVariants.{Script}
 use Rattle.bi_fit.specs.Building.{FitHead, ImageSpecification, image_properties, hash_properties}
+use Rattle.bi_fit.specs.Building.{CanBeBuilt}
 use Rattle.bi_fit.specs.Building.{hash_node_name, configuration_name, built_images, names_under}
 use Rattle.bi_fit.specs.Building.{configuration_properties, text_value}
 use Rattle.bi_fit.specs.Names.{images_name, configurations_name, default_name}
 use Rattle.bi_fit.specs.Text.{with_payload, with_payloads}
+use Rattle.bi_norm.specs.declared.building.document.Parts.{Parts}
 use Rattle.bi_norm.specs.declared.building.lists.KeyLists.{KeyLists}
+use Rattle.bi_norm.specs.Building.{head_of, specifications_of, HasBuildableType}
+use Rattle.bi_hash.specs.declared.algo.Algo.TheVariants.{Sha256}
+use Rattle.bi_hash.specs.Digests.{digest_of}
+use Rattle.std.specs.List.{AllByRecursion}
 
 -- What is added to the document of a tree to be built, node by node.
 
@@ -75,3 +81,16 @@ configurations_node head images =
 abbrev pub with_cell : List ℕ → Option ℕ → PropertyMap → PropertyMap
 with_cell name None properties = properties
 with_cell name (Some number) properties = insert properties name (cell number)
+
+-- A node of this name with these properties and no children, without its siblings.
+abbrev pub leaf : List ℕ → PropertyMap → Nodes (List Property)
+leaf name properties = node name (entries properties) none none
+
+-- What the document of a tree borrows is prepared: the tree can be built, and the digests and the
+-- lists are those of the images.
+pub record ArePrepared (parts : Parts) : Type 0 where
+  pub can : CanBeBuilt (head_of parts.head) (specifications_of parts.images.now)
+  pub types : AllByRecursion HasBuildableType parts.images.now
+  pub digests : parts.digests.now
+      ≡ map (λ image. digest_of Sha256 image.payload.now) parts.images.now
+  pub lists : AreKeyLists (specifications_of parts.images.now) parts.lists.now

@@ -11,7 +11,9 @@ ghost use Rattle.bi_norm.specs.Outputs.{Appended, AppendFailed};
 
 mod checks;
 mod digests;
+mod document;
 mod lists;
+mod payload_area;
 mod properties;
 
 use bi_base::{Error, Limits, Sink};
