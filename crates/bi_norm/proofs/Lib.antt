@@ -8,3 +8,5 @@ pub mod ListedNames
 pub mod ImageChecks
 pub mod BuiltChecks
 pub mod BuiltProperties
+pub mod BuiltPayloads
+pub mod BuiltDocuments
