@@ -1,12 +1,12 @@
-use Rattle.std.proofs.Common.{◌≡◌, ℕ, ◌+◌, ◌<◌, ◌≤◌, Bool, true, false, List, [], ◌∷◌, ◌++◌, drop, get_or, length, codes, Option, Some, None, nat_cmp, refl, sym, ap, subst, ◌∙◌, arith}
+use Rattle.std.proofs.Common.{◌≡◌, ℕ, ◌+◌, ◌<◌, false, List, [], ◌∷◌, drop, get_or, length, codes, Option, Some, None, nat_cmp, refl, sym, ap, subst, ◌∙◌, arith}
 use Rattle.std.specs.Cmp.Lexicographic.{slice_cmp}
 use Rattle.std.specs.List.{AllByRecursion}
 use Rattle.std.specs.FinMap.{from_entries, entries, get-from_entries}
 use Rattle.std.proofs.lemmas.Cmp.{nat_list_cmp_total}
 use Rattle.bi_base.specs.Cells.{up4}
-use Rattle.bi_blob.specs.Tree.{none, node, depth_of, PropertyMap}
+use Rattle.bi_blob.specs.Tree.{node, PropertyMap}
 use Rattle.bi_blob.specs.Events.{Event, events, events_of, NodeEnd}
-use Rattle.bi_blob.specs.Following.{most_open_nodes, AreClosedEvents, MayFollowInText, stage_of_events}
+use Rattle.bi_blob.specs.Following.{AreClosedEvents, MayFollowInText, MayEnd, stage_of_events}
 use Rattle.bi_blob.specs.Stages.{AfterRoot}
 use Rattle.bi_blob.proofs.Blobs.EventTrees.{same_events}
 use Rattle.bi_blob.proofs.Texts.Members.{each-append}
@@ -28,7 +28,10 @@ use Rattle.bi_fit.proofs.Maps.{taken_out}
 use Rattle.bi_fit.proofs.NodeEvents.{IsAdding, adding_all, may_add_first, adding_later, adding_none}
 use Rattle.bi_fit.proofs.Adding.{whole, may_begin, may_have_children, may_end, whole_added}
 use Rattle.bi_fit.proofs.Texts.{depth-normal_tree}
-use Rattle.bi_norm.specs.BuiltNodes.{payloads_of, hash_node, placed_properties, image_node, image_nodes, images_node, configuration_node, configurations_node}
+use Rattle.std.proofs.lemmas.List.{at_drop_more}
+use Rattle.bi_norm.specs.declared.building.ImageSpec.{ImageSpec}
+use Rattle.bi_norm.specs.Building.{specification_of, specifications_of}
+use Rattle.bi_norm.specs.BuiltNodes.{payloads_of, hash_node, placed_properties, image_nodes, images_node, configurations_node}
 
 -- The document of a tree to be built.
 
@@ -69,6 +72,10 @@ embedded_anywhere one other head (image ∷ later) =
 pub nodes_later : (form : Form) (end : ℕ) (payload : List ℕ) (head : FitHead) (images : List ImageSpecification) → image_nodes form (end_after end (Some payload)) head images ≡ image_nodes form (next_end form end (Some payload)) head images
 nodes_later Embedded end payload head images = embedded_anywhere (end_after end (Some payload)) end head images
 nodes_later External end payload head images = refl
+
+-- The image nodes from one on are it and those after it.
+pub nodes_at : (form : Form) (end : ℕ) (head : FitHead) (images : List ImageSpec) (index : ℕ) (d : ImageSpec) → index < length images → image_nodes form end head (specifications_of (drop index images)) ≡ image_nodes form end head (specification_of (get_or images index d) ∷ specifications_of (drop (index + 1) images))
+nodes_at form end head images index d within = at_drop_more (λ l. image_nodes form end head (specifications_of l)) images index d within
 
 module _ (form : Form) (head : FitHead) (images : List ImageSpecification) where
   -- The events of the tree may follow one another, and they end the root.
@@ -121,7 +128,7 @@ module _ (form : Form) (head : FitHead) (images : List ImageSpecification) where
           all_children = adding_none filled (with_events begun root_children) (adding_later more (with_events begun root_children) _ _ _ _ after_images filled is_filled)
 
           -- then the root may end,
-          pub may_end_root : _
+          pub may_end_root : MayEnd (stage_of_events filled.events)
           may_end_root = may_end started root_begin root_children begun filled is_begun all_children may_all
 
           -- and the document is that of the tree.

@@ -1,6 +1,6 @@
 //! The document of a tree to be built.
 
-ghost use Rattle.std.specs.Prelude.{◌≡◌, ◌+◌, ◌≤◌, [], map, Some, length, OnOk, IfOk, IfErr};
+ghost use Rattle.std.specs.Prelude.{◌≡◌, ◌+◌, ◌<◌, ◌≤◌, [], map, Some, length, OnOk, IfOk, IfErr};
 ghost use Rattle.std.specs.List.{AllByRecursion};
 ghost use Rattle.bi_base.specs.Cells.{up4};
 ghost use Rattle.bi_base.specs.declared.fault.Error.TheVariants.{OutOfMemory};
@@ -11,6 +11,7 @@ ghost use Rattle.bi_blob.specs.Layout.{longest_text};
 ghost use Rattle.bi_blob.specs.Stages.{AfterRoot};
 ghost use Rattle.bi_hash.specs.declared.algo.Algo.TheVariants.{Sha256};
 ghost use Rattle.bi_hash.specs.Digests.{digest_of};
+ghost use Rattle.bi_lay.specs.Contents.{text_of};
 ghost use Rattle.bi_fit.specs.Additions.{MayAdd, with_events, AreWithin, HasCellSize};
 ghost use Rattle.bi_fit.specs.Building.{CanBeBuilt};
 ghost use Rattle.bi_fit.specs.Documents.{document_of, IsDocument, IsDocumentError};
@@ -27,7 +28,7 @@ use crate::building::properties::{
     image_properties, root_properties,
 };
 use crate::building::{Head, ImageSpec};
-use bi_base::{Cause, Error, Limits, refuse, up4};
+use bi_base::{Cause, Error, Fault, Limits, refuse, up4};
 use bi_fit::{Form, PropertyMap, begin_with};
 use bi_lay::Doc;
 use std::alloc::Global;
@@ -68,9 +69,22 @@ pub(super) fn tree_doc<'a>(
         Form::External => payloads_end(parts.images, limit)?,
     };
     let doc = build_doc(alloc, parts, form)?;
+    check_size(&doc, end, limit)?;
+    Ok(doc)
+}
+
+/// TooLarge at the limit, exactly if the text of a document and `after` bytes are longer than that.
+fn check_size(doc: &Doc<'_>, after: u32, limit: u32) -> Result<(), Fault>
+    requires closed { stage_of_events doc.now.events ≡ AfterRoot }
+    requires within { after ≤ limit }
+    requires small { limit ≤ longest_text }
+    ensures fits { OnOk result (length (text_of doc.now) + after ≤ limit) }
+    ensures refused { IfErr result (λ fault. (fault ≡ too_large limit)
+        × (limit < length (text_of doc.now) + after)) }
+{
     match doc.size() {
-        Some(size) if size + end <= limit => Ok(doc),
-        _ => refuse(Cause::TooLarge, limit).map_err(Error::from),
+        Some(size) if size + after <= limit => Ok(()),
+        _ => refuse(Cause::TooLarge, limit),
     }
 }
 
