@@ -122,7 +122,8 @@ fn add_images<'a>(
         (events (images_node form (head_of parts.entry.head) images))) }
     ensures failed { IfErr result (λ error. error ≡ OutOfMemory) }
 {
-    begin_with(doc, b"images", &PropertyMap::new(alloc))?;
+    let properties = PropertyMap::new(alloc);
+    begin_with(doc, b"images", &properties)?;
     add_image_nodes(alloc, doc, parts, form)?;
     doc.end();
     Ok(())

@@ -17,13 +17,13 @@ own = from_entries {R = slice_cmp nat_cmp} []
 pub begin_with-requires : goal.begin_with-requires
 begin_with-requires c =
     let children = events (image_nodes c.args.form 0 (head_of c.args.parts.head) (specifications_of c.args.parts.images.now)) in
-    let begins : begin_events images_name c.new.result ≡ begin_events images_name own = ap (begin_events images_name) c.new.ensures in
+    let begins : begin_events images_name c.new-properties.result ≡ begin_events images_name own = ap (begin_events images_name) c.new-properties.ensures in
     subst (MayAdd c.args.doc.now) (sym begins) (may_begin c.args.doc.now (begin_events images_name own) children c.requires.may)
 
 pub add_image_nodes-requires-clause-may : goal.add_image_nodes-requires-clause-may
 add_image_nodes-requires-clause-may c =
     let children = events (image_nodes c.args.form 0 (head_of c.args.parts.head) (specifications_of c.args.parts.images.now)) in
-    let begins : begin_events images_name c.new.result ≡ begin_events images_name own = ap (begin_events images_name) c.new.ensures in
+    let begins : begin_events images_name c.new-properties.result ≡ begin_events images_name own = ap (begin_events images_name) c.new-properties.ensures in
     let begun : c.begin_with.new.doc ≡ with_events c.args.doc.now (begin_events images_name own) =
     c.in_ok-begin_with.ensures.added ∙ ap (with_events c.args.doc.now) begins in
     may_have_children c.args.doc.now (begin_events images_name own) children c.begin_with.new.doc begun c.requires.may
@@ -31,7 +31,7 @@ add_image_nodes-requires-clause-may c =
 pub end-requires : goal.end-requires
 end-requires c =
     let children = events (image_nodes c.args.form 0 (head_of c.args.parts.head) (specifications_of c.args.parts.images.now)) in
-    let begins : begin_events images_name c.new.result ≡ begin_events images_name own = ap (begin_events images_name) c.new.ensures in
+    let begins : begin_events images_name c.new-properties.result ≡ begin_events images_name own = ap (begin_events images_name) c.new-properties.ensures in
     let begun : c.begin_with.new.doc ≡ with_events c.args.doc.now (begin_events images_name own) =
     c.in_ok-begin_with.ensures.added ∙ ap (with_events c.args.doc.now) begins in
     may_end c.args.doc.now (begin_events images_name own) children c.begin_with.new.doc c.add_image_nodes.new.doc begun c.in_ok-add_image_nodes.ensures.added c.requires.may
@@ -39,7 +39,7 @@ end-requires c =
 pub returns-clause-added : goal.returns-clause-added
 returns-clause-added c =
     let children = events (image_nodes c.args.form 0 (head_of c.args.parts.head) (specifications_of c.args.parts.images.now)) in
-    let begins : begin_events images_name c.new.result ≡ begin_events images_name own = ap (begin_events images_name) c.new.ensures in
+    let begins : begin_events images_name c.new-properties.result ≡ begin_events images_name own = ap (begin_events images_name) c.new-properties.ensures in
     let begun : c.begin_with.new.doc ≡ with_events c.args.doc.now (begin_events images_name own) =
     c.in_ok-begin_with.ensures.added ∙ ap (with_events c.args.doc.now) begins in
     c.end.ensures ∙ whole_added c.args.doc.now (begin_events images_name own) children c.begin_with.new.doc c.add_image_nodes.new.doc begun c.in_ok-add_image_nodes.ensures.added
