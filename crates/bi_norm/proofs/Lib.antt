@@ -10,3 +10,4 @@ pub mod BuiltChecks
 pub mod BuiltProperties
 pub mod BuiltPayloads
 pub mod BuiltDocuments
+pub mod BuiltTexts
