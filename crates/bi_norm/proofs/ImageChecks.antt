@@ -63,10 +63,13 @@ module _ (images : List ImageSpec) (index : ℕ) (d : ImageSpec) (within : index
       passed.fails fault (subst (λ checks. IsFirstFailure checks fault) (sym first_checks) (λ limits form head all.
       elim (first limits form head all) [
         | inl fields ↦ inl fields
-        | inr codes ↦ inr (codes.0, elim codes.1 [
-          | inl fails ↦ inl fails
-          | inr passes ↦ absurd passes.1
-        ])
+        | inr codes ↦ inr (
+          codes.0,
+          elim codes.1 [
+            | inl fails ↦ inl fails
+            | inr passes ↦ absurd passes.1
+          ],
+        )
       ]))
 
   -- So is a name that is not new, after fields and codes without a fault.

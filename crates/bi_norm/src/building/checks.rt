@@ -97,8 +97,7 @@ fn check_image(image: &ImageSpec<'_>, index: u32) -> Result<(), Fault>
 /// Returns nothing. Its contract states what the type of a slice says about its elements.
 fn hold_bytes(bytes: &[u8])
     ensures { AreBytes bytes.now }
-{
-}
+{}
 
 /// Whether a node other than the root may have this name: it has a byte, and none is zero or `/`.
 fn is_child_name(name: &[u8]) -> bool

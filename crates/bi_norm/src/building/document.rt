@@ -188,11 +188,7 @@ fn add_image_node<'a>(
 }
 
 /// Adds the node of the configuration, with the configuration.
-fn add_configurations<'a>(
-    alloc: Global,
-    doc: &mut Doc<'a>,
-    parts: Parts<'a>,
-) -> Result<(), Error>
+fn add_configurations<'a>(alloc: Global, doc: &mut Doc<'a>, parts: Parts<'a>) -> Result<(), Error>
     requires prepared { ArePrepared parts }
     requires may { let images = specifications_of parts.images.now in
         MayAdd doc.old (events (configurations_node (head_of parts.head) images)) }

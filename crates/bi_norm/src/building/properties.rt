@@ -60,7 +60,10 @@ pub(super) fn image_properties<'a>(
     properties.insert(b"type", code_text(type_name(image.image_type)))?;
     properties.insert(b"os", code_text(os_name(image.os)))?;
     properties.insert(b"description", Value::Text(head.description))?;
-    properties.insert(b"compression", code_text(compression_name(image.compression)))?;
+    properties.insert(
+        b"compression",
+        code_text(compression_name(image.compression)),
+    )?;
     properties.insert(b"arch", code_text(arch_name(image.arch)))?;
     Ok(properties)
 }
@@ -126,11 +129,7 @@ fn insert_cell<'a>(
 }
 
 /// Adds the property of a key that lists names, if it lists one at least.
-fn insert_list<'a>(
-    properties: &mut PropertyMap<'a>,
-    key: Key,
-    list: &'a [u8],
-) -> Result<(), Error>
+fn insert_list<'a>(properties: &mut PropertyMap<'a>, key: Key, list: &'a [u8]) -> Result<(), Error>
     ensures inserted { (names : List (List ℕ)) (rest : List Property)
         → list.entry.now ≡ strings_of names → properties.old ≡ from_entries rest →
         OnOk result (properties.new ≡ from_entries (list_property key names ++ rest)) }

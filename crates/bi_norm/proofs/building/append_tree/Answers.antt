@@ -1,10 +1,10 @@
-use Rattle.std.proofs.Common.{◌≡◌, ◌++◌, ◌≤◌, length, refl, ap, sym, ◌∙◌, subst, arith, rules}
+use Rattle.std.proofs.Common.{◌≡◌, ◌++◌, ◌≤◌, length, refl, ap, sym, subst, arith, rules}
 use Rattle.std.proofs.lemmas.Result.{err_from_is_err_and}
 use Rattle.bi_blob.specs.Layout.{longest_text}
 use Rattle.bi_lay.specs.Contents.{text_of}
 use Rattle.bi_fit.specs.declared.form.Form.TheVariants.{Embedded, External}
 use Rattle.bi_fit.specs.Text.{payload_area, after_blob, fit_text}
-use Rattle.bi_norm.specs.Building.{tree_of_images, IsTextOfTree}
+use Rattle.bi_norm.specs.Building.{tree_of_images}
 use Rattle.bi_norm.specs.Outputs.{WasRefused, SinkFailed}
 use Rattle.bi_norm.proofs.BuiltPayloads.{text_then_payloads, text_alone}
 use Rattle.bi_norm.proofs.PayloadAreas.{payloads_fit}

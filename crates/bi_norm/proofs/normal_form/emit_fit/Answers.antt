@@ -1,10 +1,10 @@
-use Rattle.std.proofs.Common.{◌≡◌, ◌++◌, ◌≤◌, ℕ, length, refl, ap, sym, ◌∙◌, subst, arith, rules}
+use Rattle.std.proofs.Common.{◌≡◌, ◌++◌, ◌≤◌, length, refl, ap, sym, subst, arith, rules}
 use Rattle.std.proofs.lemmas.Result.{err_from_is_err_and}
 use Rattle.bi_blob.specs.Layout.{longest_text}
 use Rattle.bi_lay.specs.Contents.{text_of}
 use Rattle.bi_fit.specs.declared.form.Form.TheVariants.{Embedded, External}
 use Rattle.bi_fit.specs.Content.{tree_of}
-use Rattle.bi_fit.specs.Text.{blob_of, payload_area, after_blob, fit_text}
+use Rattle.bi_fit.specs.Text.{payload_area, after_blob, fit_text}
 use Rattle.bi_norm.specs.NormalForm.{WasRefused, SinkFailed}
 use Rattle.bi_norm.proofs.NormalForms.{document_error, tree_normal_form, tree_normalised}
 use Rattle.bi_norm.proofs.PayloadAreas.{payloads_of, payloads_of_tree, payloads_fit, external_text, embedded_text}
