@@ -31,19 +31,19 @@ text_of_choice true name other is later = is
 text_of_choice false name other is later = later
 
 -- The name of a code is a text where each name of the table is.
-code_text : (names : List CodeName) (code : ℕ) → AllByRecursion (λ (entry : CodeName). IsText entry.name) names → IsText (code_name names code)
+pub code_text : (names : List CodeName) (code : ℕ) → AllByRecursion (λ (entry : CodeName). IsText entry.name) names → IsText (code_name names code)
 code_text [] code each = record { bytes = AreBytes-none; no_zero = tt }
 code_text (entry ∷ later) code each =
     text_of_choice (entry.code == code) entry.name (name_of_code later code) each.0 (code_text later code each.1)
 
 -- Each name of the tables is a text.
-os_texts : AllByRecursion (λ (entry : CodeName). IsText entry.name) os_names
+pub os_texts : AllByRecursion (λ (entry : CodeName). IsText entry.name) os_names
 os_texts = (
   tested_text _ (tested_name _ refl),
   (tested_text _ (tested_name _ refl), (tested_text _ (tested_name _ refl), (tested_text _ (tested_name _ refl), tt))),
 )
 
-arch_texts : AllByRecursion (λ (entry : CodeName). IsText entry.name) arch_names
+pub arch_texts : AllByRecursion (λ (entry : CodeName). IsText entry.name) arch_names
 arch_texts = (
   tested_text _ (tested_name _ refl),
   (
@@ -58,7 +58,7 @@ arch_texts = (
   ),
 )
 
-compression_texts : AllByRecursion (λ (entry : CodeName). IsText entry.name) compression_names
+pub compression_texts : AllByRecursion (λ (entry : CodeName). IsText entry.name) compression_names
 compression_texts = (
   tested_text _ (tested_name _ refl),
   (

@@ -10,3 +10,10 @@ pub mod ConvertedParts
 pub mod Appending
 pub mod Conversions
 pub mod Comparisons
+pub mod ListedNames
+pub mod ImageChecks
+pub mod BuiltChecks
+pub mod BuiltProperties
+pub mod BuiltPayloads
+pub mod BuiltDocuments
+pub mod BuiltTexts

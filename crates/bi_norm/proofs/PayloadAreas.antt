@@ -33,12 +33,12 @@ area_zeros end begin is =
     subst (λ (count : ℕ). take {A = ℕ} (begin - end) (0 ∷ 0 ∷ 0 ∷ []) ≡ replicate count 0) same zeros
 
 -- Payloads end where the last of them do.
-payloads_end-append : (end : ℕ) (first later : List (Option (List ℕ))) → payloads_end end (first ++ later) ≡ payloads_end (payloads_end end first) later
+pub payloads_end-append : (end : ℕ) (first later : List (Option (List ℕ))) → payloads_end end (first ++ later) ≡ payloads_end (payloads_end end first) later
 payloads_end-append end [] later = refl
 payloads_end-append end (payload ∷ first) later = payloads_end-append (end_after end payload) first later
 
 -- Payloads take up what the first of them do, and then what the others do.
-payload_area-append : (end : ℕ) (first later : List (Option (List ℕ))) → payload_area end (first ++ later) ≡ payload_area end first ++ payload_area (payloads_end end first) later
+pub payload_area-append : (end : ℕ) (first later : List (Option (List ℕ))) → payload_area end (first ++ later) ≡ payload_area end first ++ payload_area (payloads_end end first) later
 payload_area-append end [] later = refl
 payload_area-append end (None ∷ first) later = payload_area-append end first later
 payload_area-append end (Some payload ∷ first) later =

@@ -9,6 +9,8 @@ pub mod Converting
 pub mod Cutting
 pub mod LegacyBuilding
 pub mod Building
+pub mod BuildChecks
+pub mod BuiltNodes
 pub mod Comparing
 pub mod KnownConversions
 pub mod Laws

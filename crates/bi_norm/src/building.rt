@@ -9,7 +9,19 @@ ghost use Rattle.bi_norm.specs.Building.{HasBuildableType};
 ghost use Rattle.bi_norm.specs.Building.{IsBuilt, IsBuildError};
 ghost use Rattle.bi_norm.specs.Outputs.{Appended, AppendFailed};
 
-use bi_base::{Error, Limits, Sink};
+mod checks;
+mod digests;
+mod document;
+mod lists;
+mod payload_area;
+mod properties;
+
+use crate::building::checks::check;
+use crate::building::digests::payload_digests;
+use crate::building::document::{Parts, tree_doc};
+use crate::building::lists::KeyLists;
+use crate::payloads::put_built_payloads;
+use bi_base::{Error, Limits, Sink, VecSink};
 use bi_fit::Form;
 use std::alloc::Global;
 
@@ -62,7 +74,9 @@ pub fn build_fit(
     ensures built { IfOk result (λ text. IsBuilt limits form head.entry images.now text.items) }
     ensures failed { IfErr result (IsBuildError limits form head.entry images.now) }
 {
-    Err(Error::OutOfMemory)
+    let mut sink = VecSink::new(alloc);
+    build_fit_into(alloc, head, images, form, limits, &mut sink)?;
+    Ok(sink.into_vec())
 }
 
 /// Appends a flattened image tree with these images to a sink, as `build_fit` returns it.
@@ -84,7 +98,9 @@ pub fn build_fit_into<S: Sink>(
         (IsBuilt limits form head.entry images.now)
         (IsBuildError limits form head.entry images.now) sink.old sink.new) }
 {
-    Err(Error::OutOfMemory)
+    check(alloc, head, images, limits)?;
+    append_tree(alloc, head, images, form, limits, sink)?;
+    Ok(())
 }
 
 /// Appends the text of a flattened image tree whose description and images can be built to a sink.
@@ -106,5 +122,18 @@ pub(crate) fn append_tree<S: Sink>(
         IfErr result (AppendFailed S.fails (IsTextOfTree limits form tree)
         (IsDocumentError limits form tree) sink.old sink.new) }
 {
-    Err(Error::OutOfMemory)
+    let digests = payload_digests(alloc, images)?;
+    let lists = KeyLists::new(alloc, images)?;
+    let parts = Parts {
+        head,
+        images,
+        digests: &digests,
+        lists: &lists,
+    };
+    let document = tree_doc(alloc, parts, form, limits)?;
+    document.emit(sink)?;
+    if form == Form::External {
+        put_built_payloads(images, sink)?;
+    }
+    Ok(())
 }

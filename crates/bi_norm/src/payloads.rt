@@ -6,7 +6,10 @@ ghost use Rattle.bi_base.specs.Sinks.{Wrote};
 ghost use Rattle.bi_blob.specs.Layout.{longest_text, padding_to_4};
 ghost use Rattle.bi_fit.specs.Content.{read_image};
 ghost use Rattle.bi_fit.specs.Text.{payload_area, payloads_end};
+ghost use Rattle.bi_norm.specs.Building.{specifications_of};
+ghost use Rattle.bi_norm.specs.BuiltNodes.{payloads_of};
 
+use crate::building::ImageSpec;
 use bi_base::{Error, Sink};
 use bi_fit::Image;
 
@@ -23,6 +26,23 @@ pub(crate) fn put_payloads<S: Sink>(images: &[Image<'_>], sink: &mut S) -> Resul
         if let Some(payload) = image.payload {
             end = put_payload(end, payload, sink)?;
         }
+    }
+    Ok(())
+}
+
+/// Appends the payloads of images to be built in their order, each after zeros up to a multiple of
+/// four, also an empty one. Fails as the sink does.
+pub(crate) fn put_built_payloads<S: Sink>(
+    images: &[ImageSpec<'_>],
+    sink: &mut S,
+) -> Result<(), Error>
+    requires { payloads_end 0 (payloads_of (specifications_of images.now)) ≤ longest_text }
+    ensures { let payloads = payloads_of (specifications_of images.now) in
+        Wrote S.appends S.fails sink.old (payload_area 0 payloads) result sink.new }
+{
+    let mut end = 0;
+    for image in images {
+        end = put_payload(end, image.payload, sink)?;
     }
     Ok(())
 }

@@ -1,0 +1,62 @@
+use Rattle.std.proofs.Common.{◌≡◌, ◌<◌, ◌≤◌, List, [], ◌∷◌, length, refl, sym, ap, subst, ◌∙◌, inl, arith, ℕ}
+use Rattle.bi_base.specs.declared.fault.Error.{Error}
+use Rattle.bi_base.specs.declared.fault.Error.TheVariants.{Refused, OutOfMemory, ReadFailed, WriteFailed}
+use Rattle.bi_base.specs.Checks.{HasNoFault}
+use Rattle.bi_base.specs.Limits.{Bounds}
+use Rattle.bi_blob.specs.Layout.{longest_text}
+use Rattle.bi_blob.proofs.Texts.Members.{each-append}
+use Rattle.bi_fit.specs.declared.form.Form.{Form}
+use Rattle.bi_fit.specs.Building.{CanBeBuilt}
+use Rattle.bi_fit.specs.Documents.{IsDocumentError}
+use Rattle.bi_fit.specs.Laws.{IsAcceptedAs}
+use Rattle.bi_fit.specs.Text.{fit_text}
+use Rattle.bi_fit.proofs.Building.{built_is_accepted, built_has_good_payloads}
+use Rattle.bi_fit.proofs.BuiltConfigurations.{built_has_configuration}
+use Rattle.bi_fit.proofs.ReadImages.{fault_after}
+use Rattle.bi_norm.specs.declared.building.Head.{Head}
+use Rattle.bi_norm.specs.declared.building.ImageSpec.{ImageSpec}
+use Rattle.bi_norm.specs.Building.{head_of, specifications_of, tree_of_images, BuildPasses, build_fault, FitsLimit, image_checks, IsBuilt, IsBuildError, IsTextOfTree}
+use Rattle.bi_norm.specs.BuildChecks.{early_checks}
+use Rattle.bi_norm.specs.Outputs.{Appended, AppendFailed, WasRefused, SinkFailed}
+
+-- The texts of trees to be built.
+
+module _ (limits : Bounds) (form : Form) (head : Head) (images : List ImageSpec) (fine : HasNoFault (BuildPasses limits form head images) (early_checks images)) (can : CanBeBuilt (head_of head) (specifications_of images)) (most : limits.file ≤ longest_text) where
+  -- The text of the tree is what is built.
+  pub text_is_built : (text : List ℕ) → IsTextOfTree limits form (tree_of_images head images) text → IsBuilt limits form head images text
+  text_is_built text is =
+      let short : length (fit_text form (tree_of_images head images)) ≤ limits.file = subst (λ text. length text ≤ limits.file) is.is_text is.short in
+      record {
+        no_fault = (fine.0, (fine.1.0, each-append (BuildPasses limits form head images) (image_checks 0 [] images) (FitsLimit ∷ []) fine.1.1 (short, tt)));
+        is_text = is.is_text;
+        accepted = λ bounds same deep.
+            subst (λ text. IsAcceptedAs bounds text (tree_of_images head images)) (sym is.is_text)
+            (built_is_accepted bounds form (head_of head) (specifications_of images) can deep (omega (arith, same, short)) (omega (arith, same, most)));
+        payloads = built_has_good_payloads (head_of head) (specifications_of images);
+        configuration = built_has_configuration (head_of head) (specifications_of images) can;
+      }
+
+  -- An error of making the document is one of building.
+  document_error : (error : Error) → IsDocumentError limits form (tree_of_images head images) error → IsBuildError limits form head images error
+  document_error (Refused fault) is =
+      fault_after (BuildPasses limits form head images) (build_fault limits) (early_checks images) (FitsLimit ∷ []) fault fine
+      (inl ((λ fits. omega (arith, fits, is.1)), is.0))
+  document_error OutOfMemory is = tt
+  document_error ReadFailed is = is
+  document_error WriteFailed is = is
+
+  module _ {S : Type 0} (appends : S → List ℕ → S → Type 0) (fails : S → List ℕ → S → Error → Type 0) (old new : S) where
+    -- The text that was appended is what is built,
+    pub built_appended : Appended appends (IsTextOfTree limits form (tree_of_images head images)) old new → Appended appends (IsBuilt limits form head images) old new
+    built_appended done = record { text = done.text; is_text = text_is_built done.text done.is_text; appended = done.appended }
+
+    -- and a failure to append it is one to append that.
+    pub build_failed : (error : Error) → AppendFailed fails (IsTextOfTree limits form (tree_of_images head images)) (IsDocumentError limits form (tree_of_images head images)) old new error → AppendFailed fails (IsBuilt limits form head images) (IsBuildError limits form head images) old new error
+    build_failed error (WasRefused is same) = WasRefused (document_error error is) same
+    build_failed error (SinkFailed text is failed) = SinkFailed text (text_is_built text is) failed
+
+-- An error of building into memory is one of building.
+pub memory_build_error : {S : Type 0} (fails : S → List ℕ → S → Error → Type 0) (limits : Bounds) (form : Form) (head : Head) (images : List ImageSpec) (old new : S) (error : Error) → ((text : List ℕ) → fails old text new error → error ≡ OutOfMemory) → AppendFailed fails (IsBuilt limits form head images) (IsBuildError limits form head images) old new error → IsBuildError limits form head images error
+memory_build_error fails limits form head images old new error full (WasRefused is same) = is
+memory_build_error fails limits form head images old new error full (SinkFailed text is failed) =
+    subst (IsBuildError limits form head images) (sym (full text failed)) tt

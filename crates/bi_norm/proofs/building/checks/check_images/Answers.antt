@@ -1,0 +1,37 @@
+use Rattle.std.proofs.Common.{take, get_or, sym, subst, ◌∙◌, rules}
+use Rattle.std.proofs.lemmas.Bool.{not-true, not-false}
+use Rattle.std.proofs.lemmas.Result.{err_from_is_err_and}
+use Rattle.bi_fdt.specs.Growth.{Holds}
+use Rattle.bi_fdt.proofs.NameSets.{Holds-insert, Holds-new, Holds-held}
+use Rattle.bi_norm.proofs.ImageChecks.{names_of, no_image, names_more, image_fails, name_fails, passed_more, passed_all}
+use Rattle.bi_norm.proofs.building.checks.check_images.Goals as goal
+
+pub returns-in_err-check_image-clause-failed : goal.returns-in_err-check_image-clause-failed
+returns-in_err-check_image-clause-failed c =
+    let p = err_from_is_err_and c.from_residual.result c.from_residual.ensures.1 in
+    rw (p.1, p.2) (image_fails c.args.images.now c.loop-index.index no_image c.loop-index-test.true c.loop-index.invariant.passed c.in_err-check_image.field-0.0 c.in_err-check_image.ensures.failed)
+
+pub returns-then-not-branch-clause-failed : goal.returns-then-not-branch-clause-failed
+returns-then-not-branch-clause-failed c =
+    let images = c.args.images.now in
+    let index = c.loop-index.index in
+    let has = not-false _ (sym c.in_ok-insert.ensures.added ∙ c.if-not-branch.true) in
+    let held = Holds-held c.loop-index.names (get_or images index no_image).name (names_of (take index images)) c.loop-index.invariant.names has in
+    let first = name_fails images index no_image c.loop-index-test.true c.loop-index.invariant.passed c.in_ok-check_image.ensures.passed held in
+    search rules
+
+pub loop-index-preserved : goal.loop-index-preserved
+loop-index-preserved c =
+    let images = c.args.images.now in
+    let index = c.loop-index.index in
+    let lacks = not-true _ (sym c.in_ok-insert.ensures.added ∙ c.if-not-branch.false) in
+    let new = Holds-new c.loop-index.names (get_or images index no_image).name (names_of (take index images)) c.loop-index.invariant.names lacks in
+    record {
+      names = subst (Holds c.insert.new.self) (sym (names_more images index no_image c.loop-index-test.true c.loop-index.invariant.passed))
+          (Holds-insert c.loop-index.names c.insert.new.self (get_or images index no_image).name (names_of (take index images)) c.loop-index.invariant.names c.in_ok-insert.ensures.updates);
+      passed = passed_more images index no_image c.loop-index-test.true c.loop-index.invariant.passed c.in_ok-check_image.ensures.passed c.in_ok-check_image.ensures.bytes new;
+    }
+
+pub returns-clause-passed : goal.returns-clause-passed
+returns-clause-passed c =
+    c.loop-index.invariant.passed.passes (passed_all c.args.images.now c.loop-index.index c.loop-index-test.false)

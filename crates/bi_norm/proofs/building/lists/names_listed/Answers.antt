@@ -1,0 +1,22 @@
+use Rattle.std.proofs.Common.{◌≡◌, [], ◌∷◌, ◌+◌, ◌++◌, sym, ap, ◌∙◌, rules}
+use Rattle.bi_norm.proofs.ListedNames.{names_from, name_listed, name_left_out}
+use Rattle.bi_norm.proofs.building.lists.names_listed.Goals.{then-eq+in_ok-extend_from_slice+in_ok-push, else-eq}
+use Rattle.bi_norm.proofs.building.lists.names_listed.Goals as goal
+
+pub loop-image-preserved : goal.loop-image-preserved
+loop-image-preserved c =
+    let images = c.args.images.now in
+    let index = c.loop-image.image-index in
+    let key = c.args.key in
+    elim c.if-eq.branch [
+      | then-eq+in_ok-extend_from_slice+in_ok-push w ↦
+          let same : c.key_of_type.result ≡ key = search rules in
+          let added : c.if-eq.names.items ≡ (c.loop-image.names.items ++ _) ++ 0 ∷ [] = search rules in
+          ap (λ l. l ++ names_from key images (index + 1)) added
+          ∙ name_listed key images index _ c.loop-image-test.true (sym c.key_of_type.ensures ∙ same) c.loop-image.names.items
+          ∙ c.loop-image.invariant
+      | else-eq w ↦
+          let differs : ¬ (c.key_of_type.result ≡ key) = search rules in
+          rw w.names-is (name_left_out key images index _ c.loop-image-test.true (λ same. differs (c.key_of_type.ensures ∙ same)) c.loop-image.names.items
+          ∙ c.loop-image.invariant)
+    ]

@@ -1,0 +1,78 @@
+//! The lists of the configuration of a tree to be built.
+
+ghost use Rattle.std.specs.Prelude.{◌≡◌, ◌++◌, OnOk, IfOk, IfErr};
+ghost use Rattle.std.specs.List.{AllByRecursion};
+ghost use Rattle.std.specs.FinMap.{from_entries};
+ghost use Rattle.bi_base.specs.declared.fault.Error.TheVariants.{OutOfMemory};
+ghost use Rattle.bi_blob.specs.Layout.{strings_of};
+ghost use Rattle.bi_blob.specs.Tree.{Property};
+ghost use Rattle.bi_fit.specs.Building.{names_under, list_property};
+ghost use Rattle.bi_norm.specs.Building.{first_key, specifications_of};
+ghost use Rattle.bi_norm.specs.Building.{HasBuildableType};
+ghost use Rattle.bi_norm.specs.BuiltNodes.{AreKeyLists};
+ghost use Rattle.bi_norm.specs.Converting.{keys_of_type};
+
+use crate::building::ImageSpec;
+use bi_base::Error;
+use bi_fit::Key;
+use std::alloc::Global;
+
+/// The names of images to be built that each key of the configuration lists, each followed by a
+/// zero.
+#[derive(Drop)]
+pub(super) struct KeyLists {
+    pub(super) kernel: Vec<u8>,
+    pub(super) fdt: Vec<u8>,
+    pub(super) ramdisk: Vec<u8>,
+    pub(super) firmware: Vec<u8>,
+    pub(super) loadables: Vec<u8>,
+    pub(super) script: Vec<u8>,
+}
+
+impl KeyLists {
+    /// Lists the names of images by their types.
+    pub(super) fn new(alloc: Global, images: &[ImageSpec<'_>]) -> Result<KeyLists, Error>
+        ensures lists { IfOk result (λ lists. AreKeyLists (specifications_of images.now) lists) }
+        ensures failed { IfErr result (λ error. error ≡ OutOfMemory) }
+    {
+        Ok(KeyLists {
+            kernel: names_listed(alloc, images, Key::Kernel)?,
+            fdt: names_listed(alloc, images, Key::Fdt)?,
+            ramdisk: names_listed(alloc, images, Key::Ramdisk)?,
+            firmware: names_listed(alloc, images, Key::Firmware)?,
+            loadables: names_listed(alloc, images, Key::Loadables)?,
+            script: names_listed(alloc, images, Key::Script)?,
+        })
+    }
+}
+
+/// Returns the names of the images that a key lists, in their order, each followed by a zero.
+fn names_listed(alloc: Global, images: &[ImageSpec<'_>], key: Key) -> Result<Vec<u8>, Error>
+    ensures names { IfOk result (λ names. names.items
+        ≡ strings_of (names_under key (specifications_of images.now))) }
+    ensures failed { IfErr result (λ error. error ≡ OutOfMemory) }
+{
+    let mut names = Vec::new(alloc);
+    for image in images {
+        if key_of_type(image.image_type) == key {
+            names.extend_from_slice(image.name)?;
+            names.push(0)?;
+        }
+    }
+    Ok(names)
+}
+
+/// Returns the key under which the configuration lists images of a type. No image of any other type
+/// than these can be built.
+pub(super) fn key_of_type(image_type: u8) -> Key
+    ensures { result ≡ first_key (keys_of_type image_type) }
+{
+    match image_type {
+        1 => Key::Loadables,
+        3 => Key::Ramdisk,
+        5 => Key::Firmware,
+        6 => Key::Script,
+        8 => Key::Fdt,
+        _ => Key::Kernel,
+    }
+}
