@@ -8,3 +8,8 @@ pub mod ShownBytes
 pub mod Choices
 pub mod Opened
 pub mod Streams
+pub mod Outputs
+pub mod ConvertedFiles
+pub mod LegacyOutputs
+pub mod FitOutputs
+pub mod CodeWords

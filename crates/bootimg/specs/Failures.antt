@@ -11,7 +11,7 @@ use Rattle.bootimg.specs.declared.failure.Failure.{Failure}
 use Rattle.bootimg.specs.declared.failure.Failure.TheVariants.{Call, WrongKind, NoPart, NoImage}
 use Rattle.bootimg.specs.declared.failure.Failure.TheVariants.{NoConfig, NoKey, BadList, Missing}
 use Rattle.bootimg.specs.declared.failure.Failure.TheVariants.{NoIndex, NoPayload, NoSelection}
-use Rattle.bootimg.specs.declared.failure.Failure.TheVariants.{BadValue}
+use Rattle.bootimg.specs.declared.failure.Failure.TheVariants.{BadValue, BadImage}
 
 -- The failures of the program, and the text of each (profile of this project).
 
@@ -50,3 +50,4 @@ failure_text NoIndex = codes "no such entry"
 failure_text NoPayload = codes "no payload"
 failure_text NoSelection = codes "usage: give one of --part, --image, --config"
 failure_text BadValue = codes "usage: bad value"
+failure_text (BadImage index) = codes "usage: bad image " ++ decimal index

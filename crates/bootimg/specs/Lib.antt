@@ -1,3 +1,6 @@
+pub mod Building
+pub mod CodeWords
+pub mod CommandLine
 pub mod Extracting
 pub mod Failures
 pub mod Listing

@@ -1,36 +1,29 @@
 //! The command line.
 
-ghost use Rattle.std.specs.Prelude.{◌≡◌, Some, IfSome};
-ghost use Rattle.bi_fit.specs.declared.key.Key.{Key};
-ghost use Rattle.bi_fit.specs.Names.{key_name};
+mod build;
+mod extract;
+mod options;
+
+ghost use Rattle.std.specs.Prelude.{IfOk};
+ghost use Rattle.bootimg.specs.CommandLine.{HasLengths};
 
 use crate::extract::Select;
 use crate::failure::Failure;
-use crate::numbers::parse_number;
 use bi_base::{Error, Limits};
-use bi_fit::Key;
 use bi_norm::Form;
+pub use build::{FitPlan, LegacyPlan};
+use build::{build_fit, build_legacy, fit_plan, legacy_plan};
+use clap::Command;
 use clap::error::ErrorKind;
-use clap::{Arg, ArgAction, ArgMatches, Command};
-use std::alloc::{AllocError, Global};
+use extract::{extract, selection};
+use options::{external, form, limit, limits};
+use std::alloc::{AllocError, AllocFailed, Global};
 
 /// The version that `--version` prints.
 const VERSION: &str = "0.1.0";
 
-/// The default of `--limit`, in bytes: the greatest limit.
-const GREATEST_LIMIT: &str = "2147483647";
-
-/// The default of `--key`.
-const KERNEL_KEY: &str = "kernel";
-
-/// The default of `--index`.
-const FIRST_INDEX: &str = "0";
-
-/// The limit for the depth of a blob's tree.
-const DEPTH: u8 = 64;
-
 /// A command, and the options that only this command has.
-#[derive(Clone, Copy, Debug, PartialEq, Eq)]
+#[derive(Debug, Drop)]
 pub enum Task<'a> {
     /// Write the normal form. A flattened image tree has its payloads where the form says.
     Normalise(Form),
@@ -40,10 +33,16 @@ pub enum Task<'a> {
     Verify,
     /// Write what the selection chooses.
     Extract(Select<'a>),
+    /// Write the flattened image tree of a legacy image.
+    Convert,
+    /// Write a legacy image of the parts in the input.
+    BuildLegacy(LegacyPlan<'a>),
+    /// Write a flattened image tree of the payloads in the input.
+    BuildFit(FitPlan<'a>),
 }
 
 /// What the arguments request.
-#[derive(Clone, Copy, Debug, PartialEq, Eq)]
+#[derive(Debug, Drop)]
 pub struct Request<'a> {
     /// The command.
     pub task: Task<'a>,
@@ -75,6 +74,12 @@ impl From<AllocError> for Outcome {
     }
 }
 
+impl<T: Drop> From<AllocFailed<T>> for Outcome {
+    fn from(error: AllocFailed<T>) -> Outcome {
+        Outcome::Failure(Failure::Call(Error::from(error)))
+    }
+}
+
 impl From<Failure> for Outcome {
     fn from(failure: Failure) -> Outcome {
         Outcome::Failure(failure)
@@ -84,12 +89,11 @@ impl From<Failure> for Outcome {
 /// Parses the arguments, without the program's own name.
 ///
 /// Errors, the first that applies: what clap rejects; `extract` without exactly one selection; a
-/// number that is malformed or out of range, or an unknown key. A call that allocates may run out
-/// of memory.
-pub fn parse_arguments<'a>(
-    alloc: Global,
-    arguments: &'a [&'a str],
-) -> Result<Request<'a>, Outcome> {
+/// number that is malformed or out of range, an unknown code or an unknown key; an image of
+/// `build-fit` that cannot be read. A call that allocates may run out of memory.
+pub fn parse_arguments<'a>(alloc: Global, arguments: &'a [&'a str]) -> Result<Request<'a>, Outcome>
+    ensures lengths { IfOk result (λ request. HasLengths request.task) }
+{
     let matches = program(alloc)?.try_get_matches_from(arguments)?;
     let Some((name, options)) = matches.subcommand() else {
         return Err(no_command(alloc)?);
@@ -99,6 +103,13 @@ pub fn parse_arguments<'a>(
         "list" => Task::List,
         "verify" => Task::Verify,
         "extract" => Task::Extract(selection(options)?),
+        "convert" => Task::Convert,
+        "build-legacy" => Task::BuildLegacy(legacy_plan(alloc, options)?),
+        "build-fit" => {
+            // A bad limit comes before a bad image.
+            limits(options)?;
+            Task::BuildFit(fit_plan(alloc, options)?)
+        }
         _ => return Err(no_command(alloc)?),
     };
     let limits = limits(options)?;
@@ -117,7 +128,7 @@ fn program<'a>(alloc: Global) -> Result<Command<'a>, AllocError> {
         .bin_name("bootimg")?
         .no_binary_name(true)
         .version(VERSION)
-        .about("Normalises, lists, verifies and takes apart U-Boot boot images")
+        .about("Normalises, lists, verifies, takes apart, converts and builds U-Boot boot images")
         .after_help(
             "The image is read from standard input, and the output is written to standard \
              output. An\n\
@@ -131,14 +142,15 @@ fn program<'a>(alloc: Global) -> Result<Command<'a>, AllocError> {
         .subcommand(normalise(alloc)?)?
         .subcommand(list(alloc)?)?
         .subcommand(verify(alloc)?)?
-        .subcommand(extract(alloc)?)
+        .subcommand(extract(alloc)?)?
+        .subcommand(convert(alloc)?)?
+        .subcommand(build_legacy(alloc)?)?
+        .subcommand(build_fit(alloc)?)
 }
 
 fn normalise<'a>(alloc: Global) -> Result<Command<'a>, AllocError> {
-    let external = Arg::new(alloc, "external")
-        .long("external")
-        .help("Write the payloads of a flattened image tree after the tree, not inside it")
-        .action(ArgAction::SetTrue);
+    let external_help =
+        "Write the payloads of a flattened image tree after the tree, not inside it";
     Command::new(alloc, "normalise")
         .about("Write the normal form of an image")
         .override_usage("bootimg normalise [OPTIONS] < IMAGE > NORMAL")
@@ -153,7 +165,7 @@ fn normalise<'a>(alloc: Global) -> Result<Command<'a>, AllocError> {
              standard error has their number, if there are any.\n\n\
              Example: bootimg normalise < kernel.uimage > normal.uimage",
         )
-        .arg(external)?
+        .arg(external(alloc, external_help))?
         .arg(limit(alloc))
 }
 
@@ -191,152 +203,19 @@ fn verify<'a>(alloc: Global) -> Result<Command<'a>, AllocError> {
         .arg(limit(alloc))
 }
 
-fn extract<'a>(alloc: Global) -> Result<Command<'a>, AllocError> {
-    Command::new(alloc, "extract")
-        .about("Write one part or payload of an image")
-        .override_usage(
-            "bootimg extract (--part <N> | --image <NAME> | --config <NAME>) [OPTIONS] \
-             < IMAGE > PAYLOAD",
-        )
+fn convert<'a>(alloc: Global) -> Result<Command<'a>, AllocError> {
+    Command::new(alloc, "convert")
+        .about("Convert a legacy image to a flattened image tree")
+        .override_usage("bootimg convert [OPTIONS] < IMAGE > FIT")
         .after_help(
-            "Reads an image from standard input, and writes the bytes that are selected to \
-             standard\n\
-             output. A legacy image has parts: those in the list of sizes of a multi-file image \
-             or a\n\
-             script, and one part in any other image. The images of a flattened image tree have \
-             payloads.\n\n\
-             Hash nodes are not checked: verify does that.\n\n\
-             Numbers are decimal, or hexadecimal with 0x.\n\n\
-             Example: bootimg extract --part 1 < multi.uimage > ramdisk\n\
-             Example: bootimg extract --config conf-1 --key fdt < kernel.itb > board.dtb",
+            "Reads a legacy image from standard input, and writes a flattened image tree with \
+             the same\n\
+             payloads to standard output. The parts of a multi-file image become a kernel, a \
+             ramdisk and\n\
+             a devicetree, in this order. Each payload has its SHA-256, and configuration \
+             conf-1 lists\n\
+             the images.\n\n\
+             Example: bootimg convert < kernel.uimage > kernel.itb",
         )
-        .arg(part(alloc))?
-        .arg(image(alloc))?
-        .arg(config(alloc))?
-        .arg(key(alloc))?
-        .arg(index(alloc))?
         .arg(limit(alloc))
-}
-
-fn part<'a>(alloc: Global) -> Arg<'a> {
-    Arg::new(alloc, "part")
-        .long("part")
-        .value_name("N")
-        .help("Write part N, counted from 0, of a legacy image")
-        .action(ArgAction::Set)
-}
-
-fn image<'a>(alloc: Global) -> Arg<'a> {
-    Arg::new(alloc, "image")
-        .long("image")
-        .value_name("NAME")
-        .help("Write the payload of image NAME of a flattened image tree")
-        .action(ArgAction::Set)
-}
-
-fn config<'a>(alloc: Global) -> Arg<'a> {
-    Arg::new(alloc, "config")
-        .long("config")
-        .value_name("NAME")
-        .help("Write a payload that configuration NAME of a flattened image tree lists")
-        .action(ArgAction::Set)
-}
-
-fn key<'a>(alloc: Global) -> Arg<'a> {
-    Arg::new(alloc, "key")
-        .long("key")
-        .value_name("KEY")
-        .help("With --config: the list, one of kernel, fdt, ramdisk, firmware, loadables, script")
-        .default_value(KERNEL_KEY)
-        .action(ArgAction::Set)
-}
-
-fn index<'a>(alloc: Global) -> Arg<'a> {
-    Arg::new(alloc, "index")
-        .long("index")
-        .value_name("N")
-        .help("With --config: the entry of the list, counted from 0")
-        .default_value(FIRST_INDEX)
-        .action(ArgAction::Set)
-}
-
-/// The option that each command has.
-fn limit<'a>(alloc: Global) -> Arg<'a> {
-    Arg::new(alloc, "limit")
-        .long("limit")
-        .value_name("N")
-        .help("Refuse an image of more than N bytes: 64 to 2147483647, or in hexadecimal with 0x")
-        .default_value(GREATEST_LIMIT)
-        .action(ArgAction::Set)
-}
-
-/// Returns the limits that the options give. Fails with BadValue.
-fn limits(options: &ArgMatches<'_>) -> Result<Limits, Failure> {
-    let value = options.get_str("limit").unwrap_or(GREATEST_LIMIT);
-    parse_number(value)
-        .and_then(|file| Limits::new(file, DEPTH))
-        .ok_or(Failure::BadValue)
-}
-
-/// Returns the form that the options give.
-fn form(options: &ArgMatches<'_>) -> Form {
-    if options.get_flag("external") {
-        Form::External
-    } else {
-        Form::Embedded
-    }
-}
-
-/// Returns the selection that the options give. Fails with NoSelection if there is not exactly one,
-/// else with BadValue for the value of any of the options. The key and the index have no effect on
-/// a part or an image.
-fn selection<'a>(options: &ArgMatches<'a>) -> Result<Select<'a>, Failure> {
-    let part = options.get_str("part");
-    let image = options.get_str("image");
-    let config = options.get_str("config");
-    let entry = entry(options);
-    match (part, image, config) {
-        (Some(value), None, None) => {
-            entry?;
-            Ok(Select::Part(number(value)?))
-        }
-        (None, Some(name), None) => {
-            entry?;
-            Ok(Select::Image(name.as_bytes()))
-        }
-        (None, None, Some(name)) => {
-            let (key, index) = entry?;
-            Ok(Select::Config(name.as_bytes(), key, index))
-        }
-        _ => Err(Failure::NoSelection),
-    }
-}
-
-/// Returns the key and the index that the options give. Fails with BadValue.
-fn entry(options: &ArgMatches<'_>) -> Result<(Key, u32), Failure> {
-    let name = options.get_str("key").unwrap_or(KERNEL_KEY);
-    let index = options.get_str("index").unwrap_or(FIRST_INDEX);
-    let key = parse_key(name).ok_or(Failure::BadValue)?;
-    Ok((key, number(index)?))
-}
-
-/// Parses a number. Fails with BadValue.
-fn number(value: &str) -> Result<u32, Failure> {
-    parse_number(value).ok_or(Failure::BadValue)
-}
-
-/// Parses the name of a key. Returns None exactly for any other text.
-fn parse_key(name: &str) -> Option<Key>
-    ensures some { IfSome result (λ key. name.now ≡ key_name key) }
-    ensures exactly { (key : Key) → name.now ≡ key_name key → result ≡ Some key }
-{
-    match name {
-        "kernel" => Some(Key::Kernel),
-        "fdt" => Some(Key::Fdt),
-        "ramdisk" => Some(Key::Ramdisk),
-        "firmware" => Some(Key::Firmware),
-        "loadables" => Some(Key::Loadables),
-        "script" => Some(Key::Script),
-        _ => None,
-    }
 }

@@ -34,8 +34,10 @@ pub enum Failure {
     NoPayload,
     /// `extract` needs exactly one selection.
     NoSelection,
-    /// The value of an option is malformed or out of range.
+    /// The value of an option, or a length, is malformed or out of range.
     BadValue,
+    /// The argument at this index, from 0, of `build-fit` is no image.
+    BadImage(usize),
 }
 
 impl From<Error> for Failure {
@@ -89,6 +91,7 @@ impl fmt::Display for Failure {
             Failure::NoPayload => f.write_str("no payload"),
             Failure::NoSelection => f.write_str("usage: give one of --part, --image, --config"),
             Failure::BadValue => f.write_str("usage: bad value"),
+            Failure::BadImage(index) => write!(f, "usage: bad image {index}"),
         }
     }
 }

@@ -1,7 +1,10 @@
-//! `bootimg` normalises, lists, verifies and extracts from U-Boot's boot images.
+//! `bootimg` normalises, lists, verifies, extracts from, converts and builds U-Boot's boot images.
 #![tactic(auto)]
 
+mod building;
+mod codes;
 mod command_line;
+mod converting;
 mod extract;
 mod failure;
 #[cfg(test)]

@@ -1,12 +1,13 @@
 //! Tests of normal forms, from files and from readers to writers.
 
 use crate::images::{
-    EMPTY_KERNEL, FIRST_PART_TOO_LONG, KERNEL, LESS_THAN_A_SIZE, NO_END_OF_SIZES, NO_PARTS,
-    PADDED_KERNEL, PADDED_PARTS, PARTS, SCRIPT, SECOND_PART_TOO_LONG, TREE,
+    EMPTY_KERNEL, EMPTY_PAYLOAD, FIRST_PART_TOO_LONG, KERNEL, LESS_THAN_A_SIZE, NO_END_OF_SIZES,
+    NO_PARTS, NO_PAYLOAD, PADDED_KERNEL, PADDED_PARTS, PARTS, SCRIPT, SECOND_PART_TOO_LONG,
+    THREE_PAYLOADS, THREE_PAYLOADS_EXTERNAL, TREE,
 };
 use bi_base::{Cause, Error, Fault, Limits, VecSink};
 use bi_legacy::{Fields, emit};
-use bi_norm::{Form, normalise, normalise_into, normalise_to};
+use bi_norm::{Form, normalise, normalise_into, normalise_to, same_meaning};
 use scripted_io::{Script, ScriptedReader, ScriptedWriter, Turn};
 use std::alloc::Global;
 use std::test::Fail;
@@ -207,5 +208,51 @@ fn many_parts_make_few_writes(rt: HostRuntime) -> Result<(), Fail> {
         "{} writes",
         writer.writes
     );
+    Ok(())
+}
+
+#[test]
+fn files_are_compared(rt: HostRuntime) -> Result<(), Fail> {
+    for (one, other, same) in [
+        (PADDED_KERNEL.as_slice(), KERNEL.as_slice(), true),
+        (PADDED_PARTS.as_slice(), PARTS.as_slice(), true),
+        (
+            THREE_PAYLOADS.as_slice(),
+            THREE_PAYLOADS_EXTERNAL.as_slice(),
+            true,
+        ),
+        (KERNEL.as_slice(), EMPTY_KERNEL.as_slice(), false),
+        (NO_PAYLOAD.as_slice(), EMPTY_PAYLOAD.as_slice(), false),
+        (KERNEL.as_slice(), TREE.as_slice(), false),
+    ] {
+        let limits = limits(1000)?;
+        assert_eq!(rt; same_meaning(rt.alloc(), one, other, limits), Ok(same));
+        assert_eq!(rt; same_meaning(rt.alloc(), other, one, limits), Ok(same));
+    }
+    Ok(())
+}
+
+#[test]
+fn files_that_mean_nothing_are_not_compared(rt: HostRuntime) -> Result<(), Fail> {
+    for (one, other, cause, offset) in [
+        (
+            KERNEL.as_slice(),
+            b"\x01\x02\x03\x04".as_slice(),
+            Cause::BadMagic,
+            0,
+        ),
+        (
+            b"\x01\x02\x03\x04".as_slice(),
+            KERNEL.as_slice(),
+            Cause::BadMagic,
+            0,
+        ),
+        (TREE.as_slice(), &KERNEL[..64], Cause::Truncated, 12),
+        (&TREE[..87], &KERNEL[..64], Cause::Truncated, 4),
+    ] {
+        let refused = Error::Refused(Fault { cause, offset });
+        let result = same_meaning(rt.alloc(), one, other, limits(1000)?);
+        assert_eq!(rt; result, Err(refused));
+    }
     Ok(())
 }

@@ -2,6 +2,8 @@
 //! script tests/refused_growths.sh adds a test for each allocation of each call, which has this
 //! one refused.
 
+use crate::building::{build_fit_to, build_legacy_to};
+use crate::converting::convert_to;
 use crate::extract::{ExtractError, Select, extract_to};
 use crate::images::{
     CONFIGURED, CONFIGURED_LISTING, EMPTY_PAYLOAD_HASHED, PADDED_PARTS, PARTS, PARTS_LISTING,
@@ -12,7 +14,8 @@ use crate::report::verify_to;
 use crate::run::run;
 use bi_base::{Error, Limits, Sink, VecSink, read_all};
 use bi_fit::Key;
-use bi_norm::{Form, normalise, normalise_into, normalise_to};
+use bi_legacy::Fields;
+use bi_norm::{Form, Head, ImageSpec, normalise, normalise_into, normalise_to, same_meaning};
 use scripted_io::{Script, ScriptedReader, Turn};
 use std::alloc::Global;
 use std::process::Abort;
@@ -250,6 +253,143 @@ fn verifies_to(rt: &(impl Abort + AllocGlobal), number: u64) -> Result<bool, Fai
     Ok(check(rt, was_refused, succeeded, failed))
 }
 
+fn converts_to(rt: &(impl Abort + AllocGlobal), number: u64) -> Result<bool, Fail> {
+    let limits = limits()?;
+    let mut wanted = Vec::new(rt.alloc());
+    let trial = Trial::new(rt.alloc(), number);
+    let mut reader = PADDED_PARTS.as_slice();
+    let mut buffer = [0u8; 1024];
+    let mut writer = buffer.as_mut_slice();
+    let result = convert_to(rt.alloc(), &mut reader, &mut writer, limits);
+    let was_refused = trial.was_refused();
+    let left = writer.len();
+    let text = written(&buffer, left);
+    convert_to(rt.alloc(), &mut PARTS.as_slice(), &mut wanted, limits)?;
+    let succeeded = result == Ok(()) && text == wanted.as_slice();
+    let failed = result == Err(Error::OutOfMemory) && text.is_empty();
+    Ok(check(rt, was_refused, succeeded, failed))
+}
+
+fn builds_legacy_to(rt: &(impl Abort + AllocGlobal), number: u64) -> Result<bool, Fail> {
+    let limits = limits()?;
+    let fields = Fields {
+        time: 0,
+        load: 0x8000,
+        entry: 0x8000,
+        os: 5,
+        arch: 2,
+        image_type: 4,
+        compression: 0,
+        name: b"k",
+    };
+    let mut reader = b"helloabc".as_slice();
+    let mut buffer = [0u8; 1024];
+    let mut writer = buffer.as_mut_slice();
+    let trial = Trial::new(rt.alloc(), number);
+    let lengths = [5, 3];
+    let result = build_legacy_to(
+        rt.alloc(),
+        &mut reader,
+        &mut writer,
+        fields,
+        &lengths,
+        limits,
+    );
+    let was_refused = trial.was_refused();
+    let left = writer.len();
+    let text = written(&buffer, left);
+    let succeeded = result == Ok(()) && text == PARTS.as_slice();
+    let failed = result == Err(Error::OutOfMemory) && text.is_empty();
+    Ok(check(rt, was_refused, succeeded, failed))
+}
+
+/// The image of a kernel, without its payload.
+const KERNEL_SPEC: ImageSpec = ImageSpec {
+    name: b"kernel-1",
+    image_type: 2,
+    arch: 2,
+    os: 5,
+    compression: 0,
+    load: Some(0x8000),
+    entry: Some(0x8000),
+    payload: b"",
+};
+
+/// Builds a flattened image tree with one image in a form, from a reader to a writer.
+fn builds_fit(rt: &(impl Abort + AllocGlobal), number: u64, form: Form) -> Result<bool, Fail> {
+    let limits = limits()?;
+    let head = Head {
+        description: b"k",
+        time: 0,
+    };
+    let images = [KERNEL_SPEC];
+    let mut wanted = Vec::new(rt.alloc());
+    let trial = Trial::new(rt.alloc(), number);
+    let mut reader = b"hello".as_slice();
+    let mut buffer = [0u8; 1024];
+    let mut writer = buffer.as_mut_slice();
+    let alloc = rt.alloc();
+    let result = build_fit_to(
+        alloc,
+        &mut reader,
+        &mut writer,
+        head,
+        &images,
+        &[5],
+        form,
+        limits,
+    );
+    let was_refused = trial.was_refused();
+    let left = writer.len();
+    let text = written(&buffer, left);
+    let mut reader = b"hello".as_slice();
+    build_fit_to(
+        alloc,
+        &mut reader,
+        &mut wanted,
+        head,
+        &images,
+        &[5],
+        form,
+        limits,
+    )?;
+    let succeeded = result == Ok(()) && text == wanted.as_slice();
+    let failed = result == Err(Error::OutOfMemory) && text.is_empty();
+    Ok(check(rt, was_refused, succeeded, failed))
+}
+
+fn builds_embedded(rt: &(impl Abort + AllocGlobal), number: u64) -> Result<bool, Fail> {
+    builds_fit(rt, number, Form::Embedded)
+}
+
+fn builds_external(rt: &(impl Abort + AllocGlobal), number: u64) -> Result<bool, Fail> {
+    builds_fit(rt, number, Form::External)
+}
+
+/// Compares two files, whose meanings are the same or not.
+fn compares_files(
+    rt: &(impl Abort + AllocGlobal),
+    number: u64,
+    files: [&[u8]; 2],
+    same: bool,
+) -> Result<bool, Fail> {
+    let limits = limits()?;
+    let trial = Trial::new(rt.alloc(), number);
+    let result = same_meaning(rt.alloc(), files[0], files[1], limits);
+    let was_refused = trial.was_refused();
+    let failed = result == Err(Error::OutOfMemory);
+    Ok(check(rt, was_refused, result == Ok(same), failed))
+}
+
+fn compares(rt: &(impl Abort + AllocGlobal), number: u64) -> Result<bool, Fail> {
+    compares_files(rt, number, [PADDED_PARTS, PARTS], true)
+}
+
+fn compares_trees(rt: &(impl Abort + AllocGlobal), number: u64) -> Result<bool, Fail> {
+    let trees: [&[u8]; 2] = [THREE_PAYLOADS, THREE_PAYLOADS_EXTERNAL];
+    compares_files(rt, number, trees, true)
+}
+
 /// What a run of the program did: its exit status, and what it wrote to standard output and
 /// standard error, each with how many bytes of the buffer are left.
 #[derive(Clone, Copy, PartialEq, Eq)]
@@ -306,6 +446,24 @@ fn runs_extract(rt: &(impl Abort + AllocGlobal), number: u64) -> Result<bool, Fa
     Ok(runs(rt, number, &["extract", "--part", "1"], 0))
 }
 
+fn runs_convert(rt: &(impl Abort + AllocGlobal), number: u64) -> Result<bool, Fail> {
+    Ok(runs(rt, number, &["convert"], 0))
+}
+
+fn runs_build_legacy(rt: &(impl Abort + AllocGlobal), number: u64) -> Result<bool, Fail> {
+    let args = ["build-legacy", "--os=5", "--arch=2", "--type=4", "80", "7"];
+    Ok(runs(rt, number, &args, 0))
+}
+
+fn runs_build_fit(rt: &(impl Abort + AllocGlobal), number: u64) -> Result<bool, Fail> {
+    let args = ["build-fit", "a:2:2:5:0:-:-:87"];
+    Ok(runs(rt, number, &args, 0))
+}
+
+fn runs_bad_image(rt: &(impl Abort + AllocGlobal), number: u64) -> Result<bool, Fail> {
+    Ok(runs(rt, number, &["build-fit", "a:2:2:5:0:-:-:87", "b"], 2))
+}
+
 fn runs_help(rt: &(impl Abort + AllocGlobal), number: u64) -> Result<bool, Fail> {
     Ok(runs(rt, number, &["help", "list"], 0))
 }
@@ -336,9 +494,19 @@ fn each_call_succeeds_where_no_allocation_is_refused(rt: HostRuntime) -> Result<
     assert!(rt; !normalises_external(&rt, 0)?);
     assert!(rt; !lists_tree(&rt, 0)?);
     assert!(rt; !verifies_to(&rt, 0)?);
+    assert!(rt; !converts_to(&rt, 0)?);
+    assert!(rt; !builds_legacy_to(&rt, 0)?);
+    assert!(rt; !builds_embedded(&rt, 0)?);
+    assert!(rt; !builds_external(&rt, 0)?);
+    assert!(rt; !compares(&rt, 0)?);
+    assert!(rt; !compares_trees(&rt, 0)?);
     assert!(rt; !runs_normalise(&rt, 0)?);
     assert!(rt; !runs_list(&rt, 0)?);
     assert!(rt; !runs_extract(&rt, 0)?);
+    assert!(rt; !runs_convert(&rt, 0)?);
+    assert!(rt; !runs_build_legacy(&rt, 0)?);
+    assert!(rt; !runs_build_fit(&rt, 0)?);
+    assert!(rt; !runs_bad_image(&rt, 0)?);
     assert!(rt; !runs_help(&rt, 0)?);
     assert!(rt; !runs_version(&rt, 0)?);
     assert!(rt; !runs_unknown_argument(&rt, 0)?);

@@ -1,8 +1,11 @@
 //! The program, over any three streams.
 
 ghost use Rattle.std.specs.Prelude.{◌≡◌, ◌⊎◌, IfOk};
+ghost use Rattle.bootimg.specs.CommandLine.{HasLengths};
 
+use crate::building::{build_fit_to, build_legacy_to};
 use crate::command_line::{Outcome, Request, Task, parse_arguments};
+use crate::converting::convert_to;
 use crate::extract::extract_to;
 use crate::failure::Failure;
 use crate::listing::list_to;
@@ -65,12 +68,13 @@ fn perform<R: Read, W: Write, E: Write>(
     writer: &mut W,
     errors: &mut E,
 ) -> Result<u8, Failure>
+    requires lengths { HasLengths request.now.task }
     ensures status { IfOk result (λ status. (status ≡ 0) ⊎ (status ≡ 1)) }
 {
     let limits = request.limits;
-    match request.task {
+    match &request.task {
         Task::Normalise(form) => {
-            let count = normalise_to(alloc, reader, writer, form, limits)?;
+            let count = normalise_to(alloc, reader, writer, *form, limits)?;
             note_signatures(errors, count);
         }
         Task::List => list_to(alloc, reader, writer, limits)?,
@@ -79,7 +83,21 @@ fn perform<R: Read, W: Write, E: Write>(
                 return Ok(NOT_GOOD);
             }
         }
-        Task::Extract(select) => extract_to(alloc, reader, writer, select, limits)?,
+        Task::Extract(select) => extract_to(alloc, reader, writer, *select, limits)?,
+        Task::Convert => convert_to(alloc, reader, writer, limits)?,
+        Task::BuildLegacy(plan) => {
+            build_legacy_to(alloc, reader, writer, plan.fields, &plan.lengths, limits)?;
+        }
+        Task::BuildFit(plan) => build_fit_to(
+            alloc,
+            reader,
+            writer,
+            plan.head,
+            &plan.images,
+            &plan.lengths,
+            plan.form,
+            limits,
+        )?,
     }
     Ok(DONE)
 }

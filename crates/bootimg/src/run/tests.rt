@@ -1,3 +1,5 @@
+mod building;
+
 use super::run;
 use crate::images::{
     CONFIGURED, CONFIGURED_LISTING, EMPTY_KERNEL, EMPTY_PAYLOAD, EMPTY_PAYLOAD_HASHED,
@@ -629,7 +631,7 @@ fn shows<'a>(
 }
 
 /// The usage line of each command, which shows where the image comes from.
-const USAGES: [(&str, &str); 4] = [
+const USAGES: [(&str, &str); 5] = [
     (
         "normalise",
         "Usage: bootimg normalise [OPTIONS] < IMAGE > NORMAL\n",
@@ -640,6 +642,10 @@ const USAGES: [(&str, &str); 4] = [
         "extract",
         "Usage: bootimg extract (--part <N> | --image <NAME> | --config <NAME>) [OPTIONS] \
          < IMAGE > PAYLOAD\n",
+    ),
+    (
+        "convert",
+        "Usage: bootimg convert [OPTIONS] < IMAGE > FIT\n",
     ),
 ];
 
@@ -685,7 +691,7 @@ fn help_that_cannot_be_written_is_a_failure(rt: HostRuntime) {
 #[test]
 fn unknown_arguments_are_refused(rt: HostRuntime) -> Result<(), Fail> {
     shows(&rt, &[], 2, "Usage: bootimg <COMMAND>\n")?;
-    for command in ["convert", "build-legacy", "build-fit", "Normalise", ""] {
+    for command in ["Convert", "build", "build_fit", "Normalise", ""] {
         shows(&rt, &[command], 2, "Usage: bootimg <COMMAND>\n")?;
     }
     shows(
