@@ -36,7 +36,7 @@ boundary() {
         grep "^$crate:" all/crates.txt
     done > "$lower/crates.txt"
     echo "$2 $3 $4" > "$lower/case"
-    echo "cd '$work/$lower/crates/$2' && rt check --only '$3' > '$work/$lower/log' 2>&1" > "$lower/check.sh"
+    echo "cd '$work/$lower/crates/$2' && rt check --jobs 1 --only '$3' > '$work/$lower/log' 2>&1" > "$lower/check.sh"
 }
 
 # replace FILE OLD NEW: writes NEW in place of OLD, which is in the file once.
@@ -99,7 +99,7 @@ unprove fit/Fit/to_doc returns-clause-document
 
 # The other functions of bi_norm use the contract of BootImage::read, too. In the copy they call a function that still has it.
 boundary bi_norm bootimg listing::listing returns-in-Legacy-clause-lists
-edit src/image.rt '    pub fn read(' "    pub(crate) fn read<'a>("
+edit src/image.rt 'pub fn read(' "pub(crate) fn read<'a>("
 edit src/image.rt "
 impl<'a> BootImage<'a> {" "
 impl<'a> BootImage<'a> {
@@ -107,16 +107,16 @@ impl<'a> BootImage<'a> {
         ensures opened { result ≡ result }
         ensures failed { IfErr result (IsOpenError limits file.entry.now) }
     {
-        Opened::read(alloc, file, limits)
+        WholeContract::read(alloc, file, limits)
     }
 }
 
-pub(crate) struct Opened;
+pub(crate) struct WholeContract;
 
-impl Opened {"
-sed -i 's/BootImage::read(/crate::image::Opened::read(/' bi_norm/crates/bi_norm/src/*.rt
-mv bi_norm/crates/bi_norm/proofs/image/BootImage bi_norm/crates/bi_norm/proofs/image/Opened
-sed -i 's/\.BootImage\.read\.Goals/.Opened.read.Goals/' bi_norm/crates/bi_norm/proofs/image/Opened/read/Answers.antt
+impl WholeContract {"
+find bi_norm/crates/bi_norm/src -name '*.rt' -exec sed -i 's/BootImage::read(/crate::image::WholeContract::read(/' {} +
+mv bi_norm/crates/bi_norm/proofs/image/BootImage bi_norm/crates/bi_norm/proofs/image/WholeContract
+sed -i 's/\.BootImage\.read\./.WholeContract.read./' bi_norm/crates/bi_norm/proofs/image/WholeContract/read/Answers.antt
 
 # is_proved LOWER: the crate whose clause was taken away is proved.
 is_proved() {
