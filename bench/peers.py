@@ -96,7 +96,7 @@ for name, source, rows in [LARGE_LEGACY, LARGE_TREE, EXTERNAL_TREE, MANY_NODES, 
         try:
             results = measure([ours(line, source), *(tool(peer, source) for peer in peers)], ROUNDS)
         except Failed as failure:
-            failures.append(f"{name}, `{short(line)}`: {failure}.")
+            failures.append(f"{name}: {failure}.")
             continue
         seconds, memory = results[0]
         for peer, (its_seconds, its_memory) in zip(peers, results[1:]):

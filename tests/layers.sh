@@ -97,26 +97,29 @@ boundary bi_fit bi_norm normal_form::emit_fit emit-requires-clause-closed
 edit src/document.rt '{ IfOk result (IsDocument limits form (tree_of self.now)) }' '{ result ≡ result }'
 unprove fit/Fit/to_doc returns-clause-document
 
-# The other functions of bi_norm use the contract of BootImage::read, too. In the copy they call a function that still has it.
+# The other functions of bi_norm use the contract of BootImage::read, too. So bootimg calls another function in the copy, which is
+# the same but for its contract.
 boundary bi_norm bootimg listing::listing returns-in-Legacy-clause-lists
-edit src/image.rt 'pub fn read(' "pub(crate) fn read<'a>("
-edit src/image.rt "
-impl<'a> BootImage<'a> {" "
-impl<'a> BootImage<'a> {
-    pub fn read(alloc: Global, file: &'a [u8], limits: Limits) -> Result<BootImage<'a>, Error>
-        ensures opened { result ≡ result }
-        ensures failed { IfErr result (IsOpenError limits file.entry.now) }
-    {
-        WholeContract::read(alloc, file, limits)
-    }
+cat > bi_norm/crates/bi_norm/src/less.rt << 'END'
+ghost use Rattle.std.specs.Prelude.{◌≡◌, IfErr};
+ghost use Rattle.bi_norm.specs.NormalForm.{IsOpenError};
+
+use crate::image::BootImage;
+use bi_base::{Error, Limits};
+use std::alloc::Global;
+
+pub fn read<'a>(alloc: Global, file: &'a [u8], limits: Limits) -> Result<BootImage<'a>, Error>
+    ensures opened { result ≡ result }
+    ensures failed { IfErr result (IsOpenError limits file.entry.now) }
+{
+    BootImage::read(alloc, file, limits)
 }
-
-pub(crate) struct WholeContract;
-
-impl WholeContract {"
-find bi_norm/crates/bi_norm/src -name '*.rt' -exec sed -i 's/BootImage::read(/crate::image::WholeContract::read(/' {} +
-mv bi_norm/crates/bi_norm/proofs/image/BootImage bi_norm/crates/bi_norm/proofs/image/WholeContract
-sed -i 's/\.BootImage\.read\./.WholeContract.read./' bi_norm/crates/bi_norm/proofs/image/WholeContract/read/Answers.antt
+END
+edit src/lib.rt '
+mod image;' '
+mod image;
+pub mod less;'
+check "bootimg calls BootImage::read" replace bi_norm/crates/bootimg/src/listing.rt 'BootImage::read(' 'bi_norm::less::read('
 
 # is_proved LOWER: the crate whose clause was taken away is proved.
 is_proved() {
@@ -131,7 +134,8 @@ is_refused() {
 }
 
 if [ "$failed" = 0 ]; then
-    printf '%s\n' */check.sh | xargs -n 1 -P 2 sh
+    # The case of the highest crate takes longest.
+    printf '%s\n' */check.sh | sort -r | xargs -n 1 -P 2 sh
     for log in */log; do
         lower=${log%/log}
         read -r upper function goal < "$lower/case"
