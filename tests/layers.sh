@@ -15,7 +15,7 @@ work_in_new_directory
 
 # What the checks kept is copied once. The copy for a boundary has hard links to that, since rt replaces each file that it changes.
 mkdir all
-(cd "$root" && tar cf - HANDLES crates.txt crates) | (cd all && tar xf -)
+cp -a "$root/HANDLES" "$root/crates.txt" "$root/crates" all
 
 # crates_below CRATE: the crate, and those of the workspace that it uses, one a line. Some come twice.
 crates_below() {
