@@ -62,7 +62,9 @@ edit() {
 unprove() {
     answers=$lower/crates/$lower/proofs/$1/Answers.antt
     check "$lower: $1 has answers" test -f "$answers"
-    if [ $# = 1 ]; then
+    if [ ! -f "$answers" ]; then
+        return
+    elif [ $# = 1 ]; then
         rm "$answers"
     else
         # An empty line ends an answer.
