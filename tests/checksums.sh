@@ -9,14 +9,8 @@ root=$(cd "$(dirname "$0")/.." && pwd)
 . "$root/tests/common"
 
 need python3 python3
-"$root/bootimg" --version > /dev/null
-check "the program runs" "$root/bootimg" --version
-[ "$failed" = 0 ] || finish
-
-work=$(mktemp -d)
-trap 'rm -rf "$work"' EXIT
-trap 'exit 1' HUP INT TERM
-cd "$work" || exit 2
+need_program
+work_in_new_directory
 
 # image SEED LENGTH: a kernel image with random data of this length, whose checksums are zlib's.
 image() {

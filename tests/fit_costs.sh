@@ -10,14 +10,8 @@ root=$(cd "$(dirname "$0")/.." && pwd)
 
 need python3 python3
 need coreutils sha256sum
-"$root/bootimg" --version > /dev/null
-check "the program is there" "$root/bootimg" --version
-[ "$failed" = 0 ] || finish
-
-work=$(mktemp -d)
-trap 'rm -rf "$work"' EXIT
-trap 'exit 1' HUP INT TERM
-cd "$work" || exit 2
+need_program
+work_in_new_directory
 
 cat > costs.py << 'END'
 """Makes large flattened image trees, runs commands on them, and prints and judges what they take."""

@@ -7,9 +7,7 @@ root=$(cd "$(dirname "$0")/.." && pwd)
 . "$root/tests/common"
 
 need python3 python3
-"$root/bootimg" --version > /dev/null
-check "the program is there" "$root/bootimg" --version
-[ "$failed" = 0 ] || finish
+need_program
 
 python3 - "$root/crates/bootimg/out/bootimg" << 'END'
 import struct

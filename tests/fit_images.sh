@@ -14,14 +14,8 @@ need u-boot-tools mkimage dumpimage
 need device-tree-compiler dtc fdtget
 need openssl openssl
 need python3 python3
-"$root/bootimg" --version > /dev/null
-check "the program is there" "$root/bootimg" --version
-[ "$failed" = 0 ] || finish
-
-work=$(mktemp -d)
-trap 'rm -rf "$work"' EXIT
-trap 'exit 1' HUP INT TERM
-cd "$work" || exit 2
+need_program
+work_in_new_directory
 
 # noise SEED COUNT: writes this many bytes, the same ones each time.
 noise() {

@@ -10,14 +10,8 @@ export SOURCE_DATE_EPOCH=1000000000
 
 need u-boot-tools mkimage dumpimage
 need python3 python3
-"$root/bootimg" --version > /dev/null
-check "the program is there" "$root/bootimg" --version
-[ "$failed" = 0 ] || finish
-
-work=$(mktemp -d)
-trap 'rm -rf "$work"' EXIT
-trap 'exit 1' HUP INT TERM
-cd "$work" || exit 2
+need_program
+work_in_new_directory
 
 # gives WANTED INPUT ARGUMENT..: the program with these arguments, on the file INPUT, writes the contents of the file WANTED, and
 # nothing to standard error.
