@@ -1,4 +1,4 @@
-use Rattle.std.proofs.Common.{◌≡◌, ◌<◌, ◌≤◌, ℕ, List, length, refl, inl, ap, subst, sym, ◌∙◌, arith}
+use Rattle.std.proofs.Common.{◌≡◌, ◌≤◌, ℕ, List, length, ap, subst, sym, ◌∙◌, arith}
 use Rattle.bi_base.specs.declared.fault.Error.{Error}
 use Rattle.bi_base.specs.declared.fault.Error.TheVariants.{Refused, OutOfMemory, ReadFailed, WriteFailed}
 use Rattle.bi_base.specs.Limits.{Bounds}
@@ -13,8 +13,7 @@ use Rattle.bi_legacy.specs.Meaning.{LegacyImage}
 use Rattle.bi_legacy.specs.Reading.{ParsedImage, IsParsedImage}
 use Rattle.bi_legacy.proofs.ImageOfFile.{image_of_file}
 use Rattle.bi_norm.specs.Building.{IsTextOfTree}
-use Rattle.bi_norm.specs.Converting.{converted_images, fit_of, CanBeConverted, IsConvertedFile, IsConvertError, NotLegacy, TextTooLong}
-use Rattle.bi_base.specs.Reading.{too_large}
+use Rattle.bi_norm.specs.Converting.{converted_images, fit_of, CanBeConverted, IsConvertedFile, IsConvertError, TextTooLong}
 use Rattle.bi_norm.proofs.ConvertedImages.{converted_can_be_built, converted_is_accepted}
 
 -- Legacy images that were read and are converted.
@@ -55,8 +54,3 @@ is_convert_error limits file parsed tree (Refused fault) opened can same is =
 is_convert_error limits file parsed tree OutOfMemory opened can same is = record { image = parsed.image; means = opened.means; can = can }
 is_convert_error limits file parsed tree ReadFailed opened can same is = is
 is_convert_error limits file parsed tree WriteFailed opened can same is = is
-
--- A file that is too long is refused.
-pub too_long_is_not_converted : (limits : Bounds) (file : List ℕ) → limits.file < length file → IsConvertError limits file (Refused (too_large limits.file))
-too_long_is_not_converted limits file longer =
-    NotLegacy (inl (λ short. omega (arith, longer, short), refl)) (λ image means. omega (arith, longer, means.short))
