@@ -3,6 +3,7 @@ use Rattle.std.proofs.lemmas.Bool.{cases_lt, false≢true}
 use Rattle.std.proofs.lemmas.Bool.Decides.{eqb_tells}
 use Rattle.bi_base.specs.Reading.{too_large}
 use Rattle.bi_legacy.specs.File.{legacy_magic}
+use Rattle.bi_norm.specs.Converting.{IsConvertError, NotLegacy}
 use Rattle.bi_norm.specs.Faults.{IsFileFault, OfLegacyImage, OfTree}
 use Rattle.bi_base.specs.declared.fault.Error.{Error}
 use Rattle.bi_base.specs.declared.fault.Error.TheVariants.{Refused, OutOfMemory, ReadFailed, WriteFailed}
@@ -97,6 +98,11 @@ too_long_is_file_fault limits file longer =
       | inl begins ↦ OfLegacyImage begins (inl (λ short. omega (arith, longer, short), refl))
       | inr other ↦ OfTree other (InBlob (InHeader (inl (λ short. omega (arith, longer, short), refl))))
     ]
+
+-- It is not converted.
+pub too_long_is_not_converted : (limits : Bounds) (file : List ℕ) → limits.file < length file → IsConvertError limits file (Refused (too_large limits.file))
+too_long_is_not_converted limits file longer =
+    NotLegacy (inl (λ short. omega (arith, longer, short), refl)) (λ image means. omega (arith, longer, means.short))
 
 -- A file that is too long means nothing.
 pub too_long_means_nothing : (limits : Bounds) (file : List ℕ) → limits.file < length file → MeansNothing limits file

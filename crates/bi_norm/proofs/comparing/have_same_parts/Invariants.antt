@@ -1,5 +1,4 @@
-use Rattle.std.proofs.Common.{◌≡◌, ◌↔◌, List, ℕ, length, map}
-use Rattle.bi_legacy.specs.PlacedParts.{PlacedPart}
+use Rattle.std.proofs.Common.{◌≡◌, ◌↔◌, length, map}
 use Rattle.bi_norm.proofs.ConvertedParts.{bytes_of}
 use Rattle.bi_norm.proofs.comparing.have_same_parts.Given as goal
 
