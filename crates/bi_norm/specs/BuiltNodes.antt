@@ -1,25 +1,24 @@
 use Rattle.std.specs.Prelude.{◌≡◌, ℕ, List, [], ◌∷◌, map, Option, None, Some}
+use Rattle.std.specs.List.{AllByRecursion}
 use Rattle.std.specs.Ordering.{nat_cmp}
 use Rattle.std.specs.Cmp.Lexicographic.{slice_cmp}
 use Rattle.std.specs.FinMap.{insert, entries, from_entries}
-use Rattle.bi_blob.specs.Tree.{Nodes, none, node, Property, PropertyMap, with_each}
 use Rattle.bi_base.specs.Cells.{cell}
+use Rattle.bi_blob.specs.Tree.{Nodes, none, node, Property, PropertyMap, with_each}
 use Rattle.bi_blob.specs.Layout.{strings_of}
+use Rattle.bi_hash.specs.declared.algo.Algo.TheVariants.{Sha256}
+use Rattle.bi_hash.specs.Digests.{digest_of}
 use Rattle.bi_fit.specs.declared.form.Form.{Form}
 use Rattle.bi_fit.specs.declared.key.Key.TheVariants.{Kernel, Fdt, Ramdisk, Firmware, Loadables}
 use Rattle.bi_fit.specs.declared.key.Key.TheVariants.{Script}
-use Rattle.bi_fit.specs.Building.{FitHead, ImageSpecification, image_properties, hash_properties}
-use Rattle.bi_fit.specs.Building.{CanBeBuilt}
-use Rattle.bi_fit.specs.Building.{hash_node_name, configuration_name, built_images, names_under}
-use Rattle.bi_fit.specs.Building.{configuration_properties, text_value}
+use Rattle.bi_fit.specs.Building.{FitHead, ImageSpecification, CanBeBuilt, image_properties}
+use Rattle.bi_fit.specs.Building.{hash_properties, hash_node_name, configuration_name, text_value}
+use Rattle.bi_fit.specs.Building.{built_images, names_under, configuration_properties}
 use Rattle.bi_fit.specs.Names.{images_name, configurations_name, default_name}
 use Rattle.bi_fit.specs.Text.{with_payload, with_payloads}
 use Rattle.bi_norm.specs.declared.building.document.Parts.{Parts}
 use Rattle.bi_norm.specs.declared.building.lists.KeyLists.{KeyLists}
 use Rattle.bi_norm.specs.Building.{head_of, specifications_of, HasBuildableType}
-use Rattle.bi_hash.specs.declared.algo.Algo.TheVariants.{Sha256}
-use Rattle.bi_hash.specs.Digests.{digest_of}
-use Rattle.std.specs.List.{AllByRecursion}
 
 -- What is added to the document of a tree to be built, node by node.
 

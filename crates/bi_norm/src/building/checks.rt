@@ -1,18 +1,18 @@
 //! The checks of what is to be built, except that of the text's length.
 
-ghost use Rattle.std.specs.Prelude.{◌≡◌, ◌↔◌, ◌^◌, ◌≤◌, ◌<◌, [], length, OnOk, IfOk, IfErr, IsTrue};
+ghost use Rattle.std.specs.Prelude.{◌≡◌, ◌↔◌, ◌^◌, ◌<◌, [], length, OnOk, IfErr, IsTrue};
 ghost use Rattle.std.specs.List.{AllByRecursion};
+ghost use Rattle.bi_base.specs.declared.fault.Cause.TheVariants.{BadField};
 ghost use Rattle.bi_base.specs.Cells.{AreBytes};
 ghost use Rattle.bi_base.specs.Checks.{HasNoFault};
 ghost use Rattle.bi_blob.specs.Tree.{IsChildName, HasNoZero};
 ghost use Rattle.bi_fdt.specs.Growth.{IsRefusal};
 ghost use Rattle.bi_fit.specs.declared.form.Form.{Form};
-ghost use Rattle.bi_base.specs.declared.fault.Cause.TheVariants.{BadField};
 ghost use Rattle.bi_fit.specs.Building.{CanBeBuilt, IsText};
 ghost use Rattle.bi_norm.specs.Building.{head_of, specifications_of, image_checks, BuildPasses};
 ghost use Rattle.bi_norm.specs.Building.{IsBuildError, HasBuildableType, HasNames};
-ghost use Rattle.bi_norm.specs.BuildChecks.{early_checks, AllPass, IsFirstFailure, fields_and_names};
-ghost use Rattle.bi_norm.specs.BuildChecks.{HasBytes};
+ghost use Rattle.bi_norm.specs.BuildChecks.{early_checks, AllPass, IsFirstFailure};
+ghost use Rattle.bi_norm.specs.BuildChecks.{fields_and_names, HasBytes};
 
 use crate::building::{Head, ImageSpec};
 use bi_base::{Cause, Error, Fault, Limits, refuse};

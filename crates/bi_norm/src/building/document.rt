@@ -1,7 +1,6 @@
 //! The document of a tree to be built.
 
-ghost use Rattle.std.specs.Prelude.{◌≡◌, ◌+◌, ◌<◌, ◌≤◌, [], map, Some, length, OnOk, IfOk, IfErr};
-ghost use Rattle.std.specs.List.{AllByRecursion};
+ghost use Rattle.std.specs.Prelude.{◌≡◌, ◌+◌, ◌<◌, ◌≤◌, Some, length, OnOk, IfOk, IfErr};
 ghost use Rattle.bi_base.specs.Cells.{up4};
 ghost use Rattle.bi_base.specs.declared.fault.Error.TheVariants.{OutOfMemory};
 ghost use Rattle.bi_base.specs.Reading.{too_large};
@@ -13,7 +12,6 @@ ghost use Rattle.bi_hash.specs.declared.algo.Algo.TheVariants.{Sha256};
 ghost use Rattle.bi_hash.specs.Digests.{digest_of};
 ghost use Rattle.bi_lay.specs.Contents.{text_of};
 ghost use Rattle.bi_fit.specs.Additions.{MayAdd, with_events, AreWithin, HasCellSize};
-ghost use Rattle.bi_fit.specs.Building.{CanBeBuilt};
 ghost use Rattle.bi_fit.specs.Documents.{document_of, IsDocument, IsDocumentError};
 ghost use Rattle.bi_norm.specs.Building.{head_of, specification_of, specifications_of};
 ghost use Rattle.bi_norm.specs.Building.{tree_of_images, HasBuildableType};

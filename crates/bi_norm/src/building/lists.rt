@@ -1,14 +1,10 @@
 //! The lists of the configuration of a tree to be built.
 
-ghost use Rattle.std.specs.Prelude.{◌≡◌, ◌++◌, OnOk, IfOk, IfErr};
-ghost use Rattle.std.specs.List.{AllByRecursion};
-ghost use Rattle.std.specs.FinMap.{from_entries};
+ghost use Rattle.std.specs.Prelude.{◌≡◌, IfOk, IfErr};
 ghost use Rattle.bi_base.specs.declared.fault.Error.TheVariants.{OutOfMemory};
 ghost use Rattle.bi_blob.specs.Layout.{strings_of};
-ghost use Rattle.bi_blob.specs.Tree.{Property};
-ghost use Rattle.bi_fit.specs.Building.{names_under, list_property};
+ghost use Rattle.bi_fit.specs.Building.{names_under};
 ghost use Rattle.bi_norm.specs.Building.{first_key, specifications_of};
-ghost use Rattle.bi_norm.specs.Building.{HasBuildableType};
 ghost use Rattle.bi_norm.specs.BuiltNodes.{AreKeyLists};
 ghost use Rattle.bi_norm.specs.Converting.{keys_of_type};
 

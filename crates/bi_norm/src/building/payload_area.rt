@@ -1,6 +1,6 @@
 //! Where the external payloads of images to be built end, counted from the end of the blob.
 
-ghost use Rattle.std.specs.Prelude.{◌≡◌, ◌+◌, ◌-◌, ◌^◌, ◌<◌, ◌≤◌, min, Some, length, IfOk, IfErr};
+ghost use Rattle.std.specs.Prelude.{◌≡◌, ◌+◌, ◌-◌, ◌^◌, ◌<◌, ◌≤◌, min, Some, IfOk, IfErr};
 ghost use Rattle.bi_base.specs.Reading.{too_large};
 ghost use Rattle.bi_fit.specs.Text.{end_after as end_after_of, payloads_end as payloads_end_of};
 ghost use Rattle.bi_norm.specs.Building.{specifications_of};

@@ -1,6 +1,7 @@
 //! The properties of the nodes of a tree to be built.
 
-ghost use Rattle.std.specs.Prelude.{◌≡◌, ◌++◌, ◌∷◌, [], ℕ, List, option_map, unwrap_or, OnOk, IfOk, IfErr};
+ghost use Rattle.std.specs.Prelude.{◌≡◌, ◌++◌, ◌∷◌, [], ℕ, List, option_map, unwrap_or, OnOk, IfOk};
+ghost use Rattle.std.specs.Prelude.{IfErr};
 ghost use Rattle.std.specs.FinMap.{from_entries};
 ghost use Rattle.bi_base.specs.declared.fault.Error.TheVariants.{OutOfMemory};
 ghost use Rattle.bi_blob.specs.Layout.{strings_of};
@@ -14,7 +15,7 @@ ghost use Rattle.bi_fit.specs.Building.{image_properties as image_properties_of}
 ghost use Rattle.bi_fit.specs.Building.{hash_properties as hash_properties_of};
 ghost use Rattle.bi_fit.specs.Building.{configuration_properties as configuration_properties_of};
 ghost use Rattle.bi_fit.specs.Building.{configuration_name, text_value};
-ghost use Rattle.bi_fit.specs.Names.{default_name, key_name};
+ghost use Rattle.bi_fit.specs.Names.{default_name};
 ghost use Rattle.bi_norm.specs.Building.{head_of, specification_of, HasBuildableType};
 ghost use Rattle.bi_norm.specs.BuiltNodes.{AreKeyLists, with_cell};
 
@@ -119,7 +120,8 @@ fn insert_cell<'a>(
     name: &'a [u8],
     number: Option<u32>,
 ) -> Result<(), Error>
-    ensures inserted { OnOk result (properties.new ≡ with_cell name.entry.now number properties.old) }
+    ensures inserted { OnOk result
+        (properties.new ≡ with_cell name.entry.now number properties.old) }
     ensures failed { IfErr result (λ error. error ≡ OutOfMemory) }
 {
     match number {
