@@ -8,7 +8,6 @@ pub mod ShownBytes
 pub mod Choices
 pub mod Opened
 pub mod Streams
-pub mod Outputs
 pub mod ConvertedFiles
 pub mod LegacyOutputs
 pub mod FitOutputs

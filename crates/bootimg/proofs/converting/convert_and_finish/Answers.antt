@@ -3,7 +3,7 @@ use Rattle.std.proofs.lemmas.Result.{err_from_is_err_and}
 use Rattle.bi_base.specs.BufferedSinks.{buffered}
 use Rattle.bi_norm.specs.Converting.{IsConvertedFile, IsConvertError}
 use Rattle.bi_norm.specs.Outputs.{SinkFailed}
-use Rattle.bootimg.proofs.Outputs.{failed_writing, finished_writing}
+use Rattle.bi_norm.proofs.Writing.{failed_writing, finished_writing}
 use Rattle.bootimg.proofs.converting.convert_and_finish.Goals as goal
 
 pub returns-in_err-convert_into-clause-failed : goal.returns-in_err-convert_into-clause-failed

@@ -1,6 +1,6 @@
 use Rattle.std.proofs.Common.{rules}
 use Rattle.bi_norm.specs.Converting.{IsConvertedFile, IsConvertError}
-use Rattle.bootimg.proofs.Outputs.{failed_between}
+use Rattle.bi_norm.proofs.Writing.{failed_between}
 use Rattle.bootimg.proofs.converting.write_converted.Goals as goal
 
 pub returns-clause-failed : goal.returns-clause-failed

@@ -1,6 +1,6 @@
 use Rattle.std.proofs.Common.{rules}
 use Rattle.bootimg.specs.Building.{IsFitOutput, IsFitOutputError}
-use Rattle.bootimg.proofs.Outputs.{failed_between}
+use Rattle.bi_norm.proofs.Writing.{failed_between}
 use Rattle.bootimg.proofs.building.fit.write_fit.Goals as goal
 
 pub returns-clause-failed : goal.returns-clause-failed

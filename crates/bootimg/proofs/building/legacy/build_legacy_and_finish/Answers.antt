@@ -3,7 +3,7 @@ use Rattle.std.proofs.lemmas.Result.{err_from_is_err_and}
 use Rattle.bi_base.specs.BufferedSinks.{buffered}
 use Rattle.bi_norm.specs.Outputs.{SinkFailed}
 use Rattle.bootimg.specs.Building.{IsLegacyOutput, IsLegacyOutputError}
-use Rattle.bootimg.proofs.Outputs.{failed_writing, finished_writing}
+use Rattle.bi_norm.proofs.Writing.{failed_writing, finished_writing}
 use Rattle.bootimg.proofs.building.legacy.build_legacy_and_finish.Goals as goal
 
 pub returns-in_err-build_legacy_into-clause-failed : goal.returns-in_err-build_legacy_into-clause-failed
