@@ -57,8 +57,8 @@ edit() {
     check "$lower: $1 has the text" replace "$lower/crates/$lower/$1" "$2" "$3"
 }
 
-# unprove FUNCTION [GOAL]: takes away the answer to a goal of a function of the lower crate, or all answers if no goal is given. They
-# are of the clause that was taken away.
+# unprove FUNCTION [GOAL]: takes away the answer to a goal of a function of the lower crate, or all its answers if no goal is given.
+# They prove the clause that was taken away.
 unprove() {
     answers=$lower/crates/$lower/proofs/$1/Answers.antt
     check "$lower: $1 has answers" test -f "$answers"
