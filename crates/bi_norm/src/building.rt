@@ -17,7 +17,7 @@ mod payload_area;
 mod properties;
 
 use crate::building::checks::check;
-use crate::building::digests::payload_digests;
+use crate::building::digests::digest_payloads;
 use crate::building::document::{Parts, tree_doc};
 use crate::building::lists::KeyLists;
 use crate::payloads::put_built_payloads;
@@ -122,7 +122,7 @@ pub(crate) fn append_tree<S: Sink>(
         IfErr result (AppendFailed S.fails (IsTextOfTree limits form tree)
         (IsDocumentError limits form tree) sink.old sink.new) }
 {
-    let digests = payload_digests(alloc, images)?;
+    let digests = digest_payloads(alloc, images)?;
     let lists = KeyLists::new(alloc, images)?;
     let parts = Parts {
         head,

@@ -94,7 +94,7 @@ fn check_image(image: &ImageSpec<'_>, index: u32) -> Result<(), Fault>
     Ok(())
 }
 
-/// Returns nothing. Its contract states what the type of a slice says about its elements.
+/// Does nothing. Its contract states that the elements of a slice are bytes.
 fn hold_bytes(bytes: &[u8])
     ensures { AreBytes bytes.now }
 {}

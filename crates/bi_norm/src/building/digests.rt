@@ -11,7 +11,7 @@ use bi_hash::Algo;
 use std::alloc::Global;
 
 /// Returns the SHA-256 of the payload of each image, in their order.
-pub(super) fn payload_digests(
+pub(super) fn digest_payloads(
     alloc: Global,
     images: &[ImageSpec<'_>],
 ) -> Result<Vec<[u8; 32]>, Error>

@@ -32,18 +32,18 @@ impl KeyLists {
         ensures failed { IfErr result (λ error. error ≡ OutOfMemory) }
     {
         Ok(KeyLists {
-            kernel: names_listed(alloc, images, Key::Kernel)?,
-            fdt: names_listed(alloc, images, Key::Fdt)?,
-            ramdisk: names_listed(alloc, images, Key::Ramdisk)?,
-            firmware: names_listed(alloc, images, Key::Firmware)?,
-            loadables: names_listed(alloc, images, Key::Loadables)?,
-            script: names_listed(alloc, images, Key::Script)?,
+            kernel: list_names(alloc, images, Key::Kernel)?,
+            fdt: list_names(alloc, images, Key::Fdt)?,
+            ramdisk: list_names(alloc, images, Key::Ramdisk)?,
+            firmware: list_names(alloc, images, Key::Firmware)?,
+            loadables: list_names(alloc, images, Key::Loadables)?,
+            script: list_names(alloc, images, Key::Script)?,
         })
     }
 }
 
 /// Returns the names of the images that a key lists, in their order, each followed by a zero.
-fn names_listed(alloc: Global, images: &[ImageSpec<'_>], key: Key) -> Result<Vec<u8>, Error>
+fn list_names(alloc: Global, images: &[ImageSpec<'_>], key: Key) -> Result<Vec<u8>, Error>
     ensures names { IfOk result (λ names. names.items
         ≡ strings_of (names_under key (specifications_of images.now))) }
     ensures failed { IfErr result (λ error. error ≡ OutOfMemory) }

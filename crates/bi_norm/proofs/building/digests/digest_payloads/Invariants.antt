@@ -1,7 +1,7 @@
 use Rattle.std.proofs.Common.{◌≡◌, map, take}
 use Rattle.bi_hash.specs.declared.algo.Algo.TheVariants.{Sha256}
 use Rattle.bi_hash.specs.Digests.{digest_of}
-use Rattle.bi_norm.proofs.building.digests.payload_digests.Given as goal
+use Rattle.bi_norm.proofs.building.digests.digest_payloads.Given as goal
 
 -- The digests of the payloads before this image.
 abbrev pub invariant-loop-image : goal.invariant-loop-image

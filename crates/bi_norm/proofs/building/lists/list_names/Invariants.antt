@@ -2,7 +2,7 @@ use Rattle.std.proofs.Common.{◌≡◌, ◌++◌, drop}
 use Rattle.bi_blob.specs.Layout.{strings_of}
 use Rattle.bi_fit.specs.Building.{names_under}
 use Rattle.bi_norm.specs.Building.{specifications_of}
-use Rattle.bi_norm.proofs.building.lists.names_listed.Given as goal
+use Rattle.bi_norm.proofs.building.lists.list_names.Given as goal
 
 -- The names before this image, and those from it on, are all names.
 abbrev pub invariant-loop-image : goal.invariant-loop-image

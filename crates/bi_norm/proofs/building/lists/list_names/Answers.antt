@@ -1,7 +1,7 @@
 use Rattle.std.proofs.Common.{◌≡◌, [], ◌∷◌, ◌+◌, ◌++◌, sym, ap, ◌∙◌, rules}
 use Rattle.bi_norm.proofs.ListedNames.{names_from, name_listed, name_left_out}
-use Rattle.bi_norm.proofs.building.lists.names_listed.Goals.{then-eq+in_ok-extend_from_slice+in_ok-push, else-eq}
-use Rattle.bi_norm.proofs.building.lists.names_listed.Goals as goal
+use Rattle.bi_norm.proofs.building.lists.list_names.Goals.{then-eq+in_ok-extend_from_slice+in_ok-push, else-eq}
+use Rattle.bi_norm.proofs.building.lists.list_names.Goals as goal
 
 pub loop-image-preserved : goal.loop-image-preserved
 loop-image-preserved c =
