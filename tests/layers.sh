@@ -99,29 +99,9 @@ boundary bi_fit bi_norm normal_form::emit_fit emit-requires-clause-closed
 edit src/document.rt '{ IfOk result (IsDocument limits form (tree_of self.now)) }' '{ result ≡ result }'
 unprove fit/Fit/to_doc returns-clause-document
 
-# The other functions of bi_norm use the contract of BootImage::read, too. So bootimg calls another function in the copy, which is
-# the same but for its contract.
-boundary bi_norm bootimg listing::listing returns-in-Legacy-clause-lists
-cat > bi_norm/crates/bi_norm/src/less.rt << 'END'
-ghost use Rattle.std.specs.Prelude.{◌≡◌, IfErr};
-ghost use Rattle.bi_norm.specs.NormalForm.{IsOpenError};
-
-use crate::image::BootImage;
-use bi_base::{Error, Limits};
-use std::alloc::Global;
-
-pub fn read<'a>(alloc: Global, file: &'a [u8], limits: Limits) -> Result<BootImage<'a>, Error>
-    ensures opened { result ≡ result }
-    ensures failed { IfErr result (IsOpenError limits file.entry.now) }
-{
-    BootImage::read(alloc, file, limits)
-}
-END
-edit src/lib.rt '
-mod image;' '
-mod image;
-pub mod less;'
-check "bootimg calls BootImage::read" replace bi_norm/crates/bootimg/src/listing.rt 'BootImage::read(' 'bi_norm::less::read('
+boundary bi_norm bootimg building::fit::build_pieces_into with_payloads-requires
+edit src/cutting.rt '{ IfOk result (λ pieces. IsCut input.entry.now lengths.now
+        (map (λ piece. piece.now) pieces.items)) }' '{ result ≡ result }'
 
 # is_proved LOWER: the crate whose clause was taken away is proved.
 is_proved() {

@@ -1,4 +1,4 @@
-use Rattle.std.proofs.Common.{◌≡◌, ◌<◌, ℕ, Option, Result, Ok, Err, IfSome, subst, sym}
+use Rattle.std.proofs.Common.{◌≡◌, ℕ, Option, Result, Ok, Err, IfSome, subst, sym}
 use Rattle.std.specs.Result.{OkIff, result_ok}
 
 -- Codes that are numbers.

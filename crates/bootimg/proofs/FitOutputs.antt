@@ -1,4 +1,4 @@
-use Rattle.std.proofs.Common.{◌≡◌, ◌++◌, ◌<◌, ◌≤◌, ℕ, List, [], ◌∷◌, Result, Ok, Err, IfErr, length, refl, subst, sym}
+use Rattle.std.proofs.Common.{◌<◌, ◌≤◌, ℕ, List, length, refl}
 use Rattle.bi_base.specs.Limits.{Bounds}
 use Rattle.bi_base.specs.Reading.{too_large}
 use Rattle.bi_base.specs.declared.fault.Error.{Error}

@@ -1,4 +1,4 @@
-use Rattle.std.proofs.Common.{◌≡◌, ◌≢◌, ◌++◌, ◌^◌, ◌<◌, ◌≤◌, ℕ, List, [], ◌∷◌, Bor, Result, Ok, Err, IfErr, length, refl, subst, sym, inl, inr}
+use Rattle.std.proofs.Common.{◌≡◌, ◌≢◌, ◌^◌, ◌<◌, ◌≤◌, ℕ, List, [], ◌∷◌, Result, Ok, Err, IfErr, length, refl, subst, sym, inl, inr}
 use Rattle.std.specs.List.{AllByRecursion, concat}
 use Rattle.bi_base.specs.Cells.{AreBytes}
 use Rattle.bi_base.specs.Limits.{Bounds}
@@ -13,7 +13,6 @@ use Rattle.bi_legacy.specs.Text.{legacy_text}
 use Rattle.bi_legacy.proofs.NoEmitFault.{no_emit_fault_image}
 use Rattle.bi_legacy.proofs.TextMeans.{text_means}
 use Rattle.bi_norm.specs.Cutting.{IsCutError}
-use Rattle.bi_norm.specs.LegacyBuilding.{IsBuiltLegacy}
 use Rattle.bi_norm.specs.Outputs.{Appended, AppendFailed, WasRefused, SinkFailed}
 use Rattle.bootimg.specs.Building.{IsSplit, IsWhole, IsInPieces, IsSplitError, IsLegacyOutput, IsLegacyOutputError, InputTooLong, NotSplit, NotBuilt}
 

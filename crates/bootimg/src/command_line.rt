@@ -130,7 +130,7 @@ fn program<'a>(alloc: Global) -> Result<Command<'a>, AllocError> {
         .version(VERSION)
         .about("Normalises, lists, verifies, takes apart, converts and builds U-Boot boot images")
         .after_help(
-            "The image is read from standard input, and the output is written to standard \
+            "The input is read from standard input, and the output is written to standard \
              output. An\n\
              image is a legacy image, or a flattened image tree (FIT):\n\n\
              \x20   bootimg list < kernel.uimage\n\n\

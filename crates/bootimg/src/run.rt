@@ -27,7 +27,7 @@ const FAILED: u8 = 2;
 /// Runs the program with these arguments, without its own name, and returns the exit status: 0
 /// after success, 1 after `verify` wrote a verdict that is not good, 2 after any failure.
 ///
-/// The image is read from `reader`, once the arguments are parsed. The output, help and the version
+/// The input is read from `reader`, once the arguments are parsed. The output, help and the version
 /// are written to `writer`. A failure is written to `errors`: one line, or clap's text if it
 /// rejects the arguments. After the normal form of a flattened image tree with signature nodes, a
 /// note with their number is written to `errors`. A failed write to `errors` is ignored.

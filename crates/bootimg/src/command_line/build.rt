@@ -60,10 +60,7 @@ pub fn build_legacy<'a>(alloc: Global) -> Result<Command<'a>, AllocError> {
              255.\n\
              Numbers are decimal, or hexadecimal with 0x.\n\n\
              Example: bootimg build-legacy --os linux --arch arm --type kernel < zImage > \
-             uImage\n\
-             Example: cat zImage board.dtb | bootimg build-legacy --os linux --arch arm --type \
-             multi\n\
-             \x20            $(stat -c %s zImage board.dtb) > uImage",
+             uImage",
         )
         .arg(option(alloc, "os", "OS", "The operating system").required(true))?
         .arg(option(alloc, "arch", "ARCH", "The processor architecture").required(true))?
@@ -104,9 +101,8 @@ pub fn build_fit<'a>(alloc: Global) -> Result<Command<'a>, AllocError> {
              are addresses, or - for none. LEN is the length of the payload in bytes, and the \
              payloads\n\
              together are the whole input. Numbers are decimal, or hexadecimal with 0x.\n\n\
-             Example: bootimg build-fit \
-             kernel-1:kernel:arm:linux:none:0x8000:0x8000:$(stat -c %s zImage)\n\
-             \x20            < zImage > kernel.itb",
+             Example: bootimg build-fit kernel-1:kernel:arm:linux:none:0x8000:0x8000:4096 \
+             < zImage > kernel.itb",
         )
         .arg(external(alloc, "Write the payloads after the tree, not inside it"))?
         .arg(option(

@@ -1,4 +1,4 @@
-use Rattle.std.proofs.Common.{◌≡◌, ◌≢◌, ◌<◌, ℕ, Some}
+use Rattle.std.proofs.Common.{◌≢◌, ◌<◌, ℕ, Some}
 use Rattle.bi_legacy.specs.Codes.{name_of_code}
 use Rattle.bootimg.specs.CodeWords.{names_of}
 use Rattle.bootimg.proofs.codes.named_code.Given as goal

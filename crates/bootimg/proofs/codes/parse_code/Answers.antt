@@ -1,4 +1,3 @@
-use Rattle.std.proofs.Common.{◌≡◌, ◌<◌, ◌^◌, None, Some, rules}
 use Rattle.bootimg.specs.CodeWords.{IsCode, Named, Numbered}
 use Rattle.bootimg.proofs.CodeWords.{number_that_fits}
 use Rattle.bootimg.proofs.codes.parse_code.Goals as goal

@@ -1,4 +1,4 @@
-use Rattle.std.proofs.Common.{refl, subst, ap, sym, ◌∙◌}
+use Rattle.std.proofs.Common.{refl, subst, ap, sym}
 use Rattle.std.proofs.lemmas.Result.{err_from_is_err_and}
 use Rattle.bi_legacy.specs.Emitting.{bytes_of}
 use Rattle.bi_norm.specs.Outputs.{WasRefused}

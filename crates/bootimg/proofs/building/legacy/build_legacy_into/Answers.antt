@@ -1,4 +1,4 @@
-use Rattle.std.proofs.Common.{map, ap, sym, subst, arith, refl, ◌∙◌, Bor, ℕ, List}
+use Rattle.std.proofs.Common.{ap, sym, subst, arith, refl}
 use Rattle.std.proofs.lemmas.Result.{err_from_is_err_and}
 use Rattle.bi_legacy.specs.Emitting.{bytes_of}
 use Rattle.bi_norm.specs.Outputs.{WasRefused}
