@@ -6,7 +6,7 @@ use Rattle.bi_base.proofs.ByteLists.{AreBytes-none}
 use Rattle.bi_blob.specs.Tree.{IsNew, AreDistinct, IsChildName, HasNoZero}
 use Rattle.bi_fit.specs.declared.key.Key.{Key}
 use Rattle.bi_fit.specs.declared.key.Key.TheVariants.{Kernel, Fdt, Ramdisk, Firmware, Loadables, Script}
-use Rattle.bi_fit.specs.Building.{ImageSpecification, FitHead, IsText, IsSpecification, CanBeBuilt}
+use Rattle.bi_fit.specs.Building.{ImageSpecification, IsText, IsSpecification, CanBeBuilt}
 use Rattle.bi_fit.specs.Judgement.{CheckedHash}
 use Rattle.bi_fit.specs.Laws.{good_hash}
 use Rattle.bi_fit.proofs.Building.{built_is_accepted, built_has_good_payloads}
