@@ -1,4 +1,4 @@
-use Rattle.std.proofs.Common.{◌≡◌, ◌⊎◌, ℕ, ◌+◌, Bool, true, false, List, [], ◌∷◌, map, Option, Some, None, Bor, IfOk, IfErr, suc, bytes_eq, slice_get, refl, sym, ap, ◌∙◌, arith}
+use Rattle.std.proofs.Common.{◌≡◌, ℕ, ◌+◌, Bool, true, false, List, [], ◌∷◌, map, Option, Some, None, Bor, IfOk, IfErr, suc, bytes_eq, slice_get, refl, sym, ap, ◌∙◌, arith}
 use Rattle.std.specs.Option.{option_map, option_and_then, ok_or}
 use Rattle.std.specs.List.{AllZip}
 use Rattle.std.specs.FinMap.{from_entries}
@@ -9,7 +9,7 @@ use Rattle.bi_fit.specs.Content.{FitContent, ReadImage, IsReadImage, IsHeld, ind
 use Rattle.bi_fit.specs.ImageTree.{children_of, with_children_of, without_payloads, nodes_or_none, image_nodes}
 use Rattle.bi_fit.specs.Judgement.{images_with, image_named}
 use Rattle.bi_fit.specs.Names.{images_name}
-use Rattle.bootimg.specs.declared.extract.ExtractError.TheVariants.{NoImage, NoPayload}
+use Rattle.bootimg.specs.declared.extract.ExtractError.TheVariants.{NoPayload}
 use Rattle.bootimg.specs.Extracting.{Choice, NoSuchImage, Chosen, IsReason, choice_of_image, choice_of_payload, choice_by_name}
 
 -- What the name of an image chooses of a flattened image tree that was read.

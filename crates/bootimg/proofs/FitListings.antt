@@ -1,4 +1,4 @@
-use Rattle.std.proofs.Common.{◌≡◌, ◌⊎◌, ℕ, List, [], ◌∷◌, ◌++◌, Option, Some, None, map, codes, unwrap_or, length, refl, sym, ap, ap₂, subst, ◌∙◌, append_assoc, inl, inr, arith}
+use Rattle.std.proofs.Common.{◌≡◌, ◌⊎◌, ℕ, List, [], ◌∷◌, ◌++◌, Option, Some, None, map, codes, refl, sym, ap, ap₂, subst, ◌∙◌, append_assoc, inl, inr, arith}
 use Rattle.std.specs.Fmt.{decimal}
 use Rattle.std.specs.List.{AllZip, flat_map}
 use Rattle.bi_base.specs.declared.fault.Fault.{Fault}
@@ -13,12 +13,12 @@ use Rattle.bi_fit.specs.Content.{FitContent, ReadImage, tree_of, place_of, IsRea
 use Rattle.bi_fit.specs.Faults.{InBlob}
 use Rattle.bi_fit.specs.ImageTree.{image_nodes, nodes_or_none}
 use Rattle.bi_fit.specs.Judgement.{default_of}
-use Rattle.bi_fit.specs.Payloads.{PayloadSource, NoSource, Data, DataOffset, DataPosition, source_of, IsPayload, IsSizedRegion, external_base}
+use Rattle.bi_fit.specs.Payloads.{PayloadSource, NoSource, Data, DataOffset, DataPosition, source_of, IsPayload}
 use Rattle.bi_fit.specs.Reading.{IsReadFrom}
 use Rattle.bi_norm.specs.declared.kind.Kind.TheVariants.{Legacy}
 use Rattle.bi_norm.specs.Kinds.{BeginsAs}
 use Rattle.bi_norm.specs.NormalForm.{NeedsMemory, ForTree}
-use Rattle.bootimg.specs.FitListing.{IsFitListing, image_line, image_lines, fit_listing, reservation_line, default_line}
+use Rattle.bootimg.specs.FitListing.{image_line, image_lines, fit_listing, reservation_line, default_line}
 use Rattle.bootimg.specs.Listing.{IsListing, OfImageTree}
 use Rattle.bootimg.specs.ReadListing.{read_image_line, placed_line, read_listing, configurations_lines}
 use Rattle.bootimg.specs.Shown.{line}

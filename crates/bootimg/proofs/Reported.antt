@@ -1,4 +1,4 @@
-use Rattle.std.proofs.Common.{◌≡◌, ◌↔◌, ℕ, ◌/◌, ◌%◌, ◌<◌, ◌+◌, suc, zero, Bool, true, false, List, [], ◌∷◌, ◌++◌, get_or, map, refl, sym, ap, ap₂, subst, ◌∙◌, arith, IsTrue, ◌&&◌, codes, append_assoc, Result, Ok, Err, OnOk}
+use Rattle.std.proofs.Common.{◌≡◌, ◌↔◌, ℕ, ◌/◌, ◌%◌, ◌<◌, suc, Bool, true, false, List, [], ◌∷◌, ◌++◌, get_or, map, refl, sym, ap, ap₂, subst, ◌∙◌, arith, IsTrue, ◌&&◌, codes, append_assoc, Result, Ok, Err, OnOk}
 use Rattle.std.specs.Fmt.{decimal, digit_glyph}
 use Rattle.std.specs.List.{flat_map, slice_index, list_all}
 use Rattle.std.proofs.lemmas.List.Folds.{list_all-map}
@@ -23,7 +23,7 @@ use Rattle.bi_norm.specs.Meaning.{OfLegacy, OfFit}
 use Rattle.bi_norm.specs.NormalForm.{IsOpenError, IsStreamError}
 use Rattle.bi_norm.proofs.NormalForms.{stream_error}
 use Rattle.hex.specs.Hex.{encode_lower, encode_with, lower_digits}
-use Rattle.bootimg.specs.Reports.{is_verdict, count_of, AreGood, IsReport, Verified, legacy_report, fit_report, hash_line, summary_line}
+use Rattle.bootimg.specs.Reports.{is_verdict, count_of, AreGood, IsReport, Verified, legacy_report, hash_line, summary_line}
 use Rattle.bootimg.specs.Shown.{line, digits_of_byte}
 
 -- The report on a boot image.

@@ -1,4 +1,4 @@
-use Rattle.std.proofs.Common.{◌≡◌, ◌∙◌, ◌++◌, List, map, string_bytes, subst}
+use Rattle.std.proofs.Common.{◌≡◌, ◌++◌, List, map, string_bytes, subst}
 use Rattle.std.specs.List.{flat_map, list_all}
 use Rattle.std.proofs.lemmas.Result.{err_from_is_err_and}
 use Rattle.bi_fit.specs.declared.hashes.Checked.{Checked}

@@ -1,4 +1,4 @@
-use Rattle.std.proofs.Common.{◌≡◌, ℕ, ◌∷◌, [], ◌++◌, ◌∙◌, List, codes, flat_map, string_bytes, ap, subst}
+use Rattle.std.proofs.Common.{◌≡◌, ◌∷◌, [], ◌++◌, ◌∙◌, List, codes, flat_map, string_bytes, ap, subst}
 use Rattle.std.specs.Fmt.{decimal}
 use Rattle.bi_fdt.specs.Content.{BlobContent}
 use Rattle.bi_fit.specs.Content.{ReadImage}

@@ -1,4 +1,3 @@
-use Rattle.std.proofs.Common.{string_bytes}
 use Rattle.std.proofs.lemmas.Result.{err_from_is_err_and}
 use Rattle.bootimg.proofs.FitListings.{tree_listing, memory_for_tree}
 use Rattle.bootimg.proofs.listing.fit.list_fit.Goals as goal

@@ -1,6 +1,6 @@
 use Rattle.std.proofs.Common.{◌≡◌, ◌++◌, string_bytes}
 use Rattle.std.specs.List.{flat_map}
-use Rattle.bi_fit.specs.Judging.{NamedConfiguration, configurations_of}
+use Rattle.bi_fit.specs.Judging.{configurations_of}
 use Rattle.bootimg.proofs.FitLines.{lines_of_configuration}
 use Rattle.bootimg.proofs.listing.fit.put_configurations.Given as goal
 

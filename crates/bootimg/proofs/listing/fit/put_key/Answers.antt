@@ -1,4 +1,4 @@
-use Rattle.std.proofs.Common.{OnOk, ◌≡◌, ◌++◌, ◌∷◌, [], string_bytes, map, List, subst, ℕ, Bor}
+use Rattle.std.proofs.Common.{OnOk, ◌≡◌, ◌++◌, ◌∷◌, [], string_bytes, map, List, subst}
 use Rattle.std.specs.List.{flat_map}
 use Rattle.bi_fit.specs.declared.configurations.Named.{Named}
 use Rattle.bi_fit.specs.Judgement.{ListedImage}
