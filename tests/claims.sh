@@ -53,11 +53,11 @@ check "a file is no argument, and comes on standard input" prints "Usage: bootim
 check "a failed write" sh -c '"$1" list < "$2" > /dev/full; [ $? = 2 ]' sh "$root/bootimg" "$kernel"
 
 # Help.
-for command in normalise list verify extract; do
+for command in normalise list verify extract convert build-legacy build-fit; do
     check "help of $command names the default" prints "[default: 2147483647]" 0 "$command" --help
     check "help of $command names the number format" prints "in hexadecimal with 0x" 0 "$command" --help
     check "help of $command has an example" prints "Example: bootimg $command" 0 "$command" --help
-    check "help of $command says what it reads" prints "Reads an image from standard input" 0 "$command" --help
+    check "help of $command says what it reads" prints "from standard input" 0 "$command" --help
 done
 
 # Any file.

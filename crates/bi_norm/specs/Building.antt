@@ -28,12 +28,13 @@ use Rattle.bi_norm.specs.Converting.{code_name, keys_of_type}
 abbrev pub head_of : Head → FitHead
 head_of head = record { description = head.description.now; time = head.time }
 
--- The key under which images of a type are listed: the first of those for the type.
+-- The key under which images of a type are listed: the first of those for the type. A type without
+-- one is refused before this is used.
 abbrev pub first_key : List Key → Key
 first_key [] = Kernel
 first_key (key ∷ later) = key
 
--- The image that is built.
+-- The image to be built, with names in place of its codes.
 abbrev pub specification_of : ImageSpec → ImageSpecification
 specification_of image = record {
   name = image.name.now;
@@ -127,9 +128,9 @@ IsBuildError limits form head images OutOfMemory = ⊤
 IsBuildError limits form head images ReadFailed = ⊥
 IsBuildError limits form head images WriteFailed = ⊥
 
--- The text is that of the tree that is built. It is accepted under the same limit of the file and
--- four open nodes, and means the tree. Its payloads are those of the images, its verdicts are Good,
--- and its configuration lists the images.
+-- The text is that of the tree that is built. Under the same limit on files, if four nodes or more
+-- may be open, it is accepted and means the tree. Its payloads are those of the images, its verdicts
+-- are Good, and its configuration lists the images.
 pub record IsBuilt (limits : Bounds) (form : Form) (head : Head) (images : List ImageSpec)
     (text : List ℕ) : Type 0 where
   pub no_fault : HasNoFault (BuildPasses limits form head images) (build_checks images)
