@@ -34,6 +34,7 @@ run_tests() {
         sed -i '/^#\[cfg(test)\]$/{N;/\nmod tests;$/d}' "$file"
     done
     find "$source" -name tests.rt -delete
+    find "$source" -depth -type d -name tests -exec rm -r {} +
     if [ -f "$source/normal_forms.rt" ]; then
         sed -i '/^#\[cfg(test)\]$/{N;/\nmod normal_forms;$/d}' "$source/main.rt"
         rm "$source/normal_forms.rt"
@@ -71,9 +72,18 @@ run_tests bi_fdt
     tests_of normalises_external 100
     tests_of lists_tree 60
     tests_of verifies_to 60
+    tests_of converts_to 100
+    tests_of builds_legacy_to 20
+    tests_of builds_embedded 100
+    tests_of builds_external 100
+    tests_of compares 60
     tests_of runs_normalise 100
     tests_of runs_list 100
     tests_of runs_extract 100
+    tests_of runs_convert 200
+    tests_of runs_build_legacy 200
+    tests_of runs_build_fit 200
+    tests_of runs_bad_image 100
     tests_of runs_help 100
     tests_of runs_version 100
     tests_of runs_unknown_argument 100

@@ -91,14 +91,14 @@ fn an_image_with_one_part_is_built(rt: HostRuntime) {
 fn options_that_are_not_given_are_zero_or_empty(rt: HostRuntime) {
     let args = ["build-legacy", "--os=5", "--arch=2", "--type=2"];
     let image = output_of(&rt, &args, b"abc");
-    assert_eq!(rt; &image[..4], b"\x27\x05\x19\x56".as_slice());
+    assert_eq!(rt; part_of(&image, 0, 4), b"\x27\x05\x19\x56".as_slice());
     assert_eq!(rt;
-        &image[8..24],
+        part_of(&image, 8, 24),
         b"\0\0\0\0\0\0\0\x03\0\0\0\0\0\0\0\0".as_slice()
     );
-    assert_eq!(rt; &image[28..32], [5, 2, 2, 0].as_slice());
-    assert_eq!(rt; &image[32..64], [0; 32].as_slice());
-    assert_eq!(rt; &image[64..], b"abc".as_slice());
+    assert_eq!(rt; part_of(&image, 28, 32), [5, 2, 2, 0].as_slice());
+    assert_eq!(rt; part_of(&image, 32, 64), [0; 32].as_slice());
+    assert_eq!(rt; part_of(&image, 64, 67), b"abc".as_slice());
     let args = [
         "build-legacy",
         "--os=5",
@@ -108,8 +108,56 @@ fn options_that_are_not_given_are_zero_or_empty(rt: HostRuntime) {
         "--compression=gzip",
     ];
     let image = output_of(&rt, &args, b"abc");
-    assert_eq!(rt; &image[8..12], [1, 2, 3, 4].as_slice());
-    assert_eq!(rt; &image[28..32], [5, 2, 2, 1].as_slice());
+    assert_eq!(rt; part_of(&image, 8, 12), [1, 2, 3, 4].as_slice());
+    assert_eq!(rt; part_of(&image, 28, 32), [5, 2, 2, 1].as_slice());
+}
+
+#[test]
+fn each_field_has_its_value(rt: HostRuntime) {
+    let args = [
+        "build-legacy",
+        "--os=17",
+        "--arch=22",
+        "--type=2",
+        "--compression=6",
+        "--name=k",
+        "--time=1",
+        "--load=2",
+        "--entry=0xffffffff",
+    ];
+    let image = output_of(&rt, &args, b"abc");
+    has_cell(&rt, &image, 8, 1);
+    has_cell(&rt, &image, 16, 2);
+    has_cell(&rt, &image, 20, 0xffff_ffff);
+    assert_eq!(rt; part_of(&image, 28, 34), [17, 22, 2, 6, 107, 0].as_slice());
+    let args = [
+        "build-legacy",
+        "--compression=zstd",
+        "--type=kernel",
+        "--arch=arm64",
+        "--os=u-boot",
+        "--entry=4294967295",
+        "--load=0x2",
+        "--time=0x01",
+        "--name",
+        "k",
+    ];
+    writes(&rt, &args, b"abc", &image);
+    let tree = output_of(&rt, &["convert"], &image);
+    let word = "kernel-1:kernel:arm64:u-boot:zstd:2:0xffffffff:3";
+    let args = ["build-fit", "--description=k", "--time=1", word];
+    writes(&rt, &args, b"abc", &tree);
+    let word = "kernel-1:2:0x16:17:6:0x2:4294967295:03";
+    let args = ["build-fit", word, "--time", "0x1", "--description", "k"];
+    writes(&rt, &args, b"abc", &tree);
+    for word in [
+        "kernel-1:kernel:arm64:u-boot:zstd:-:0xffffffff:3",
+        "kernel-1:kernel:arm64:u-boot:zstd:2:-:3",
+    ] {
+        let args = ["build-fit", "--description=k", "--time=1", word];
+        let other = output_of(&rt, &args, b"abc");
+        assert!(rt; other.len() < tree.len(), "{word}");
+    }
 }
 
 #[test]
@@ -120,14 +168,18 @@ fn a_name_that_is_too_long_is_refused(rt: HostRuntime) {
     fails_with(&rt, &args, b"abc", "bootimg: BadField at 32\n");
     args[8] = "12345678901234567890123456789012";
     let image = output_of(&rt, &args, b"abc");
-    assert_eq!(rt; &image[32..64], args[8].as_bytes());
+    assert_eq!(rt; part_of(&image, 32, 64), args[8].as_bytes());
 }
 
-/// The cell at an offset.
-fn cell_at(bytes: &[u8], at: usize) -> u32 {
-    let mut cell = [0; 4];
-    cell.copy_from_slice(&bytes[at..at + 4]);
-    u32::from_be_bytes(cell)
+/// The bytes from an offset to another. None if there are fewer.
+fn part_of(bytes: &[u8], start: usize, end: usize) -> &[u8] {
+    bytes.get(start..end).unwrap_or(&[])
+}
+
+/// The cell at this offset has this value.
+fn has_cell(rt: &impl Abort, bytes: &[u8], at: usize, value: u32) {
+    let cell = part_of(bytes, at, at.saturating_add(4));
+    assert_eq!(rt; cell, value.to_be_bytes().as_slice(), "at {at}");
 }
 
 #[test]
@@ -135,11 +187,11 @@ fn a_flattened_image_tree_is_built(rt: HostRuntime) {
     let args = ["build-fit", "--description", "k", KERNEL_WORD, RAMDISK_WORD];
     let tree = output_of(&rt, &args, b"helloabc");
     assert_eq!(rt; tree.len(), 824);
-    assert_eq!(rt; cell_at(&tree, 4), 824);
-    assert_eq!(rt; cell_at(&tree, 8), 56);
-    assert_eq!(rt; cell_at(&tree, 12), 712);
-    assert_eq!(rt; cell_at(&tree, 32), 112);
-    assert_eq!(rt; cell_at(&tree, 36), 656);
+    has_cell(&rt, &tree, 4, 824);
+    has_cell(&rt, &tree, 8, 56);
+    has_cell(&rt, &tree, 12, 712);
+    has_cell(&rt, &tree, 32, 112);
+    has_cell(&rt, &tree, 36, 656);
     assert_eq!(rt;
         output_of(&rt, &["convert"], PARTS).as_slice(),
         tree.as_slice()
@@ -156,9 +208,9 @@ fn a_flattened_image_tree_is_built(rt: HostRuntime) {
     ];
     let tree = output_of(&rt, &args, b"helloabc");
     assert_eq!(rt; tree.len(), 883);
-    assert_eq!(rt; cell_at(&tree, 4), 872);
-    assert_eq!(rt; &tree[872..877], b"hello".as_slice());
-    assert_eq!(rt; &tree[880..], b"abc".as_slice());
+    has_cell(&rt, &tree, 4, 872);
+    assert_eq!(rt; part_of(&tree, 872, 877), b"hello".as_slice());
+    assert_eq!(rt; part_of(&tree, 880, 883), b"abc".as_slice());
 }
 
 #[test]
@@ -271,7 +323,9 @@ fn values_that_build_commands_cannot_have_are_refused(rt: HostRuntime) {
         (12, "k"),
     ] {
         let mut args = MULTI;
-        args[at] = value;
+        if let Some(arg) = args.get_mut(at) {
+            *arg = value;
+        }
         fails_with(&rt, &args, b"abc", wanted);
     }
     for word in ["x", "", "5:3", "4294967296", "0b1"] {
