@@ -3,7 +3,7 @@
 use crate::images::{
     EMPTY_KERNEL, EMPTY_PAYLOAD, FIRST_PART_TOO_LONG, KERNEL, LESS_THAN_A_SIZE, NO_END_OF_SIZES,
     NO_PARTS, NO_PAYLOAD, PADDED_KERNEL, PADDED_PARTS, PARTS, SCRIPT, SECOND_PART_TOO_LONG,
-    THREE_PAYLOADS, THREE_PAYLOADS_EXTERNAL, TREE,
+    SHARED_REGION, THREE_PAYLOADS, THREE_PAYLOADS_EXTERNAL, TREE,
 };
 use bi_base::{Cause, Error, Fault, Limits, VecSink};
 use bi_legacy::{Fields, emit};
@@ -254,5 +254,22 @@ fn files_that_mean_nothing_are_not_compared(rt: HostRuntime) -> Result<(), Fail>
         let result = same_meaning(rt.alloc(), one, other, limits(1000)?);
         assert_eq!(rt; result, Err(refused));
     }
+    Ok(())
+}
+
+#[test]
+fn files_are_compared_without_their_normal_texts(rt: HostRuntime) -> Result<(), Fail> {
+    let alloc = rt.alloc();
+    let mut file = Vec::new(alloc);
+    file.extend_from_slice(SHARED_REGION)?;
+    file.extend_from_slice(&[0; 1000])?;
+    let limits = limits(1244)?;
+    assert_eq!(rt; same_meaning(alloc, &file, &file, limits), Ok(true));
+    let refused = Error::Refused(Fault {
+        cause: Cause::TooLarge,
+        offset: 1244,
+    });
+    let text = normalise(alloc, &file, Form::Embedded, limits);
+    assert_eq!(rt; text.err(), Some(refused));
     Ok(())
 }
