@@ -129,8 +129,8 @@ IsBuildError limits form head images ReadFailed = ⊥
 IsBuildError limits form head images WriteFailed = ⊥
 
 -- The text is that of the tree that is built. Under the same limit on files, if four nodes or more
--- may be open, it is accepted and means the tree. Its payloads are those of the images, its verdicts
--- are Good, and its configuration lists the images.
+-- may be open, it is accepted and means the tree. Its payloads are those of the images, its
+-- verdicts are Good, and its configuration lists the images.
 pub record IsBuilt (limits : Bounds) (form : Form) (head : Head) (images : List ImageSpec)
     (text : List ℕ) : Type 0 where
   pub no_fault : HasNoFault (BuildPasses limits form head images) (build_checks images)

@@ -54,7 +54,8 @@ pub record ConversionsAreKnown : Type 0 where
 
 -- An image cannot be converted, and this is why.
 abbrev pub HasConvertFault : LegacyImage → Cause → ℕ → Type 0
-HasConvertFault image cause offset = IsConvertFault image (record { cause = cause; offset = offset })
+HasConvertFault image cause offset =
+    IsConvertFault image (record { cause = cause; offset = offset })
 
 -- Each check is the first that fails for one of these images.
 pub record ConvertFaultsAreKnown : Type 0 where

@@ -82,8 +82,8 @@ pub fn build_fit(
 /// Appends a flattened image tree with these images to a sink, as `build_fit` returns it.
 ///
 /// The errors are those of `build_fit`, and those of the sink. After any other error than those of
-/// the sink, it is unchanged. After an error of the sink, it is as a failed `put` of the text leaves
-/// it. All allocations but those of the sink are made before the first byte is appended.
+/// the sink, it is unchanged. After an error of the sink, it is as a failed `put` of the text
+/// leaves it. All allocations but those of the sink are made before the first byte is appended.
 pub fn build_fit_into<S: Sink>(
     alloc: Global,
     head: Head<'_>,

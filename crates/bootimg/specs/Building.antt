@@ -89,8 +89,8 @@ pub record HavePayloads (given : List ImageSpec) (payloads : List (List ℕ))
   pub same_fields : map image_fields images ≡ map image_fields given
   pub have_payloads : map (λ image. image.payload.now) images ≡ payloads
 
--- The output is a flattened image tree of the given images, whose payloads are consecutive pieces of
--- the input, of these lengths.
+-- The output is a flattened image tree of the given images, whose payloads are consecutive pieces
+-- of the input, of these lengths.
 pub record IsFitOutput (limits : Bounds) (form : Form) (head : Head) (given : List ImageSpec)
     (lengths input output : List ℕ) : Type 0 where
   pub payloads : List (List ℕ)
