@@ -16,15 +16,6 @@ need python3 python3
 need_program
 work_in_new_directory
 
-# gives WANTED INPUT ARGUMENT..: the program with these arguments, on the file INPUT, writes the contents of the file WANTED, and
-# nothing to standard error.
-gives() {
-    wanted=$1
-    input=$2
-    shift 2
-    "$root/bootimg" "$@" < "$input" > output 2> errors && [ ! -s errors ] && cmp "$wanted" output
-}
-
 # refuses LINE INPUT ARGUMENT..: the program with these arguments, on the file INPUT, writes nothing, prints this line on standard
 # error and ends with status 2.
 refuses() {
