@@ -84,7 +84,7 @@ run_tests bi_fdt
     tests_of runs_build_legacy 200
     tests_of runs_build_fit 200
     tests_of runs_bad_image 100
-    tests_of runs_help 100
+    tests_of runs_help 200
     tests_of runs_version 100
     tests_of runs_unknown_argument 100
     tests_of runs_no_selection 100
