@@ -16,16 +16,6 @@ need python3 python3
 need_program
 work_in_new_directory
 
-# refuses LINE INPUT ARGUMENT..: the program with these arguments, on the file INPUT, writes nothing, prints this line on standard
-# error and ends with status 2.
-refuses() {
-    line=$1
-    input=$2
-    shift 2
-    "$root/bootimg" "$@" < "$input" > output 2> errors
-    [ $? = 2 ] && [ ! -s output ] && [ "$(cat errors)" = "bootimg: $line" ]
-}
-
 # noise SEED COUNT: writes this many bytes, the same ones each time.
 noise() {
     python3 -c 'import random, sys

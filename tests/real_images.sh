@@ -98,16 +98,6 @@ multi() {
     check "there is no part $index of $count" refuses "no such part" multi.soiled extract --part "$index"
 }
 
-# refuses LINE INPUT ARGUMENT..: the program with these arguments, on the file INPUT, writes nothing, prints this line on standard
-# error and ends with status 2.
-refuses() {
-    line=$1
-    input=$2
-    shift 2
-    "$root/bootimg" "$@" < "$input" > output 2> errors
-    [ $? = 2 ] && [ ! -s output ] && [ "$(cat errors)" = "bootimg: $line" ]
-}
-
 # Multi-file images of parts whose lengths are not multiples of four.
 noise 2 1001 > part0
 noise 3 70003 > part1
