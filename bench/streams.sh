@@ -18,9 +18,9 @@ need_program
 work_in_new_directory
 
 # The baseline, in a workspace of its own over copies of the crates that it uses.
-(cd "$root" && tar cf - HANDLES crates/scripted_io crates/bi_base) | tar xf -
+(cd "$root" && tar cf - HANDLES crates/bi_base) | tar xf -
 {
-    grep -E '^(scripted_io|bi_base):' "$root/crates.txt"
+    grep '^bi_base:' "$root/crates.txt"
     echo 'baseline: bi_base'
 } > crates.txt
 mkdir -p crates/baseline/src

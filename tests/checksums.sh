@@ -1,8 +1,8 @@
 #!/bin/sh
 # Compares checksums and digests with those of python3's zlib and hashlib. The program accepts images whose checksums are
 # zlib's, and writes the same checksums itself; it refuses them with one bit changed. The digests of hash nodes are compared
-# by tests that are added to a copy of the sources. The data have all lengths around the steps and buffers, and some
-# megabytes. The script needs python3, and installs Debian's if it is missing and the script runs as root.
+# by tests that are added to a copy of tests/library/algo.rt.source. The data have all lengths around the steps and buffers,
+# and some megabytes. The script needs python3, and installs Debian's if it is missing and the script runs as root.
 set -u
 
 root=$(cd "$(dirname "$0")/.." && pwd)
@@ -100,12 +100,12 @@ for length in 0, 1, 4095, 4096, 4097, 8191, 8192, 8193, 65537, longest:
     print("    Ok(())\n}")'
 }
 
-(cd "$root" && tar cf - --exclude=out crates.txt HANDLES crates) | tar xf -
-digest_tests >> crates/bi_hash/src/algo/tests.rt
-(cd crates/bi_hash && rt try --test --seconds 300) > log 2>&1
+library_workspace digests algo
+digest_tests >> digests/crates/library_tests/src/algo.rt
+(cd digests/crates/library_tests && rt try --test --seconds 300) > log 2>&1
 for length in 0 1 4095 4096 4097 8191 8192 8193 65537 3000001; do
     check "the digests of $length bytes are those of zlib and hashlib" \
-        grep -Fqx "test algo::tests::digests_of_${length}_bytes ... ok" log
+        grep -Fqx "test algo::digests_of_${length}_bytes ... ok" log
 done
 [ "$failed" = 0 ] || cat log
 

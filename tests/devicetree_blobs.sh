@@ -17,9 +17,9 @@ trap 'rm -rf "$work"' EXIT
 trap 'exit 1' HUP INT TERM
 
 # The program, in a workspace of its own over copies of the crates that it uses.
-(cd "$root" && tar cf - HANDLES crates/scripted_io crates/bi_base crates/bi_blob crates/bi_fdt) | (cd "$work" && tar xf -)
+(cd "$root" && tar cf - HANDLES crates/bi_base crates/bi_blob crates/bi_fdt) | (cd "$work" && tar xf -)
 {
-    grep -E '^(scripted_io|bi_base|bi_blob|bi_fdt):' "$root/crates.txt"
+    grep -E '^(bi_base|bi_blob|bi_fdt):' "$root/crates.txt"
     echo 'print_blob: bi_fdt bi_base'
 } > "$work/crates.txt"
 mkdir -p "$work/crates/print_blob/src"

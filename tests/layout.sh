@@ -123,9 +123,9 @@ check "fdtget and fdtdump say what the blobs have" sh -c \
 [ "$failed" = 0 ] || finish
 
 # The program, in a copy of the sources.
-(cd "$root" && tar cf - --exclude=out crates.txt HANDLES crates/scripted_io crates/bi_base crates/bi_blob crates/bi_lay) \
+(cd "$root" && tar cf - --exclude=out crates.txt HANDLES crates/bi_base crates/bi_blob crates/bi_lay) \
     | (cd "$work/copy" && tar xf -)
-sed -i '/^bi_lay:\|^bi_blob:\|^bi_base:\|^scripted_io:/!d' "$work/copy/crates.txt"
+sed -i '/^bi_lay:\|^bi_blob:\|^bi_base:/!d' "$work/copy/crates.txt"
 echo "layout_of_events: bi_lay bi_base" >> "$work/copy/crates.txt"
 mkdir -p "$work/copy/crates/layout_of_events/src"
 cp "$root/tests/layout/main.rt.source" "$work/copy/crates/layout_of_events/src/main.rt"

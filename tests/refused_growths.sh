@@ -1,16 +1,13 @@
 #!/bin/sh
 # Has one allocation fail in each run of a call, the first, the second and so on, until a run has none left to fail. If an
 # allocation fails, the call has to return OutOfMemory with nothing written, or to succeed as if none had failed. A call on a
-# document that ran out of memory is made again. The calls, and how their results are checked, are in src/refused_growths.rt of
-# each crate. The script adds a test for each allocation to a copy of the sources, so that all of a crate are built at once.
-set -eu
+# document that ran out of memory is made again. The calls, and how their results are checked, are in
+# crates/bootimg/src/refused_growths.rt, tests/library/layout_growths.rt.source and tests/library/blob_growths.rt.source. The
+# script adds a test for each allocation to copies of these files. The tests of bootimg run beside the others.
+set -u
 
 root=$(cd "$(dirname "$0")/.." && pwd)
-copy=$(mktemp -d)
-trap 'rm -rf "$copy"' EXIT
-trap 'exit 1' HUP INT TERM
-
-(cd "$root" && tar cf - --exclude=out crates.txt HANDLES crates) | (cd "$copy" && tar xf -)
+. "$root/tests/common"
 
 # tests_of CALL MOST: writes a test for each allocation of a call, which makes at least one and at most MOST.
 tests_of() {
@@ -23,42 +20,26 @@ tests_of() {
     echo "#[test] fn $1_none(rt: HostRuntime) -> Result<(), Fail> { assert!(rt; !$1(&rt, $number)?); Ok(()) }"
 }
 
-all_passed=0
-all_failed=0
+work_in_new_directory
 
-# run_tests CRATE: runs the tests of the file "tests" in a crate.
-run_tests() {
-    source=$copy/crates/$1/src
-    # The other tests make more allocations than the number of the one that is refused.
-    for file in $(grep -rl '^mod tests;$' "$source"); do
-        sed -i '/^#\[cfg(test)\]$/{N;/\nmod tests;$/d}' "$file"
-    done
-    find "$source" -name tests.rt -delete
-    find "$source" -depth -type d -name tests -exec rm -r {} +
-    if [ -f "$source/normal_forms.rt" ]; then
-        sed -i '/^#\[cfg(test)\]$/{N;/\nmod normal_forms;$/d}' "$source/main.rt"
-        rm "$source/normal_forms.rt"
-    fi
-    cat "$copy/tests" >> "$source/refused_growths.rt"
-    (cd "$copy/crates/$1" && rt try --test --fail-alloc 1000 > "$copy/log" 2>&1) || true
-    sed -n '/^test .* FAILED$/,/^test /p' "$copy/log"
-    passed=$(sed -n 's/^test result: .* \([0-9]*\) passed; .*/\1/p' "$copy/log")
-    failed=$(sed -n 's/^test result: .* \([0-9]*\) failed; .*/\1/p' "$copy/log")
-    if [ "$((${passed:-0} + ${failed:-0}))" -lt "$(wc -l < "$copy/tests")" ]; then
-        cat "$copy/log"
-        echo "not every test of $1 was run"
-        failed=$((${failed:-0} + 1))
-    fi
-    all_passed=$((all_passed + ${passed:-0}))
-    all_failed=$((all_failed + failed))
-}
+library_workspace library layout_growths blob_growths
+source=library/crates/library_tests/src
+tests_of builds 40 >> "$source/layout_growths.rt"
+tests_of reads 40 >> "$source/blob_growths.rt"
+echo "cd '$work/library/crates/library_tests' && rt try --test --fail-alloc 1000 > '$work/library/log' 2>&1" > library/run.sh
+grep -h '^#\[test\]' "$source"/*.rt > library/tests
 
-tests_of builds 40 > "$copy/tests"
-run_tests bi_lay
-
-tests_of reads 40 > "$copy/tests"
-run_tests bi_fdt
-
+mkdir bootimg
+(cd "$root" && tar cf - --exclude=out crates.txt HANDLES crates) | (cd bootimg && tar xf -)
+source=bootimg/crates/bootimg/src
+# The other tests make more allocations than the number of the one that is refused.
+for file in $(grep -rl '^mod tests;$' "$source"); do
+    sed -i '/^#\[cfg(test)\]$/{N;/\nmod tests;$/d}' "$file"
+done
+find "$source" -name tests.rt -delete
+find "$source" -depth -type d -name tests -exec rm -r {} +
+sed -i '/^#\[cfg(test)\]$/{N;/\nmod normal_forms;$/d}' "$source/main.rt"
+rm "$source/normal_forms.rt"
 {
     tests_of reads 20
     tests_of appends 5
@@ -88,8 +69,11 @@ run_tests bi_fdt
     tests_of runs_version 100
     tests_of runs_unknown_argument 100
     tests_of runs_no_selection 100
-} > "$copy/tests"
-run_tests bootimg
+} >> "$source/refused_growths.rt"
+echo "cd '$work/bootimg/crates/bootimg' && rt try --test --fail-alloc 1000 > '$work/bootimg/log' 2>&1" > bootimg/run.sh
+grep -rh '^#\[test\]' "$source" > bootimg/tests
 
-echo "$all_passed passed, $all_failed failed"
-[ "$all_failed" = 0 ]
+printf '%s\n' bootimg/run.sh library/run.sh | xargs -n 1 -P 2 sh
+count_tests library_tests "$(wc -l < library/tests)" library/log
+count_tests bootimg "$(wc -l < bootimg/tests)" bootimg/log
+finish

@@ -90,6 +90,3 @@ impl<'a, T: TracedWrite> Sink for BufferedSink<'a, T> {
 
     ghost fails_before = { buffer_fails_before T.trace };
 }
-
-#[cfg(test)]
-mod tests;

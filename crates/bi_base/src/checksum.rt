@@ -14,6 +14,3 @@ pub fn crc32(bytes: &[u8]) -> u32
     sum.update(bytes);
     sum.finish()
 }
-
-#[cfg(test)]
-mod tests;

@@ -57,32 +57,3 @@ impl Sink for CountSink {
 
     ghost fails_before = { λ _ _ _ _ _ failed. failed };
 }
-
-#[cfg(test)]
-mod tests {
-    use super::*;
-    use std::test::Fail;
-
-    #[test]
-    fn bytes_are_counted(rt: HostRuntime) -> Result<(), Fail> {
-        let mut sink = CountSink::new();
-        assert_eq!(rt; sink.count(), 0);
-        sink.put(b"12345")?;
-        sink.put(b"")?;
-        sink.put(b"678")?;
-        assert_eq!(rt; sink.count(), 8);
-        Ok(())
-    }
-
-    #[test]
-    fn the_count_stops_at_the_greatest_number(rt: HostRuntime) -> Result<(), Fail> {
-        let mut sink = CountSink {
-            count: u64::MAX - 2,
-        };
-        sink.put(b"12")?;
-        assert_eq!(rt; sink.count(), u64::MAX);
-        sink.put(b"3")?;
-        assert_eq!(rt; sink.count(), u64::MAX);
-        Ok(())
-    }
-}

@@ -55,26 +55,3 @@ impl Limits {
         self.depth
     }
 }
-
-#[cfg(test)]
-mod tests {
-    use super::*;
-
-    #[test]
-    fn limits_have_their_ranges(rt: HostRuntime) {
-        for (file, depth, is_some) in [
-            (63, 64, false),
-            (64, 0, false),
-            (64, 65, false),
-            (0x8000_0000, 64, false),
-            (64, 1, true),
-            (0x7fff_ffff, 64, true),
-        ] {
-            let limits = Limits::new(file, depth);
-            assert_eq!(rt; limits.is_some(), is_some, "at {file} and {depth}");
-            if let Some(limits) = limits {
-                assert_eq!(rt; (limits.file(), limits.depth()), (file, depth));
-            }
-        }
-    }
-}

@@ -91,6 +91,3 @@ pub fn read_all<R: Read>(alloc: Global, reader: &mut R, limits: Limits) -> Resul
     let mut source = TracedReader::new(reader);
     read_all_traced(alloc, &mut source, limits)
 }
-
-#[cfg(test)]
-mod tests;

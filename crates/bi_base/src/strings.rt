@@ -14,21 +14,3 @@ pub fn before_nul(bytes: &[u8]) -> &[u8]
     }
     bytes
 }
-
-#[cfg(test)]
-mod tests {
-    use super::*;
-
-    #[test]
-    fn a_string_ends_before_its_first_zero_byte(rt: HostRuntime) {
-        for (bytes, string) in [
-            (b"".as_slice(), b"".as_slice()),
-            (b"\0", b""),
-            (b"abc", b"abc"),
-            (b"abc\0", b"abc"),
-            (b"ab\0c\0d", b"ab"),
-        ] {
-            assert_eq!(rt; before_nul(bytes), string);
-        }
-    }
-}

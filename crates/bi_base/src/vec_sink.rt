@@ -65,19 +65,3 @@ impl Sink for VecSink {
 
     ghost fails_before = { fails_before Grows IsOutOfMemory };
 }
-
-#[cfg(test)]
-mod tests {
-    use super::*;
-    use std::test::Fail;
-
-    #[test]
-    fn the_bytes_are_kept_in_their_order(rt: HostRuntime) -> Result<(), Fail> {
-        let mut sink = VecSink::new(rt.alloc());
-        sink.put(b"abc")?;
-        sink.put(b"")?;
-        sink.put(b"de")?;
-        assert_eq!(rt; sink.into_vec().as_slice(), b"abcde".as_slice());
-        Ok(())
-    }
-}

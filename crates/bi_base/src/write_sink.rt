@@ -67,6 +67,3 @@ impl<'a, W: Write> Sink for WriteSink<'a, W> {
 
     ghost fails_before = { fails_before (WriterGrows W.contents) IsWriteFailed };
 }
-
-#[cfg(test)]
-mod tests;

@@ -18,8 +18,3 @@ pub use blob::Blob;
 pub use node::NodeRef;
 pub use properties::Properties;
 pub use table::Property;
-
-#[cfg(test)]
-mod refused_growths;
-#[cfg(test)]
-mod tests;

@@ -13,9 +13,6 @@ use md5::Md5;
 use sha1::Sha1;
 use sha2::{Sha256, Sha384, Sha512};
 
-#[cfg(test)]
-mod tests;
-
 /// An algorithm that a hash node can name.
 #[derive(Clone, Copy, Debug, PartialEq, Eq)]
 pub enum Algo {

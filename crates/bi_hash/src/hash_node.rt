@@ -8,9 +8,6 @@ ghost use Rattle.bi_hash.specs.Verdicts.{text_before_nul, verdict_of};
 use crate::payload_digests::PayloadDigests;
 use crate::verdicts::Verdict;
 
-#[cfg(test)]
-mod tests;
-
 /// Judges a hash node by the values of its properties `algo` and `value`, and by the payload of its
 /// image. Each of the three may be missing (Flattened Image Tree Specification, hash nodes).
 ///

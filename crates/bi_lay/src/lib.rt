@@ -15,8 +15,3 @@ mod text;
 
 pub use document::Doc;
 pub use items::Value;
-
-#[cfg(test)]
-mod refused_growths;
-#[cfg(test)]
-mod tests;

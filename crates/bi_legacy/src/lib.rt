@@ -19,6 +19,3 @@ pub use fields::Fields;
 pub use header::MAGIC;
 pub use legacy::Legacy;
 pub use parts::{Part, Parts};
-
-#[cfg(test)]
-mod tests;
