@@ -2,8 +2,8 @@
 # Has one allocation fail in each run of a call, the first, the second and so on, until a run has none left to fail. If an
 # allocation fails, the call has to return OutOfMemory with nothing written, or to succeed as if none had failed. A call on a
 # document that ran out of memory is made again. The calls, and how their results are checked, are in
-# crates/bootimg/src/refused_growths.rt, tests/library/layout_growths.rt.source and tests/library/blob_growths.rt.source. The
-# script adds a test for each allocation to copies of these files. The tests of bootimg run beside the others.
+# tests/program/refused_growths.rt.source, tests/library/layout_growths.rt.source and tests/library/blob_growths.rt.source. The
+# script adds a test for each allocation to copies of these files. The tests of the program run beside the others.
 set -u
 
 root=$(cd "$(dirname "$0")/.." && pwd)
@@ -40,6 +40,8 @@ find "$source" -name tests.rt -delete
 find "$source" -depth -type d -name tests -exec rm -r {} +
 sed -i '/^#\[cfg(test)\]$/{N;/\nmod normal_forms;$/d}' "$source/main.rt"
 rm "$source/normal_forms.rt"
+printf '\n#[cfg(test)]\nmod refused_growths;\n' >> "$source/main.rt"
+cp "$root/tests/program/refused_growths.rt.source" "$source/refused_growths.rt"
 {
     tests_of reads 20
     tests_of appends 5

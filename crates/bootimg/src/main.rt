@@ -13,8 +13,6 @@ mod listing;
 #[cfg(test)]
 mod normal_forms;
 mod numbers;
-#[cfg(test)]
-mod refused_growths;
 mod report;
 mod run;
 mod shown;
