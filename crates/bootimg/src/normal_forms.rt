@@ -30,11 +30,11 @@ fn normal_forms(rt: HostRuntime) -> Result<(), Fail> {
         (TREE.as_slice(), TREE.as_slice()),
     ] {
         let text = normalise(alloc, file, Form::Embedded, limits(0x7fff_ffff)?)?;
-        assert_eq!(rt; text.as_slice(), normal);
+        assert!(rt; text.as_slice() == normal);
         let mut sink = VecSink::new(alloc);
         let count = normalise_into(alloc, file, Form::Embedded, limits(0x7fff_ffff)?, &mut sink)?;
-        assert_eq!(rt; count, 0);
-        assert_eq!(rt; sink.into_vec().as_slice(), normal);
+        assert!(rt; count == 0);
+        assert!(rt; sink.into_vec().as_slice() == normal);
         let mut written = Vec::new(alloc);
         let count = normalise_to(
             alloc,
@@ -43,8 +43,8 @@ fn normal_forms(rt: HostRuntime) -> Result<(), Fail> {
             Form::Embedded,
             limits(0x7fff_ffff)?,
         )?;
-        assert_eq!(rt; count, 0);
-        assert_eq!(rt; written.as_slice(), normal);
+        assert!(rt; count == 0);
+        assert!(rt; written.as_slice() == normal);
     }
     Ok(())
 }
@@ -68,7 +68,7 @@ fn refusals(rt: HostRuntime) -> Result<(), Fail> {
     ] {
         let refused = Some(Error::Refused(Fault { cause, offset }));
         let text = normalise(alloc, file, Form::Embedded, limits(limit)?);
-        assert_eq!(rt; text.err(), refused);
+        assert!(rt; text.err() == refused);
         let mut written = Vec::new(alloc);
         let count = normalise_to(
             alloc,
@@ -77,8 +77,8 @@ fn refusals(rt: HostRuntime) -> Result<(), Fail> {
             Form::Embedded,
             limits(limit)?,
         );
-        assert_eq!(rt; count.err(), refused);
-        assert_eq!(rt; written.len(), 0);
+        assert!(rt; count.err() == refused);
+        assert!(rt; written.len() == 0);
     }
     Ok(())
 }
@@ -96,7 +96,7 @@ fn a_changed_bit_is_refused(rt: HostRuntime) -> Result<(), Fail> {
         assert!(rt; at < file.len());
         file[at] ^= 1;
         let text = normalise(rt.alloc(), &file, Form::Embedded, limits(100)?);
-        assert_eq!(rt; text.err(), Some(Error::Refused(Fault { cause, offset })));
+        assert!(rt; text.err() == Some(Error::Refused(Fault { cause, offset })));
     }
     Ok(())
 }
@@ -109,8 +109,8 @@ fn a_failed_write_leaves_a_prefix(rt: HostRuntime) -> Result<(), Fail> {
         let mut writer = ScriptedWriter::new(alloc, script, Script::always(Turn::TakesAll));
         let mut file = PADDED_KERNEL.as_slice();
         let count = normalise_to(alloc, &mut file, &mut writer, Form::Embedded, limits(100)?);
-        assert_eq!(rt; count.err(), Some(Error::WriteFailed));
-        assert_eq!(rt; writer.held.as_slice(), &KERNEL[..whole]);
+        assert!(rt; count.err() == Some(Error::WriteFailed));
+        assert!(rt; writer.held.as_slice() == &KERNEL[..whole]);
     }
     Ok(())
 }
@@ -125,8 +125,8 @@ fn a_failed_flush_leaves_the_whole_text(rt: HostRuntime) -> Result<(), Fail> {
     );
     let mut file = PADDED_KERNEL.as_slice();
     let count = normalise_to(alloc, &mut file, &mut writer, Form::Embedded, limits(100)?);
-    assert_eq!(rt; count.err(), Some(Error::WriteFailed));
-    assert_eq!(rt; writer.held.as_slice(), KERNEL.as_slice());
+    assert!(rt; count.err() == Some(Error::WriteFailed));
+    assert!(rt; writer.held.as_slice() == KERNEL.as_slice());
     Ok(())
 }
 
@@ -144,8 +144,8 @@ fn a_failed_read_writes_nothing(rt: HostRuntime) -> Result<(), Fail> {
             Form::Embedded,
             limits(100)?,
         );
-        assert_eq!(rt; count.err(), Some(Error::ReadFailed));
-        assert_eq!(rt; written.len(), 0);
+        assert!(rt; count.err() == Some(Error::ReadFailed));
+        assert!(rt; written.len() == 0);
     }
     Ok(())
 }
@@ -163,8 +163,8 @@ fn interrupted_calls_are_made_again(rt: HostRuntime) -> Result<(), Fail> {
         Form::Embedded,
         limits(100)?,
     )?;
-    assert_eq!(rt; count, 0);
-    assert_eq!(rt; writer.held.as_slice(), KERNEL.as_slice());
+    assert!(rt; count == 0);
+    assert!(rt; writer.held.as_slice() == KERNEL.as_slice());
     Ok(())
 }
 
@@ -202,7 +202,7 @@ fn many_parts_make_few_writes(rt: HostRuntime) -> Result<(), Fail> {
         Form::Embedded,
         limits(0x7fff_ffff)?,
     )?;
-    assert_eq!(rt; writer.held.as_slice(), file.as_slice());
+    assert!(rt; writer.held.as_slice() == file.as_slice());
     assert!(rt;
         writer.writes <= file.len() as u64 / 4096,
         "{} writes",
@@ -226,8 +226,8 @@ fn files_are_compared(rt: HostRuntime) -> Result<(), Fail> {
         (KERNEL.as_slice(), TREE.as_slice(), false),
     ] {
         let limits = limits(1000)?;
-        assert_eq!(rt; same_meaning(rt.alloc(), one, other, limits), Ok(same));
-        assert_eq!(rt; same_meaning(rt.alloc(), other, one, limits), Ok(same));
+        assert!(rt; same_meaning(rt.alloc(), one, other, limits) == Ok(same));
+        assert!(rt; same_meaning(rt.alloc(), other, one, limits) == Ok(same));
     }
     Ok(())
 }
@@ -252,7 +252,7 @@ fn files_that_mean_nothing_are_not_compared(rt: HostRuntime) -> Result<(), Fail>
     ] {
         let refused = Error::Refused(Fault { cause, offset });
         let result = same_meaning(rt.alloc(), one, other, limits(1000)?);
-        assert_eq!(rt; result, Err(refused));
+        assert!(rt; result == Err(refused));
     }
     Ok(())
 }
@@ -264,12 +264,12 @@ fn files_are_compared_without_their_normal_texts(rt: HostRuntime) -> Result<(), 
     file.extend_from_slice(SHARED_REGION)?;
     file.extend_from_slice(&[0; 1000])?;
     let limits = limits(1244)?;
-    assert_eq!(rt; same_meaning(alloc, &file, &file, limits), Ok(true));
+    assert!(rt; same_meaning(alloc, &file, &file, limits) == Ok(true));
     let refused = Error::Refused(Fault {
         cause: Cause::TooLarge,
         offset: 1244,
     });
     let text = normalise(alloc, &file, Form::Embedded, limits);
-    assert_eq!(rt; text.err(), Some(refused));
+    assert!(rt; text.err() == Some(refused));
     Ok(())
 }

@@ -27,7 +27,7 @@ fn each_part_is_extracted(rt: HostRuntime) -> Result<(), Fail> {
         (PADDED_KERNEL.as_slice(), 0, b"123456789".as_slice()),
     ] {
         let bytes = extract_of(rt.alloc(), file, Select::Part(index))?;
-        assert_eq!(rt; bytes.as_slice(), part, "of part {index}");
+        assert!(rt; bytes.as_slice() == part, "of part {index}");
     }
     Ok(())
 }
@@ -40,7 +40,10 @@ fn a_missing_part_is_a_failure(rt: HostRuntime) {
         (PADDED_PARTS.as_slice(), u32::MAX),
     ] {
         let result = extract_of(rt.alloc(), file, Select::Part(index));
-        assert_eq!(rt; result.err(), Some(ExtractError::NoPart), "of part {index}");
+        assert!(rt;
+            result.err() == Some(ExtractError::NoPart),
+            "of part {index}"
+        );
     }
 }
 
@@ -78,7 +81,7 @@ fn payloads_are_extracted_by_the_names_of_images(rt: HostRuntime) -> Result<(), 
         (WRONG_HASH.as_slice(), b"a".as_slice(), b"abc".as_slice()),
     ] {
         let bytes = extract_of(rt.alloc(), file, Select::Image(name))?;
-        assert_eq!(rt; bytes.as_slice(), payload, "of image {name:?}");
+        assert!(rt; bytes.as_slice() == payload, "of image {name:?}");
     }
     Ok(())
 }
@@ -93,9 +96,8 @@ fn a_missing_image_is_a_failure(rt: HostRuntime) {
         (TREE.as_slice(), b"a".as_slice()),
     ] {
         let result = extract_of(rt.alloc(), file, Select::Image(name));
-        assert_eq!(rt;
-            result.err(),
-            Some(ExtractError::NoImage),
+        assert!(rt;
+            result.err() == Some(ExtractError::NoImage),
             "of image {name:?}"
         );
     }
@@ -112,9 +114,8 @@ fn a_missing_payload_is_a_failure(rt: HostRuntime) {
         ),
     ] {
         let result = extract_of(rt.alloc(), file, select);
-        assert_eq!(rt;
-            result.err(),
-            Some(ExtractError::NoPayload),
+        assert!(rt;
+            result.err() == Some(ExtractError::NoPayload),
             "of {select:?}"
         );
     }
@@ -128,7 +129,7 @@ fn payloads_are_extracted_by_configuration(rt: HostRuntime) -> Result<(), Fail> 
         (LISTED.as_slice(), Key::Loadables, 1, b"x".as_slice()),
     ] {
         let bytes = extract_of(rt.alloc(), file, Select::Config(b"conf-1", key, index))?;
-        assert_eq!(rt; bytes.as_slice(), payload, "of {key:?} {index}");
+        assert!(rt; bytes.as_slice() == payload, "of {key:?} {index}");
     }
     Ok(())
 }
@@ -170,7 +171,7 @@ fn a_list_without_the_entry_is_a_failure(rt: HostRuntime) {
         ),
     ] {
         let result = extract_of(rt.alloc(), CONFIGURED, Select::Config(name, key, index));
-        assert_eq!(rt; result.err(), Some(error), "of {key:?} {index}");
+        assert!(rt; result.err() == Some(error), "of {key:?} {index}");
     }
 }
 
@@ -183,9 +184,8 @@ fn a_selection_of_another_kind_is_a_failure(rt: HostRuntime) {
         (TREE.as_slice(), Select::Part(7)),
     ] {
         let result = extract_of(rt.alloc(), file, select);
-        assert_eq!(rt;
-            result.err(),
-            Some(ExtractError::WrongKind),
+        assert!(rt;
+            result.err() == Some(ExtractError::WrongKind),
             "of {select:?}"
         );
     }
@@ -206,7 +206,7 @@ fn the_file_is_checked_before_the_selection(rt: HostRuntime) {
             Select::Image(b"a"),
             Select::Config(b"conf-1", Key::Kernel, 0),
         ] {
-            assert_eq!(rt; extract_of(rt.alloc(), file, select).err(), Some(refused));
+            assert!(rt; extract_of(rt.alloc(), file, select).err() == Some(refused));
         }
     }
 }
@@ -224,8 +224,8 @@ fn a_failed_write_leaves_a_prefix_of_the_bytes(rt: HostRuntime) {
             Select::Part(0),
             limits(),
         );
-        assert_eq!(rt; result, Err(ExtractError::Failed(Error::WriteFailed)));
-        assert_eq!(rt; writer.held.as_slice(), &b"123456789"[..taken]);
+        assert!(rt; result == Err(ExtractError::Failed(Error::WriteFailed)));
+        assert!(rt; writer.held.as_slice() == &b"123456789"[..taken]);
     }
 }
 
@@ -241,8 +241,8 @@ fn a_failed_flush_leaves_all_the_bytes(rt: HostRuntime) {
         Select::Part(0),
         limits(),
     );
-    assert_eq!(rt; result, Err(ExtractError::Failed(Error::WriteFailed)));
-    assert_eq!(rt; writer.held.as_slice(), b"123456789".as_slice());
+    assert!(rt; result == Err(ExtractError::Failed(Error::WriteFailed)));
+    assert!(rt; writer.held.as_slice() == b"123456789".as_slice());
 }
 
 #[test]
@@ -258,7 +258,7 @@ fn a_failed_read_writes_nothing(rt: HostRuntime) {
             Select::Part(0),
             limits(),
         );
-        assert_eq!(rt; result, Err(ExtractError::Failed(Error::ReadFailed)));
+        assert!(rt; result == Err(ExtractError::Failed(Error::ReadFailed)));
         assert!(rt; bytes.is_empty());
     }
 }

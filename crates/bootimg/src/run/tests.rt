@@ -123,9 +123,9 @@ fn normal_forms_are_written(rt: HostRuntime) {
 /// this to standard error.
 fn notes<'a>(rt: &(impl Abort + AllocGlobal), args: &'a [&'a str], file: &[u8], wanted: &str) {
     let got = run_on(rt.alloc(), args, file, Streams::succeeding());
-    assert_eq!(rt; got.status, 0);
-    assert_eq!(rt; got.output.as_slice(), file);
-    assert_eq!(rt; got.errors.as_slice(), wanted.as_bytes());
+    assert!(rt; got.status == 0);
+    assert!(rt; got.output.as_slice() == file);
+    assert!(rt; got.errors.as_slice() == wanted.as_bytes());
 }
 
 #[test]
@@ -156,11 +156,8 @@ fn signature_nodes_are_noted_only_after_success(rt: HostRuntime) {
     );
     for streams in [failed_writes, failed_flushes] {
         let got = run_on(rt.alloc(), &["normalise"], SIGNED, streams);
-        assert_eq!(rt; got.status, 2);
-        assert_eq!(rt;
-            got.errors.as_slice(),
-            b"bootimg: write failed\n".as_slice()
-        );
+        assert!(rt; got.status == 2);
+        assert!(rt; got.errors.as_slice() == b"bootimg: write failed\n".as_slice());
     }
 }
 
@@ -174,9 +171,9 @@ fn a_note_that_cannot_be_written_is_ignored(rt: HostRuntime) {
         Script::always(Turn::Fails),
     );
     let got = run_on(rt.alloc(), &["normalise"], SIGNED, streams);
-    assert_eq!(rt; got.status, 0);
-    assert_eq!(rt; got.output.as_slice(), SIGNED.as_slice());
-    assert_eq!(rt; got.errors.len(), 0);
+    assert!(rt; got.status == 0);
+    assert!(rt; got.output.as_slice() == SIGNED.as_slice());
+    assert!(rt; got.errors.len() == 0);
 }
 
 #[test]
@@ -372,9 +369,9 @@ fn a_verdict_that_is_not_good_gives_status_1(rt: HostRuntime) {
         ),
     ] {
         let got = run_on(rt.alloc(), &["verify"], file, Streams::succeeding());
-        assert_eq!(rt; got.status, 1);
-        assert_eq!(rt; got.output.as_slice(), report);
-        assert_eq!(rt; got.errors.len(), 0);
+        assert!(rt; got.status == 1);
+        assert!(rt; got.output.as_slice() == report);
+        assert!(rt; got.errors.len() == 0);
     }
 }
 
@@ -525,12 +522,9 @@ fn a_failed_write_is_a_failure(rt: HostRuntime) {
                 succeeding.error_writing,
             );
             let got = run_on(rt.alloc(), args, PADDED_PARTS, streams);
-            assert_eq!(rt; got.status, 2, "{args:?} at {number}");
-            assert_eq!(rt;
-                got.errors.as_slice(),
-                b"bootimg: write failed\n".as_slice()
-            );
-            assert_eq!(rt; got.output.as_slice(), &wanted[..number]);
+            assert!(rt; got.status == 2, "{args:?} at {number}");
+            assert!(rt; got.errors.as_slice() == b"bootimg: write failed\n".as_slice());
+            assert!(rt; got.output.as_slice() == &wanted[..number]);
         }
     }
     let writing = Script::first(1, Turn::Takes(50), Turn::Fails);
@@ -541,12 +535,9 @@ fn a_failed_write_is_a_failure(rt: HostRuntime) {
         succeeding.error_writing,
     );
     let got = run_on(rt.alloc(), &["normalise"], PADDED_KERNEL, streams);
-    assert_eq!(rt; got.status, 2);
-    assert_eq!(rt;
-        got.errors.as_slice(),
-        b"bootimg: write failed\n".as_slice()
-    );
-    assert_eq!(rt; got.output.as_slice(), &KERNEL[..50]);
+    assert!(rt; got.status == 2);
+    assert!(rt; got.errors.as_slice() == b"bootimg: write failed\n".as_slice());
+    assert!(rt; got.output.as_slice() == &KERNEL[..50]);
 }
 
 #[test]
@@ -561,12 +552,9 @@ fn a_failed_flush_is_a_failure(rt: HostRuntime) {
     );
     for (args, wanted) in COMMANDS {
         let got = run_on(rt.alloc(), args, PADDED_PARTS, streams);
-        assert_eq!(rt; got.status, 2, "{args:?}");
-        assert_eq!(rt;
-            got.errors.as_slice(),
-            b"bootimg: write failed\n".as_slice()
-        );
-        assert_eq!(rt; got.output.as_slice(), wanted, "{args:?}");
+        assert!(rt; got.status == 2, "{args:?}");
+        assert!(rt; got.errors.as_slice() == b"bootimg: write failed\n".as_slice());
+        assert!(rt; got.output.as_slice() == wanted, "{args:?}");
     }
 }
 
@@ -583,9 +571,9 @@ fn a_failed_read_is_a_failure(rt: HostRuntime) {
                 succeeding.error_writing,
             );
             let got = run_on(rt.alloc(), args, KERNEL, streams);
-            assert_eq!(rt; got.status, 2, "{args:?} at {number}");
-            assert_eq!(rt; got.errors.as_slice(), b"bootimg: read failed\n".as_slice());
-            assert_eq!(rt; got.output.len(), 0);
+            assert!(rt; got.status == 2, "{args:?} at {number}");
+            assert!(rt; got.errors.as_slice() == b"bootimg: read failed\n".as_slice());
+            assert!(rt; got.output.len() == 0);
         }
     }
 }
@@ -602,9 +590,9 @@ fn a_failed_write_to_standard_error_is_ignored(rt: HostRuntime) {
     );
     for args in [["normalise"].as_slice(), ["nothing"].as_slice()] {
         let got = run_on(rt.alloc(), args, &TREE[..87], streams);
-        assert_eq!(rt; got.status, 2, "{args:?}");
-        assert_eq!(rt; got.output.len(), 0);
-        assert_eq!(rt; got.errors.len(), 0);
+        assert!(rt; got.status == 2, "{args:?}");
+        assert!(rt; got.output.len() == 0);
+        assert!(rt; got.errors.len() == 0);
     }
 }
 
@@ -618,7 +606,7 @@ fn shows<'a>(
     wanted: &str,
 ) -> Result<(), Fail> {
     let got = run_on(rt.alloc(), args, KERNEL, Streams::succeeding());
-    assert_eq!(rt; (got.status, got.reads), (status, 0), "{args:?}");
+    assert!(rt; (got.status, got.reads) == (status, 0), "{args:?}");
     let (text, rest) = if status == 0 {
         (got.output, got.errors)
     } else {
@@ -680,11 +668,8 @@ fn help_that_cannot_be_written_is_a_failure(rt: HostRuntime) {
     );
     for word in ["help", "--version"] {
         let got = run_on(rt.alloc(), &[word], KERNEL, streams);
-        assert_eq!(rt; (got.status, got.output.len(), got.reads), (2, 5, 0));
-        assert_eq!(rt;
-            got.errors.as_slice(),
-            b"bootimg: write failed\n".as_slice()
-        );
+        assert!(rt; (got.status, got.output.len(), got.reads) == (2, 5, 0));
+        assert!(rt; got.errors.as_slice() == b"bootimg: write failed\n".as_slice());
     }
 }
 
@@ -760,6 +745,6 @@ fn nothing_is_read_before_the_arguments_are_accepted(rt: HostRuntime) {
         ["extract"].as_slice(),
     ] {
         let got = run_on(rt.alloc(), args, KERNEL, Streams::succeeding());
-        assert_eq!(rt; got.reads, 0, "{args:?}");
+        assert!(rt; got.reads == 0, "{args:?}");
     }
 }

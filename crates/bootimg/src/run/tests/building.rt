@@ -91,14 +91,11 @@ fn an_image_with_one_part_is_built(rt: HostRuntime) {
 fn options_that_are_not_given_are_zero_or_empty(rt: HostRuntime) {
     let args = ["build-legacy", "--os=5", "--arch=2", "--type=2"];
     let image = output_of(&rt, &args, b"abc");
-    assert_eq!(rt; part_of(&image, 0, 4), b"\x27\x05\x19\x56".as_slice());
-    assert_eq!(rt;
-        part_of(&image, 8, 24),
-        b"\0\0\0\0\0\0\0\x03\0\0\0\0\0\0\0\0".as_slice()
-    );
-    assert_eq!(rt; part_of(&image, 28, 32), [5, 2, 2, 0].as_slice());
-    assert_eq!(rt; part_of(&image, 32, 64), [0; 32].as_slice());
-    assert_eq!(rt; part_of(&image, 64, 67), b"abc".as_slice());
+    assert!(rt; part_of(&image, 0, 4) == b"\x27\x05\x19\x56".as_slice());
+    assert!(rt; part_of(&image, 8, 24) == b"\0\0\0\0\0\0\0\x03\0\0\0\0\0\0\0\0".as_slice());
+    assert!(rt; part_of(&image, 28, 32) == [5, 2, 2, 0].as_slice());
+    assert!(rt; part_of(&image, 32, 64) == [0; 32].as_slice());
+    assert!(rt; part_of(&image, 64, 67) == b"abc".as_slice());
     let args = [
         "build-legacy",
         "--os=5",
@@ -108,8 +105,8 @@ fn options_that_are_not_given_are_zero_or_empty(rt: HostRuntime) {
         "--compression=gzip",
     ];
     let image = output_of(&rt, &args, b"abc");
-    assert_eq!(rt; part_of(&image, 8, 12), [1, 2, 3, 4].as_slice());
-    assert_eq!(rt; part_of(&image, 28, 32), [5, 2, 2, 1].as_slice());
+    assert!(rt; part_of(&image, 8, 12) == [1, 2, 3, 4].as_slice());
+    assert!(rt; part_of(&image, 28, 32) == [5, 2, 2, 1].as_slice());
 }
 
 #[test]
@@ -129,7 +126,7 @@ fn each_field_has_its_value(rt: HostRuntime) {
     has_cell(&rt, &image, 8, 1);
     has_cell(&rt, &image, 16, 2);
     has_cell(&rt, &image, 20, 0xffff_ffff);
-    assert_eq!(rt; part_of(&image, 28, 34), [17, 22, 2, 6, 107, 0].as_slice());
+    assert!(rt; part_of(&image, 28, 34) == [17, 22, 2, 6, 107, 0].as_slice());
     let args = [
         "build-legacy",
         "--compression=zstd",
@@ -168,7 +165,7 @@ fn a_name_that_is_too_long_is_refused(rt: HostRuntime) {
     fails_with(&rt, &args, b"abc", "bootimg: BadField at 32\n");
     args[8] = "12345678901234567890123456789012";
     let image = output_of(&rt, &args, b"abc");
-    assert_eq!(rt; part_of(&image, 32, 64), args[8].as_bytes());
+    assert!(rt; part_of(&image, 32, 64) == args[8].as_bytes());
 }
 
 /// The bytes from an offset to another. None if there are fewer.
@@ -179,23 +176,20 @@ fn part_of(bytes: &[u8], start: usize, end: usize) -> &[u8] {
 /// The cell at this offset has this value.
 fn has_cell(rt: &impl Abort, bytes: &[u8], at: usize, value: u32) {
     let cell = part_of(bytes, at, at.saturating_add(4));
-    assert_eq!(rt; cell, value.to_be_bytes().as_slice(), "at {at}");
+    assert!(rt; cell == value.to_be_bytes().as_slice(), "at {at}");
 }
 
 #[test]
 fn a_flattened_image_tree_is_built(rt: HostRuntime) {
     let args = ["build-fit", "--description", "k", KERNEL_WORD, RAMDISK_WORD];
     let tree = output_of(&rt, &args, b"helloabc");
-    assert_eq!(rt; tree.len(), 824);
+    assert!(rt; tree.len() == 824);
     has_cell(&rt, &tree, 4, 824);
     has_cell(&rt, &tree, 8, 56);
     has_cell(&rt, &tree, 12, 712);
     has_cell(&rt, &tree, 32, 112);
     has_cell(&rt, &tree, 36, 656);
-    assert_eq!(rt;
-        output_of(&rt, &["convert"], PARTS).as_slice(),
-        tree.as_slice()
-    );
+    assert!(rt; output_of(&rt, &["convert"], PARTS).as_slice() == tree.as_slice());
     writes(&rt, &["extract", "--image=kernel-1"], &tree, b"hello");
     let ramdisk = ["extract", "--config=conf-1", "--key=ramdisk"];
     writes(&rt, &ramdisk, &tree, b"abc");
@@ -207,10 +201,10 @@ fn a_flattened_image_tree_is_built(rt: HostRuntime) {
         RAMDISK_WORD,
     ];
     let tree = output_of(&rt, &args, b"helloabc");
-    assert_eq!(rt; tree.len(), 883);
+    assert!(rt; tree.len() == 883);
     has_cell(&rt, &tree, 4, 872);
-    assert_eq!(rt; part_of(&tree, 872, 877), b"hello".as_slice());
-    assert_eq!(rt; part_of(&tree, 880, 883), b"abc".as_slice());
+    assert!(rt; part_of(&tree, 872, 877) == b"hello".as_slice());
+    assert!(rt; part_of(&tree, 880, 883) == b"abc".as_slice());
 }
 
 #[test]
@@ -301,10 +295,7 @@ fn a_devicetree_is_converted(rt: HostRuntime) {
     let kernel = ["extract", "--config=conf-1"];
     fails_with(&rt, &kernel, &tree, "bootimg: no such key\n");
     let without_addresses = ["build-fit", "fdt-1:flat_dt:arm:linux:none:-:-:1"];
-    assert_eq!(rt;
-        output_of(&rt, &without_addresses, b"x").as_slice(),
-        tree.as_slice()
-    );
+    assert!(rt; output_of(&rt, &without_addresses, b"x").as_slice() == tree.as_slice());
 }
 
 #[test]
