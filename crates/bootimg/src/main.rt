@@ -16,8 +16,6 @@ mod numbers;
 mod report;
 mod run;
 mod shown;
-#[cfg(test)]
-mod trees;
 
 use run::run;
 use std::io::{self, Write};

@@ -1,8 +1,8 @@
 use super::*;
 use crate::images::{
-    KERNEL, KERNEL_LISTING, NO_PARTS, PADDED_KERNEL, PADDED_PARTS, PARTS_LISTING, TREE,
+    EACH_LINE, FDT_BEFORE_KERNEL, KERNEL, KERNEL_LISTING, NO_PARTS, PADDED_KERNEL, PADDED_PARTS,
+    PARTS_LISTING, PAYLOAD_AFTER_FREE_SPACE, THREE_PAYLOADS_EXTERNAL, TREE,
 };
-use crate::trees::{CONFIGURED, EACH_LINE, EXTERNAL_PAYLOAD, EXTERNAL_PAYLOADS};
 use bi_base::{Cause, Fault};
 use scripted_io::{Script, ScriptedReader, ScriptedWriter, Turn};
 use std::test::Fail;
@@ -135,7 +135,7 @@ fn each_payload_is_listed_with_its_offset_in_the_file(rt: HostRuntime) -> Result
             b"kind fit\nboot-cpu 0\ntotal-size 88\n".as_slice(),
         ),
         (
-            EXTERNAL_PAYLOAD.as_slice(),
+            PAYLOAD_AFTER_FREE_SPACE.as_slice(),
             b"kind fit\n\
                 boot-cpu 0\n\
                 total-size 157\n\
@@ -143,7 +143,7 @@ fn each_payload_is_listed_with_its_offset_in_the_file(rt: HostRuntime) -> Result
                 .as_slice(),
         ),
         (
-            EXTERNAL_PAYLOADS.as_slice(),
+            THREE_PAYLOADS_EXTERNAL.as_slice(),
             b"kind fit\n\
                 boot-cpu 0\n\
                 total-size 244\n\
@@ -161,7 +161,7 @@ fn each_payload_is_listed_with_its_offset_in_the_file(rt: HostRuntime) -> Result
 
 #[test]
 fn each_key_is_listed_with_its_images_or_why_it_has_none(rt: HostRuntime) -> Result<(), Fail> {
-    let text = list_of(rt.alloc(), CONFIGURED.as_slice())?;
+    let text = list_of(rt.alloc(), FDT_BEFORE_KERNEL.as_slice())?;
     let listing = b"kind fit\n\
         boot-cpu 0\n\
         total-size 228\n\
@@ -197,7 +197,7 @@ fn files_that_are_no_boot_images_are_refused(rt: HostRuntime) {
         (&KERNEL[..3], Cause::Truncated, 0),
         (&KERNEL[..64], Cause::Truncated, 12),
         (&TREE[..87], Cause::Truncated, 4),
-        (&EXTERNAL_PAYLOADS[..252], Cause::OutsideFile, 172),
+        (&THREE_PAYLOADS_EXTERNAL[..252], Cause::OutsideFile, 172),
     ] {
         let fault = Fault { cause, offset };
         assert!(rt; list_of(rt.alloc(), file).err() == Some(Error::Refused(fault)));

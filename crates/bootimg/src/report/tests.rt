@@ -1,8 +1,7 @@
 use super::*;
-use crate::images::{KERNEL, TREE};
-use crate::trees::{
-    EACH_VERDICT, GOOD_HASH, HASH_OF_EMPTY_PAYLOAD, HASH_WITHOUT_PAYLOAD, SHA384_WITHOUT_PAYLOAD,
-    SHORT_HASH,
+use crate::images::{
+    EACH_VERDICT, EMPTY_PAYLOAD_HASHED, GOOD_HASH, KERNEL, NO_PAYLOAD_HASHED,
+    SHA384_WITHOUT_PAYLOAD, TREE, WRONG_HASH,
 };
 use bi_base::{Cause, Fault};
 use scripted_io::{Script, ScriptedReader, ScriptedWriter, Turn};
@@ -46,21 +45,21 @@ fn each_hash_node_is_reported(rt: HostRuntime) -> Result<(), Fail> {
             true,
         ),
         (
-            SHORT_HASH.as_slice(),
+            WRONG_HASH.as_slice(),
             b"a hash-1 crc32 bad 352441\n\
                 summary good 0 bad 1 unknown-algorithm 0 no-payload 0 malformed 0\n"
                 .as_slice(),
             false,
         ),
         (
-            HASH_WITHOUT_PAYLOAD.as_slice(),
+            NO_PAYLOAD_HASHED.as_slice(),
             b"a hash-1 crc32 no-payload 00000000\n\
                 summary good 0 bad 0 unknown-algorithm 0 no-payload 1 malformed 0\n"
                 .as_slice(),
             false,
         ),
         (
-            HASH_OF_EMPTY_PAYLOAD.as_slice(),
+            EMPTY_PAYLOAD_HASHED.as_slice(),
             b"a hash-1 crc32 good 00000000\n\
                 summary good 1 bad 0 unknown-algorithm 0 no-payload 0 malformed 0\n"
                 .as_slice(),
