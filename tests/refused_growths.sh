@@ -29,19 +29,8 @@ tests_of reads 40 >> "$source/blob_growths.rt"
 echo "cd '$work/library/crates/library_tests' && rt try --test --fail-alloc 1000 > '$work/library/log' 2>&1" > library/run.sh
 grep -h '^#\[test\]' "$source"/*.rt > library/tests
 
-mkdir bootimg
-(cd "$root" && tar cf - --exclude=out crates.txt HANDLES crates) | (cd bootimg && tar xf -)
+program_workspace bootimg images refused_growths
 source=bootimg/crates/bootimg/src
-# The other tests make more allocations than the number of the one that is refused.
-for file in $(grep -rl '^mod tests;$' "$source"); do
-    sed -i '/^#\[cfg(test)\]$/{N;/\nmod tests;$/d}' "$file"
-done
-find "$source" -name tests.rt -delete
-find "$source" -depth -type d -name tests -exec rm -r {} +
-sed -i '/^#\[cfg(test)\]$/{N;/\nmod normal_forms;$/d}' "$source/main.rt"
-rm "$source/normal_forms.rt"
-printf '\n#[cfg(test)]\nmod refused_growths;\n' >> "$source/main.rt"
-cp "$root/tests/program/refused_growths.rt.source" "$source/refused_growths.rt"
 {
     tests_of reads 20
     tests_of appends 5

@@ -5,6 +5,3 @@ mod legacy;
 
 pub use fit::{build_fit_to, build_fit_traced};
 pub use legacy::{build_legacy_to, build_legacy_traced};
-
-#[cfg(test)]
-mod tests;

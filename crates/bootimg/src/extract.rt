@@ -237,6 +237,3 @@ pub fn extract_to<R: Read, W: Write>(
     let mut target = TracedWriter::new(writer);
     extract_traced(alloc, &mut source, &mut target, select, limits)
 }
-
-#[cfg(test)]
-mod tests;

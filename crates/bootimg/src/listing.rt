@@ -96,6 +96,3 @@ pub fn list_to<R: Read, W: Write>(
     let mut target = TracedWriter::new(writer);
     list_traced(alloc, &mut source, &mut target, limits)
 }
-
-#[cfg(test)]
-mod tests;

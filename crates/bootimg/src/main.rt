@@ -7,11 +7,7 @@ mod command_line;
 mod converting;
 mod extract;
 mod failure;
-#[cfg(test)]
-mod images;
 mod listing;
-#[cfg(test)]
-mod normal_forms;
 mod numbers;
 mod report;
 mod run;

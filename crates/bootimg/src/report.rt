@@ -256,6 +256,3 @@ fn verdict_word(verdict: Verdict) -> &'static str
         Verdict::Malformed => "malformed",
     }
 }
-
-#[cfg(test)]
-mod tests;

@@ -121,6 +121,3 @@ fn show<W: Write>(alloc: Global, text: &clap::Error, writer: &mut W) -> Result<u
     write_and_flush(&mut target, text.as_bytes())?;
     Ok(DONE)
 }
-
-#[cfg(test)]
-mod tests;
