@@ -2,8 +2,9 @@
 # Shows that the proofs of each crate use the contracts of the crates below it. In a copy of the workspace, a clause of a public
 # function is replaced by one that says nothing. The crate of that function is still proved then, but a function of a crate above
 # it is not: a goal that needs the clause stays open. Two copies are checked at a time, over what the checks of the workspace
-# kept, and the checkout stays as it is. The script needs python3, and installs Debian's if it is missing and the script runs as
-# root.
+# kept, and the checkout stays as it is. It takes five minutes on two cores, and a quarter of an hour if nothing was kept, so
+# ./test runs it only with the argument --layers. The script needs python3, and installs Debian's if it is missing and the script
+# runs as root.
 set -u
 
 root=$(cd "$(dirname "$0")/.." && pwd)
