@@ -36,8 +36,8 @@ accepts() {
     "$root/bootimg" list < "$1" > output && "$root/bootimg" normalise < "$1" > output && cmp "$1" output
 }
 
-# refuses LINE IMAGE: list and normalise write nothing, print this line and end with status 2.
-refuses() {
+# both_refuse LINE IMAGE: list and normalise write nothing, print this line and end with status 2.
+both_refuse() {
     for command in list normalise; do
         "$root/bootimg" "$command" < "$2" > output 2> errors
         [ $? = 2 ] && [ ! -s output ] && [ "$(cat errors)" = "bootimg: $1" ] || return 1
@@ -49,11 +49,11 @@ compare() {
     image "$1" "$1" > image
     check "the checksums over $1 bytes are those of zlib" accepts image
     flip image 16 0 > flipped
-    check "a changed bit of the header before $1 bytes is found" refuses "BadHeaderCrc at 4" flipped
+    check "a changed bit of the header before $1 bytes is found" both_refuse "BadHeaderCrc at 4" flipped
     [ "$1" -gt 0 ] || return
     for offset in 0 $(($1 / 2)) $(($1 - 1)); do
         flip image $((64 + offset)) $((offset % 8)) > flipped
-        check "a changed bit at $offset of $1 bytes is found" refuses "BadDataCrc at 24" flipped
+        check "a changed bit at $offset of $1 bytes is found" both_refuse "BadDataCrc at 24" flipped
     done
 }
 

@@ -13,13 +13,6 @@ need python3 python3
 need_program
 work_in_new_directory
 
-# noise SEED COUNT: writes this many bytes, the same ones each time.
-noise() {
-    python3 -c 'import random, sys
-seed, count = map(int, sys.argv[1:])
-sys.stdout.buffer.write(random.Random(seed).getrandbits(8 * count).to_bytes(count, "big"))' "$@"
-}
-
 # soil IMAGE OFFSET..: writes the image with other bytes after the name, after the data, and at these offsets, with the right
 # checksums.
 soil() {
