@@ -13,8 +13,8 @@ use bi_base::{Error, Limits};
 use bi_norm::Form;
 pub use build::{FitPlan, LegacyPlan};
 use build::{build_fit, build_legacy, fit_plan, legacy_plan};
-use clap::Command;
 use clap::error::ErrorKind;
+use clap::{ArgMatches, Command};
 use extract::{extract, selection};
 use options::{external, form, limit, limits};
 use std::alloc::{AllocError, AllocFailed, Global};
@@ -98,7 +98,16 @@ pub fn parse_arguments<'a>(alloc: Global, arguments: &'a [&'a str]) -> Result<Re
     let Some((name, options)) = matches.subcommand() else {
         return Err(no_command(alloc)?);
     };
-    let task = match name {
+    let task = parse_task(alloc, name, options)?;
+    let limits = limits(options)?;
+    Ok(Request { task, limits })
+}
+
+/// Returns the command of this name with the options. Fails as `parse_arguments` does.
+fn parse_task<'a>(alloc: Global, name: &str, options: &ArgMatches<'a>) -> Result<Task<'a>, Outcome>
+    ensures lengths { IfOk result (λ task. HasLengths task) }
+{
+    Ok(match name {
         "normalise" => Task::Normalise(form(options)),
         "list" => Task::List,
         "verify" => Task::Verify,
@@ -111,9 +120,7 @@ pub fn parse_arguments<'a>(alloc: Global, arguments: &'a [&'a str]) -> Result<Re
             Task::BuildFit(fit_plan(alloc, options)?)
         }
         _ => return Err(no_command(alloc)?),
-    };
-    let limits = limits(options)?;
-    Ok(Request { task, limits })
+    })
 }
 
 /// The outcome of arguments without a command.
@@ -124,7 +131,7 @@ fn no_command(alloc: Global) -> Result<Outcome, AllocError> {
 
 /// The program with its commands and options.
 fn program<'a>(alloc: Global) -> Result<Command<'a>, AllocError> {
-    Command::new(alloc, "bootimg")
+    let program = Command::new(alloc, "bootimg")
         .bin_name("bootimg")?
         .no_binary_name(true)
         .version(VERSION)
@@ -138,12 +145,30 @@ fn program<'a>(alloc: Global) -> Result<Command<'a>, AllocError> {
              the exit\n\
              status is then 2. It is 1 if verify wrote a verdict that is not good.",
         )
-        .subcommand_required(true)
+        .subcommand_required(true);
+    let program = add_image_commands(alloc, program)?;
+    let program = add_part_commands(alloc, program)?;
+    add_build_commands(alloc, program)
+}
+
+/// Adds the commands that write about a whole image, or its normal form.
+fn add_image_commands<'a>(alloc: Global, program: Command<'a>) -> Result<Command<'a>, AllocError> {
+    program
         .subcommand(normalise(alloc)?)?
         .subcommand(list(alloc)?)?
-        .subcommand(verify(alloc)?)?
+        .subcommand(verify(alloc)?)
+}
+
+/// Adds the commands that write the parts or payloads of an image.
+fn add_part_commands<'a>(alloc: Global, program: Command<'a>) -> Result<Command<'a>, AllocError> {
+    program
         .subcommand(extract(alloc)?)?
-        .subcommand(convert(alloc)?)?
+        .subcommand(convert(alloc)?)
+}
+
+/// Adds the commands that build an image.
+fn add_build_commands<'a>(alloc: Global, program: Command<'a>) -> Result<Command<'a>, AllocError> {
+    program
         .subcommand(build_legacy(alloc)?)?
         .subcommand(build_fit(alloc)?)
 }

@@ -42,7 +42,7 @@ pub struct FitPlan<'a> {
 
 /// The command `build-legacy` with its options.
 pub fn build_legacy<'a>(alloc: Global) -> Result<Command<'a>, AllocError> {
-    Command::new(alloc, "build-legacy")
+    let command = Command::new(alloc, "build-legacy")
         .about("Build a legacy image")
         .override_usage(
             "bootimg build-legacy --os <OS> --arch <ARCH> --type <TYPE> [OPTIONS] [LEN]... \
@@ -61,13 +61,30 @@ pub fn build_legacy<'a>(alloc: Global) -> Result<Command<'a>, AllocError> {
              Numbers are decimal, or hexadecimal with 0x.\n\n\
              Example: bootimg build-legacy --os linux --arch arm --type kernel < zImage > \
              uImage",
-        )
+        );
+    let command = add_code_options(alloc, command)?;
+    add_value_options(alloc, command)?.arg(limit(alloc))?.arg(words(
+        alloc,
+        "lengths",
+        "LEN",
+        "The length of each part in bytes",
+    ))
+}
+
+/// Adds the options of `build-legacy` for the codes in the header.
+fn add_code_options<'a>(alloc: Global, command: Command<'a>) -> Result<Command<'a>, AllocError> {
+    command
         .arg(option(alloc, "os", "OS", "The operating system").required(true))?
         .arg(option(alloc, "arch", "ARCH", "The processor architecture").required(true))?
         .arg(option(alloc, "type", "TYPE", "The image type").required(true))?
         .arg(option(alloc, "compression", "COMPRESSION", "The compression").default_value(
             NO_COMPRESSION,
-        ))?
+        ))
+}
+
+/// Adds the options of `build-legacy` for the other fields of the header.
+fn add_value_options<'a>(alloc: Global, command: Command<'a>) -> Result<Command<'a>, AllocError> {
+    command
         .arg(option(
             alloc,
             "name",
@@ -78,9 +95,7 @@ pub fn build_legacy<'a>(alloc: Global) -> Result<Command<'a>, AllocError> {
         .arg(option(alloc, "load", "N", "The address that the data is loaded to").default_value(
             ZERO,
         ))?
-        .arg(option(alloc, "entry", "N", "The address of the entry point").default_value(ZERO))?
-        .arg(limit(alloc))?
-        .arg(words(alloc, "lengths", "LEN", "The length of each part in bytes"))
+        .arg(option(alloc, "entry", "N", "The address of the entry point").default_value(ZERO))
 }
 
 /// The command `build-fit` with its options.

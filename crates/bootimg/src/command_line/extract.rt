@@ -19,7 +19,7 @@ const FIRST_INDEX: &str = "0";
 
 /// The command with its options.
 pub fn extract<'a>(alloc: Global) -> Result<Command<'a>, AllocError> {
-    Command::new(alloc, "extract")
+    let command = Command::new(alloc, "extract")
         .about("Write one part or payload of an image")
         .override_usage(
             "bootimg extract (--part <N> | --image <NAME> | --config <NAME>) [OPTIONS] \
@@ -36,13 +36,22 @@ pub fn extract<'a>(alloc: Global) -> Result<Command<'a>, AllocError> {
              Numbers are decimal, or hexadecimal with 0x.\n\n\
              Example: bootimg extract --part 1 < multi.uimage > ramdisk\n\
              Example: bootimg extract --config conf-1 --key fdt < kernel.itb > board.dtb",
-        )
-        .arg(part(alloc))?
-        .arg(image(alloc))?
-        .arg(config(alloc))?
+        );
+    add_selection_options(alloc, command)?
         .arg(key(alloc))?
         .arg(index(alloc))?
         .arg(limit(alloc))
+}
+
+/// Adds the options of which exactly one is required.
+fn add_selection_options<'a>(
+    alloc: Global,
+    command: Command<'a>,
+) -> Result<Command<'a>, AllocError> {
+    command
+        .arg(part(alloc))?
+        .arg(image(alloc))?
+        .arg(config(alloc))
 }
 
 fn part<'a>(alloc: Global) -> Arg<'a> {
