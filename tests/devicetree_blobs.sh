@@ -12,23 +12,18 @@ need device-tree-compiler dtc fdtget fdtdump
 need python3 python3
 need coreutils sha256sum
 
-work=$(mktemp -d)
-trap 'rm -rf "$work"' EXIT
-trap 'exit 1' HUP INT TERM
+need_libraries
+work_in_new_directory
 
-# The program, in a workspace of its own over copies of the crates that it uses.
-(cd "$root" && tar cf - HANDLES crates/bi_base crates/bi_blob crates/bi_fdt) | (cd "$work" && tar xf -)
-{
-    grep -E '^(bi_base|bi_blob|bi_fdt):' "$root/crates.txt"
-    echo 'print_blob: bi_fdt bi_base'
-} > "$work/crates.txt"
-mkdir -p "$work/crates/print_blob/src"
-cp "$root/tests/print_blob/main.rt.source" "$work/crates/print_blob/src/main.rt"
-(cd "$work/crates/print_blob" && rt run) < /dev/null > "$work/log" 2>&1
-program=$work/crates/print_blob/out/print_blob
+mkdir src
+cp "$root/tests/print_blob/main.rt.source" src/main.rt
+kit=$(dirname "$(rt doc)")
+rattle build print_blob src/main.rt "bi_fdt bi_base" --toolchain "$kit/toolchain" --backend llvm -o print_blob.o > log 2>&1 &&
+    "$kit/bin/rattle-link" --target x86_64-unknown-linux-gnu --toolchain "$kit/toolchain" -o print_blob print_blob.o \
+        "$kit/c/libos_c.a" "$kit/c/liblibc_c.a" >> log 2>&1
+program=$work/print_blob
 check "the program is built" test -x "$program"
-[ "$failed" = 0 ] || { tail -n 20 "$work/log"; finish; }
-cd "$work" || exit 2
+[ "$failed" = 0 ] || { tail -n 20 log; finish; }
 
 # nodes FILE PATH NAME: the node at this path and all below it, as fdtget shows them and print_blob prints them.
 nodes() {
