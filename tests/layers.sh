@@ -107,7 +107,7 @@ boundary bi_fit fit::Fit::to_doc bi_norm normal_form::emit_fit emit-requires-cla
 edit src/document.rt '{ IfOk result (IsDocument limits form (tree_of self.now)) }' '{ result ≡ result }'
 unprove fit/Fit/to_doc returns-clause-document
 
-boundary bi_norm cutting::cut bootimg building::legacy::split returns-in_default-clause-parts
+boundary bi_norm cutting::cut bootimg building::legacy::split returns-clause-parts
 edit src/cutting.rt '{ IfOk result (λ pieces. IsCut input.entry.now lengths.now
         (map (λ piece. piece.now) pieces.items)) }' '{ length input.entry.now ≤ longest_text }'
 
