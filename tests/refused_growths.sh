@@ -24,39 +24,39 @@ work_in_new_directory
 
 library_workspace library layout_growths blob_growths
 source=library/crates/library_tests/src
-tests_of builds 40 >> "$source/layout_growths.rt"
-tests_of reads 40 >> "$source/blob_growths.rt"
+tests_of builds 35 >> "$source/layout_growths.rt"
+tests_of reads 10 >> "$source/blob_growths.rt"
 echo "cd '$work/library/crates/library_tests' && rt try --test --fail-alloc 1000 > '$work/library/log' 2>&1" > library/run.sh
 grep -h '^#\[test\]' "$source"/*.rt > library/tests
 
 program_workspace bootimg images refused_growths
 source=bootimg/crates/bootimg/src
 {
-    tests_of reads 20
-    tests_of appends 5
-    tests_of normalises 20
-    tests_of normalises_into 20
-    tests_of normalises_to 20
-    tests_of lists_to 30
-    tests_of extracts_to 20
-    tests_of extracts_listed_to 40
-    tests_of normalises_embedded 100
-    tests_of normalises_external 100
-    tests_of lists_tree 60
-    tests_of verifies_to 60
-    tests_of converts_to 100
-    tests_of builds_legacy_to 20
-    tests_of builds_embedded 100
-    tests_of builds_external 100
-    tests_of compares 60
+    tests_of reads 10
+    tests_of appends 3
+    tests_of normalises 8
+    tests_of normalises_into 8
+    tests_of normalises_to 4
+    tests_of lists_to 12
+    tests_of extracts_to 3
+    tests_of extracts_listed_to 16
+    tests_of normalises_embedded 30
+    tests_of normalises_external 30
+    tests_of lists_tree 30
+    tests_of verifies_to 30
+    tests_of converts_to 35
+    tests_of builds_legacy_to 4
+    tests_of builds_embedded 30
+    tests_of builds_external 30
+    tests_of compares 50
     tests_of runs_normalise 100
     tests_of runs_list 100
     tests_of runs_extract 100
-    tests_of runs_convert 200
-    tests_of runs_build_legacy 200
-    tests_of runs_build_fit 200
+    tests_of runs_convert 120
+    tests_of runs_build_legacy 150
+    tests_of runs_build_fit 140
     tests_of runs_bad_image 100
-    tests_of runs_help 200
+    tests_of runs_help 120
     tests_of runs_version 100
     tests_of runs_unknown_argument 100
     tests_of runs_no_selection 100
