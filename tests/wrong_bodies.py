@@ -1,0 +1,128 @@
+"""Tries the wrong bodies of a crate, which are in tests/wrong_bodies/CRATE, and prints a line for each.
+
+wrong_bodies.py CRATE_DIRECTORY EDITS_DIRECTORY RATTLE..: RATTLE is the command that checks the crate in the current directory, to
+which the script adds --incremental and --only.
+
+An edit has a line `refused: FUNCTION`, and then the lines of an edit for `rt must-fail`. It is refused if a goal of this function
+stays open, or if an answer to one of its goals is wrong. A function is proved from the contracts of the functions that it calls, so
+the wrong bodies of several functions are checked at a time. rattle does not try a function that calls one that is not proved, so
+such an edit waits for the next round.
+"""
+
+import os
+import re
+import shutil
+import subprocess
+import sys
+import tempfile
+from pathlib import Path
+from typing import NamedTuple
+
+
+class Edit(NamedTuple):
+    name: str
+    function: str
+    changes: tuple  # each of a file, the text in it, and the text in its place
+
+
+def parse_edit(path):
+    function, file, old, changes = None, None, None, []
+    for line in path.read_text(encoding="utf-8").split("\n"):
+        key, _, text = line.partition(":")
+        text = text.removeprefix(" ")
+        if key == "refused":
+            function = text
+        elif key == "file":
+            file = text
+        elif key == "old":
+            old = text
+        elif key == "new":
+            changes.append((file, old, text))
+    return Edit(path.stem, function, tuple(changes))
+
+
+def apply(edit, texts):
+    """Returns the texts of the files with the edit applied, or None if a text is not in its file once."""
+    texts = dict(texts)
+    for file, old, new in edit.changes:
+        if texts[file].count(old) != 1:
+            return None
+        texts[file] = texts[file].replace(old, new)
+    return texts
+
+
+def choose(edits, texts):
+    """Returns edits of different functions that can be applied together, and the texts of the files with them."""
+    chosen = []
+    for edit in edits:
+        changed = apply(edit, texts)
+        if changed and all(edit.function != other.function for other in chosen):
+            chosen.append(edit)
+            texts = changed
+    return chosen, texts
+
+
+def check(crate, texts, functions, command, kept):
+    """Returns what rattle prints of these functions, in a copy of the crate with these texts."""
+    with tempfile.TemporaryDirectory() as copy:
+        for part in ("src", "specs", "proofs"):
+            if (crate / part).is_dir():
+                shutil.copytree(crate / part, f"{copy}/{part}")
+        for file, text in texts.items():
+            Path(copy, file).write_text(text, encoding="utf-8")
+        only = [word for function in functions for word in ("--only", function)]
+        command = [*command, "--incremental", kept, *only]
+        ran = subprocess.run(command, cwd=copy, stdout=subprocess.PIPE, stderr=subprocess.STDOUT, text=True, errors="replace")
+        return ran.stdout
+
+
+def verdict(output, crate, function):
+    """Returns whether the function is refused, or None if it was not tried, and why."""
+    found = re.search(rf"^fn {re.escape(crate)}::{re.escape(function)}: (.*)$", output, re.M)
+    if not found:
+        return False, "rattle does not name the function"
+    if "it calls `" in found[1]:
+        return None, found[1]
+    goals = re.search(r"`search` did not prove (.*)$", found[1])
+    if goals:
+        return True, goals[1]
+    answers = re.escape("./proofs/" + function.replace("::", "/")) + r"/[^:\n]*:\d+:\d+: error: (.*)"
+    errors = re.findall(answers, output)
+    wrong = [it for it in errors if not re.search(r"has no |\(nearest: |is not in scope|was not admitted", it)]
+    # The goals of functions that call one another are named after their function.
+    name = re.escape(function.rpartition("::")[2])
+    wrong += re.findall(rf"it is not proved that .* \((`{name}-[^`]*`)\)", output)
+    if found[1].startswith("not proved") and wrong:
+        return True, wrong[0]
+    return False, found[1]
+
+
+def main():
+    crate, edits, *command = sys.argv[1:]
+    crate = Path(crate)
+    waiting = [parse_edit(path) for path in sorted(Path(edits).glob("*.edit"))]
+    files = {file for edit in waiting for file, _, _ in edit.changes}
+    texts = {file: (crate / file).read_text(encoding="utf-8") for file in files}
+    failed = 0
+    with tempfile.TemporaryDirectory() as kept:
+        while waiting:
+            chosen, changed = choose(waiting, texts)
+            output = check(crate, changed, [edit.function for edit in chosen], command, kept)
+            unread = re.search(r"^(?:\./)?(?:src|specs)/.*: error.*", output, re.M)
+            if os.environ.get("KEEP"): Path(f"/tmp/wb/{crate.name}.out{len(waiting)}").write_text(output)
+            verdicts = {edit: verdict(output, crate.name, edit.function) for edit in chosen}
+            tried = [edit for edit in chosen if verdicts[edit][0] is not None]
+            if unread or not tried:
+                print(f"FAILED: {crate.name}: {unread[0] if unread else 'no edit can be tried'}", *output.splitlines()[-20:], sep="\n")
+                failed += len(waiting)
+                break
+            for edit in tried:
+                refused, why = verdicts[edit]
+                failed += not refused
+                print(f"{'refused' if refused else 'FAILED'}: {crate.name}/{edit.name}: {edit.function}: {why[:160]}", flush=True)
+            waiting = [edit for edit in waiting if edit not in tried]
+    return 1 if failed else 0
+
+
+if __name__ == "__main__":
+    sys.exit(main())
