@@ -9,7 +9,6 @@ the wrong bodies of several functions are checked at a time. rattle does not try
 such an edit waits for the next round.
 """
 
-import os
 import re
 import shutil
 import subprocess
@@ -76,9 +75,28 @@ def check(crate, texts, functions, command, kept):
         return ran.stdout
 
 
-def verdict(output, crate, function):
-    """Returns whether the function is refused, or None if it was not tried, and why."""
-    found = re.search(rf"^fn {re.escape(crate)}::{re.escape(function)}: (.*)$", output, re.M)
+def lines_of(edit, texts):
+    """Returns a file that the edit changes, and the first and the last line of the function there."""
+    file, _, new = edit.changes[-1]
+    before, _, _ = texts[file].partition(new)
+    lines = texts[file].split("\n")
+    first = before.count("\n")
+    while first and not re.match(r" *(pub(\([a-z]+\))? )?fn ", lines[first]):
+        first -= 1
+    end = re.match(" *", lines[first])[0] + "}"
+    last = next((at for at in range(first, len(lines)) if lines[at] == end), first)
+    return file, first + 1, last + 1
+
+
+def open_goals(output, file, first, last):
+    """Returns the goals that are open in these lines of a file."""
+    notes = re.findall(rf"^note: {re.escape(file)}:(\d+):\d+: it is not proved that .* \((`[^`]*`)\)", output, re.M)
+    return [goal for line, goal in notes if first <= int(line) <= last]
+
+
+def verdict(output, crate, edit, texts):
+    """Returns whether the function of the edit is refused, or None if it was not tried, and why."""
+    found = re.search(rf"^fn {re.escape(crate)}::{re.escape(edit.function)}: (.*)$", output, re.M)
     if not found:
         return False, "rattle does not name the function"
     if "it calls `" in found[1]:
@@ -86,12 +104,11 @@ def verdict(output, crate, function):
     goals = re.search(r"`search` did not prove (.*)$", found[1])
     if goals:
         return True, goals[1]
-    answers = re.escape("./proofs/" + function.replace("::", "/")) + r"/[^:\n]*:\d+:\d+: error: (.*)"
+    answers = re.escape("./proofs/" + edit.function.replace("::", "/")) + r"/[^:\n]*:\d+:\d+: error: (.*)"
     errors = re.findall(answers, output)
-    wrong = [it for it in errors if not re.search(r"has no |\(nearest: |is not in scope|was not admitted", it)]
-    # The goals of functions that call one another are named after their function.
-    name = re.escape(function.rpartition("::")[2])
-    wrong += re.findall(rf"it is not proved that .* \((`{name}-[^`]*`)\)", output)
+    # The answer names what the edit took away. That says nothing about the contract.
+    wrong = [it for it in errors if not re.search(r": record `|has no |is not in scope|was not admitted", it)]
+    wrong += open_goals(output, *lines_of(edit, texts))
     if found[1].startswith("not proved") and wrong:
         return True, wrong[0]
     return False, found[1]
@@ -104,13 +121,16 @@ def main():
     files = {file for edit in waiting for file, _, _ in edit.changes}
     texts = {file: (crate / file).read_text(encoding="utf-8") for file in files}
     failed = 0
+    for edit in [it for it in waiting if not apply(it, texts)]:
+        print(f"FAILED: {crate.name}/{edit.name}: a text is not in its file once")
+        waiting.remove(edit)
+        failed += 1
     with tempfile.TemporaryDirectory() as kept:
         while waiting:
             chosen, changed = choose(waiting, texts)
             output = check(crate, changed, [edit.function for edit in chosen], command, kept)
             unread = re.search(r"^(?:\./)?(?:src|specs)/.*: error.*", output, re.M)
-            if os.environ.get("KEEP"): Path(f"/tmp/wb/{crate.name}.out{len(waiting)}").write_text(output)
-            verdicts = {edit: verdict(output, crate.name, edit.function) for edit in chosen}
+            verdicts = {edit: verdict(output, crate.name, edit, changed) for edit in chosen}
             tried = [edit for edit in chosen if verdicts[edit][0] is not None]
             if unread or not tried:
                 print(f"FAILED: {crate.name}: {unread[0] if unread else 'no edit can be tried'}", *output.splitlines()[-20:], sep="\n")

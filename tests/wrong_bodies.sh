@@ -2,8 +2,8 @@
 # Tries wrong bodies of functions, which are in tests/wrong_bodies: the prover has to refuse each, at a goal of the function that the
 # edit names. The wrong bodies of a crate are tried together, in a copy of the crate over the other crates as they are built, so this
 # takes much less time than `rt must-fail`, which checks a crate once for each edit. The rounds are in tests/wrong_bodies.py. As many
-# crates are tried at a time as there are processors. The script needs python3, and installs Debian's if it is missing and the script
-# runs as root.
+# crates are tried at a time as there are processors. The arguments name the crates; without any, all are tried. The script needs
+# python3, and installs Debian's if it is missing and the script runs as root.
 set -u
 
 root=$(cd "$(dirname "$0")/.." && pwd)
@@ -23,11 +23,10 @@ need python3 python3
 need_libraries
 work_in_new_directory
 
-# The crates that take longest are the first.
+# Without arguments, the crates that take longest are the first.
+[ $# != 0 ] || set -- bootimg bi_norm bi_fit bi_base $(ls "$root/tests/wrong_bodies")
 try='python3 "$1/tests/wrong_bodies.py" "$1/crates/$2" "$1/tests/wrong_bodies/$2" "$1/tests/wrong_bodies.sh" check "$2" > "$2.log" 2>&1'
-for crate in bootimg bi_norm bi_fit bi_base $(ls "$root/tests/wrong_bodies"); do
-    echo "$crate"
-done | awk '!seen[$0]++' | xargs -n 1 -P "$(nproc)" sh -c "$try" sh "$root"
+printf '%s\n' "$@" | awk '!seen[$0]++' | xargs -n 1 -P "$(nproc)" sh -c "$try" sh "$root"
 for log in *.log; do
     crate=${log%.log}
     for edit in "$root/tests/wrong_bodies/$crate"/*.edit; do
