@@ -1,16 +1,16 @@
 #!/bin/sh
 # Shows that the proofs of each crate use the contracts of the crates below it. In a copy of a crate, a clause of a public function
-# is replaced by one that says nothing. The function is still proved then, but a function of a crate above is not: a goal that needs
-# the clause stays open. rattle takes the copy as source, and the other crates as they are built, so it checks only the functions
-# that the upper function calls. As many boundaries are checked at a time as there are processors. The script needs python3, and
+# is replaced by one that does not state the same. The function is still proved then, but a function of a crate above is not: a goal
+# that needs the clause stays open. rattle takes the copy as source, and the other crates as they are built, so it checks the upper
+# function, and of the copy only the functions that it calls. As many boundaries are checked at a time as there are processors. The script needs python3, and
 # installs Debian's if it is missing and the script runs as root.
 set -u
 
 root=$(cd "$(dirname "$0")/.." && pwd)
 . "$root/tests/common"
 
-# check_boundary LOWER UPPER GOAL_OF: checks the function GOAL_OF of the upper crate over the copy of the lower one, in the
-# directory of that copy. The script calls itself for this.
+# check_boundary LOWER UPPER FUNCTION: checks the function of the upper crate over the copy of the lower one, which is in the current
+# directory. The script calls itself for this.
 check_boundary() {
     lower=$1
     upper=$2
@@ -128,7 +128,7 @@ if [ "$failed" = 0 ]; then
     # The highest crates take longest.
     sort -r boundaries | xargs -n 3 -P "$(nproc)" "$root/tests/layers.sh" check_boundary
     while read -r lower upper function; do
-        check "$lower is proved with less" is_proved "$lower"
+        check "$lower: the function is proved with less" is_proved "$lower"
         check "$upper::$function is refused over less of $lower" is_refused "$lower"
     done < boundaries
 fi

@@ -1,12 +1,12 @@
 """Tries the wrong bodies of a crate, which are in tests/wrong_bodies/CRATE, and prints a line for each.
 
-wrong_bodies.py CRATE_DIRECTORY EDITS_DIRECTORY RATTLE..: RATTLE is the command that checks the crate in the current directory, to
-which the script adds --incremental and --only.
+wrong_bodies.py CRATE_DIRECTORY EDITS_DIRECTORY CHECK..: CHECK is a command that runs `rattle check` on the crate in the current
+directory. The script adds the flags --incremental and --only.
 
-An edit has a line `refused: FUNCTION`, and then the lines of an edit for `rt must-fail`. It is refused if a goal of this function
-stays open, or if an answer to one of its goals is wrong. A function is proved from the contracts of the functions that it calls, so
-the wrong bodies of several functions are checked at a time. rattle does not try a function that calls one that is not proved, so
-such an edit waits for the next round.
+An edit has a line `refused: FUNCTION`, and then the lines of an edit for `rt must-fail`, which change what this function does. It is
+refused if a goal of the function stays open, or if an answer to one of its goals is wrong. A function is proved from its own code and
+the contracts of the functions that it calls, so the wrong bodies of several functions are checked at a time. rattle does not try a
+function that calls one that is not proved, so such an edit waits for the next round.
 """
 
 import re
@@ -16,6 +16,10 @@ import sys
 import tempfile
 from pathlib import Path
 from typing import NamedTuple
+
+
+# What rattle prints of a function that it has not tried, since it calls one that is not proved.
+CALLS = re.compile(r"it calls `|a call of `")
 
 
 class Edit(NamedTuple):
@@ -71,16 +75,16 @@ def check(crate, texts, functions, command, kept):
             Path(copy, file).write_text(text, encoding="utf-8")
         only = [word for function in functions for word in ("--only", function)]
         command = [*command, "--incremental", kept, *only]
-        ran = subprocess.run(command, cwd=copy, stdout=subprocess.PIPE, stderr=subprocess.STDOUT, text=True, errors="replace")
-        return ran.stdout
+        how = {"stdin": subprocess.DEVNULL, "stdout": subprocess.PIPE, "stderr": subprocess.STDOUT, "text": True, "errors": "replace"}
+        return subprocess.run(command, cwd=copy, **how).stdout
 
 
 def lines_of(edit, texts):
     """Returns a file that the edit changes, and the first and the last line of the function there."""
-    file, _, new = edit.changes[-1]
-    before, _, _ = texts[file].partition(new)
-    lines = texts[file].split("\n")
-    first = before.count("\n")
+    file, old, _ = edit.changes[-1]
+    text = apply(edit._replace(changes=edit.changes[:-1]), texts)[file]
+    lines = text.split("\n")
+    first = text.partition(old)[0].count("\n")
     while first and not re.match(r" *(pub(\([a-z]+\))? )?fn ", lines[first]):
         first -= 1
     end = re.match(" *", lines[first])[0] + "}"
@@ -89,8 +93,8 @@ def lines_of(edit, texts):
 
 
 def open_goals(output, file, first, last):
-    """Returns the goals that are open in these lines of a file."""
-    notes = re.findall(rf"^note: {re.escape(file)}:(\d+):\d+: it is not proved that .* \((`[^`]*`)\)", output, re.M)
+    """Returns the goals that are open in these lines of a file. If search gave up at a limit, the goal may be true."""
+    notes = re.findall(rf"^note: {re.escape(file)}:(\d+):\d+: it is not proved that .* \((`[^`]*`)\)$", output, re.M)
     return [goal for line, goal in notes if first <= int(line) <= last]
 
 
@@ -99,19 +103,33 @@ def verdict(output, crate, edit, texts):
     found = re.search(rf"^fn {re.escape(crate)}::{re.escape(edit.function)}: (.*)$", output, re.M)
     if not found:
         return False, "rattle does not name the function"
-    if "it calls `" in found[1]:
+    if CALLS.search(found[1]):
         return None, found[1]
     goals = re.search(r"`search` did not prove (.*)$", found[1])
     if goals:
         return True, goals[1]
-    answers = re.escape("./proofs/" + edit.function.replace("::", "/")) + r"/[^:\n]*:\d+:\d+: error: (.*)"
-    errors = re.findall(answers, output)
-    # The answer names what the edit took away. That says nothing about the contract.
-    wrong = [it for it in errors if not re.search(r": record `|has no |is not in scope|was not admitted", it)]
+    answers = re.escape("./proofs/" + edit.function.replace("::", "/")) + r"/Answers\.antt:\d+:\d+: error: (.*)"
+    # These errors name what the edit took away. They say nothing about the contract.
+    names = r": record `|has no |is no name|is not in scope|w(as|ere) not admitted|have not been loaded|cannot be unfolded"
+    wrong = [it for it in re.findall(answers, output) if not re.search(names, it)]
     wrong += open_goals(output, *lines_of(edit, texts))
     if found[1].startswith("not proved") and wrong:
         return True, wrong[0]
     return False, found[1]
+
+
+def fault(output, edited):
+    """Returns why the output shows nothing of the edited functions, if so: a text could not be read, rattle did not come to its end, or
+    another function is not proved, though all that it calls is."""
+    unread = re.search(r"^(?:\./)?(?:src|specs)/.*: error.*", output, re.M)
+    if unread:
+        return unread[0]
+    if not re.search(r"^only=\d+ proved=\d+\n\Z", output, re.M):
+        return "rattle did not come to its end"
+    for function, what in re.findall(r"^fn (\S+): (.*)$", output, re.M):
+        if function not in edited and what != "proved" and not CALLS.search(what):
+            return f"{function}: {what}"
+    return None
 
 
 def main():
@@ -129,11 +147,11 @@ def main():
         while waiting:
             chosen, changed = choose(waiting, texts)
             output = check(crate, changed, [edit.function for edit in chosen], command, kept)
-            unread = re.search(r"^(?:\./)?(?:src|specs)/.*: error.*", output, re.M)
-            verdicts = {edit: verdict(output, crate.name, edit, changed) for edit in chosen}
+            verdicts = {edit: verdict(output, crate.name, edit, texts) for edit in chosen}
             tried = [edit for edit in chosen if verdicts[edit][0] is not None]
-            if unread or not tried:
-                print(f"FAILED: {crate.name}: {unread[0] if unread else 'no edit can be tried'}", *output.splitlines()[-20:], sep="\n")
+            why = fault(output, {f"{crate.name}::{edit.function}" for edit in chosen}) or not tried and "no edit can be tried"
+            if why:
+                print(f"FAILED: {crate.name}: {why}", *output.splitlines()[-20:], sep="\n")
                 failed += len(waiting)
                 break
             for edit in tried:

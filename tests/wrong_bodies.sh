@@ -1,9 +1,9 @@
 #!/bin/sh
-# Tries wrong bodies of functions, which are in tests/wrong_bodies: the prover has to refuse each, at a goal of the function that the
-# edit names. The wrong bodies of a crate are tried together, in a copy of the crate over the other crates as they are built, so this
-# takes much less time than `rt must-fail`, which checks a crate once for each edit. The rounds are in tests/wrong_bodies.py. As many
-# crates are tried at a time as there are processors. The arguments name the crates; without any, all are tried. The script needs
-# python3, and installs Debian's if it is missing and the script runs as root.
+# Tries wrong bodies of functions, which are in tests/wrong_bodies: the prover has to refuse the function that each edit names. The
+# wrong bodies of a crate are tried together, in a copy of the crate over the other crates as they are built, so this takes much less
+# time than `rt must-fail`, which checks a crate once for each edit. The rounds are in tests/wrong_bodies.py. As many crates are tried
+# at a time as there are processors. The arguments name the crates; without any, all are tried. The script needs python3, and installs
+# Debian's if it is missing and the script runs as root.
 set -u
 
 root=$(cd "$(dirname "$0")/.." && pwd)
@@ -31,7 +31,7 @@ for log in *.log; do
     crate=${log%.log}
     for edit in "$root/tests/wrong_bodies/$crate"/*.edit; do
         name=$crate/$(basename "$edit" .edit)
-        check "$name is refused" grep "^refused: $name: " "$log"
+        check "$name is refused" grep -F "refused: $name: " "$log"
     done
     grep -v '^refused: ' "$log"
 done

@@ -151,7 +151,7 @@ fn program<'a>(alloc: Global) -> Result<Command<'a>, AllocError> {
     add_build_commands(alloc, program)
 }
 
-/// Adds the commands that write about a whole image, or its normal form.
+/// Adds `normalise`, `list` and `verify`.
 fn add_image_commands<'a>(alloc: Global, program: Command<'a>) -> Result<Command<'a>, AllocError> {
     program
         .subcommand(normalise(alloc)?)?
@@ -159,14 +159,14 @@ fn add_image_commands<'a>(alloc: Global, program: Command<'a>) -> Result<Command
         .subcommand(verify(alloc)?)
 }
 
-/// Adds the commands that write the parts or payloads of an image.
+/// Adds `extract` and `convert`.
 fn add_part_commands<'a>(alloc: Global, program: Command<'a>) -> Result<Command<'a>, AllocError> {
     program
         .subcommand(extract(alloc)?)?
         .subcommand(convert(alloc)?)
 }
 
-/// Adds the commands that build an image.
+/// Adds `build-legacy` and `build-fit`.
 fn add_build_commands<'a>(alloc: Global, program: Command<'a>) -> Result<Command<'a>, AllocError> {
     program
         .subcommand(build_legacy(alloc)?)?
