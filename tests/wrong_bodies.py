@@ -120,14 +120,16 @@ def verdict(output, crate, edit, texts):
 
 def fault(output, edited):
     """Returns why the output shows nothing of the edited functions, if so: a text could not be read, rattle did not come to its end, or
-    another function is not proved, though all that it calls is."""
+    a function of another module is not proved, though all that it calls is."""
     unread = re.search(r"^(?:\./)?(?:src|specs)/.*: error.*", output, re.M)
     if unread:
         return unread[0]
     if not re.search(r"^only=\d+ proved=\d+\n\Z", output, re.M):
         return "rattle did not come to its end"
+    # Functions that call one another have one proof. They are in one module.
+    modules = {function.rpartition("::")[0] for function in edited}
     for function, what in re.findall(r"^fn (\S+): (.*)$", output, re.M):
-        if function not in edited and what != "proved" and not CALLS.search(what):
+        if function.rpartition("::")[0] not in modules and what != "proved" and not CALLS.search(what):
             return f"{function}: {what}"
     return None
 
