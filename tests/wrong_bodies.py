@@ -80,7 +80,7 @@ def check(crate, texts, functions, command, kept):
 
 
 def lines_of(edit, texts):
-    """Returns a file that the edit changes, and the first and the last line of the function there."""
+    """Returns a file that the edit changes, and the first and the last line there of the function with its attributes."""
     file, old, _ = edit.changes[-1]
     text = apply(edit._replace(changes=edit.changes[:-1]), texts)[file]
     lines = text.split("\n")
@@ -89,6 +89,8 @@ def lines_of(edit, texts):
         first -= 1
     end = re.match(" *", lines[first])[0] + "}"
     last = next((at for at in range(first, len(lines)) if lines[at] == end), first)
+    while first and re.match(r" *#\[", lines[first - 1]):
+        first -= 1
     return file, first + 1, last + 1
 
 
@@ -134,34 +136,52 @@ def fault(output, edited):
     return None
 
 
+def try_round(crate, waiting, texts, command, kept):
+    """Checks edits of different functions together. Returns the verdict on each edit that was tried, or why the check shows nothing."""
+    chosen, changed = choose(waiting, texts)
+    output = check(crate, changed, [edit.function for edit in chosen], command, kept)
+    verdicts = {edit: verdict(output, crate.name, edit, texts) for edit in chosen}
+    tried = {edit: result for edit, result in verdicts.items() if result[0] is not None}
+    why = fault(output, {f"{crate.name}::{edit.function}" for edit in chosen})
+    if not why and not tried:
+        why = "no edit can be tried"
+    if why:
+        why = "\n".join([why, *output.splitlines()[-20:]])
+    return tried, why
+
+
+def report(crate, edit, refused, why):
+    print(f"{'refused' if refused else 'FAILED'}: {crate.name}/{edit.name}: {edit.function}: {why[:160]}", flush=True)
+    return refused
+
+
+def try_all(crate, waiting, texts, command):
+    """Tries the edits, round by round. Returns whether each is refused."""
+    all_refused = True
+    with tempfile.TemporaryDirectory() as kept:
+        while waiting:
+            tried, why = try_round(crate, waiting, texts, command, kept)
+            if why:
+                print(f"FAILED: {crate.name}: {why}")
+                return False
+            for edit, result in tried.items():
+                all_refused &= report(crate, edit, *result)
+            waiting = [edit for edit in waiting if edit not in tried]
+    return all_refused
+
+
 def main():
     crate, edits, *command = sys.argv[1:]
     crate = Path(crate)
-    waiting = [parse_edit(path) for path in sorted(Path(edits).glob("*.edit"))]
-    files = {file for edit in waiting for file, _, _ in edit.changes}
+    edits = [parse_edit(path) for path in sorted(Path(edits).glob("*.edit"))]
+    files = {file for edit in edits for file, _, _ in edit.changes}
     texts = {file: (crate / file).read_text(encoding="utf-8") for file in files}
-    failed = 0
-    for edit in [it for it in waiting if not apply(it, texts)]:
-        print(f"FAILED: {crate.name}/{edit.name}: a text is not in its file once")
-        waiting.remove(edit)
-        failed += 1
-    with tempfile.TemporaryDirectory() as kept:
-        while waiting:
-            chosen, changed = choose(waiting, texts)
-            output = check(crate, changed, [edit.function for edit in chosen], command, kept)
-            verdicts = {edit: verdict(output, crate.name, edit, texts) for edit in chosen}
-            tried = [edit for edit in chosen if verdicts[edit][0] is not None]
-            why = fault(output, {f"{crate.name}::{edit.function}" for edit in chosen}) or not tried and "no edit can be tried"
-            if why:
-                print(f"FAILED: {crate.name}: {why}", *output.splitlines()[-20:], sep="\n")
-                failed += len(waiting)
-                break
-            for edit in tried:
-                refused, why = verdicts[edit]
-                failed += not refused
-                print(f"{'refused' if refused else 'FAILED'}: {crate.name}/{edit.name}: {edit.function}: {why[:160]}", flush=True)
-            waiting = [edit for edit in waiting if edit not in tried]
-    return 1 if failed else 0
+    applicable = [edit for edit in edits if apply(edit, texts)]
+    for edit in edits:
+        if edit not in applicable:
+            report(crate, edit, False, "a text is not in its file once")
+    all_refused = try_all(crate, applicable, texts, command)
+    return 0 if all_refused and len(applicable) == len(edits) else 1
 
 
 if __name__ == "__main__":
