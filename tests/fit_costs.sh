@@ -1,8 +1,8 @@
 #!/bin/sh
 # Measures what the program takes on large flattened image trees: time beside sha256sum of the same file, and memory beside the
-# length of the file. Each time is the least of five runs. It fails if memory is more than the file and 8 MiB for a large payload,
-# if 10,000 images take more than ten times what sha256sum takes, or if ten times as many take more than twelve times as long.
-# It needs python3 and coreutils.
+# length of the file. It fails if memory is more than the file and 8 MiB for a large payload, if 10,000 images take more than ten
+# times what sha256sum takes, or if ten times as many take more than twelve times as long. Each time is the least of ten rounds. How
+# many times as long a file takes as another is the median of the rounds. The script needs python3 and coreutils.
 set -u
 
 root=$(cd "$(dirname "$0")/.." && pwd)
@@ -17,6 +17,7 @@ cat > costs.py << 'END'
 """Makes large flattened image trees, runs commands on them, and prints and judges what they take."""
 import hashlib
 import os
+import statistics
 import struct
 import subprocess
 import sys
@@ -92,22 +93,36 @@ def make(path, payloads, configurations=0):
 
 
 def run(path, command):
-    """Returns the seconds and the bytes of memory of a command that reads this file, the least of five runs."""
-    seconds = memory = None
-    for _ in range(5):
-        with open(path, "rb") as source, open("output", "wb") as target:
-            begin = time.perf_counter()
-            process = subprocess.Popen(command, stdin=source, stdout=target)
-            _, status, usage = os.wait4(process.pid, 0)
-            taken = time.perf_counter() - begin
-        process.returncode = status
-        if status != 0:
-            sys.exit(f"{command}: status {status}")
-        seconds = taken if seconds is None else min(seconds, taken)
-        memory = usage.ru_maxrss * 1024 if memory is None else min(memory, usage.ru_maxrss * 1024)
-    return seconds, memory
+    """Returns the seconds and the bytes of memory of a command that reads this file."""
+    with open(path, "rb") as source, open("output", "wb") as target:
+        begin = time.perf_counter()
+        process = subprocess.Popen(command, stdin=source, stdout=target)
+        _, status, usage = os.wait4(process.pid, 0)
+        seconds = time.perf_counter() - begin
+    process.returncode = status
+    if status != 0:
+        sys.exit(f"{command}: status {status}")
+    return seconds, usage.ru_maxrss * 1024
 
 
+def measure(command):
+    """Returns for each file the seconds and the bytes of memory of ten runs of a command that reads it. The files are read in turn,
+    since a machine may be slow for some seconds."""
+    rounds = [[run(path, command) for path in FILES] for _ in range(10)]
+    return dict(zip(FILES, zip(*rounds)))
+
+
+def least(runs):
+    """Returns the least seconds and the least memory of these runs."""
+    return [min(measures) for measures in zip(*runs)]
+
+
+def ratio(runs, others):
+    """Returns how many times as long these runs take as the others, the median of the rounds."""
+    return statistics.median(seconds / other for (seconds, _), (other, _) in zip(runs, others))
+
+
+FILES = ["large", "many", "more", "configured"]
 COMMANDS = {
     "list": ["list"],
     "verify": ["verify"],
@@ -130,22 +145,23 @@ if sys.argv[1] == "make":
     make("more", [b"%d" % index for index in range(100_000)])
     make("configured", [b"%d" % index for index in range(10_000)], 10_000)
     sys.exit()
-times = {}
-for path in "large", "many", "more", "configured":
+cat = measure(["cat"])
+sha256sum = measure(["sha256sum"])
+measured = {name: measure([PROGRAM, *arguments]) for name, arguments in COMMANDS.items()}
+for path in FILES:
     size = os.path.getsize(path)
-    base, _ = run(path, ["sha256sum"])
-    print(f"{path}: {size} bytes, cat {run(path, ['cat'])[0]:.3f} s, sha256sum {base:.3f} s")
-    for name, arguments in COMMANDS.items():
-        seconds, memory = run(path, [PROGRAM, *arguments])
-        times[path, name] = seconds
+    base, _ = least(sha256sum[path])
+    print(f"{path}: {size} bytes, cat {least(cat[path])[0]:.3f} s, sha256sum {base:.3f} s")
+    for name in COMMANDS:
+        seconds, memory = least(measured[name][path])
         text = f"{seconds:.3f} s, {seconds / base:.1f} times sha256sum, {(memory - size) / MIB:.1f} MiB more than the file"
         if path == "large":
             judge(f"{path}, {name}", memory <= size + 8 * MIB, text)
         else:
             judge(f"{path}, {name}", path == "more" or seconds <= 10 * base, text)
 for name in COMMANDS:
-    ratio = times["more", name] / times["many", name]
-    judge(f"{name} of ten times as many images", ratio <= 12, f"{ratio:.1f} times as long")
+    times = ratio(measured[name]["more"], measured[name]["many"])
+    judge(f"{name} of ten times as many images", times <= 12, f"{times:.1f} times as long")
 sys.exit(failures != 0)
 END
 # The trees are made by another process: what a process has used counts for the memory of those that it starts.
