@@ -151,6 +151,7 @@ def try_round(crate, waiting, texts, command, kept):
 
 
 def report(crate, edit, refused, why):
+    """Prints the verdict on an edit, and returns whether the edit is refused."""
     print(f"{'refused' if refused else 'FAILED'}: {crate.name}/{edit.name}: {edit.function}: {why[:160]}", flush=True)
     return refused
 
