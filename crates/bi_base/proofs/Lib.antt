@@ -8,4 +8,10 @@ pub mod SinkLaws
 pub mod InputLaws
 pub mod BufferLaws
 pub mod TransferLaws
+pub mod PipeLaws
 pub mod NulLaws
+pub mod NulTexts
+pub mod EqualBytes
+pub mod ListMembers
+pub mod FileSlices
+pub mod Refusals

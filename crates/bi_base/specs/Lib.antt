@@ -1,5 +1,6 @@
 pub mod Cells
 pub mod Causes
+pub mod Errors
 pub mod Checks
 pub mod Limits
 pub mod Traces
@@ -16,3 +17,5 @@ pub mod BufferedSinks
 pub mod Crc
 pub mod Strings
 pub mod CrcTables
+pub mod Commands
+pub mod Pipes

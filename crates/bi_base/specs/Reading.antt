@@ -1,4 +1,4 @@
-use Rattle.std.specs.Prelude.{◌≡◌, ℕ, ◌<◌, ◌≤◌, ⊤, List, length, take, Option, None, Some}
+use Rattle.std.specs.Prelude.{◌≡◌, ℕ, ◌<◌, ◌≤◌, ◌+◌, ⊤, List, length, take, Option, None, Some}
 use Rattle.std.specs.Io.KnownBytes.{Consumes, IsAtEnd, Keeps}
 use Rattle.bi_base.specs.declared.fault.Error.{Error}
 use Rattle.bi_base.specs.declared.fault.Error.TheVariants.{Refused, OutOfMemory, ReadFailed}
@@ -17,6 +17,12 @@ too_large most = record { cause = TooLarge; offset = most }
 abbrev pub TakesAtMost : Option (List ℕ) → Option (List ℕ) → ℕ → Type 0
 TakesAtMost old new n = (bytes : List ℕ) × (length bytes ≤ n) × Consumes old new bytes
 
+-- At most this many bytes were read from a traced reader, also if it is not known which bytes it
+-- has.
+pub record TracedTakesAtMost (old new : ReadTrace) (most : ℕ) : Type 0 where
+  pub known : TakesAtMost old.remaining new.remaining most
+  pub counted : new.taken ≤ old.taken + most
+
 -- The input of a reader that has these bytes, if they are known.
 abbrev pub IsInput : Option (List ℕ) → List ℕ → Type 0
 IsInput None input = ⊤
@@ -26,6 +32,7 @@ IsInput (Some bytes) input = bytes ≡ input
 -- is empty.
 pub record ReadSome (old new : ReadTrace) (buffer : List ℕ) (count : ℕ) : Type 0 where
   pub consumed : Consumes old.remaining new.remaining (take count buffer)
+  pub counted : new.taken ≤ old.taken + count
   pub ended : count ≡ 0 → 0 < length buffer → IsAtEnd new.remaining
   pub no_failure_ignored : ReadsWell old → ReadsWell new
   pub same_reader : new.reader ≡ old.reader
@@ -34,6 +41,7 @@ pub record ReadSome (old new : ReadTrace) (buffer : List ℕ) (count : ℕ) : Ty
 pub record NothingRead (old new : ReadTrace) (error : Error) : Type 0 where
   pub is : error ≡ ReadFailed
   pub kept : Keeps old.remaining new.remaining
+  pub counted : new.taken ≡ old.taken
   pub cause : MustStopReading new
   pub same_reader : new.reader ≡ old.reader
 

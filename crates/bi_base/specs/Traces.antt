@@ -14,6 +14,8 @@ pub record ReadTrace : Type 0 where
   pub reader : GName
   -- The bytes that it still has, if they are known.
   pub remaining : Option (List ℕ)
+  -- How many bytes were read from it. The count stops at 2^64 - 1.
+  pub taken : ℕ
   -- The last call failed with an error other than an interruption.
   pub failed : Bool
   -- How many calls in a row were interrupted, up to the last one. The count stops at 2^32 - 1.
@@ -56,6 +58,11 @@ CountsInterruptions old new result =
     (λ error. (error_kind error ≡ Interrupted → new ≡ min (old + 1) (2 ^ 32 - 1))
     × (error_kind error ≢ Interrupted → new ≡ 0))
 
+-- The count of bytes that were read, before and after the call.
+abbrev pub CountsBytes : ℕ → ℕ → Result ℕ Error → Type 0
+CountsBytes old new result =
+    MatchResult result (λ count. new ≡ min (old + count) (2 ^ 64 - 1)) (λ _. new ≡ old)
+
 -- The last call is a reason to stop: it failed, or was the 1,024th in a row that was interrupted.
 abbrev pub MustStop : Bool → ℕ → Type 0
 MustStop failed interruptions = IsTrue failed ⊎ (1024 ≤ interruptions)
@@ -88,6 +95,7 @@ pub record IsFlushed (trace : WriteTrace) : Type 0 where
 pub record IsReadCall (old new : ReadTrace) (result : Result ℕ Error) (buffer : List ℕ) : Type 0
   where
     pub bytes : ReadConsumes old.remaining new.remaining result buffer
+    pub taken : CountsBytes old.taken new.taken result
     pub failed : RecordsFailure new.failed result
     pub interruptions : CountsInterruptions old.interruptions new.interruptions result
     pub stopped : IsTrue new.stopped ↔ (IsTrue old.stopped ⊎ MustStopReading new)

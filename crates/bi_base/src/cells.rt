@@ -40,6 +40,22 @@ pub fn be64_at(bytes: &[u8], at: usize) -> Option<u64>
     Some(u64::from_be_bytes(*cells))
 }
 
+/// The number whose cell is at offset `at`. The bytes have all of the cell.
+pub fn cell_at(bytes: &[u8], at: usize) -> u32
+    requires { at + 4 ≤ length bytes.now }
+    ensures { result ≡ u32_at bytes.now at }
+{
+    be32_at(bytes, at).unwrap()
+}
+
+/// The number whose two cells are at offset `at`. The bytes have all of both cells.
+pub fn two_cells_at(bytes: &[u8], at: usize) -> u64
+    requires { at + 8 ≤ length bytes.now }
+    ensures { result ≡ u64_at bytes.now at }
+{
+    be64_at(bytes, at).unwrap()
+}
+
 /// Appends the cell of this number: its four bytes, the highest first (Devicetree Specification,
 /// 2.2.4.2: u32). Fails as the sink does.
 pub fn put_cell<S: Sink>(sink: &mut S, number: u32) -> Result<(), Error>

@@ -30,6 +30,13 @@ impl CountSink {
         CountSink { count: 0 }
     }
 
+    /// Returns a sink that has counted this many bytes.
+    pub fn with_count(count: u64) -> CountSink
+        ensures { result ≡ count }
+    {
+        CountSink { count }
+    }
+
     /// Returns how many bytes were appended, or the greatest u64 if they were more than that.
     pub fn count(&self) -> u64
         ensures { result ≡ self.now }

@@ -1,10 +1,12 @@
 //! What every layer of bootimg uses: cells, CRC-32, limits, causes and faults, reading a whole
-//! input, and sinks that bytes are written to.
+//! input, sinks that bytes are written to, and commands from a reader to a writer.
 #![tactic(auto)]
 
 mod buffered_sink;
+mod bytes;
 mod cells;
 mod checksum;
+mod commands;
 mod count_sink;
 mod crc;
 pub mod crc_laws;
@@ -12,6 +14,7 @@ mod crc_tables;
 mod fault;
 mod limits;
 mod outcomes;
+mod pipes;
 mod reading;
 mod sinks;
 mod strings;
@@ -22,15 +25,18 @@ mod write_sink;
 mod writing;
 
 pub use buffered_sink::BufferedSink;
-pub use cells::{be32_at, be64_at, put_cell, put_cells, up4};
+pub use bytes::are_bytes;
+pub use cells::{be32_at, be64_at, cell_at, put_cell, put_cells, two_cells_at, up4};
 pub use checksum::crc32;
+pub use commands::Command;
 pub use count_sink::CountSink;
 pub use crc::Crc32;
 pub use fault::{Cause, Error, Fault, refuse};
 pub use limits::Limits;
+pub use pipes::{pipe, pipe_to};
 pub use reading::{read_all, read_all_traced};
 pub use sinks::Sink;
-pub use strings::before_nul;
+pub use strings::{before_nul, text_before_nul};
 pub use traced_read::{TracedRead, TracedReader};
 pub use traced_write::{TracedWrite, TracedWriter};
 pub use vec_sink::VecSink;

@@ -3,6 +3,7 @@
 ghost use Rattle.std.specs.Prelude.{◌≡◌, ◌+◌, ◌≤◌, ⊤, vec_len, IfOk, IfErr, IsErrOf};
 ghost use Rattle.std.specs.Io.{ReadsAtMost};
 ghost use Rattle.bi_base.specs.Reading.{IsReadError, NothingRead, ReadSome, ReadWhole, TakesAtMost};
+ghost use Rattle.bi_base.specs.Reading.{TracedTakesAtMost};
 ghost use Rattle.bi_base.specs.Traces.{MustStopReading, ReadsWell};
 
 use crate::fault::{Cause, Error, Fault};
@@ -37,8 +38,9 @@ fn read_some<S: TracedRead>(source: &mut S, buffer: &mut [u8]) -> Result<usize, 
 /// Errors: `Refused` with `TooLarge` at the limit for files, if the input is longer than that;
 /// `ReadFailed` after a read that failed with an error other than an interruption, or after 1,024
 /// interrupted reads in a row; `OutOfMemory` if the buffer cannot grow. After an error the bytes
-/// that were read are lost. At most one byte more than the limit is read, even if the call fails.
-/// Apart from interruptions, no failed read is ignored: after one the call returns `ReadFailed`.
+/// that were read are lost. At most one byte more than the limit is read from any reader, an
+/// endless one too, even if the call fails. Apart from interruptions, no failed read is ignored:
+/// after one the call returns `ReadFailed`.
 pub fn read_all_traced<S: TracedRead>(
     alloc: Global,
     source: &mut S,
@@ -50,8 +52,8 @@ pub fn read_all_traced<S: TracedRead>(
     ensures failed { IfErr result
         (IsReadError (S.trace source.old).remaining limits.file
         (MustStopReading (S.trace source.new))) }
-    ensures takes_at_most_one_byte_more { TakesAtMost (S.trace source.old).remaining
-        (S.trace source.new).remaining (limits.file + 1) }
+    ensures takes_at_most_one_byte_more { TracedTakesAtMost (S.trace source.old)
+        (S.trace source.new) (limits.file + 1) }
     ensures no_failure_ignored { ReadsWell (S.trace source.old) →
         (IsErrOf result Error.ReadFailed → ⊥) → ReadsWell (S.trace source.new) }
     ensures same_reader { (S.trace source.new).reader ≡ (S.trace source.old).reader }

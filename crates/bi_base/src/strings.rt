@@ -1,7 +1,9 @@
 //! NUL-terminated strings.
 
-ghost use Rattle.std.specs.Prelude.{◌≡◌};
+ghost use Rattle.std.specs.Prelude.{◌≡◌, ◌==◌, position};
+ghost use Rattle.std.specs.Option.{option_copied};
 ghost use Rattle.bi_base.specs.Strings.{before_nul as before_nul_of};
+ghost use Rattle.bi_base.specs.Strings.{text_before_nul as text_before_nul_of};
 
 /// The bytes before the first zero byte, or all of them if none is zero.
 pub fn before_nul(bytes: &[u8]) -> &[u8]
@@ -13,4 +15,20 @@ pub fn before_nul(bytes: &[u8]) -> &[u8]
         }
     }
     bytes
+}
+
+/// The bytes before the first zero byte. None exactly if none is zero.
+#[tactic(auto, unfolding(crate::specs::Strings::text_before_nul))]
+pub fn text_before_nul(value: &[u8]) -> Option<&[u8]>
+    ensures { option_copied result ≡ text_before_nul_of value.now }
+{
+    let end = position_of_nul(value)?;
+    Some(&value[..end])
+}
+
+/// The index of the first zero byte, if there is one.
+fn position_of_nul(bytes: &[u8]) -> Option<usize>
+    ensures { result ≡ position (λ byte. byte == 0) bytes.now }
+{
+    bytes.iter().position(|&byte| byte == 0)
 }

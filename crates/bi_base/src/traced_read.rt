@@ -24,6 +24,7 @@ pub trait TracedRead {
 #[derive(Drop)]
 pub struct TracedReader<'a, R> {
     reader: &'a mut R,
+    taken: u64,
     outcome: Outcome,
     stopped: bool,
 }
@@ -35,11 +36,13 @@ impl<'a, R: Read> TracedReader<'a, R> {
             ≡ reader.entry.ghost_name }
         ensures remaining { (⟦<TracedReader<'a, R> as TracedRead>⟧.trace result).remaining
             ≡ R.remaining reader.old }
+        ensures none_taken { (⟦<TracedReader<'a, R> as TracedRead>⟧.trace result).taken ≡ 0 }
         ensures not_failed { IsFalse (⟦<TracedReader<'a, R> as TracedRead>⟧.trace result).failed }
         ensures well { ReadsWell (⟦<TracedReader<'a, R> as TracedRead>⟧.trace result) }
     {
         TracedReader {
             reader,
+            taken: 0,
             outcome: Outcome::new(),
             stopped: false,
         }
@@ -50,6 +53,7 @@ impl<'a, R: Read> TracedRead for TracedReader<'a, R> {
     ghost trace = { λ traced. record {
       reader = traced.reader.ghost_name;
       remaining = R.remaining traced.reader.now;
+      taken = traced.taken;
       failed = traced.outcome.failed;
       interruptions = traced.outcome.interruptions;
       stopped = traced.stopped;
@@ -57,6 +61,9 @@ impl<'a, R: Read> TracedRead for TracedReader<'a, R> {
 
     fn read_once(&mut self, buffer: &mut [u8]) -> io::Result<usize> {
         let call = self.reader.read(buffer);
+        if let Ok(count) = &call {
+            self.taken = self.taken.saturating_add(*count as u64);
+        }
         self.outcome = self.outcome.after(&call);
         self.stopped = self.stopped || self.outcome.must_stop();
         call

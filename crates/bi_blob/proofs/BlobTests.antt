@@ -3,7 +3,7 @@ use Rattle.std.specs.Prelude.{◌==◌, ◌&&◌, nat_le, nat_lt, bytes_eq}
 use Rattle.std.specs.List.{AllByRecursion, list_all}
 use Rattle.std.proofs.lemmas.Bool.{and_parts, false≢true}
 use Rattle.std.proofs.lemmas.List.{take-append-drop, append_assoc}
-use Rattle.std.proofs.lemmas.Slice.Eq.{bytes_eq-Decides}
+use Rattle.bi_base.proofs.EqualBytes.{same_bytes}
 use Rattle.bi_base.specs.Cells.{slice, AreBytes}
 use Rattle.bi_base.proofs.ByteLists.{AreBytes-none, AreBytes-cons}
 use Rattle.bi_blob.specs.Tokens.{Token, BeginNode, EndNode, Prop, Nop, End, token_bytes, width, IsEncoding, AreEncodings, IsNameAt}
@@ -25,10 +25,6 @@ are_bytes [] e = AreBytes-none
 are_bytes (byte ∷ later) e =
     let parts = and_parts (nat_lt byte 256) (list_all (λ b. nat_lt b 256) later) e in
     AreBytes-cons byte later ((lt_decides byte 256).0 parts.0) (are_bytes later parts.1)
-
--- Lists that a test finds to be the same.
-same_bytes : (a b : List ℕ) → bytes_eq a b ≡ true → a ≡ b
-same_bytes a b e = (bytes_eq-Decides a b).0 e
 
 -- Whether bytes begin with others.
 unfoldable pub begins_with : List ℕ → List ℕ → Bool

@@ -7,8 +7,7 @@ pub mod EventEncoding
 pub mod Trees
 pub mod Reservations
 pub mod OneBlob
-pub mod PartialNodes
-pub mod Growing
+pub mod OpenNodes
 pub mod PassedTokens
 pub mod Steps
 pub mod Ending
@@ -25,3 +24,4 @@ pub mod Padding
 pub mod EventTrees
 pub mod BeforeTree
 pub mod Lookups
+pub mod NodeCounts

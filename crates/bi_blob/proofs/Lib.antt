@@ -8,3 +8,4 @@ pub mod HeaderFacts
 pub mod StructureFacts
 pub mod Blobs
 pub mod Texts
+pub mod NameSets

@@ -1,5 +1,4 @@
 -- Lemmas on the text that a blob is laid out as: its names, its tokens and their places, and its blocks.
-pub mod Members
 pub mod Names
 pub mod TokenEncoding
 pub mod Places

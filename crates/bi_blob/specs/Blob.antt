@@ -1,7 +1,7 @@
 use Rattle.std.specs.Prelude.{◌≡◌, ℕ, ◌+◌, ◌-◌, ◌%◌, ◌^◌, ◌<◌, ◌≤◌, Bool, ◌==◌, if◌then◌else◌}
-use Rattle.std.specs.Prelude.{List, [], ◌∷◌, ◌++◌, length, flat_map}
+use Rattle.std.specs.Prelude.{zero, suc, List, [], ◌∷◌, ◌++◌, length, flat_map}
 use Rattle.std.specs.List.{AllByRecursion}
-use Rattle.bi_base.specs.Cells.{cell8, slice, u32_at, AreBytes}
+use Rattle.bi_base.specs.Cells.{cell8, slice, u32_at, u64_at, AreBytes}
 use Rattle.bi_base.specs.Limits.{Bounds}
 use Rattle.bi_blob.specs.Tokens.{Token, End, AreEncodings}
 use Rattle.bi_blob.specs.Tree.{Root, FileNode, IsTree, AreProperties, tree_without_places}
@@ -129,6 +129,15 @@ pub record BeginsWithReservations (bytes : List ℕ) (reservations : List Reserv
   pub are_reservations : AllByRecursion IsReservation reservations
   pub trailing : List ℕ
   pub is_at : bytes ≡ reservation_block reservations ++ trailing
+
+-- The pair of numbers at an offset of a file, as a reservation.
+abbrev pub pair_at : List ℕ → ℕ → Reservation
+pair_at file at = record { address = u64_at file at; size = u64_at file (at + 8) }
+
+-- The reservations of this many pairs, the first of which is at an offset of a file.
+abbrev pub reservations_at : List ℕ → ℕ → ℕ → List Reservation
+reservations_at file at zero = []
+reservations_at file at (suc count) = pair_at file at ∷ reservations_at file (at + 16) count
 
 -- Where a file has its tree: the structure block from `begin` to `end`, and the strings block
 -- (5.4, 5.5).

@@ -1,5 +1,5 @@
-use Rattle.std.specs.Prelude.{◌≡◌, ◌≢◌, ◌⊎◌, ◌↔◌, ℕ, ◌+◌, ◌-◌, ◌≤◌, Some, List, [], ◌∷◌, ◌++◌}
-use Rattle.std.specs.Prelude.{length, map, reverse}
+use Rattle.std.specs.Prelude.{◌≡◌, ◌≢◌, ◌⊎◌, ◌↔◌, ℕ, ◌+◌, ◌-◌, ◌<◌, ◌≤◌, Some, List, [], ◌∷◌}
+use Rattle.std.specs.Prelude.{◌++◌, length, map, reverse}
 use Rattle.std.specs.List.{slice_get}
 use Rattle.bi_base.specs.declared.fault.Fault.{Fault}
 use Rattle.bi_base.specs.Cells.{AreBytes, slice, u32_at}
@@ -7,7 +7,7 @@ use Rattle.bi_base.specs.Checks.{HasNoFault}
 use Rattle.bi_base.specs.Limits.{Bounds}
 use Rattle.bi_blob.specs.Tokens.{Token, End, AreEncodings}
 use Rattle.bi_blob.specs.Tree.{Nodes, Root, Property, FileProperty, FileNode, names, AreDistinct}
-use Rattle.bi_blob.specs.Tree.{IsTree, AreProperties, depth_of}
+use Rattle.bi_blob.specs.Tree.{IsTree, AreProperties, depth_of, node_count_of}
 use Rattle.bi_blob.specs.Lookups.{Sibling, node_at, node_named, property_named}
 use Rattle.bi_blob.specs.Events.{Event, events_of}
 use Rattle.bi_blob.specs.Following.{MayFollow, AreClosedEvents}
@@ -37,6 +37,12 @@ OneBlob =
     → IsBlob file cpu reservations root → IsBlob file other_cpu other_reservations other_root
     → SameContent cpu other_cpu reservations other_reservations root other_root
 
+-- A blob has fewer nodes than the file has bytes.
+abbrev pub FewerNodesThanBytes : Type 0
+FewerNodesThanBytes =
+    (file : List ℕ) (cpu : ℕ) (reservations : List Reservation) (root : Root FileNode)
+    → IsBlob file cpu reservations root → node_count_of root < length file
+
 -- A file that is a blob within limits has no fault under them.
 abbrev pub BlobHasNoFault : Type 0
 BlobHasNoFault =
@@ -44,8 +50,8 @@ BlobHasNoFault =
     → ¬ (IsBlobFault bounds file fault)
 
 -- A file has at most one fault under limits.
-abbrev pub OneFault : Type 0
-OneFault =
+abbrev pub OneBlobFault : Type 0
+OneBlobFault =
     (bounds : Bounds) (file : List ℕ) (one other : Fault) → IsBlobFault bounds file one
     → IsBlobFault bounds file other → one ≡ other
 

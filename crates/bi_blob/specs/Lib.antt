@@ -6,9 +6,11 @@ pub mod Stages
 pub mod Following
 pub mod Blob
 pub mod BlobFaults
+pub mod OpenNodes
 pub mod Layout
 pub mod BlobLaws
 pub mod TextLaws
 pub mod KnownTexts
 pub mod KnownBlobs
 pub mod KnownFaults
+pub mod NameSets

@@ -1,4 +1,4 @@
-use Rattle.std.specs.Prelude.{ℕ, List, [], ◌∷◌, map, Option, bytes_eq}
+use Rattle.std.specs.Prelude.{ℕ, List, [], ◌∷◌, map, Option, Some, None, bytes_eq}
 use Rattle.std.specs.List.{slice_get}
 use Rattle.std.specs.Map.{lookup}
 use Rattle.bi_blob.specs.Tree.{Nodes, none, node, Root, Property, FileProperty}
@@ -18,6 +18,11 @@ abbrev pub siblings : {Own : Type 0} → Nodes Own → List (Sibling Own)
 siblings none = []
 siblings (node name own children later) =
     record { name = name; own = own; children = children; later = later } ∷ siblings later
+
+-- A node and the nodes after it, or no nodes.
+abbrev pub siblings_from : {Own : Type 0} → Option (Sibling Own) → List (Sibling Own)
+siblings_from None = []
+siblings_from (Some first) = first ∷ siblings first.later
 
 -- A root, which has no siblings.
 abbrev pub root_node : {Own : Type 0} → Root Own → Sibling Own

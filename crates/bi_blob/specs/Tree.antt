@@ -48,6 +48,15 @@ depth (node name own children later) = max (depth children + 1) (depth later)
 abbrev pub depth_of : {Own : Type 0} → Root Own → ℕ
 depth_of root = depth (as_nodes root)
 
+-- How many nodes these are, with all below them.
+abbrev pub node_count : {Own : Type 0} → Nodes Own → ℕ
+node_count none = 0
+node_count (node name own children later) = node_count children + node_count later + 1
+
+-- The same for a whole tree, its root counted.
+abbrev pub node_count_of : {Own : Type 0} → Root Own → ℕ
+node_count_of root = node_count (as_nodes root)
+
 -- A property: its name and its value (2.2.4).
 abbrev pub Property : Type 0
 Property = List ℕ × List ℕ

@@ -1,6 +1,8 @@
 //! Laws of what a devicetree blob is. The functions do nothing: the contract of each is the law.
 
-ghost use Rattle.bi_blob.specs.BlobLaws.{OneBlob, BlobHasNoFault, OneFault, BlobOrFault};
+ghost use Rattle.bi_blob.specs.BlobLaws.{OneBlob, FewerNodesThanBytes, BlobHasNoFault};
+ghost use Rattle.bi_blob.specs.BlobLaws.{OneBlobFault};
+ghost use Rattle.bi_blob.specs.BlobLaws.{BlobOrFault};
 ghost use Rattle.bi_blob.specs.BlobLaws.{BlobWhereNoFault, PassedWhereEncoded};
 ghost use Rattle.bi_blob.specs.BlobLaws.{ClosedEventsHaveOneTree, FaultBeforeTreeComesFirst};
 ghost use Rattle.bi_blob.specs.BlobLaws.{NodesAreFound, PropertiesAreFound};
@@ -14,6 +16,11 @@ pub fn a_file_is_one_blob()
     ensures { OneBlob }
 {}
 
+/// A blob has fewer nodes than the file has bytes, so that a count of nodes does not overflow.
+pub fn a_blob_has_fewer_nodes_than_bytes()
+    ensures { FewerNodesThanBytes }
+{}
+
 /// A file that is a blob within limits has no fault under them.
 pub fn a_blob_has_no_fault()
     ensures { BlobHasNoFault }
@@ -21,7 +28,7 @@ pub fn a_blob_has_no_fault()
 
 /// A file has at most one fault under limits.
 pub fn a_file_has_one_fault()
-    ensures { OneFault }
+    ensures { OneBlobFault }
 {}
 
 /// A file of bytes is a blob within limits, or it has a fault under them.

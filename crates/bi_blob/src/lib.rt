@@ -1,8 +1,14 @@
-//! What a devicetree blob is, and the text that is written for one: definitions, and their laws.
+//! What a devicetree blob is, and the text that is written for one: definitions, their laws, and
+//! the numbers and names of the format.
 //!
-//! The reader of blobs and their layout both cite them, and do not depend on each other. The
-//! definitions are in `specs/`. No function here computes anything: the contract of each is a law.
+//! The reader of blobs and their layout both use them, and do not depend on each other. The
+//! definitions are in `specs/`. The contract of each function of `blob_laws` and `text_laws` is a
+//! law.
 #![tactic(auto)]
 
 pub mod blob_laws;
+pub mod format;
+mod names;
 pub mod text_laws;
+
+pub use names::{is_child_name, is_property_name};

@@ -6,17 +6,18 @@ use Rattle.bi_base.specs.declared.fault.Error.TheVariants as error
 use Rattle.bi_base.specs.declared.fault.Fault.{Fault}
 use Rattle.bi_base.specs.Cells.{AreBytes, u64_at}
 use Rattle.bi_base.specs.Limits.{Bounds}
+use Rattle.bi_base.specs.Errors.{IsRefusal}
 use Rattle.bi_blob.specs.Tree.{Root, FileNode}
-use Rattle.bi_blob.specs.Blob.{Reservation, boot_cpuid_phys, header_length, lacks_structure_size, totalsize, off_mem_rsvmap, tree_blocks, Header, IsBlob, IsBlobWithin}
-use Rattle.bi_blob.specs.BlobFaults.{HasNoHeaderFault, HasReservations, IsFaultBeforeTree, IsStructureFault, IsBlobFault, InHeader, InReservations, InStructure}
+use Rattle.bi_blob.specs.Blob.{Reservation, boot_cpuid_phys, header_length, lacks_structure_size, totalsize, off_mem_rsvmap, tree_blocks, Header, IsBlob, IsBlobWithin, reservations_at}
+use Rattle.bi_blob.specs.BlobFaults.{HasNoHeaderFault, HasReservations, IsStructureFault, IsBlobFault, InStructure}
 use Rattle.bi_blob.proofs.Blobs.Headers.{HasNoHeaderFault-Header}
-use Rattle.bi_blob.proofs.Blobs.ReservationFaults.{reservations_at, HasReservations-BeginsWithReservations}
+use Rattle.bi_blob.proofs.Blobs.ReservationFaults.{HasReservations-BeginsWithReservations}
 use Rattle.bi_blob.proofs.Blobs.Faults.{blob_has_no_fault, one_blob_fault, blob_of_parts}
 use Rattle.bi_fdt.specs.declared.table.Entry.{Entry}
 use Rattle.bi_fdt.specs.Table.{item_of}
 use Rattle.bi_fdt.specs.Reading.{IsTable, HasTable}
-use Rattle.bi_fdt.specs.Growth.{IsRefusal}
-use Rattle.bi_fdt.specs.Content.{root_in, IsHeld}
+use Rattle.bi_fdt.specs.Content.{root_in}
+use Rattle.bi_fdt.specs.Fields.{IsBlobHeld}
 use Rattle.bi_fdt.specs.Refused.{IsOnlyFault, IsRefused}
 use Rattle.bi_fdt.proofs.Parsing.{root_in-table}
 
@@ -29,10 +30,6 @@ only_fault bounds file fault is = record {
   only = λ other is_other. one_blob_fault bounds file other fault is_other is;
   no_blob = λ within. blob_has_no_fault bounds file fault within is;
 }
-
-pub fault_before : (bounds : Bounds) (file : List ℕ) (fault : Fault) → IsFaultBeforeTree bounds file fault → IsBlobFault bounds file fault
-fault_before bounds file fault (inl in_header) = InHeader in_header
-fault_before bounds file fault (inr reservations) = InReservations reservations.0 reservations.1
 
 -- What an error in the structure block says of the file.
 pub refused_in_tree : (bounds : Bounds) (file : List ℕ) (count : ℕ) (error : Error) → HasNoHeaderFault bounds file → HasReservations file (off_mem_rsvmap file) (totalsize file) count → IsRefusal (IsStructureFault (tree_blocks file) bounds.depth) error → IsRefused bounds file error
@@ -52,7 +49,7 @@ header_length-least file = elim (cases_Bool (lacks_structure_size file)) [
 pub table_root : (entries : List Entry) (root : Root FileNode) → IsTable entries root → root_in (map item_of entries) ≡ root
 table_root entries root table = ap root_in table.items ∙ root_in-table root
 
-pub is_held : (bounds : Bounds) (file : List ℕ) (count : ℕ) (entries : List Entry) → HasNoHeaderFault bounds file → HasReservations file (off_mem_rsvmap file) (totalsize file) count → HasTable (tree_blocks file) bounds.depth entries → IsHeld file count entries
+pub is_held : (bounds : Bounds) (file : List ℕ) (count : ℕ) (entries : List Entry) → HasNoHeaderFault bounds file → HasReservations file (off_mem_rsvmap file) (totalsize file) count → HasTable (tree_blocks file) bounds.depth entries → IsBlobHeld file count entries
 is_held bounds file count entries fine has table =
     let header : Header file = HasNoHeaderFault-Header bounds file fine in
     let least : 36 ≤ header_length file = header_length-least file in
@@ -78,11 +75,6 @@ is_blob bounds file count entries bytes fine has table =
 pub is_blob_within : (bounds : Bounds) (file : List ℕ) (count : ℕ) (entries : List Entry) → AreBytes file → HasNoHeaderFault bounds file → HasReservations file (off_mem_rsvmap file) (totalsize file) count → HasTable (tree_blocks file) bounds.depth entries → IsBlobWithin bounds file
 is_blob_within bounds file count entries bytes fine has table =
     blob_of_parts bounds file count bytes fine has (record { root = table.root; holds = table.holds; shallow = table.shallow })
-
--- There are as many reservations as are counted.
-pub length-reservations : (file : List ℕ) (at count : ℕ) → length (reservations_at file at count) ≡ count
-length-reservations file at zero = refl
-length-reservations file at (suc count) = ap suc (length-reservations file (at + 16) count)
 
 -- The numbers of a reservation.
 abbrev pub numbers : Reservation → ℕ × ℕ

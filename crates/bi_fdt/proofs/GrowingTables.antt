@@ -5,30 +5,32 @@ use Rattle.std.proofs.lemmas.List.{length-append, length-map, map-append, drop-m
 use Rattle.std.specs.BTreeSet.{Updates}
 use Rattle.bi_blob.specs.Tree.{FileProperty, names}
 use Rattle.bi_blob.specs.Events.{FileNodeProperty, FileNodeEnd}
-use Rattle.bi_blob.proofs.Blobs.PartialNodes.{PartialNode, begun, said_by, said_of, with_one_property, with_one_child, located_of}
-use Rattle.bi_blob.proofs.Blobs.Growing.{said_by-property, said_by-child, names-with_last}
+use Rattle.bi_blob.specs.NameSets.{HoldsNames}
+use Rattle.bi_blob.proofs.NameSets.{name_cmp, HoldsNames-insert}
+use Rattle.bi_blob.specs.OpenNodes.{OpenFileNode, new_node, events_of_open_nodes, events_of_open_node, with_one_property, with_one_child, own_of}
+use Rattle.bi_blob.proofs.Blobs.OpenNodes.{events_of_open_nodes-property, events_of_open_nodes-child, names-with_last}
 use Rattle.bi_fdt.specs.declared.growing.Growing.{Growing}
 use Rattle.bi_fdt.specs.declared.growing.OpenNode.{OpenNode}
 use Rattle.bi_fdt.specs.declared.table.Entry.{Entry}
 use Rattle.bi_fdt.specs.declared.table.Entry.TheVariants as entry
 use Rattle.bi_fdt.specs.declared.table.NodeEntry.{NodeEntry}
 use Rattle.bi_fdt.specs.declared.table.Property.{Property}
-use Rattle.bi_fdt.specs.Table.{Item, NodeItem, PropertyItem, count_inside, item_of, items_of, file_property_of, AreLinked}
-use Rattle.bi_fdt.specs.Growth.{AreOpen, Holds, IsGrowing, IsFinished, EndsInside}
-use Rattle.bi_fdt.proofs.NameSets.{name_cmp, Holds-insert}
-use Rattle.bi_fdt.proofs.Items.{items_of-append, open_items, node_items, items_of-said, items_of-open, inside-open, childless_items}
+use Rattle.bi_fdt.specs.Table.{Item, NodeItem, PropertyItem, count_inside, item_of, items_of, AreLinked}
+use Rattle.bi_fdt.specs.Properties.{file_property_of}
+use Rattle.bi_fdt.specs.Growth.{AreOpen, IsGrowing, IsFinished, EndsInside}
+use Rattle.bi_fdt.proofs.Items.{items_of-append, open_items, node_items, items_of-open_nodes, items_of-open, inside-open, childless_items}
 use Rattle.bi_fdt.proofs.Links.{AreLinked-node, AreLinked-property, AreLinked-end, items-set, drop-push, properties_alone, AreProperties}
 
 -- What one token does to a growing table.
 
 -- What an open node's entry begins in the items of a growing table.
-pub open_entry : (opened : OpenNode) (later : List OpenNode) (children : List (List ℕ)) (o : PartialNode) (outer : List PartialNode) → AreOpen (opened ∷ later) children o.name outer → drop opened.entry (items_of 0 (said_by o outer)) ≡ open_items (length outer) o
-open_entry opened [] children o [] are = ap (λ n. drop n (items_of 0 (said_of o))) are.0 ∙ items_of-open 0 o
+pub open_entry : (opened : OpenNode) (later : List OpenNode) (children : List (List ℕ)) (o : OpenFileNode) (outer : List OpenFileNode) → AreOpen (opened ∷ later) children o.name outer → drop opened.entry (items_of 0 (events_of_open_nodes o outer)) ≡ open_items (length outer) o
+open_entry opened [] children o [] are = ap (λ n. drop n (items_of 0 (events_of_open_node o))) are.0 ∙ items_of-open 0 o
 open_entry opened (p ∷ later) children o [] are = absurd are
 open_entry opened later children o (parent ∷ outer) are =
-    let before : List Item = items_of 0 (said_by parent outer) in
-    ap (λ n. drop n (items_of 0 (said_by o (parent ∷ outer)))) are.0
-    ∙ ap (drop (length before)) (items_of-said o parent outer)
+    let before : List Item = items_of 0 (events_of_open_nodes parent outer) in
+    ap (λ n. drop n (items_of 0 (events_of_open_nodes o (parent ∷ outer)))) are.0
+    ∙ ap (drop (length before)) (items_of-open_nodes o parent outer)
     ∙ drop-append_seam before (open_items (length outer + 1) o)
     ∙ ap (λ d. open_items d o) (omega arith)
 
@@ -55,17 +57,17 @@ drop-within (y ∷ xs) later zero x at = let e : suc (length xs) ≡ suc (length
 drop-within (y ∷ xs) later (suc index) x at = let e : index + 1 + length later ≡ length xs = drop-within xs later index x at in omega arith
 
 -- What the innermost open node says after its beginning.
-abbrev pub open_rest : PartialNode → List PartialNode → List Item
+abbrev pub open_rest : OpenFileNode → List OpenFileNode → List Item
 open_rest o outer = map PropertyItem o.properties ++ node_items (length outer + 1) o.children
 
 -- The entry of the innermost open node.
-pub innermost_entry : (growing : Growing) (o : PartialNode) (outer : List PartialNode) → IsGrowing growing o outer → IsNodeEntry growing.entries.items growing.innermost.entry (NodeItem (length outer) o.place o.name) (open_rest o outer)
+pub innermost_entry : (growing : Growing) (o : OpenFileNode) (outer : List OpenFileNode) → IsGrowing growing o outer → IsNodeEntry growing.entries.items growing.innermost.entry (NodeItem (length outer) o.place o.name) (open_rest o outer)
 innermost_entry growing o outer is =
     node_entry growing.entries.items growing.innermost.entry (length outer) o.place o.name (open_rest o outer)
     (ap (drop growing.innermost.entry) is.items ∙ open_entry growing.innermost (reverse growing.outer.items) (names o.children) o outer is.opened)
 
 -- It is within the table.
-pub innermost_within : (growing : Growing) (o : PartialNode) (outer : List PartialNode) → IsGrowing growing o outer → growing.innermost.entry < length growing.entries.items
+pub innermost_within : (growing : Growing) (o : OpenFileNode) (outer : List OpenFileNode) → IsGrowing growing o outer → growing.innermost.entry < length growing.entries.items
 innermost_within growing o outer is =
     let e : IsNodeEntry growing.entries.items growing.innermost.entry (NodeItem (length outer) o.place o.name) (open_rest o outer) = innermost_entry growing o outer is in
     let long : growing.innermost.entry + 1 + length e.later ≡ length growing.entries.items = drop-within growing.entries.items e.later growing.innermost.entry (entry.Node e.n) e.is_at in
@@ -79,25 +81,25 @@ get_at (y ∷ xs) later zero x at = cc
 get_at (y ∷ xs) later (suc index) x at = get_at xs later index x at
 
 -- The innermost open node with another set of names.
-AreOpen-first : (a b : OpenNode) (later : List OpenNode) (children more : List (List ℕ)) (name : List ℕ) (outer : List PartialNode) → AreOpen (a ∷ later) children name outer → b.entry ≡ a.entry → Holds b.children more → AreOpen (b ∷ later) more name outer
+AreOpen-first : (a b : OpenNode) (later : List OpenNode) (children more : List (List ℕ)) (name : List ℕ) (outer : List OpenFileNode) → AreOpen (a ∷ later) children name outer → b.entry ≡ a.entry → HoldsNames b.children more → AreOpen (b ∷ later) more name outer
 AreOpen-first a b [] children more name [] are same holds = (same ∙ are.0, holds)
 AreOpen-first a b (c ∷ later) children more name [] are same holds = absurd are
 AreOpen-first a b later children more name (parent ∷ outer) are same holds = (same ∙ are.0, holds, are.2)
 
 -- A child begins.
-pub growing_begun : (growing grown : Growing) (o : PartialNode) (outer : List PartialNode) (name : List ℕ) (place : ℕ) (new : NodeEntry) (parent : OpenNode) → IsGrowing growing o outer
+pub growing_begun : (growing grown : Growing) (o : OpenFileNode) (outer : List OpenFileNode) (name : List ℕ) (place : ℕ) (new : NodeEntry) (parent : OpenNode) → IsGrowing growing o outer
     → grown.entries.items ≡ growing.entries.items ++ entry.Node new ∷ []
     → item_of (entry.Node new) ≡ NodeItem (length outer + 1) place name → new.depth ≡ length outer + 1 → new.property_count ≡ 0
-    → grown.innermost.entry ≡ length growing.entries.items → Holds grown.innermost.children []
+    → grown.innermost.entry ≡ length growing.entries.items → HoldsNames grown.innermost.children []
     → grown.outer.items ≡ growing.outer.items ++ parent ∷ [] → parent.entry ≡ growing.innermost.entry
-    → Holds parent.children (names o.children ++ name ∷ [])
-    → Holds grown.properties []
-    → IsGrowing grown (begun name place) (o ∷ outer)
+    → HoldsNames parent.children (names o.children ++ name ∷ [])
+    → HoldsNames grown.properties []
+    → IsGrowing grown (new_node name place) (o ∷ outer)
 growing_begun growing grown o outer name place new parent is entries item deep none at fresh outers same holds properties = record {
   items = ap (map item_of) entries ∙ map-append item_of growing.entries.items (entry.Node new ∷ [])
       ∙ ap (λ l. map item_of growing.entries.items ++ l ∷ []) item
       ∙ ap (λ l. l ++ NodeItem (length outer + 1) place name ∷ []) is.items
-      ∙ sym (items_of-said (begun name place) o outer);
+      ∙ sym (items_of-open_nodes (new_node name place) o outer);
   linked = subst (λ n. AreLinked n 0 grown.entries.items) (more (length outer)) (subst (AreLinked (length outer + 1 + 1) 0) (sym entries)
       (AreLinked-node (length outer + 1) 0 growing.entries.items new deep none is.linked));
   opened = subst (λ l. AreOpen (grown.innermost ∷ l) [] name (o ∷ outer)) (sym (ap reverse outers ∙ reverse-append growing.outer.items (parent ∷ []))) (
@@ -111,7 +113,7 @@ growing_begun growing grown o outer name place new parent is entries item deep n
   more n = omega arith
 
 -- A property of the innermost open node, which has no child.
-pub growing_property : (growing grown : Growing) (o : PartialNode) (outer : List PartialNode) (p : Property) → IsGrowing growing o outer → names o.children ≡ []
+pub growing_property : (growing grown : Growing) (o : OpenFileNode) (outer : List OpenFileNode) (p : Property) → IsGrowing growing o outer → names o.children ≡ []
     → ((n : NodeEntry) → slice_get (growing.entries.items ++ entry.Property p ∷ []) growing.innermost.entry ≡ Some (entry.Node n)
     → grown.entries.items ≡ set (growing.entries.items ++ entry.Property p ∷ []) growing.innermost.entry (entry.Node (record n { property_count = length (growing.entries.items ++ entry.Property p ∷ []) - growing.innermost.entry - 1 })))
     → grown.innermost ≡ growing.innermost → grown.outer ≡ growing.outer
@@ -134,21 +136,21 @@ growing_property growing grown o outer p is childless entries same same_outer up
           ∙ items-set (growing.entries.items ++ entry.Property p ∷ []) (found.later ++ entry.Property p ∷ []) growing.innermost.entry found.n m pushed refl
           ∙ map-append item_of growing.entries.items (entry.Property p ∷ [])
           ∙ ap (λ l. l ++ PropertyItem (file_property_of p) ∷ []) is.items
-          ∙ sym (items_of-append 0 (said_by o outer) (FileNodeProperty (file_property_of p) ∷ []))
-          ∙ ap (items_of 0) (sym (said_by-property o outer (file_property_of p) childless));
+          ∙ sym (items_of-append 0 (events_of_open_nodes o outer) (FileNodeProperty (file_property_of p) ∷ []))
+          ∙ ap (items_of 0) (sym (events_of_open_nodes-property o outer (file_property_of p) childless));
       linked = subst (AreLinked (length outer + 1) 0) (sym written)
           (AreLinked-property (length outer + 1) 0 growing.entries.items found.later growing.innermost.entry found.n m p found.is_at (ap (λ d. d + 1) deep)
           (subst AreProperties (sym rest) (properties_alone o.properties)) refl refl (omega arith) is.linked);
       opened = subst (λ a. AreOpen (a ∷ reverse grown.outer.items) (names o.children) o.name outer) (sym same)
           (subst (λ l. AreOpen (growing.innermost ∷ reverse l.items) (names o.children) o.name outer) (sym same_outer) is.opened);
-      properties = λ _. subst (Holds grown.properties) (sym (map_push (λ (q : FileProperty). q.name) o.properties (file_property_of p)))
-          (Holds-insert growing.properties grown.properties p.name (map (λ (q : FileProperty). q.name) o.properties) (is.properties childless) updates);
+      properties = λ _. subst (HoldsNames grown.properties) (sym (map_push (λ (q : FileProperty). q.name) o.properties (file_property_of p)))
+          (HoldsNames-insert growing.properties grown.properties p.name (map (λ (q : FileProperty). q.name) o.properties) (is.properties childless) updates);
     } where
       item_depth : {a b : ℕ} {x y : ℕ} {k l : List ℕ} → NodeItem a x k ≡ NodeItem b y l → a ≡ b
       item_depth e = cc
 
 -- The innermost open node ends.
-pub growing_ended : (growing grown : Growing) (o : PartialNode) (outer : List PartialNode) (parent : OpenNode) → IsGrowing growing o outer
+pub growing_ended : (growing grown : Growing) (o : OpenFileNode) (outer : List OpenFileNode) (parent : OpenNode) → IsGrowing growing o outer
     → ((n : NodeEntry) → slice_get growing.entries.items growing.innermost.entry ≡ Some (entry.Node n)
     → grown.entries.items ≡ set growing.entries.items growing.innermost.entry (entry.Node (record n { after = length growing.entries.items })))
     → growing.outer.items ≡ grown.outer.items ++ parent ∷ [] → grown.innermost ≡ parent
@@ -167,16 +169,16 @@ growing_ended growing grown o (up ∷ outer) parent is entries outers same =
       items = ap (map item_of) written
           ∙ items-set growing.entries.items found.later growing.innermost.entry found.n m found.is_at refl
           ∙ is.items
-          ∙ sym (append-nil (items_of 0 (said_by o (up ∷ outer))))
-          ∙ sym (items_of-append 0 (said_by o (up ∷ outer)) (FileNodeEnd ∷ []))
-          ∙ ap (items_of 0) (sym (said_by-child up o outer));
+          ∙ sym (append-nil (items_of 0 (events_of_open_nodes o (up ∷ outer))))
+          ∙ sym (items_of-append 0 (events_of_open_nodes o (up ∷ outer)) (FileNodeEnd ∷ []))
+          ∙ ap (items_of 0) (sym (events_of_open_nodes-child up o outer));
       linked = subst (λ n. AreLinked n 0 grown.entries.items) (fewer (length outer)) (subst (AreLinked (suc (length outer)) 0) (sym written)
           (AreLinked-end (suc (length outer)) 0 (length growing.entries.items) growing.entries.items found.later growing.innermost.entry found.n m found.is_at deep
           (ap (count_inside found.n.depth) found.are_items ∙ ap (λ d. count_inside d (open_rest o (up ∷ outer))) deep ∙ inside-open (suc (length outer)) o ∙ ap length (sym found.are_items))
           refl refl refl refl (omega arith) is.linked));
       opened = subst (λ a. AreOpen (a ∷ reverse grown.outer.items) (names (with_one_child up o).children) up.name outer) (sym same)
-          (subst (λ l. AreOpen (parent ∷ reverse grown.outer.items) l up.name outer) (sym (names-with_last up.children o.name (located_of o) o.children)) opened.2);
-      properties = λ none. absurd (some (names up.children) o.name (sym (names-with_last up.children o.name (located_of o) o.children) ∙ none));
+          (subst (λ l. AreOpen (parent ∷ reverse grown.outer.items) l up.name outer) (sym (names-with_last up.children o.name (own_of o) o.children)) opened.2);
+      properties = λ none. absurd (some (names up.children) o.name (sym (names-with_last up.children o.name (own_of o) o.children) ∙ none));
     } where
       item_depth : {a b : ℕ} {x y : ℕ} {k l : List ℕ} → NodeItem a x k ≡ NodeItem b y l → a ≡ b
       item_depth e = cc
@@ -189,7 +191,7 @@ growing_ended growing grown o (up ∷ outer) parent is entries outers same =
       some (m ∷ ns) n e = cc
 
 -- The root ends.
-pub growing_finished : (growing : Growing) (entries : List Entry) (o : PartialNode) (outer : List PartialNode) → IsGrowing growing o outer
+pub growing_finished : (growing : Growing) (entries : List Entry) (o : OpenFileNode) (outer : List OpenFileNode) → IsGrowing growing o outer
     → ((n : NodeEntry) → slice_get growing.entries.items growing.innermost.entry ≡ Some (entry.Node n)
     → entries ≡ set growing.entries.items growing.innermost.entry (entry.Node (record n { after = length growing.entries.items })))
     → growing.outer.items ≡ []

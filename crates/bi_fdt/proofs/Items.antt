@@ -4,7 +4,8 @@ use Rattle.std.proofs.lemmas.Bool.{lt-ltb, le-ltb}
 use Rattle.std.proofs.lemmas.List.{append_assoc, append-nil, length-append, length-map}
 use Rattle.bi_blob.specs.Tree.{Nodes, none, node, FileProperty, FileNode, names}
 use Rattle.bi_blob.specs.Events.{FileEvent, FileNodeStart, FileNodeProperty, FileNodeEnd, file_events}
-use Rattle.bi_blob.proofs.Blobs.PartialNodes.{PartialNode, said_of, said_by}
+use Rattle.bi_blob.specs.OpenNodes.{OpenFileNode, events_of_open_node, events_of_open_nodes}
+use Rattle.bi_blob.proofs.Blobs.OpenNodes.{no_children}
 use Rattle.bi_fdt.specs.Table.{Item, NodeItem, PropertyItem, items_of, count_inside}
 
 -- The items of trees.
@@ -73,37 +74,37 @@ depth_after-nodes depth (node name own children later) es =
     ∙ depth_after-nodes depth later es
 
 -- The items of an open node.
-abbrev pub open_items : ℕ → PartialNode → List Item
+abbrev pub open_items : ℕ → OpenFileNode → List Item
 open_items depth o = NodeItem depth o.place o.name ∷ (map PropertyItem o.properties ++ node_items (depth + 1) o.children)
 
-pub items_of-open : (depth : ℕ) (o : PartialNode) → items_of depth (said_of o) ≡ open_items depth o
+pub items_of-open : (depth : ℕ) (o : OpenFileNode) → items_of depth (events_of_open_node o) ≡ open_items depth o
 items_of-open depth o =
     ap (λ l. NodeItem depth o.place o.name ∷ l)
     (items_of-properties (depth + 1) o.properties (file_events o.children)
     ∙ ap (λ l. map PropertyItem o.properties ++ l)
     (ap (items_of (depth + 1)) (sym (append-nil (file_events o.children))) ∙ items_of-nodes (depth + 1) o.children [] ∙ append-nil (node_items (depth + 1) o.children)))
 
-depth_after-open : (depth : ℕ) (o : PartialNode) → depth_after depth (said_of o) ≡ depth + 1
+depth_after-open : (depth : ℕ) (o : OpenFileNode) → depth_after depth (events_of_open_node o) ≡ depth + 1
 depth_after-open depth o =
     depth_after-properties (depth + 1) o.properties (file_events o.children)
     ∙ ap (depth_after (depth + 1)) (sym (append-nil (file_events o.children)))
     ∙ depth_after-nodes (depth + 1) o.children []
 
 -- As many nodes are open after what open nodes say.
-pub depth_after-said : (o : PartialNode) (outer : List PartialNode) → depth_after 0 (said_by o outer) ≡ length outer + 1
-depth_after-said o [] = depth_after-open 0 o
-depth_after-said o (parent ∷ outer) =
-    depth_after-append 0 (said_by parent outer) (said_of o)
-    ∙ depth_after-open (depth_after 0 (said_by parent outer)) o
-    ∙ ap (λ d. d + 1) (depth_after-said parent outer)
+pub depth_after-open_nodes : (o : OpenFileNode) (outer : List OpenFileNode) → depth_after 0 (events_of_open_nodes o outer) ≡ length outer + 1
+depth_after-open_nodes o [] = depth_after-open 0 o
+depth_after-open_nodes o (parent ∷ outer) =
+    depth_after-append 0 (events_of_open_nodes parent outer) (events_of_open_node o)
+    ∙ depth_after-open (depth_after 0 (events_of_open_nodes parent outer)) o
+    ∙ ap (λ d. d + 1) (depth_after-open_nodes parent outer)
     ∙ omega arith
 
 -- The items of open nodes are those of the outer ones, and then those of the innermost.
-pub items_of-said : (o parent : PartialNode) (outer : List PartialNode) → items_of 0 (said_by o (parent ∷ outer)) ≡ items_of 0 (said_by parent outer) ++ open_items (length outer + 1) o
-items_of-said o parent outer =
-    items_of-append 0 (said_by parent outer) (said_of o)
-    ∙ ap (λ l. items_of 0 (said_by parent outer) ++ l)
-    (ap (λ d. items_of d (said_of o)) (depth_after-said parent outer) ∙ items_of-open (length outer + 1) o)
+pub items_of-open_nodes : (o parent : OpenFileNode) (outer : List OpenFileNode) → items_of 0 (events_of_open_nodes o (parent ∷ outer)) ≡ items_of 0 (events_of_open_nodes parent outer) ++ open_items (length outer + 1) o
+items_of-open_nodes o parent outer =
+    items_of-append 0 (events_of_open_nodes parent outer) (events_of_open_node o)
+    ∙ ap (λ l. items_of 0 (events_of_open_nodes parent outer) ++ l)
+    (ap (λ d. items_of d (events_of_open_node o)) (depth_after-open_nodes parent outer) ∙ items_of-open (length outer + 1) o)
 
 -- Nodes deeper than a depth and all properties are inside it.
 pub inside-properties : (depth : ℕ) (properties : List FileProperty) (items : List Item) → count_inside depth (map PropertyItem properties ++ items) ≡ length properties + count_inside depth items
@@ -135,7 +136,7 @@ inside-nodes depth own (node name n children later) items deeper =
     omega arith
 
 -- All that an open node says after its beginning is inside it.
-pub inside-open : (depth : ℕ) (o : PartialNode) → count_inside depth (map PropertyItem o.properties ++ node_items (depth + 1) o.children) ≡ length (map PropertyItem o.properties ++ node_items (depth + 1) o.children)
+pub inside-open : (depth : ℕ) (o : OpenFileNode) → count_inside depth (map PropertyItem o.properties ++ node_items (depth + 1) o.children) ≡ length (map PropertyItem o.properties ++ node_items (depth + 1) o.children)
 inside-open depth o =
     let below : List Item = node_items (depth + 1) o.children in
     let one : count_inside depth (map PropertyItem o.properties ++ below) ≡ length o.properties + count_inside depth below = inside-properties depth o.properties below in
@@ -145,13 +146,8 @@ inside-open depth o =
     let long : length (map PropertyItem o.properties ++ below) ≡ length o.properties + length below = simp (length-append, length-map) in
     omega arith
 
--- Nodes without names are none.
-pub none_from_names : (nodes : Nodes FileNode) → names nodes ≡ [] → nodes ≡ none
-none_from_names none e = refl
-none_from_names (node n own children later) e = absurd cc
-
 -- An open node without children says its properties alone after its beginning.
-pub childless_items : (depth : ℕ) (o : PartialNode) → names o.children ≡ [] → map PropertyItem o.properties ++ node_items (depth + 1) o.children ≡ map PropertyItem o.properties
+pub childless_items : (depth : ℕ) (o : OpenFileNode) → names o.children ≡ [] → map PropertyItem o.properties ++ node_items (depth + 1) o.children ≡ map PropertyItem o.properties
 childless_items depth o childless =
-    ap (λ nodes. map PropertyItem o.properties ++ node_items (depth + 1) nodes) (none_from_names o.children childless)
+    ap (λ nodes. map PropertyItem o.properties ++ node_items (depth + 1) nodes) (no_children o.children childless)
     ∙ append-nil (map PropertyItem o.properties)

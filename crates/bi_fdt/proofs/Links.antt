@@ -8,7 +8,8 @@ use Rattle.bi_fdt.specs.declared.table.Entry.{Entry}
 use Rattle.bi_fdt.specs.declared.table.Entry.TheVariants as entry
 use Rattle.bi_fdt.specs.declared.table.NodeEntry.{NodeEntry}
 use Rattle.bi_fdt.specs.declared.table.Property.{Property}
-use Rattle.bi_fdt.specs.Table.{Item, NodeItem, PropertyItem, first_properties, count_inside, item_of, file_property_of, IsLinked, AreLinked}
+use Rattle.bi_fdt.specs.Table.{Item, NodeItem, PropertyItem, first_properties, count_inside, item_of, IsLinked, AreLinked}
+use Rattle.bi_fdt.specs.Properties.{file_property_of}
 use Rattle.bi_fdt.proofs.Items.{inside-deeper, inside-stops}
 
 -- The numbers of the entries of a table while it grows.

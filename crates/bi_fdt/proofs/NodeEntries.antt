@@ -11,7 +11,7 @@ use Rattle.bi_fdt.specs.declared.table.NodeEntry.{NodeEntry}
 use Rattle.bi_fdt.specs.declared.table.Property.{Property}
 use Rattle.bi_fdt.specs.Table.{Item, NodeItem, PropertyItem, first_properties, nodes_of, items_of, count_inside, item_of, IsLinked, AreLinked}
 use Rattle.bi_fdt.specs.Content.{begins_with_node}
-use Rattle.bi_fdt.specs.Views.{IsNodeOf}
+use Rattle.bi_fdt.specs.Fields.{IsNodeOf}
 use Rattle.bi_fdt.proofs.Parsing.{nodes-deeper}
 use Rattle.bi_fdt.proofs.Items.{inside-deeper, inside-stops}
 

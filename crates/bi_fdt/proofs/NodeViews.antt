@@ -1,4 +1,4 @@
-use Rattle.std.proofs.Common.{◌≡◌, ℕ, zero, suc, ◌+◌, ◌<◌, ◌≤◌, Bool, true, false, List, [], ◌∷◌, length, map, drop, take, get_or, Option, Some, None, slice_get, refl, sym, ap, subst, ◌∙◌, inl, inr, arith}
+use Rattle.std.proofs.Common.{◌≡◌, ℕ, zero, suc, ◌+◌, ◌<◌, ◌≤◌, Bool, true, false, List, [], ◌∷◌, length, map, drop, take, get_or, Some, None, slice_get, refl, sym, ap, subst, ◌∙◌, inl, inr, arith}
 use Rattle.std.specs.Prelude.{IsTrue, bytes_eq, cond}
 use Rattle.std.specs.Map.{lookup}
 use Rattle.std.proofs.lemmas.Bool.{cases_lt, cases_order}
@@ -10,9 +10,10 @@ use Rattle.bi_fdt.specs.declared.table.Entry.{Entry}
 use Rattle.bi_fdt.specs.declared.table.Entry.TheVariants as entry
 use Rattle.bi_fdt.specs.declared.table.NodeEntry.{NodeEntry}
 use Rattle.bi_fdt.specs.declared.table.Property.{Property as PropertyEntry}
-use Rattle.bi_fdt.specs.Table.{Item, NodeItem, PropertyItem, first_properties, nodes_of, count_inside, item_of, file_property_of}
+use Rattle.bi_fdt.specs.Table.{Item, NodeItem, PropertyItem, first_properties, nodes_of, count_inside, item_of}
+use Rattle.bi_fdt.specs.Properties.{file_property_of}
 use Rattle.bi_fdt.specs.Content.{begins_with_node, first_sibling, table_of}
-use Rattle.bi_fdt.specs.Views.{IsNodeOf}
+use Rattle.bi_fdt.specs.Fields.{IsNodeOf}
 use Rattle.bi_fdt.proofs.Parsing.{nodes-same, nodes-above, nodes-deeper, nodes-table}
 use Rattle.bi_fdt.proofs.Items.{inside-deeper, inside-stops}
 use Rattle.bi_fdt.proofs.GrowingTables.{drop-within}
@@ -154,15 +155,6 @@ root_there root = ap head_of (nodes-table root) where
   head_of none = record { name = []; own = record { place = 0; properties = [] }; children = none; later = none }
   head_of (node name own children later) = record { name = name; own = own; children = children; later = later }
 
--- Siblings from one on.
-abbrev pub from_sibling : Option (Sibling FileNode) → List (Sibling FileNode)
-from_sibling None = []
-from_sibling (Some sibling) = sibling ∷ siblings sibling.later
-
-pub from_first : (nodes : Nodes FileNode) → from_sibling (node_at nodes 0) ≡ siblings nodes
-from_first none = refl
-from_first (node name own children later) = refl
-
 -- The siblings of a node are within the table.
 pub siblings_few : (depth : ℕ) (items : List Item) → length (siblings (nodes_of depth items)) ≤ length items
 siblings_few depth [] = omega arith
@@ -240,10 +232,6 @@ module _ (entries : List Entry) (table : List Item) (index : ℕ) (n : NodeEntry
 -- A node has as many properties as its entry says.
 pub count_is : (table : List Item) (index : ℕ) (n : NodeEntry) → IsNodeOf table index n → n.property_count ≡ length (first_sibling (drop index table)).own.properties
 count_is table index n there = there.linked.count ∙ ap (λ items. length (first_sibling items).own.properties) (sym there.is_at)
-
--- Siblings from one on are it and those from the next on.
-pub from_next : (next after : Option (Sibling FileNode)) (child : Sibling FileNode) → next ≡ Some child → after ≡ node_at child.later 0 → from_sibling next ≡ child ∷ from_sibling after
-from_next next after child is after_is = ap from_sibling is ∙ ap (λ l. child ∷ l) (sym (ap from_sibling after_is ∙ from_first child.later))
 
 -- A look-up passes over a node of another name.
 pub lookup_passes : (name : List ℕ) (child : Sibling FileNode) (later : List (Sibling FileNode)) → bytes_eq child.name name ≡ false → lookup (λ other. bytes_eq other name) (map (λ sibling. (sibling.name, sibling)) (child ∷ later)) ≡ lookup (λ other. bytes_eq other name) (map (λ sibling. (sibling.name, sibling)) later)

@@ -1,4 +1,4 @@
-use Rattle.std.proofs.Common.{◌≡◌, ℕ, suc, ◌+◌, ◌≤◌, List, [], ◌∷◌, length, map, refl, sym, ap, subst, ◌∙◌, inl, inr, arith}
+use Rattle.std.proofs.Common.{◌≡◌, ℕ, ◌+◌, ◌≤◌, List, [], ◌∷◌, length, map, refl, sym, ap, subst, ◌∙◌, inl, inr, arith}
 use Rattle.std.specs.Prelude.{IsTrue}
 use Rattle.std.proofs.lemmas.List.{append-nil, length-append}
 use Rattle.bi_base.specs.declared.fault.Fault.{Fault}
@@ -11,8 +11,8 @@ use Rattle.bi_blob.specs.Events.{FileNodeEnd}
 use Rattle.bi_blob.specs.Stages.{is_expected}
 use Rattle.bi_blob.specs.Blob.{TreeBlocks}
 use Rattle.bi_blob.specs.BlobFaults.{TokenPasses, IsNewNode, IsNewProperty, token_checks, token_fault, begin_checks, property_checks, IsStructureFault}
-use Rattle.bi_blob.proofs.Blobs.PartialNodes.{PartialNode, Standing, Growing, Grown, begun, with_one_property, with_one_child, root_of, opens_of, stage_of, said_of}
-use Rattle.bi_blob.proofs.Blobs.Growing.{said_by-root}
+use Rattle.bi_blob.specs.OpenNodes.{OpenFileNode, IsOpenAt, OpenTree, WholeTree, new_node, with_one_property, with_one_child, stage_of, events_of_open_node}
+use Rattle.bi_blob.proofs.Blobs.OpenNodes.{root_of, events_of_open_nodes-root}
 use Rattle.bi_blob.proofs.Blobs.Tokens.{length-token_bytes}
 use Rattle.bi_blob.proofs.Blobs.Passing.{length-Prop}
 use Rattle.bi_blob.proofs.Blobs.Steps.{IsNext, next_nop, next_child, next_property, next_end, next_last, property_at}
@@ -46,114 +46,110 @@ width-nop = ap up4 (length-cell nop_number)
 pub up4-within : (n : ℕ) → (n ≤ up4 n) × (up4 n ≤ n + 3)
 up4-within n = (omega arith, omega arith)
 
-pub length-opens : (name : List ℕ) (outer : List PartialNode) → length (opens_of name outer) ≡ length outer
-length-opens name [] = refl
-length-opens name (parent ∷ outer) = ap suc (length-opens parent.name outer)
-
-module _ (blocks : TreeBlocks) (depth_limit place : ℕ) (o : PartialNode) (outer : List PartialNode) (standing : Standing blocks depth_limit place (Growing o outer)) where
+module _ (blocks : TreeBlocks) (depth_limit place : ℕ) (o : OpenFileNode) (outer : List OpenFileNode) (position : IsOpenAt blocks depth_limit place (OpenTree o outer)) where
   -- The token of this number is expected inside the root.
-  expected : (number : ℕ) → u32_at blocks.file place ≡ number → IsTrue (is_expected (stage_of (Growing o outer)) number) → IsTrue (is_expected (stage_of (Growing o outer)) (u32_at blocks.file place))
-  expected number is may = subst (λ n. IsTrue (is_expected (stage_of (Growing o outer)) n)) (sym is) may
+  expected : (number : ℕ) → u32_at blocks.file place ≡ number → IsTrue (is_expected (stage_of (OpenTree o outer)) number) → IsTrue (is_expected (stage_of (OpenTree o outer)) (u32_at blocks.file place))
+  expected number is may = subst (λ n. IsTrue (is_expected (stage_of (OpenTree o outer)) n)) (sym is) may
 
   -- A fault of FDT_BEGIN_NODE.
-  pub begin_fault : (fault : Fault) → IsNumberAt blocks place begin_node_number → IsFirstFault (TokenPasses blocks depth_limit place (stage_of (Growing o outer))) (token_fault place) begin_checks fault → IsStructureFault blocks depth_limit fault
+  pub begin_fault : (fault : Fault) → IsNumberAt blocks place begin_node_number → IsFirstFault (TokenPasses blocks depth_limit place (stage_of (OpenTree o outer))) (token_fault place) begin_checks fault → IsStructureFault blocks depth_limit fault
   begin_fault fault number first =
-      fault_there blocks depth_limit place (Growing o outer) fault standing
-      (subst (λ n. IsFirstFault (TokenPasses blocks depth_limit place (stage_of (Growing o outer))) (token_fault place) (token_checks n) fault) (sym number.is_number)
+      fault_there blocks depth_limit place (OpenTree o outer) fault position
+      (subst (λ n. IsFirstFault (TokenPasses blocks depth_limit place (stage_of (OpenTree o outer))) (token_fault place) (token_checks n) fault) (sym number.is_number)
       (inr (number.within, inr (expected begin_node_number number.is_number refl, first))))
 
   -- A fault of FDT_PROP.
-  pub property_fault : (fault : Fault) → IsNumberAt blocks place prop_number → IsFirstFault (TokenPasses blocks depth_limit place (stage_of (Growing o outer))) (token_fault place) property_checks fault → IsStructureFault blocks depth_limit fault
+  pub property_fault : (fault : Fault) → IsNumberAt blocks place prop_number → IsFirstFault (TokenPasses blocks depth_limit place (stage_of (OpenTree o outer))) (token_fault place) property_checks fault → IsStructureFault blocks depth_limit fault
   property_fault fault number first =
-      fault_there blocks depth_limit place (Growing o outer) fault standing
-      (subst (λ n. IsFirstFault (TokenPasses blocks depth_limit place (stage_of (Growing o outer))) (token_fault place) (token_checks n) fault) (sym number.is_number)
+      fault_there blocks depth_limit place (OpenTree o outer) fault position
+      (subst (λ n. IsFirstFault (TokenPasses blocks depth_limit place (stage_of (OpenTree o outer))) (token_fault place) (token_checks n) fault) (sym number.is_number)
       (inr (number.within, inr (expected prop_number number.is_number refl, first))))
 
   -- A child of a name that another child has.
-  pub duplicate_node : (name : List ℕ) (fault : Fault) → IsNumberAt blocks place begin_node_number → name ≡ name_from blocks.file (place + 4) → HasNoFault (TokenPasses blocks depth_limit place (stage_of (Growing o outer))) node_name_checks → fault ≡ token_fault place IsNewNode → ¬ (IsNew name (names o.children)) → IsStructureFault blocks depth_limit fault
+  pub duplicate_node : (name : List ℕ) (fault : Fault) → IsNumberAt blocks place begin_node_number → name ≡ name_from blocks.file (place + 4) → HasNoFault (TokenPasses blocks depth_limit place (stage_of (OpenTree o outer))) node_name_checks → fault ≡ token_fault place IsNewNode → ¬ (IsNew name (names o.children)) → IsStructureFault blocks depth_limit fault
   duplicate_node name fault number is passes is_fault old =
       begin_fault fault number (inr (passes.0, inr (passes.1.0, inr (passes.1.1.0, inl ((λ new. old (subst (λ n. IsNew n (names o.children)) (sym is) new)), is_fault)))))
 
   -- A property of a name that another property has.
-  pub duplicate_property : (name : List ℕ) (fault : Fault) → IsNumberAt blocks place prop_number → name ≡ name_from blocks.strings (u32_at blocks.file (place + 8)) → HasNoFault (TokenPasses blocks depth_limit place (stage_of (Growing o outer))) property_token_checks → fault ≡ token_fault place IsNewProperty → ¬ (IsNew name (map (λ p. p.name) o.properties)) → IsStructureFault blocks depth_limit fault
+  pub duplicate_property : (name : List ℕ) (fault : Fault) → IsNumberAt blocks place prop_number → name ≡ name_from blocks.strings (u32_at blocks.file (place + 8)) → HasNoFault (TokenPasses blocks depth_limit place (stage_of (OpenTree o outer))) property_token_checks → fault ≡ token_fault place IsNewProperty → ¬ (IsNew name (map (λ p. p.name) o.properties)) → IsStructureFault blocks depth_limit fault
   duplicate_property name fault number is passes is_fault old =
       property_fault fault number (inr (passes.0, inr (passes.1.0, inr (passes.1.1.0, inr (passes.1.1.1.0, inl ((λ new. old (subst (λ n. IsNew n (map (λ (p : FileProperty). p.name) o.properties)) (sym is) new)), is_fault))))))
 
   -- FDT_NOP.
-  pub after_nop : IsNumberAt blocks place nop_number → Standing blocks depth_limit (place + 4) (Growing o outer)
+  pub after_nop : IsNumberAt blocks place nop_number → IsOpenAt blocks depth_limit (place + 4) (OpenTree o outer)
   after_nop number =
-      subst (λ w. Standing blocks depth_limit (place + w) (Growing o outer)) width-nop
-      (next_nop blocks depth_limit place (Growing o outer) standing
+      subst (λ w. IsOpenAt blocks depth_limit (place + w) (OpenTree o outer)) width-nop
+      (next_nop blocks depth_limit place (OpenTree o outer) position
       (record { is_number = number.is_number; passes = (number.within, (expected nop_number number.is_number refl, tt)) }))
 
   -- FDT_BEGIN_NODE of a child.
-  pub after_begin : (name : List ℕ) → IsNumberAt blocks place begin_node_number → name ≡ name_from blocks.file (place + 4) → HasNoFault (TokenPasses blocks depth_limit place (stage_of (Growing o outer))) node_name_checks → IsNew name (names o.children) → Standing blocks depth_limit (place + up4 (length name + 5)) (Growing (begun name place) (o ∷ outer))
+  pub after_begin : (name : List ℕ) → IsNumberAt blocks place begin_node_number → name ≡ name_from blocks.file (place + 4) → HasNoFault (TokenPasses blocks depth_limit place (stage_of (OpenTree o outer))) node_name_checks → IsNew name (names o.children) → IsOpenAt blocks depth_limit (place + up4 (length name + 5)) (OpenTree (new_node name place) (o ∷ outer))
   after_begin name number is passes new =
-      subst (λ w. Standing blocks depth_limit (place + w) (Growing (begun name place) (o ∷ outer))) (width-begin name)
-      (subst (λ n. Standing blocks depth_limit (place + width (BeginNode n)) (Growing (begun n place) (o ∷ outer))) (sym is)
-      (next_child blocks depth_limit place o outer standing (record {
+      subst (λ w. IsOpenAt blocks depth_limit (place + w) (OpenTree (new_node name place) (o ∷ outer))) (width-begin name)
+      (subst (λ n. IsOpenAt blocks depth_limit (place + width (BeginNode n)) (OpenTree (new_node n place) (o ∷ outer))) (sym is)
+      (next_child blocks depth_limit place o outer position (record {
         is_number = number.is_number;
         passes = (number.within, (expected begin_node_number number.is_number refl, (passes.0, (passes.1.0, (passes.1.1.0, (subst (λ n. IsNew n (names o.children)) is new, tt))))));
       })))
 
   -- FDT_PROP.
-  pub after_property : (p : FileProperty) → IsNumberAt blocks place prop_number → p ≡ property_at blocks place → HasNoFault (TokenPasses blocks depth_limit place (stage_of (Growing o outer))) property_token_checks → IsNew p.name (map (λ q. q.name) o.properties) → Standing blocks depth_limit (place + up4 (length p.value + 12)) (Growing (with_one_property o p) outer)
+  pub after_property : (p : FileProperty) → IsNumberAt blocks place prop_number → p ≡ property_at blocks place → HasNoFault (TokenPasses blocks depth_limit place (stage_of (OpenTree o outer))) property_token_checks → IsNew p.name (map (λ q. q.name) o.properties) → IsOpenAt blocks depth_limit (place + up4 (length p.value + 12)) (OpenTree (with_one_property o p) outer)
   after_property p number is passes new =
-      subst (λ q. Standing blocks depth_limit (place + up4 (length q.value + 12)) (Growing (with_one_property o q) outer)) (sym is)
-      (subst (λ w. Standing blocks depth_limit (place + w) (Growing (with_one_property o (property_at blocks place)) outer)) (width-property (u32_at blocks.file (place + 8)) (property_at blocks place).value)
-      (next_property blocks depth_limit place o outer standing (record {
+      subst (λ q. IsOpenAt blocks depth_limit (place + up4 (length q.value + 12)) (OpenTree (with_one_property o q) outer)) (sym is)
+      (subst (λ w. IsOpenAt blocks depth_limit (place + w) (OpenTree (with_one_property o (property_at blocks place)) outer)) (width-property (u32_at blocks.file (place + 8)) (property_at blocks place).value)
+      (next_property blocks depth_limit place o outer position (record {
         is_number = number.is_number;
         passes = (number.within, (expected prop_number number.is_number refl, (passes.0, (passes.1.0, (passes.1.1.0, (passes.1.1.1.0, (subst (λ q. IsNew q.name (map (λ (r : FileProperty). r.name) o.properties)) is new, tt)))))));
       })))
 
-  end_is_next : IsNumberAt blocks place end_node_number → IsNext blocks depth_limit place (stage_of (Growing o outer)) end_node_number
+  end_is_next : IsNumberAt blocks place end_node_number → IsNext blocks depth_limit place (stage_of (OpenTree o outer)) end_node_number
   end_is_next number = record { is_number = number.is_number; passes = (number.within, (expected end_node_number number.is_number refl, tt)) }
 
 -- FDT_END_NODE of a child.
-pub after_child : (blocks : TreeBlocks) (depth_limit place : ℕ) (o parent : PartialNode) (outer : List PartialNode) → Standing blocks depth_limit place (Growing o (parent ∷ outer)) → IsNumberAt blocks place end_node_number → Standing blocks depth_limit (place + 4) (Growing (with_one_child parent o) outer)
-after_child blocks depth_limit place o parent outer standing number =
-    subst (λ w. Standing blocks depth_limit (place + w) (Growing (with_one_child parent o) outer)) width-end_node
-    (next_end blocks depth_limit place o parent outer standing (end_is_next blocks depth_limit place o (parent ∷ outer) standing number))
+pub after_child : (blocks : TreeBlocks) (depth_limit place : ℕ) (o parent : OpenFileNode) (outer : List OpenFileNode) → IsOpenAt blocks depth_limit place (OpenTree o (parent ∷ outer)) → IsNumberAt blocks place end_node_number → IsOpenAt blocks depth_limit (place + 4) (OpenTree (with_one_child parent o) outer)
+after_child blocks depth_limit place o parent outer position number =
+    subst (λ w. IsOpenAt blocks depth_limit (place + w) (OpenTree (with_one_child parent o) outer)) width-end_node
+    (next_end blocks depth_limit place o parent outer position (end_is_next blocks depth_limit place o (parent ∷ outer) position number))
 
 -- FDT_END_NODE of the root.
-pub after_root : (blocks : TreeBlocks) (depth_limit place : ℕ) (o : PartialNode) → Standing blocks depth_limit place (Growing o []) → IsNumberAt blocks place end_node_number → Standing blocks depth_limit (place + 4) (Grown (root_of o))
-after_root blocks depth_limit place o standing number =
-    subst (λ w. Standing blocks depth_limit (place + w) (Grown (root_of o))) width-end_node
-    (next_last blocks depth_limit place o standing (end_is_next blocks depth_limit place o [] standing number))
+pub after_root : (blocks : TreeBlocks) (depth_limit place : ℕ) (o : OpenFileNode) → IsOpenAt blocks depth_limit place (OpenTree o []) → IsNumberAt blocks place end_node_number → IsOpenAt blocks depth_limit (place + 4) (WholeTree (root_of o))
+after_root blocks depth_limit place o position number =
+    subst (λ w. IsOpenAt blocks depth_limit (place + w) (WholeTree (root_of o))) width-end_node
+    (next_last blocks depth_limit place o position (end_is_next blocks depth_limit place o [] position number))
 
 -- The table of a root that has ended is that of its tree.
-pub finished_table : (entries : List Entry) (o : PartialNode) → o.name ≡ [] → IsFinished entries o → IsTable entries (root_of o)
+pub finished_table : (entries : List Entry) (o : OpenFileNode) → o.name ≡ [] → IsFinished entries o → IsTable entries (root_of o)
 finished_table entries o unnamed finished = record {
-  items = finished.items ∙ sym (append-nil (items_of 0 (said_of o)))
-      ∙ sym (items_of-append 0 (said_of o) (FileNodeEnd ∷ []))
-      ∙ ap (items_of 0) (sym (said_by-root o unnamed));
+  items = finished.items ∙ sym (append-nil (items_of 0 (events_of_open_node o)))
+      ∙ sym (items_of-append 0 (events_of_open_node o) (FileNodeEnd ∷ []))
+      ∙ ap (items_of 0) (sym (events_of_open_nodes-root o unnamed));
   linked = finished.linked;
 }
 
 -- A reader after FDT_END_NODE of a child.
 pub after_end_inside : (blocks : TreeBlocks) (depth_limit : ℕ) (reading : Reading) (grown : table.Growing) → IsReading blocks depth_limit reading → IsNumberAt blocks reading.place end_node_number → IsEnding reading.growing (ending.Inside grown) → IsReading blocks depth_limit (record { place = reading.place + 4; growing = grown })
-after_end_inside blocks depth_limit reading grown r number ended = by_outer r.innermost r.outer r.standing (ended r.innermost r.outer r.growing) where
-  by_outer : (o : PartialNode) (outer : List PartialNode) → Standing blocks depth_limit reading.place (Growing o outer) → EndsInside grown o outer → IsReading blocks depth_limit (record { place = reading.place + 4; growing = grown })
-  by_outer o [] standing ended = absurd ended
-  by_outer o (parent ∷ outer) standing ended = record {
+after_end_inside blocks depth_limit reading grown r number ended = by_outer r.innermost r.outer r.position (ended r.innermost r.outer r.growing) where
+  by_outer : (o : OpenFileNode) (outer : List OpenFileNode) → IsOpenAt blocks depth_limit reading.place (OpenTree o outer) → EndsInside grown o outer → IsReading blocks depth_limit (record { place = reading.place + 4; growing = grown })
+  by_outer o [] position ended = absurd ended
+  by_outer o (parent ∷ outer) position ended = record {
     innermost = with_one_child parent o;
     outer = outer;
-    standing = after_child blocks depth_limit reading.place o parent outer standing number;
+    position = after_child blocks depth_limit reading.place o parent outer position number;
     growing = ended;
     within = (let within : reading.place + 4 ≤ blocks.end = number.within in omega arith);
   }
 
 -- A reader after FDT_END_NODE of the root.
-pub after_end_root : (blocks : TreeBlocks) (depth_limit : ℕ) (reading : Reading) (entries : List Entry) → IsReading blocks depth_limit reading → IsNumberAt blocks reading.place end_node_number → ((o : PartialNode) (outer : List PartialNode) → IsGrowing reading.growing o outer → (outer ≡ []) × IsFinished entries o) → IsAfter blocks depth_limit (reading.place + 4) entries
+pub after_end_root : (blocks : TreeBlocks) (depth_limit : ℕ) (reading : Reading) (entries : List Entry) → IsReading blocks depth_limit reading → IsNumberAt blocks reading.place end_node_number → ((o : OpenFileNode) (outer : List OpenFileNode) → IsGrowing reading.growing o outer → (outer ≡ []) × IsFinished entries o) → IsAfter blocks depth_limit (reading.place + 4) entries
 after_end_root blocks depth_limit reading entries r number ended =
-    by_outer r.outer r.standing (ended r.innermost r.outer r.growing) where
-      by_outer : (outer : List PartialNode) → Standing blocks depth_limit reading.place (Growing r.innermost outer) → (outer ≡ []) × IsFinished entries r.innermost → IsAfter blocks depth_limit (reading.place + 4) entries
-      by_outer (parent ∷ outer) standing whole = absurd (one_more whole.0) where
+    by_outer r.outer r.position (ended r.innermost r.outer r.growing) where
+      by_outer : (outer : List OpenFileNode) → IsOpenAt blocks depth_limit reading.place (OpenTree r.innermost outer) → (outer ≡ []) × IsFinished entries r.innermost → IsAfter blocks depth_limit (reading.place + 4) entries
+      by_outer (parent ∷ outer) position whole = absurd (one_more whole.0) where
         one_more : parent ∷ outer ≡ [] → ⊥
         one_more e = cc
-      by_outer [] standing whole = record {
+      by_outer [] position whole = record {
         root = root_of r.innermost;
-        standing = after_root blocks depth_limit reading.place r.innermost standing number;
-        is_table = finished_table entries r.innermost standing.is_growth.1 whole.1;
+        position = after_root blocks depth_limit reading.place r.innermost position number;
+        is_table = finished_table entries r.innermost position.is_tree_so_far.1 whole.1;
         within = (let within : reading.place + 4 ≤ blocks.end = number.within in omega arith);
       }

@@ -1,13 +1,9 @@
-use Rattle.std.specs.Prelude.{ℕ, ◌+◌, ◌≤◌, List, [], ◌∷◌, length, map, Bool, true, false}
+use Rattle.std.specs.Prelude.{ℕ, ◌+◌, List, [], ◌∷◌, Bool, true, false}
 use Rattle.bi_blob.specs.Tree.{Nodes, none, node, Root, FileNode}
 use Rattle.bi_blob.specs.Events.{file_events_of}
 use Rattle.bi_blob.specs.Lookups.{Sibling}
-use Rattle.bi_blob.specs.Blob.{Reservation, totalsize, off_mem_rsvmap}
-use Rattle.bi_blob.specs.BlobFaults.{HasReservations}
-use Rattle.bi_fdt.specs.declared.table.Entry.{Entry}
+use Rattle.bi_blob.specs.Blob.{Reservation}
 use Rattle.bi_fdt.specs.Table.{Item, NodeItem, PropertyItem, first_properties, nodes_of, items_of}
-use Rattle.bi_fdt.specs.Table.{item_of}
-use Rattle.bi_fdt.specs.Reading.{IsTable}
 
 -- What a blob that was read holds.
 
@@ -36,13 +32,6 @@ root_of content = root_in content.table
 -- The table of a tree.
 abbrev pub table_of : Root FileNode → List Item
 table_of root = items_of 0 (file_events_of root)
-
--- The file has its header and its reservations, and the table is that of its tree.
-pub record IsHeld (file : List ℕ) (reservation_count : ℕ) (entries : List Entry) : Type 0 where
-  pub header : 36 ≤ length file
-  pub total : totalsize file ≤ length file
-  pub reservations : HasReservations file (off_mem_rsvmap file) (totalsize file) reservation_count
-  pub is_table : IsTable entries (root_in (map item_of entries))
 
 -- Whether items begin with a node.
 abbrev pub begins_with_node : List Item → Bool

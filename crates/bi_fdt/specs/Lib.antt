@@ -1,8 +1,10 @@
 pub mod Header
 pub mod Blocks
+pub mod Properties
 pub mod Table
 pub mod Growth
 pub mod Reading
 pub mod Content
+pub mod Fields
 pub mod Refused
 pub mod Views

@@ -2,7 +2,7 @@ use Rattle.std.specs.Prelude.{◌≡◌, ℕ, ◌+◌, ◌<◌, ◌≤◌, List,
 use Rattle.bi_blob.specs.Tree.{Root, FileNode, depth_of}
 use Rattle.bi_blob.specs.Events.{file_events_of}
 use Rattle.bi_blob.specs.Blob.{TreeBlocks, HoldsTree}
-use Rattle.bi_blob.proofs.Blobs.PartialNodes.{PartialNode, Standing, NotBegun, Growing, Grown}
+use Rattle.bi_blob.specs.OpenNodes.{OpenFileNode, IsOpenAt, OpenTree, WholeTree}
 use Rattle.bi_fdt.specs.declared.table.Entry.{Entry}
 use Rattle.bi_fdt.specs.declared.tokens.Reading.{Reading}
 use Rattle.bi_fdt.specs.declared.tokens.Next.{Next}
@@ -12,16 +12,11 @@ use Rattle.bi_fdt.specs.Growth.{IsGrowing}
 
 -- A reader of the structure block, token by token.
 
--- A reader is at this offset, before the root.
-pub record IsBefore (blocks : TreeBlocks) (depth_limit place : ℕ) : Type 0 where
-  pub standing : Standing blocks depth_limit place NotBegun
-  pub within : place ≤ blocks.end + 3
-
 -- A reader is inside the root.
 pub record IsReading (blocks : TreeBlocks) (depth_limit : ℕ) (reading : Reading) : Type 0 where
-  pub innermost : PartialNode
-  pub outer : List PartialNode
-  pub standing : Standing blocks depth_limit reading.place (Growing innermost outer)
+  pub innermost : OpenFileNode
+  pub outer : List OpenFileNode
+  pub position : IsOpenAt blocks depth_limit reading.place (OpenTree innermost outer)
   pub growing : IsGrowing reading.growing innermost outer
   pub within : reading.place ≤ blocks.end + 3
 
@@ -34,7 +29,7 @@ pub record IsTable (entries : List Entry) (root : Root FileNode) : Type 0 where
 pub record IsAfter (blocks : TreeBlocks) (depth_limit place : ℕ) (entries : List Entry)
     : Type 0 where
   pub root : Root FileNode
-  pub standing : Standing blocks depth_limit place (Grown root)
+  pub position : IsOpenAt blocks depth_limit place (WholeTree root)
   pub is_table : IsTable entries root
   pub within : place ≤ blocks.end + 3
 

@@ -5,7 +5,7 @@ use Rattle.bi_blob.specs.Events.{FileEvent, FileNodeStart, FileNodeProperty, Fil
 use Rattle.bi_fdt.specs.declared.table.Entry.{Entry}
 use Rattle.bi_fdt.specs.declared.table.Entry.TheVariants as entry
 use Rattle.bi_fdt.specs.declared.table.NodeEntry.{NodeEntry}
-use Rattle.bi_fdt.specs.declared.table.Property.{Property}
+use Rattle.bi_fdt.specs.Properties.{file_property_of}
 
 -- The table of a tree: its nodes and properties in the order of their tokens in the file.
 
@@ -44,11 +44,6 @@ count_inside depth [] = 0
 count_inside depth (PropertyItem property ∷ later) = count_inside depth later + 1
 count_inside depth (NodeItem own_depth place name ∷ later) =
     if nat_lt depth own_depth then count_inside depth later + 1 else 0
-
--- A property of a file, as the definitions of blobs see it.
-abbrev pub file_property_of : Property → FileProperty
-file_property_of property =
-    record { name = property.name.now; value = property.value.now; place = property.place }
 
 -- The item of an entry.
 abbrev pub item_of : Entry → Item

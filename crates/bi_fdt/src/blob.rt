@@ -4,7 +4,8 @@ ghost use Rattle.std.specs.Prelude.{◌≡◌, ℕ, ◌<◌, ◌^◌, List, leng
 ghost use Rattle.std.specs.Prelude.{IfErr, OnOk};
 ghost use Rattle.bi_base.specs.declared.fault.Fault.{Fault};
 ghost use Rattle.bi_blob.specs.Tree.{Root, FileNode};
-ghost use Rattle.bi_blob.specs.Blob.{Reservation, totalsize, off_mem_rsvmap};
+ghost use Rattle.bi_blob.specs.Blob.{Reservation};
+ghost use Rattle.bi_blob.specs.Blob as header;
 ghost use Rattle.bi_blob.specs.Blob.{tree_blocks as tree_blocks_of, IsBlob, IsBlobWithin, Header};
 ghost use Rattle.bi_blob.specs.BlobFaults.{HasNoHeaderFault, HasReservations};
 ghost use Rattle.bi_blob.specs.BlobFaults.{IsFaultBeforeTree, IsBlobFault};
@@ -17,13 +18,15 @@ ghost use Rattle.bi_fdt.specs.Content.{root_of};
 ghost use Rattle.bi_fdt.specs.Refused.{IsRefused};
 
 use crate::blocks::Blocks;
-use crate::cells::{cell_at, two_cells_at};
+use crate::fields::{
+    boot_cpuid_phys, off_dt_strings, off_dt_struct, off_mem_rsvmap, size_dt_strings, totalsize,
+};
 use crate::header::{check_header, structure_end};
 use crate::node::NodeRef;
 use crate::reservations::{PAIR_SIZE, count_reservations};
 use crate::structure::read_tree;
 use crate::table::Entry;
-use bi_base::{Error, Fault, Limits};
+use bi_base::{Error, Fault, Limits, two_cells_at};
 use std::alloc::Global;
 use std::marker::Model;
 
@@ -38,23 +41,25 @@ pub struct Blob<'a> {
 
 impl<'a> Model for Blob<'a> {
     ghost use Rattle.std.specs.Prelude.{map};
-    ghost use Rattle.bi_blob.specs.Blob.{boot_cpuid_phys, totalsize, off_mem_rsvmap};
-    ghost use Rattle.bi_blob.proofs.Blobs.ReservationFaults.{reservations_at};
+    ghost use Rattle.bi_blob.specs.Blob as header;
+    ghost use Rattle.bi_blob.specs.Blob.{reservations_at};
     ghost use Rattle.bi_fdt.specs.Table.{item_of};
-    ghost use Rattle.bi_fdt.specs.Content.{BlobContent, IsHeld};
+    ghost use Rattle.bi_fdt.specs.Content.{BlobContent};
+    ghost use Rattle.bi_fdt.specs.Fields.{IsBlobHeld};
 
     ghost Value = { BlobContent };
 
     ghost view = { λ blob. record {
       file = blob.file.now;
-      cpu = boot_cpuid_phys blob.file.now;
-      total_size = totalsize blob.file.now;
-      reservations = reservations_at blob.file.now (off_mem_rsvmap blob.file.now)
+      cpu = header.boot_cpuid_phys blob.file.now;
+      total_size = header.totalsize blob.file.now;
+      reservations = reservations_at blob.file.now (header.off_mem_rsvmap blob.file.now)
           blob.reservation_count;
       table = map item_of blob.entries.items;
     } };
 
-    ghost invariant = { λ blob. IsHeld blob.file.now blob.reservation_count blob.entries.items };
+    ghost invariant = { λ blob.
+        IsBlobHeld blob.file.now blob.reservation_count blob.entries.items };
 }
 
 impl<'a> Blob<'a> {
@@ -89,7 +94,7 @@ impl<'a> Blob<'a> {
         ensures no_fault { OnOk result ((fault : Fault)
             → ¬ (IsBlobFault limits file.entry.now fault)) }
         ensures file { IfOk result (λ blob. (blob.file ≡ file.entry.now)
-            × (blob.total_size ≡ totalsize file.entry.now)) }
+            × (blob.total_size ≡ header.totalsize file.entry.now)) }
         ensures refused { IfErr result (IsRefused limits file.entry.now) }
     {
         let reservation_count = check_before_tree(file, limits)?;
@@ -105,14 +110,14 @@ impl<'a> Blob<'a> {
     pub fn boot_cpu(&self) -> u32
         ensures { result ≡ self.now.cpu }
     {
-        cell_at(self.file, 28)
+        boot_cpuid_phys(self.file)
     }
 
     /// The length of the blob in bytes (5.2, totalsize).
     pub fn total_size(&self) -> u32
         ensures { result ≡ self.now.total_size }
     {
-        cell_at(self.file, 4)
+        totalsize(self.file)
     }
 
     /// The number of the memory reservations (5.3).
@@ -131,7 +136,7 @@ impl<'a> Blob<'a> {
         if index >= self.reservation_count {
             return None;
         }
-        let place = cell_at(self.file, 16) as usize + PAIR_SIZE * index;
+        let place = off_mem_rsvmap(self.file) as usize + PAIR_SIZE * index;
         Some((
             two_cells_at(self.file, place),
             two_cells_at(self.file, place + 8),
@@ -159,11 +164,15 @@ impl<'a> Blob<'a> {
 fn check_before_tree(file: &[u8], limits: Limits) -> Result<usize, Fault>
     ensures header { OnOk result (HasNoHeaderFault limits file.now) }
     ensures reservations { IfOk result (HasReservations file.now
-        (off_mem_rsvmap file.now) (totalsize file.now)) }
+        (header.off_mem_rsvmap file.now) (header.totalsize file.now)) }
     ensures fault { IfErr result (IsFaultBeforeTree limits file.now) }
 {
     check_header(file, limits)?;
-    count_reservations(file, cell_at(file, 16) as usize, cell_at(file, 4) as usize)
+    count_reservations(
+        file,
+        off_mem_rsvmap(file) as usize,
+        totalsize(file) as usize,
+    )
 }
 
 /// The blocks that hold the tree of a file whose header was checked.
@@ -171,11 +180,11 @@ fn tree_blocks<'a>(file: &'a [u8]) -> Blocks<'a>
     requires { Header file.now }
     ensures { blocks_of result ≡ tree_blocks_of file.entry.now }
 {
-    let strings = cell_at(file, 12) as usize;
+    let strings = off_dt_strings(file) as usize;
     Blocks {
         file,
-        begin: cell_at(file, 8) as usize,
+        begin: off_dt_struct(file) as usize,
         end: structure_end(file),
-        strings: &file[strings..strings + cell_at(file, 32) as usize],
+        strings: &file[strings..strings + size_dt_strings(file) as usize],
     }
 }

@@ -11,10 +11,10 @@ ghost use Rattle.bi_blob.specs.BlobFaults.{property_checks};
 ghost use Rattle.bi_fdt.specs.Blocks.{blocks_of, AreBlocks, node_name_checks};
 ghost use Rattle.bi_fdt.specs.Blocks.{property_token_checks};
 
-use crate::cells::cell_at;
-use crate::names::{is_child_name, name_at};
+use crate::names::name_at;
 use crate::table::Property;
-use bi_base::{Cause, Fault, refuse};
+use bi_base::{Cause, Fault, cell_at, refuse};
+use bi_blob::is_child_name;
 
 /// Where a file has its tree: the structure block, from `begin` to `end`, and the strings block
 /// (Devicetree Specification, 5.4, 5.5).

@@ -2,18 +2,19 @@
 
 ghost use Rattle.std.specs.Prelude.{◌≡◌, ◌+◌, List, [], ◌∷◌, ◌↔◌, length, map, IsTrue, IfOk};
 ghost use Rattle.std.specs.Prelude.{IfErr, OnOk};
+ghost use Rattle.bi_base.specs.Errors.{IsRefusal};
 ghost use Rattle.bi_blob.specs.Tree.{names, IsNew};
 ghost use Rattle.bi_blob.specs.BlobFaults.{token_fault, IsNewNode, IsNewProperty};
-ghost use Rattle.bi_blob.proofs.Blobs.PartialNodes.{PartialNode, begun, with_one_property};
-ghost use Rattle.bi_fdt.specs.Table.{file_property_of};
-ghost use Rattle.bi_fdt.specs.Growth.{IsGrowing, IsGrown, IsEnding, IsRefusal};
+ghost use Rattle.bi_blob.specs.OpenNodes.{OpenFileNode, new_node, with_one_property};
+ghost use Rattle.bi_fdt.specs.Properties.{file_property_of};
+ghost use Rattle.bi_fdt.specs.Growth.{IsGrowing, IsGrown, IsEnding};
 
 use crate::table::{Entry, NodeEntry, Property, set_after, set_property_count};
 use bi_base::{Cause, Error, refuse};
 use std::alloc::Global;
 use std::collections::BTreeSet;
 
-/// A node that has begun and not ended.
+/// A node that has started and has not ended.
 #[derive(Drop)]
 pub(crate) struct OpenNode<'a> {
     /// The index of its entry in the table.
@@ -22,7 +23,7 @@ pub(crate) struct OpenNode<'a> {
     children: BTreeSet<&'a [u8]>,
 }
 
-/// The table of a tree whose root has begun and not ended.
+/// The table of a tree whose root has started and has not ended.
 #[derive(Drop)]
 pub(crate) struct Growing<'a> {
     entries: Vec<Entry<'a>>,
@@ -42,9 +43,9 @@ pub(crate) enum Ending<'a> {
 }
 
 impl<'a> Growing<'a> {
-    /// A tree whose root has begun at `place`.
+    /// A tree whose root has started at `place`.
     pub(crate) fn new(alloc: Global, name: &'a [u8], place: u32) -> Result<Growing<'a>, Error>
-        ensures ok { IfOk result (λ growing. IsGrowing growing (begun name.entry.now place) []) }
+        ensures ok { IfOk result (λ growing. IsGrowing growing (new_node name.entry.now place) []) }
         ensures error { IfErr result (IsRefusal (λ _. ⊥)) }
     {
         let mut entries = Vec::new(alloc);
@@ -68,7 +69,7 @@ impl<'a> Growing<'a> {
 
     /// The number of the open nodes.
     pub(crate) fn depth(&self) -> usize
-        ensures { (innermost : PartialNode) (outer : List PartialNode)
+        ensures { (innermost : OpenFileNode) (outer : List OpenFileNode)
             → IsGrowing self.now innermost outer → result ≡ length outer + 1 }
     {
         self.outer.len() + 1
@@ -76,14 +77,14 @@ impl<'a> Growing<'a> {
 
     /// Whether the innermost open node has no child yet.
     pub(crate) fn is_childless(&self) -> bool
-        ensures { (innermost : PartialNode) (outer : List PartialNode)
+        ensures { (innermost : OpenFileNode) (outer : List OpenFileNode)
             → IsGrowing self.now innermost outer
             → (IsTrue result ↔ (names innermost.children ≡ [])) }
     {
         self.innermost.children.is_empty()
     }
 
-    /// The tree after a child of the innermost open node has begun at `place`. DuplicateNode if a
+    /// The tree after a child of the innermost open node has started at `place`. DuplicateNode if a
     /// child has the name already.
     pub(crate) fn begin_node(
         self,
@@ -91,16 +92,16 @@ impl<'a> Growing<'a> {
         name: &'a [u8],
         place: u32,
     ) -> Result<Growing<'a>, Error>
-        ensures new { OnOk result ((innermost : PartialNode) (outer : List PartialNode)
+        ensures new { OnOk result ((innermost : OpenFileNode) (outer : List OpenFileNode)
             → IsGrowing self.entry innermost outer
             → IsNew name.entry.now (names innermost.children)) }
         ensures grown { IfOk result
-            (λ grown. (innermost : PartialNode) (outer : List PartialNode)
+            (λ grown. (innermost : OpenFileNode) (outer : List OpenFileNode)
             → IsGrowing self.entry innermost outer
-            → IsGrowing grown (begun name.entry.now place) (innermost ∷ outer)) }
+            → IsGrowing grown (new_node name.entry.now place) (innermost ∷ outer)) }
         ensures fault { IfErr result (IsRefusal (λ fault. fault ≡ token_fault place IsNewNode)) }
         ensures duplicate { IfErr result (IsRefusal
-            (λ _. (innermost : PartialNode) (outer : List PartialNode)
+            (λ _. (innermost : OpenFileNode) (outer : List OpenFileNode)
             → IsGrowing self.entry innermost outer
             → ¬ (IsNew name.entry.now (names innermost.children)))) }
     {
@@ -138,12 +139,12 @@ impl<'a> Growing<'a> {
     /// DuplicateProperty if a property has the name already.
     pub(crate) fn add_property(self, property: Property<'a>) -> Result<Growing<'a>, Error>
         requires { IsGrown self }
-        ensures new { OnOk result ((innermost : PartialNode) (outer : List PartialNode)
+        ensures new { OnOk result ((innermost : OpenFileNode) (outer : List OpenFileNode)
             → IsGrowing self.entry innermost outer
             → names innermost.children ≡ []
             → IsNew property.entry.name.now (map (λ other. other.name) innermost.properties)) }
         ensures grown { IfOk result
-            (λ grown. (innermost : PartialNode) (outer : List PartialNode)
+            (λ grown. (innermost : OpenFileNode) (outer : List OpenFileNode)
             → IsGrowing self.entry innermost outer
             → names innermost.children ≡ []
             → IsGrowing grown
@@ -151,7 +152,7 @@ impl<'a> Growing<'a> {
         ensures fault { IfErr result (IsRefusal (λ fault. fault
             ≡ token_fault property.entry.place IsNewProperty)) }
         ensures duplicate { IfErr result (IsRefusal
-            (λ _. (innermost : PartialNode) (outer : List PartialNode)
+            (λ _. (innermost : OpenFileNode) (outer : List OpenFileNode)
             → IsGrowing self.entry innermost outer
             → names innermost.children ≡ []
             → ¬ (IsNew property.entry.name.now (map (λ other. other.name) innermost.properties)))) }

@@ -9,11 +9,12 @@ ghost use Rattle.bi_blob.specs.BlobFaults.{HasNoHeaderFault, HeaderPasses, heade
 ghost use Rattle.bi_blob.specs.BlobFaults.{IsHeaderFault};
 ghost use Rattle.bi_fdt.specs.Header.{place_checks};
 
-use crate::cells::cell_at;
+use crate::fields::{
+    last_comp_version, off_dt_strings, off_dt_struct, off_mem_rsvmap, size_dt_strings,
+    size_dt_struct, totalsize, version,
+};
 use bi_base::{Cause, Fault, Limits, be32_at, refuse};
-
-/// The number that a blob begins with.
-const MAGIC: u32 = 0xd00d_feed;
+use bi_blob::format::MAGIC;
 
 /// The least version that is accepted.
 const LEAST_VERSION: u32 = 16;
@@ -42,13 +43,13 @@ pub(crate) fn check_header(file: &[u8], limits: Limits) -> Result<(), Fault>
     if file.len() < length {
         return refuse(Cause::Truncated, 0);
     }
-    if cell_at(file, 20) < LEAST_VERSION {
+    if version(file) < LEAST_VERSION {
         return refuse(Cause::BadVersion, 20);
     }
-    if cell_at(file, 24) > READER_VERSION {
+    if last_comp_version(file) > READER_VERSION {
         return refuse(Cause::BadVersion, 24);
     }
-    let total = cell_at(file, 4) as usize;
+    let total = totalsize(file) as usize;
     if total < length {
         return refuse(Cause::BadTotalSize, 4);
     }
@@ -66,12 +67,12 @@ fn check_places(file: &[u8], limits: Limits) -> Result<(), Fault>
         (IsFirstFault (HeaderPasses limits file.now) (header_fault limits) place_checks) }
 {
     let length = header_length(file);
-    let total = cell_at(file, 4) as usize;
-    let reservations = cell_at(file, 16) as usize;
+    let total = totalsize(file) as usize;
+    let reservations = off_mem_rsvmap(file) as usize;
     if reservations < length || reservations % 8 != 0 || reservations > total {
         return refuse(Cause::BadOffset, 16);
     }
-    let structure = cell_at(file, 8) as usize;
+    let structure = off_dt_struct(file) as usize;
     let structure_end = structure_end(file);
     if structure < length
         || structure % 4 != 0
@@ -80,8 +81,8 @@ fn check_places(file: &[u8], limits: Limits) -> Result<(), Fault>
     {
         return refuse(Cause::BadOffset, 8);
     }
-    let strings = cell_at(file, 12) as usize;
-    if strings < length || strings + cell_at(file, 32) as usize > total {
+    let strings = off_dt_strings(file) as usize;
+    if strings < length || strings + size_dt_strings(file) as usize > total {
         return refuse(Cause::BadOffset, 12);
     }
     Ok(())
@@ -105,9 +106,9 @@ pub(crate) fn structure_end(file: &[u8]) -> usize
     requires { length_of_header file.now ≤ length file.now }
     ensures { result ≡ end_of_structure file.now }
 {
-    if cell_at(file, 20) == VERSION_WITHOUT_STRUCTURE_SIZE {
-        cell_at(file, 4) as usize
+    if version(file) == VERSION_WITHOUT_STRUCTURE_SIZE {
+        totalsize(file) as usize
     } else {
-        cell_at(file, 8) as usize + cell_at(file, 36) as usize
+        off_dt_struct(file) as usize + size_dt_struct(file) as usize
     }
 }

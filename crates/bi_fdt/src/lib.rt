@@ -3,7 +3,7 @@
 
 mod blob;
 mod blocks;
-mod cells;
+mod fields;
 mod growing;
 mod header;
 mod names;

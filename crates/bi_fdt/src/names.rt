@@ -1,8 +1,8 @@
 //! Names in a blob, which a zero byte ends (Devicetree Specification, 5.4.1, 5.5).
 
-ghost use Rattle.std.specs.Prelude.{◌≡◌, ◌≤◌, ◌↔◌, length, IsSome, IfSome, IsTrue};
+ghost use Rattle.std.specs.Prelude.{◌≡◌, ◌≤◌, ◌↔◌, length, IsSome, IfSome};
 ghost use Rattle.bi_blob.specs.Tokens.{name_from};
-ghost use Rattle.bi_blob.specs.Tree.{HasNoZero, IsChildName};
+ghost use Rattle.bi_blob.specs.Tree.{HasNoZero};
 ghost use Rattle.bi_blob.specs.BlobFaults.{HasName};
 
 /// The name at offset `at`. None exactly if no zero byte ends it before `end`.
@@ -15,12 +15,4 @@ pub(crate) fn name_at<'a>(bytes: &'a [u8], at: usize, end: usize) -> Option<&'a 
     let rest = bytes.get(at..end)?;
     let length = rest.iter().position(|byte| *byte == 0)?;
     Some(&rest[..length])
-}
-
-/// Whether a node other than the root may have this name, which has no zero byte.
-pub(crate) fn is_child_name(name: &[u8]) -> bool
-    requires { HasNoZero name.now }
-    ensures { IsTrue result ↔ IsChildName name.now }
-{
-    !name.is_empty() && !name.contains(&b'/')
 }

@@ -5,7 +5,7 @@ ghost use Rattle.std.specs.Option.{option_map};
 ghost use Rattle.bi_blob.specs.Tree.{properties_of};
 ghost use Rattle.bi_blob.specs.Lookups.{siblings, root_node, node_at, node_named, value_named};
 ghost use Rattle.bi_blob.specs.Lookups.{property_named};
-ghost use Rattle.bi_fdt.specs.Table.{file_property_of};
+ghost use Rattle.bi_fdt.specs.Properties.{file_property_of};
 ghost use Rattle.bi_fdt.specs.Content.{root_of, begins_with_node};
 
 use crate::blob::Blob;
@@ -25,7 +25,8 @@ pub struct NodeRef<'a, 'b> {
 }
 
 impl<'a, 'b> NodeRef<'a, 'b> {
-    ghost use Rattle.bi_fdt.specs.Views.{node_of, IsNodeOf};
+    ghost use Rattle.bi_fdt.specs.Views.{node_of};
+    ghost use Rattle.bi_fdt.specs.Fields.{IsNodeOf};
 
     /// The root of a blob.
     pub(crate) fn new(blob: &'b Blob<'a>) -> NodeRef<'a, 'b>

@@ -4,7 +4,7 @@ ghost use Rattle.std.specs.Prelude.{◌≡◌, drop, length, map, List};
 ghost use Rattle.std.specs.Iterator.{at_most};
 ghost use Rattle.bi_blob.specs.Tree.{FileProperty};
 ghost use Rattle.bi_fdt.specs.Table.{item_of, first_properties};
-ghost use Rattle.bi_fdt.specs.Views.{GivesProperty};
+ghost use Rattle.bi_fdt.specs.Properties.{GivesProperty};
 
 use crate::table::{Entry, Property};
 use std::marker::Model;

@@ -3,8 +3,7 @@
 ghost use Rattle.std.specs.Prelude.{◌≤◌, ◌<◌, ◌^◌, length, IfOk, IfErr};
 ghost use Rattle.bi_blob.specs.BlobFaults.{HasReservations, IsReservationsFault};
 
-use crate::cells::two_cells_at;
-use bi_base::{Cause, Fault, refuse};
+use bi_base::{Cause, Fault, refuse, two_cells_at};
 
 /// The bytes of a reservation: two cells of its address and two of its size.
 pub(crate) const PAIR_SIZE: usize = 16;

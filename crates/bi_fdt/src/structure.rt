@@ -1,20 +1,21 @@
 //! The structure block as a whole (Devicetree Specification, 5.4.2).
 
 ghost use Rattle.std.specs.Prelude.{ℕ, ◌+◌, ◌≤◌, IfOk, IfErr, OnOk};
+ghost use Rattle.bi_base.specs.Errors.{IsRefusal};
 ghost use Rattle.bi_blob.specs.Tokens.{begin_node_number};
 ghost use Rattle.bi_blob.specs.Tree.{Root, FileNode, depth_of};
 ghost use Rattle.bi_blob.specs.Blob.{HoldsTree};
 ghost use Rattle.bi_blob.specs.BlobFaults.{IsStructureFault};
-ghost use Rattle.bi_blob.proofs.Blobs.PartialNodes.{Standing, NotBegun, Grown};
+ghost use Rattle.bi_blob.specs.OpenNodes.{IsOpenAt, NoTree, WholeTree};
 ghost use Rattle.bi_fdt.specs.Blocks.{blocks_of, AreBlocks, IsNumberAt};
-ghost use Rattle.bi_fdt.specs.Growth.{IsRefusal};
 ghost use Rattle.bi_fdt.specs.Reading.{IsReading, IsAfter, HasTable};
 
 use crate::blocks::{Blocks, number_at, root_name};
 use crate::growing::Growing;
 use crate::table::Entry;
-use crate::tokens::{BEGIN_NODE, END, NOP, Next, Reading, step};
+use crate::tokens::{Next, Reading, step};
 use bi_base::{Cause, Error, Fault, refuse, up4};
+use bi_blob::format::{BEGIN_NODE, END, NOP};
 use std::alloc::Global;
 
 /// The table of the tree that the structure block holds. The fault is that of the first check that
@@ -46,7 +47,7 @@ fn skip_to_root(blocks: Blocks) -> Result<usize, Fault>
     ensures number { IfOk result
         (λ place. IsNumberAt (blocks_of blocks.entry) place begin_node_number) }
     ensures ok { IfOk result (λ place. (depth_limit : ℕ)
-        → Standing (blocks_of blocks.entry) depth_limit place NotBegun) }
+        → IsOpenAt (blocks_of blocks.entry) depth_limit place NoTree) }
     ensures fault { IfErr result (λ fault. (depth_limit : ℕ)
         → IsStructureFault (blocks_of blocks.entry) depth_limit fault) }
 {
@@ -73,7 +74,7 @@ fn begin_root<'a>(
     requires blocks { AreBlocks (blocks_of blocks) }
     requires depth { 1 ≤ depth_limit }
     requires number { IsNumberAt (blocks_of blocks) place begin_node_number }
-    requires standing { Standing (blocks_of blocks) depth_limit place NotBegun }
+    requires position { IsOpenAt (blocks_of blocks) depth_limit place NoTree }
     ensures ok { IfOk result (IsReading (blocks_of blocks.entry) depth_limit) }
     ensures fault { IfErr result (IsRefusal
         (IsStructureFault (blocks_of blocks.entry) depth_limit)) }
@@ -114,10 +115,10 @@ fn check_after_root(blocks: Blocks, place: usize) -> Result<(), Fault>
     requires blocks { AreBlocks (blocks_of blocks) }
     requires within { place ≤ blocks.end + 3 }
     ensures ok { OnOk result ((depth_limit : ℕ) (root : Root FileNode)
-        → Standing (blocks_of blocks.entry) depth_limit place (Grown root)
+        → IsOpenAt (blocks_of blocks.entry) depth_limit place (WholeTree root)
         → HoldsTree (blocks_of blocks.entry) root × (depth_of root ≤ depth_limit)) }
     ensures fault { IfErr result (λ fault. (depth_limit : ℕ) (root : Root FileNode)
-        → Standing (blocks_of blocks.entry) depth_limit place (Grown root)
+        → IsOpenAt (blocks_of blocks.entry) depth_limit place (WholeTree root)
         → IsStructureFault (blocks_of blocks.entry) depth_limit fault) }
 {
     let mut place = place;

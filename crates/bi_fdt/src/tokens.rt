@@ -1,32 +1,18 @@
 //! The tokens of the structure block, one at a time (Devicetree Specification, 5.4.1).
 
 ghost use Rattle.std.specs.Prelude.{IfOk, IfErr};
+ghost use Rattle.bi_base.specs.Errors.{IsRefusal};
 ghost use Rattle.bi_blob.specs.BlobFaults.{IsStructureFault};
 ghost use Rattle.bi_blob.specs.Tokens.{begin_node_number, prop_number};
 ghost use Rattle.bi_fdt.specs.Blocks.{blocks_of, AreBlocks, IsNumberAt};
-ghost use Rattle.bi_fdt.specs.Growth.{IsRefusal};
 ghost use Rattle.bi_fdt.specs.Reading.{IsReading, IsAhead};
 
 use crate::blocks::{Blocks, child_name, number_at, property_at};
 use crate::growing::{Ending, Growing};
 use crate::table::Entry;
 use bi_base::{Cause, Error, refuse, up4};
+use bi_blob::format::{BEGIN_NODE, END_NODE, NOP, PROP};
 use std::alloc::Global;
-
-/// The number of FDT_BEGIN_NODE.
-pub(crate) const BEGIN_NODE: u32 = 1;
-
-/// The number of FDT_END_NODE.
-pub(crate) const END_NODE: u32 = 2;
-
-/// The number of FDT_PROP.
-pub(crate) const PROP: u32 = 3;
-
-/// The number of FDT_NOP.
-pub(crate) const NOP: u32 = 4;
-
-/// The number of FDT_END.
-pub(crate) const END: u32 = 9;
 
 /// How far reading has come inside the root: the offset of the next token, and the tree so far.
 #[derive(Drop)]

@@ -13,7 +13,7 @@ use Rattle.bi_fit.specs.declared.form.Form.TheVariants.{Embedded}
 use Rattle.bi_fit.specs.Names.{data_name, default_name}
 use Rattle.bi_fit.specs.Text.{normal_tree}
 use Rattle.bi_fit.specs.Building.{text_value, root_properties, image_properties, hash_properties, configuration_name, configuration_properties, built}
-use Rattle.bi_fit.specs.KnownBuilds.{known_head, known_kernel, known_ramdisk, known_tree, known_text, BuiltIsKnown}
+use Rattle.bi_fit.specs.KnownBuilds.{known_head, known_kernel, known_ramdisk, known_tree, known_text, BuiltIsKnown, EachKeyIsKnown}
 use Rattle.bi_fit.proofs.FileFacts.{no_entries}
 
 -- What the definitions compute for a small built tree.
@@ -89,3 +89,6 @@ built_is_known = record {
   strings_begin = ap off_dt_strings known_is_text;
   strings_size = ap size_dt_strings known_is_text;
 }
+
+pub each_key_is_known : EachKeyIsKnown
+each_key_is_known = record { names = refl; types = refl; lists = refl }

@@ -1,13 +1,14 @@
 use Rattle.std.proofs.Common.{◌≡◌, ℕ, List, [], ◌∷◌, map, flat_map, Some, refl, ap, arith}
 use Rattle.std.specs.FinMap.{get, from_entries, get-from_entries}
 use Rattle.std.proofs.lemmas.Cmp.{nat_list_cmp_total}
+use Rattle.bi_base.specs.Strings.{text_before_nul}
 use Rattle.bi_blob.specs.Tree.{PropertyMap}
 use Rattle.bi_blob.specs.Lookups.{siblings}
 use Rattle.bi_hash.specs.declared.algo.Algo.TheVariants.{Sha256}
 use Rattle.bi_hash.specs.declared.verdicts.Verdict.TheVariants.{Good}
 use Rattle.bi_hash.specs.Algos.{algorithm_name}
 use Rattle.bi_hash.specs.Digests.{digest_of}
-use Rattle.bi_hash.specs.Verdicts.{verdict_of, text_before_nul}
+use Rattle.bi_hash.specs.Verdicts.{verdict_of}
 use Rattle.bi_hash.proofs.GoodValues.{good-from_digest}
 use Rattle.bi_fit.specs.Names.{algo_name, value_name}
 use Rattle.bi_fit.specs.Judgement.{images_with, checked_hash, hash_nodes}

@@ -7,11 +7,11 @@ use Rattle.std.proofs.lemmas.Bool.{and_parts, not-true}
 use Rattle.std.proofs.lemmas.Cmp.{nat_list_cmp_total}
 use Rattle.std.proofs.lemmas.Slice.Eq.{bytes_eq-Decides}
 use Rattle.std.proofs.lemmas.Map.Text.{is_eq-slice_cmp}
+use Rattle.bi_base.specs.Strings.{text_before_nul}
+use Rattle.bi_base.proofs.ListMembers.{each-filter, each-weaker, each-map}
 use Rattle.bi_blob.specs.Tree.{none, node, HasNoZero, IsNew, AreDistinct, Property, PropertyMap}
 use Rattle.bi_blob.specs.Layout.{strings_of}
 use Rattle.bi_blob.specs.Lookups.{siblings}
-use Rattle.bi_blob.proofs.Texts.Members.{each-filter, each-weaker, each-map}
-use Rattle.bi_hash.specs.Verdicts.{text_before_nul}
 use Rattle.bi_fit.specs.declared.key.Key.{Key}
 use Rattle.bi_fit.specs.declared.key.Key.TheVariants.{Kernel, Fdt, Ramdisk, Firmware, Loadables, Script}
 use Rattle.bi_fit.specs.Names.{key_name, all_keys, default_name}

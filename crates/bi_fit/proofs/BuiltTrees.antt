@@ -9,9 +9,10 @@ use Rattle.std.proofs.lemmas.Slice.Eq.{bytes_eq-Decides}
 use Rattle.std.proofs.lemmas.Map.Text.{is_eq-slice_cmp}
 use Rattle.bi_base.specs.Cells.{cell, AreBytes}
 use Rattle.bi_base.proofs.ByteLists.{AreBytes-none, AreBytes-cons, AreBytes-append, AreBytes-cell}
+use Rattle.bi_base.proofs.EqualBytes.{other_bytes}
+use Rattle.bi_base.proofs.ListMembers.{each-append}
 use Rattle.bi_blob.specs.Tree.{Property, names, depth, depth_of, IsChildName, IsNew, AreDistinct, AreNodes}
 use Rattle.bi_blob.specs.Layout.{strings_of}
-use Rattle.bi_blob.proofs.Texts.Members.{each-append}
 use Rattle.bi_hash.specs.declared.algo.Algo.TheVariants.{Sha256}
 use Rattle.bi_hash.specs.Algos.{algorithm_name}
 use Rattle.bi_hash.specs.Digests.{digest_of}
@@ -36,10 +37,6 @@ no_slash (byte ∷ later) passes =
 pub tested_child : (byte : ℕ) (later : List ℕ) → list_all may_be_in_name (byte ∷ later) ≡ true → list_all (λ byte. not (byte == 47)) (byte ∷ later) ≡ true → IsChildName (byte ∷ later)
 tested_child byte later passes slash =
     record { some = λ e. absurd cc; no_zero = (tested_name (byte ∷ later) passes).1; no_slash = no_slash (byte ∷ later) slash }
-
--- Names that fail the test of being equal are not the same.
-pub tested_apart : (name other : List ℕ) → bytes_eq name other ≡ false → name ≢ other
-tested_apart name other differ same = true≢false (sym ((bytes_eq-Decides name other).1 same) ∙ differ)
 
 -- A text as a value is bytes.
 pub bytes-text_value : (text : List ℕ) → AreBytes text → AreBytes (text_value text)
@@ -183,11 +180,11 @@ none_found test name (property ∷ later) passes fail =
         where_same false is = is
 
 -- A property of one cell holds no payload.
-no_load : (number : Option ℕ) → AllByRecursion (λ property. is_payload_name property.0 ≡ false) (cell_property (codes "load") number)
+pub no_load : (number : Option ℕ) → AllByRecursion (λ property. is_payload_name property.0 ≡ false) (cell_property (codes "load") number)
 no_load None = tt
 no_load (Some number) = (refl, tt)
 
-no_entry : (number : Option ℕ) → AllByRecursion (λ property. is_payload_name property.0 ≡ false) (cell_property (codes "entry") number)
+pub no_entry : (number : Option ℕ) → AllByRecursion (λ property. is_payload_name property.0 ≡ false) (cell_property (codes "entry") number)
 no_entry None = tt
 no_entry (Some number) = (refl, tt)
 
@@ -216,7 +213,7 @@ built_is_image_tree head images can = record {
       record {
         is_name = tested_child _ _ refl refl;
         is_own = properties-empty;
-        is_new = (tested_apart configurations_name images_name refl, tt);
+        is_new = (other_bytes configurations_name images_name refl, tt);
       },
       built_images_are head images can.description can.each can.distinct,
       (

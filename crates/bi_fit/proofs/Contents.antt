@@ -8,11 +8,11 @@ use Rattle.std.proofs.lemmas.Bool.{and_parts, not-true, eqb-false, ltb-true}
 use Rattle.std.proofs.lemmas.Slice.Eq.{bytes_eq-Decides}
 use Rattle.bi_base.specs.Cells.{cell, up4, AreBytes}
 use Rattle.bi_base.proofs.ByteLists.{AreBytes-none, AreBytes-cons, AreBytes-cell}
+use Rattle.bi_base.proofs.ListMembers.{each-append, each-map, each-weaker}
 use Rattle.bi_blob.specs.Tree.{Nodes, none, node, Root, Property, PropertyMap, HasNoZero, IsPropertyName, IsNew, AreProperties, AreNodes, IsTree, with_each}
 use Rattle.bi_blob.specs.Events.{NodeProperty, NodeEnd, events}
 use Rattle.bi_blob.specs.Blob.{Reservation, IsReservation}
 use Rattle.bi_blob.specs.Layout.{AreEventBytes, IsContent, in_byte_order}
-use Rattle.bi_blob.proofs.Texts.Members.{each-append, each-map, each-weaker}
 use Rattle.bi_blob.proofs.Texts.Ordering.{ordered_distinct, each-entries, found-each}
 use Rattle.bi_fit.specs.declared.form.Form.{Form}
 use Rattle.bi_fit.specs.declared.form.Form.TheVariants.{Embedded, External}

@@ -7,18 +7,18 @@ use Rattle.bi_base.specs.Cells.{slice}
 use Rattle.bi_base.specs.Checks.{IsFirstFault, HasNoFault}
 use Rattle.bi_base.specs.Limits.{Bounds}
 use Rattle.bi_base.proofs.FirstFault as first
+use Rattle.bi_base.proofs.ListMembers.{each-append, each-front, each-back}
 use Rattle.bi_blob.specs.Tree.{Nodes, none, node, Root, FileProperty, FileNode, tree_without_places, tree_without_order}
 use Rattle.bi_blob.specs.Blob.{Reservation, IsBlob, IsWithin, IsBlobWithin}
 use Rattle.bi_blob.specs.BlobFaults.{IsBlobFault}
 use Rattle.bi_blob.proofs.Blobs.Decided.{le_decided}
 use Rattle.bi_blob.proofs.Blobs.OneBlob.{one_blob}
 use Rattle.bi_blob.proofs.Blobs.Faults.{blob_has_no_fault, one_blob_fault, blob_or_fault}
-use Rattle.bi_blob.proofs.Texts.Members.{each-append, each-front, each-back}
 use Rattle.bi_fit.specs.ImageTree.{ImageTree, image_nodes, each_own, tree_without_payloads}
 use Rattle.bi_fit.specs.Payloads.{PayloadSource, NoSource, Data, DataOffset, DataPosition, source_of, number_of, external_base, IsSizedRegion, IsPayload, HasPayload}
 use Rattle.bi_fit.specs.File.{IsFitFile, FitMeans}
 use Rattle.bi_fit.specs.Faults.{FitCheck, HasImages, HasBeginCell, HasSize, HasSizeCell, IsInFile, FitPasses, fit_fault, region_checks, source_checks, image_checks, images_checks, fit_checks, IsFitFault, InBlob, InTree}
-use Rattle.bi_fit.specs.Laws.{MeaningHasNoFault, OneFault, MeaningOrFault, MeaningWhereNoFault}
+use Rattle.bi_fit.specs.Laws.{FitHasNoFault, OneFitFault, FitMeaningOrFault, FitMeaningWhereNoFault}
 
 -- A file has a meaning exactly where it has no fault, and one fault at most.
 
@@ -99,7 +99,7 @@ module _ (file : List ℕ) where
         refl,
       )
 
-pub meaning_has_no_fault : MeaningHasNoFault
+pub meaning_has_no_fault : FitHasNoFault
 meaning_has_no_fault bounds file tree fault means (InBlob faulty) =
     blob_has_no_fault bounds file fault
     (record {
@@ -116,7 +116,7 @@ meaning_has_no_fault bounds file tree fault means (InTree cpu reservations root 
     (subst (λ root. HasNoFault (FitPasses file) (fit_checks file root)) same.same_root (tree_passes file tree means.is_file))
     faulty
 
-pub one_fault : OneFault
+pub one_fault : OneFitFault
 one_fault bounds file one other (InBlob a) (InBlob b) = one_blob_fault bounds file one other a b
 one_fault bounds file one other (InBlob a) (InTree cpu reservations root blob within b) =
     absurd (blob_has_no_fault bounds file one (record { cpu = cpu; reservations = reservations; root = root; blob = blob; within = within }) a)
@@ -140,14 +140,14 @@ in_blob bounds file is = by_checks (first.fault_or_none (FitPasses file) fit_fau
         inl (found.0, record { is_file = found.1; within = subst (λ root. IsWithin bounds file root) (sym found.2) is.within })
     by_checks (inr faulty) = inr (faulty.0, InTree is.cpu is.reservations is.root is.blob is.within faulty.1)
 
-pub meaning_or_fault : MeaningOrFault
+pub meaning_or_fault : FitMeaningOrFault
 meaning_or_fault bounds file bytes = by_blob (blob_or_fault bounds file bytes)
   where
     by_blob : IsBlobWithin bounds file ⊎ ((fault : Fault) × IsBlobFault bounds file fault) → ((tree : ImageTree) × FitMeans bounds file tree) ⊎ ((fault : Fault) × IsFitFault bounds file fault)
     by_blob (inl is) = in_blob bounds file is
     by_blob (inr faulty) = inr (faulty.0, InBlob faulty.1)
 
-pub meaning_where_no_fault : MeaningWhereNoFault
+pub meaning_where_no_fault : FitMeaningWhereNoFault
 meaning_where_no_fault bounds file bytes = (
   (λ means fault faulty. meaning_has_no_fault bounds file means.0 fault means.1 faulty),
   (λ fine. elim (meaning_or_fault bounds file bytes) [ inl means ↦ means | inr faulty ↦ absurd (fine faulty.0 faulty.1) ]),

@@ -4,11 +4,11 @@ use Rattle.std.specs.Option.{option_map}
 use Rattle.std.proofs.lemmas.List.{length-map}
 use Rattle.std.proofs.lemmas.Option.{slice_get-map}
 use Rattle.std.specs.FinMap.{get}
+use Rattle.bi_base.specs.Strings.{text_before_nul}
 use Rattle.bi_blob.specs.Tree.{Nodes, none, node, FileNode, PropertyMap, AreDistinct, AreNodes, AreProperties, IsTree, names, properties_of, with_each, tree_without_places}
 use Rattle.bi_blob.specs.BlobLaws.{FindsNodes}
 use Rattle.bi_blob.specs.Lookups.{Sibling, siblings, node_at, node_named, value_named}
 use Rattle.bi_fdt.specs.Content.{BlobContent, root_of}
-use Rattle.bi_hash.specs.Verdicts.{text_before_nul}
 use Rattle.bi_fit.specs.Names.{configurations_name, default_name}
 use Rattle.bi_fit.specs.ImageTree.{children_of, nodes_or_none}
 use Rattle.bi_fit.specs.Content.{FitContent, tree_of, IsHeld}
@@ -17,7 +17,8 @@ use Rattle.bi_fit.specs.Judging.{NamedConfiguration, configurations_of}
 use Rattle.bi_fit.specs.Nodes.{file_configurations, IsConfiguration}
 use Rattle.bi_blob.proofs.Blobs.Lookups.{nodes_are_found}
 use Rattle.bi_fit.proofs.Trees.{children_of-with_each}
-use Rattle.bi_fit.proofs.Shapes.{names-with_each, AreNodes-children_of}
+use Rattle.bi_fit.proofs.Shapes.{AreNodes-children_of}
+use Rattle.bi_blob.proofs.Blobs.Lookups.{names-with_each}
 use Rattle.bi_fit.proofs.FileNodes.{names-by_name, get-by_name, parts_of, sibling_by_name, configuration_nodes_are, configurations_parts}
 
 -- The configurations of an image tree that was read.

@@ -20,7 +20,7 @@ use Rattle.bi_fit.specs.declared.form.Form.TheVariants.{Embedded, External}
 use Rattle.bi_fit.specs.Names.{is_payload_name, images_name, data_name, data_offset_name, data_position_name, data_size_name}
 use Rattle.bi_fit.specs.ImageTree.{without_payload, without_payloads}
 use Rattle.bi_fit.specs.Text.{with_payload, with_payloads, end_after, normal_tree, blob_of, after_blob, fit_text}
-use Rattle.bi_fit.specs.KnownFiles.{tree_of_images, file_of_images, plain_images, plain_tree, SmallestIsFit, NoneIsNotEmpty, only_data, nested_tree, nested_image_tree, OnlyImagesHavePayloads, UnusedHaveNoMeaning, region_of, shared_region, SharedRegionIsRepeated, ThreeImagesHaveTexts, ChildrenKeepOrder, PositionIsBeforeData, offset_file, OffsetIsFromAlignedEnd}
+use Rattle.bi_fit.specs.KnownFiles.{tree_of_images, file_of_images, plain_images, plain_tree, SmallestIsFit, NoneIsNotEmpty, only_data, nested_tree, nested_image_tree, OnlyImagesHavePayloads, UnusedHaveNoMeaning, region_of, shared_region, SharedRegionIsRepeated, ThreeImagesHaveTexts, ChildrenKeepOrder, PositionIsBeforeData, OffsetIsBeforeData, PositionIsBeforeOffset, PayloadsAreAligned, offset_file, OffsetIsFromAlignedEnd}
 use Rattle.bi_fit.proofs.Maps.{taken_out}
 use Rattle.bi_fit.proofs.BuiltTrees.{none_found}
 use Rattle.bi_fit.proofs.Tested.{is_tree, content_by_test, are_bytes_by_test}
@@ -185,6 +185,29 @@ three_images_have_texts = record {
   places = refl;
 }
 
+pub payloads_are_aligned : PayloadsAreAligned
+unfolding text_of_events text_of_blocks cell cell8 u32_at
+payloads_are_aligned = record {
+  means = record {
+    root = tree_with_places [] (tree_of_images (three_nodes (region_of 0 1) (region_of 4 0) (region_of 4 1)));
+    blob = blob_by_test (tree_of_images (three_nodes (region_of 0 1) (region_of 4 0) (region_of 4 1))) (codes "x" ++ 0 ∷ 0 ∷ 0 ∷ codes "y") refl refl (lit≤ tt);
+    images = _;
+    has_images = refl;
+    payloads = (
+      record { begin_cell = refl; size_cell = refl; in_file = lit≤ tt; is_slice = refl },
+      (
+        record { begin_cell = refl; size_cell = refl; in_file = lit≤ tt; is_slice = refl },
+        (record { begin_cell = refl; size_cell = refl; in_file = lit≤ tt; is_slice = refl }, tt),
+      ),
+    );
+    is_root = three_plain (region_of 0 1) (region_of 4 0) (region_of 4 1) (refl, (refl, tt)) (refl, (refl, tt)) (refl, (refl, tt));
+  };
+  external = plain_text External (codes "a" ∷ codes "b" ∷ codes "c" ∷ []) (Some (codes "x") ∷ Some [] ∷ Some (codes "y") ∷ []);
+  external_length = refl;
+  places = refl;
+  areas = refl;
+}
+
 -- Two image nodes without the properties that give their payloads are plain ones.
 two_plain : (first second : List ℕ) (a b : List Property) → AllByRecursion (λ property. not (is_payload_name property.0) ≡ false) a → AllByRecursion (λ property. not (is_payload_name property.0) ≡ false) b → root_of_images (plain_images (first ∷ second ∷ [])) ≡ root_of_images (without_payloads (with_each from_entries (node first a none (node second b none none))))
 two_plain first second a b are_a are_b =
@@ -226,6 +249,40 @@ position_is_before_data = record {
   };
   embedded = plain_text Embedded (codes "a" ∷ []) (Some (codes "new") ∷ []);
   embedded_length = ap length (plain_text Embedded (codes "a" ∷ []) (Some (codes "new") ∷ []));
+}
+
+-- Those of an image with `data` and `data-offset`.
+abbrev offset_properties : List Property
+offset_properties = (data_name, codes "old") ∷ (data_offset_name, cell 0) ∷ (data_size_name, cell 3) ∷ []
+
+pub offset_is_before_data : OffsetIsBeforeData
+unfolding text_of_events text_of_blocks cell cell8 u32_at
+offset_is_before_data = record {
+  means = record {
+    root = tree_with_places [] (tree_of_images (node (codes "a") offset_properties none none));
+    blob = blob_by_test (tree_of_images (node (codes "a") offset_properties none none)) (codes "new") refl refl (lit≤ tt);
+    images = _;
+    has_images = refl;
+    payloads = (record { begin_cell = refl; size_cell = refl; in_file = lit≤ tt; is_slice = refl }, tt);
+    is_root = one_plain (codes "a") offset_properties (refl, (refl, (refl, tt)));
+  };
+}
+
+-- Those of an image with all four.
+abbrev all_properties : List Property
+all_properties = (data_name, codes "old") ∷ (data_offset_name, cell 0) ∷ (data_position_name, cell 0) ∷ (data_size_name, cell 4) ∷ []
+
+pub position_is_before_offset : PositionIsBeforeOffset
+unfolding text_of_events text_of_blocks cell cell8 u32_at
+position_is_before_offset = record {
+  means = record {
+    root = tree_with_places [] (tree_of_images (node (codes "a") all_properties none none));
+    blob = blob_by_test (tree_of_images (node (codes "a") all_properties none none)) (codes "last") refl refl (lit≤ tt);
+    images = _;
+    has_images = refl;
+    payloads = (record { begin_cell = refl; size_cell = refl; in_file = lit≤ tt; is_slice = refl }, tt);
+    is_root = one_plain (codes "a") all_properties (refl, (refl, (refl, (refl, tt))));
+  };
 }
 
 -- The tree of the file whose blob does not end at a multiple of four.

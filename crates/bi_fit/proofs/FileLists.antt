@@ -5,9 +5,9 @@ use Rattle.std.specs.Result.{IsErrAnd}
 use Rattle.std.specs.Option.{option_map}
 use Rattle.std.specs.List.{AllZip, list_any, before_first, ends_with}
 use Rattle.std.proofs.lemmas.Option.{cond_some, same_Some}
+use Rattle.bi_base.specs.Strings.{text_before_nul}
 use Rattle.bi_blob.specs.Tree.{Nodes, FileNode, PropertyMap, properties_of}
 use Rattle.bi_blob.specs.Lookups.{Sibling, siblings, node_named, value_named}
-use Rattle.bi_hash.specs.Verdicts.{text_before_nul}
 use Rattle.bi_fit.specs.declared.key.Key.{Key}
 use Rattle.bi_fit.specs.Names.{key_name}
 use Rattle.bi_fit.specs.Content.{FitContent, ReadImage, IsReadImage, IsHeld, tree_of, index_from, index_of}

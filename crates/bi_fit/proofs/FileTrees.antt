@@ -5,11 +5,11 @@ use Rattle.std.specs.List.{AllByRecursion, AllZip}
 use Rattle.std.specs.FinMap.{get, from_entries}
 use Rattle.bi_base.specs.Cells.{AreBytes}
 use Rattle.bi_base.proofs.CellLaws.{AreBytes-slice}
+use Rattle.bi_base.proofs.ListMembers.{each-front, each-back}
 use Rattle.bi_blob.specs.Tree.{Nodes, none, node, Property, PropertyMap, FileProperty, FileNode, IsPropertyName, AreProperties, AreNodes, IsTree, property_of, properties_of, with_each, depth_of, tree_without_places}
 use Rattle.bi_blob.specs.Events.{NodeProperty, NodeEnd, events}
 use Rattle.bi_blob.specs.Layout.{AreEventBytes, IsContent}
 use Rattle.bi_blob.proofs.Blobs.Complete.{depth-with_each}
-use Rattle.bi_blob.proofs.Texts.Members.{each-front, each-back}
 use Rattle.bi_blob.proofs.Texts.Content.{blob_has_content}
 use Rattle.bi_blob.specs.Lookups.{property_named}
 use Rattle.bi_fit.specs.Names.{data_name, images_name}

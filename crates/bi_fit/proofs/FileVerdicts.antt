@@ -1,7 +1,8 @@
 use Rattle.std.proofs.Common.{◌≡◌, ℕ, Bool, true, false, List, [], ◌∷◌, ◌++◌, map, flat_map, filter, Option, option_and_then, refl, ap, ap₂, ◌∙◌, ◌⊎◌, inl, inr, append-nil}
+use Rattle.bi_base.specs.Strings.{text_before_nul}
 use Rattle.bi_blob.specs.Tree.{FileNode, PropertyMap, properties_of}
 use Rattle.bi_blob.specs.Lookups.{Sibling, siblings}
-use Rattle.bi_hash.specs.Verdicts.{verdict_of, text_before_nul}
+use Rattle.bi_hash.specs.Verdicts.{verdict_of}
 use Rattle.bi_fit.specs.Names.{algo_name, value_name, is_hash_name}
 use Rattle.bi_fit.specs.Content.{FitContent, ReadImage, tree_of}
 use Rattle.bi_fit.specs.Judgement.{Image, images_with, CheckedHash, checked_hash, hash_nodes, verdicts_of}

@@ -29,7 +29,7 @@ pub mod Siblings
 pub mod FileVerdicts
 pub mod FileConfigurations
 pub mod FileLists
-pub mod FileSignatures
+pub mod SignatureCounts
 pub mod Adding
 pub mod PropertyMaps
 pub mod NodeEvents

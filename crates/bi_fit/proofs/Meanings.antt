@@ -5,7 +5,7 @@ use Rattle.bi_blob.specs.Tree.{FileNode, FileProperty, tree_without_places, tree
 use Rattle.bi_blob.proofs.Blobs.OneBlob.{one_blob}
 use Rattle.bi_fit.specs.ImageTree.{image_nodes, each_own, tree_without_payloads}
 use Rattle.bi_fit.specs.Payloads.{PayloadSource, NoSource, Data, DataOffset, DataPosition, source_of, external_base, IsSizedRegion, IsPayload, HasPayload}
-use Rattle.bi_fit.specs.Laws.{OneMeaning, BeginsWithMagic}
+use Rattle.bi_fit.specs.Laws.{OneFitMeaning, FitBeginsWithMagic}
 
 -- A file has one meaning.
 
@@ -35,7 +35,7 @@ one_list file (first ∷ own) (x ∷ xs) [] a b = absurd b
 one_list file (first ∷ own) (x ∷ xs) (y ∷ ys) a b =
     ap₂ (λ h t. h ∷ t) (one_payload file (source_of first) x y a.0 b.0) (one_list file own xs ys a.1 b.1)
 
-pub one_meaning : OneMeaning
+pub one_meaning : OneFitMeaning
 one_meaning file one other a b =
     let same = one_blob file one.cpu other.cpu one.reservations other.reservations a.root b.root a.blob b.blob in
     let images : a.images ≡ b.images =
@@ -47,5 +47,5 @@ one_meaning file one other a b =
     a.is_root ∙ ap (λ root. tree_without_payloads (tree_without_order (tree_without_places root))) same.same_root ∙ sym b.is_root in
     λ i. record { cpu = same.same_cpu i; reservations = same.same_reservations i; root = root i; payloads = payloads i }
 
-pub begins_with_magic : BeginsWithMagic
+pub begins_with_magic : FitBeginsWithMagic
 begins_with_magic file tree is = is.blob.header.is_magic

@@ -6,6 +6,7 @@ use Rattle.bi_base.specs.declared.fault.Error.TheVariants.{Refused}
 use Rattle.bi_base.specs.declared.fault.Fault.{Fault}
 use Rattle.bi_base.specs.Limits.{Bounds}
 use Rattle.bi_base.specs.Reading.{too_large}
+use Rattle.bi_base.proofs.Refusals.{error_passed_on}
 use Rattle.bi_blob.specs.Tree.{FileNode, EachOwn}
 use Rattle.bi_blob.specs.Lookups.{Sibling, root_node}
 use Rattle.bi_blob.specs.Events.{Event, events, events_of}
@@ -19,10 +20,9 @@ use Rattle.bi_fit.specs.declared.image.Image.{Image}
 use Rattle.bi_fit.specs.ImageTree.{ImageTree}
 use Rattle.bi_fit.specs.Text.{normal_tree, payloads_end, blob_of, fit_text}
 use Rattle.bi_fit.specs.Content.{FitContent, read_image, tree_of, IsHeld}
-use Rattle.bi_fit.specs.Documents.{document_of, IsDocumentError}
+use Rattle.bi_fit.specs.Documents.{document_of, length_after_blob, IsDocumentError}
 use Rattle.bi_fit.specs.Additions.{MayAdd, with_events, with_reservations, HasDistinctNames, HaveImages, alone, payloads_of, sorted_root}
-use Rattle.bi_fdt.proofs.Refusals.{error_passed_on}
-use Rattle.bi_fit.proofs.NormalTrees.{held_distinct, held_count, held_events, held_closed, length_after_blob, length-fit_text}
+use Rattle.bi_fit.proofs.NormalTrees.{held_distinct, held_count, held_events, held_closed, length-fit_text}
 
 -- The document of a normal text, as it is built of a blob, its root and its images.
 

@@ -1,6 +1,6 @@
-use Rattle.std.proofs.Common.{◌≡◌, ℕ, ◌+◌, ◌≤◌, Bool, true, false, List, [], ◌∷◌, map, length, bytes_eq, Option, Some, None, refl, sym, ap, subst, ◌∙◌, true≢false, arith, length-append}
+use Rattle.std.proofs.Common.{◌≡◌, ℕ, ◌+◌, ◌≤◌, Bool, true, false, List, [], length, bytes_eq, Option, Some, None, refl, sym, ap, subst, ◌∙◌, true≢false, arith, length-append}
 use Rattle.std.specs.Prelude.{IsSome}
-use Rattle.std.specs.List.{AllByRecursion, AllZip}
+use Rattle.std.specs.List.{AllByRecursion}
 use Rattle.std.specs.FinMap.{entries}
 use Rattle.std.proofs.lemmas.Slice.Eq.{bytes_eq-Decides}
 use Rattle.std.proofs.lemmas.Slice.Zip.{AllZip-long}
@@ -17,18 +17,19 @@ use Rattle.bi_fdt.specs.Content.{root_of}
 use Rattle.bi_fit.specs.declared.form.Form.{Form}
 use Rattle.bi_fit.specs.declared.form.Form.TheVariants.{Embedded, External}
 use Rattle.bi_fit.specs.Names.{images_name}
-use Rattle.bi_fit.specs.ImageTree.{ImageTree, each_own, children_of, image_nodes, nodes_or_none, with_children_of, with_image_nodes, without_payloads}
-use Rattle.bi_fit.specs.Payloads.{HasPayload}
+use Rattle.bi_fit.specs.ImageTree.{ImageTree, children_of, image_nodes, nodes_or_none, with_children_of, with_image_nodes, without_payloads}
 use Rattle.bi_fit.specs.File.{IsFitFile}
-use Rattle.bi_fit.specs.Text.{with_payloads, normal_tree, payloads_end, blob_of, after_blob, fit_text}
-use Rattle.bi_fit.specs.Content.{FitContent, ReadImage, tree_of, IsReadImage, IsHeld}
+use Rattle.bi_fit.specs.Documents.{length_after_blob}
+use Rattle.bi_fit.specs.Text.{with_payloads, normal_tree, blob_of, after_blob, fit_text}
+use Rattle.bi_fit.specs.Content.{FitContent, tree_of, IsReadImage, IsHeld}
 use Rattle.bi_fit.specs.Additions.{HasDistinctNames, HaveImages, alone, properties_by_name, nodes_by_name, sorted_nodes, sorted_images, sorted_root_children, sorted_root}
 use Rattle.bi_fit.proofs.Meanings.{same_in_some}
 use Rattle.bi_fit.proofs.Areas.{length-payload_area}
 use Rattle.bi_fit.proofs.FileTrees.{is_image_tree, depth-image_tree}
 use Rattle.bi_fit.proofs.Contents.{content-normal_tree}
-use Rattle.bi_fit.proofs.Shapes.{names-with_each}
+use Rattle.bi_blob.proofs.Blobs.Lookups.{names-with_each}
 use Rattle.bi_fit.proofs.Texts.{depth-normal_tree}
+use Rattle.bi_fit.proofs.ReadBlobs.{read_payloads}
 
 -- The normal tree, node by node of the file.
 
@@ -96,13 +97,6 @@ images_counted IsOwn (node name own children later) inner has are =
     where_first false is has rest =
         ((λ same. absurd (true≢false (sym ((bytes_eq-Decides name images_name).1 same) ∙ is))), rest (rw is at has))
 
--- Images that were read have the payloads of their nodes.
-payloads_read : (file : List ℕ) (nodes : Nodes FileNode) (images : List ReadImage) → AllZip (IsReadImage file) (siblings nodes) images → AllZip (HasPayload file) (each_own nodes) (map (λ image. image.payload) images)
-payloads_read file none [] are = tt
-payloads_read file none (image ∷ images) are = absurd are
-payloads_read file (node name own children later) [] are = absurd are
-payloads_read file (node name own children later) (image ∷ images) are = (are.0.payload, payloads_read file later images are.1)
-
 -- Nodes that are there.
 some_nodes : (nodes : Option (Nodes FileNode)) → IsSome nodes → nodes ≡ Some (nodes_or_none nodes)
 some_nodes None is = absurd cc
@@ -116,7 +110,7 @@ module _ (content : FitContent) (held : IsHeld content) where
     blob = held.is_blob;
     images = nodes_or_none (image_nodes (root_of content.blob));
     has_images = some_nodes (image_nodes (root_of content.blob)) held.has_images;
-    payloads = payloads_read content.blob.file (nodes_or_none (image_nodes (root_of content.blob))) content.images held.images;
+    payloads = read_payloads content.blob.file (nodes_or_none (image_nodes (root_of content.blob))) content.images held.images;
     is_root = refl;
   }
 
@@ -163,11 +157,6 @@ module _ (content : FitContent) (held : IsHeld content) where
       };
       is_normal = (has_one_order (with_image_nodes (with_payloads form 0 (tree_of content).payloads) (tree_of content).root)).is_normal;
     })
-
--- How many bytes follow the blob.
-abbrev pub length_after_blob : Form → List (Option (List ℕ)) → ℕ
-length_after_blob Embedded payloads = 0
-length_after_blob External payloads = payloads_end 0 payloads
 
 -- The length of a normal text.
 pub length-fit_text : (form : Form) (tree : ImageTree) → length (fit_text form tree) ≡ length (blob_of form tree) + length_after_blob form tree.payloads

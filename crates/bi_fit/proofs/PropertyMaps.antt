@@ -13,7 +13,7 @@ use Rattle.std.proofs.lemmas.Cmp.{nat_list_cmp_total}
 use Rattle.std.proofs.lemmas.Map.Keys.{sorted_head, sorted_tail}
 use Rattle.std.proofs.lemmas.Slice.Eq.{bytes_eq-Decides}
 use Rattle.bi_lay.specs.declared.items.Value.{Value}
-use Rattle.bi_lay.specs.Items.{value_bytes}
+use Rattle.bi_lay.specs.Values.{value_bytes}
 use Rattle.bi_blob.specs.Tree.{Property, PropertyMap, IsNew, AreDistinct}
 use Rattle.bi_blob.proofs.Texts.Ordering.{order_tells}
 use Rattle.bi_fit.specs.Names.{is_payload_name}

@@ -8,6 +8,7 @@ use Rattle.bi_base.specs.declared.fault.Error.TheVariants.{Refused, OutOfMemory,
 use Rattle.bi_base.specs.declared.fault.Fault.{Fault}
 use Rattle.bi_base.specs.Checks.{IsFirstFault}
 use Rattle.bi_base.specs.Limits.{Bounds}
+use Rattle.bi_base.specs.Errors.{IsRefusal}
 use Rattle.bi_blob.specs.Tree.{Nodes, none, node, FileProperty, FileNode}
 use Rattle.bi_blob.specs.Lookups.{Sibling, siblings, root_node, node_named, property_named}
 use Rattle.bi_blob.specs.Blob.{IsBlob, IsWithin, IsBlobWithin, totalsize}
@@ -18,14 +19,13 @@ use Rattle.bi_blob.proofs.Blobs.Faults.{blob_has_no_fault}
 use Rattle.bi_fdt.specs.declared.node.NodeRef.{NodeRef}
 use Rattle.bi_fdt.specs.Content.{BlobContent, root_of}
 use Rattle.bi_fdt.specs.Views.{node_of}
-use Rattle.bi_fdt.specs.Growth.{IsRefusal}
 use Rattle.bi_fit.specs.Names.{images_name, data_name}
 use Rattle.bi_fit.specs.ImageTree.{image_nodes, nodes_or_none, each_own}
 use Rattle.bi_fit.specs.Payloads.{HasPayload}
 use Rattle.bi_fit.specs.File.{FitMeans}
 use Rattle.bi_fit.specs.Faults.{FitPasses, fit_fault, image_checks, images_checks, InTree}
 use Rattle.bi_fit.specs.Content.{ReadImage, FitContent, tree_of, IsReadImage, IsHeld}
-use Rattle.bi_fit.specs.Reading.{IsReadFrom, IsReadError, IsOnlyFault}
+use Rattle.bi_fit.specs.Reading.{IsReadFrom, IsFitReadError, IsOnlyFitFault}
 use Rattle.bi_fit.specs.Images.{HasDataInFile}
 use Rattle.bi_fit.proofs.Faults.{meaning_has_no_fault}
 use Rattle.bi_fit.proofs.Meanings.{one_meaning}
@@ -58,7 +58,7 @@ have_data file (node name own children later) values =
         omega (arith, value.in_file)
 
 -- The payloads of images that are read.
-read_payloads : (file : List ℕ) (nodes : Nodes FileNode) (images : List ReadImage) → AllZip (IsReadImage file) (siblings nodes) images → AllZip (HasPayload file) (each_own nodes) (map (λ image. image.payload) images)
+pub read_payloads : (file : List ℕ) (nodes : Nodes FileNode) (images : List ReadImage) → AllZip (IsReadImage file) (siblings nodes) images → AllZip (HasPayload file) (each_own nodes) (map (λ image. image.payload) images)
 read_payloads file none [] are = tt
 read_payloads file none (image ∷ images) are = absurd are
 read_payloads file (node name own children later) [] are = absurd are
@@ -71,11 +71,11 @@ module _ (limits : Bounds) (file : List ℕ) (blob : BlobContent) (accepts : IsB
   within = subst (IsWithin limits file) (one_blob file accepts.cpu blob.cpu accepts.reservations blob.reservations accepts.root (root_of blob) accepts.blob is).same_root accepts.within
 
   -- Memory runs out only after the checks before the tree.
-  pub out_of_memory : IsReadError limits file OutOfMemory
+  pub out_of_memory : IsFitReadError limits file OutOfMemory
   out_of_memory = none_before_tree limits file (λ fault. blob_has_no_fault limits file fault accepts)
 
   -- There is no child `images`.
-  pub no_images : image_nodes (root_of blob) ≡ None → IsOnlyFault limits file (record { cause = NoImages; offset = (root_of blob).own.place })
+  pub no_images : image_nodes (root_of blob) ≡ None → IsOnlyFitFault limits file (record { cause = NoImages; offset = (root_of blob).own.place })
   no_images has =
       only_fault limits file (record { cause = NoImages; offset = (root_of blob).own.place })
       (InTree blob.cpu blob.reservations (root_of blob) is within (inl (fails, refl)))
@@ -89,14 +89,14 @@ module _ (limits : Bounds) (file : List ℕ) (blob : BlobContent) (accepts : IsB
     images_have_data = have_data file images (image_values file blob.cpu blob.reservations (root_of blob) images is has)
 
     -- A fault of the image nodes is that of the file.
-    images_fault : (fault : Fault) → IsFirstFault (FitPasses file) fit_fault (image_checks file images) fault → IsOnlyFault limits file fault
+    images_fault : (fault : Fault) → IsFirstFault (FitPasses file) fit_fault (image_checks file images) fault → IsOnlyFitFault limits file fault
     images_fault fault first =
         only_fault limits file fault
         (InTree blob.cpu blob.reservations (root_of blob) is within
         (inr (rw has refl, subst (λ nodes. IsFirstFault (FitPasses file) fit_fault (images_checks file nodes) fault) (sym has) first)))
 
     -- An error of reading the image nodes.
-    pub images_error : (error : Error) → IsRefusal (IsFirstFault (FitPasses file) fit_fault (image_checks file images)) error → IsReadError limits file error
+    pub images_error : (error : Error) → IsRefusal (IsFirstFault (FitPasses file) fit_fault (image_checks file images)) error → IsFitReadError limits file error
     images_error (Refused fault) refused = images_fault fault refused
     images_error OutOfMemory refused = out_of_memory
     images_error ReadFailed refused = refused

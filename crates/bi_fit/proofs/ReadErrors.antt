@@ -7,13 +7,13 @@ use Rattle.bi_blob.specs.BlobFaults.{HasNoFaultBeforeTree, IsFaultBeforeTree, Is
 use Rattle.bi_blob.proofs.Blobs.BeforeTree.{fault_before_tree_comes_first}
 use Rattle.bi_fdt.specs.Refused.{IsRefused}
 use Rattle.bi_fit.specs.Faults.{IsFitFault, InBlob}
-use Rattle.bi_fit.specs.Reading.{IsOnlyFault, IsReadError}
+use Rattle.bi_fit.specs.Reading.{IsOnlyFitFault, IsFitReadError}
 use Rattle.bi_fit.proofs.Faults.{one_fault, meaning_has_no_fault}
 
 -- The errors of reading a flattened image tree.
 
 -- A fault of a file is its only one.
-pub only_fault : (limits : Bounds) (file : List ℕ) (fault : Fault) → IsFitFault limits file fault → IsOnlyFault limits file fault
+pub only_fault : (limits : Bounds) (file : List ℕ) (fault : Fault) → IsFitFault limits file fault → IsOnlyFitFault limits file fault
 only_fault limits file fault is = record {
   is_fault = is;
   only = λ other too. one_fault limits file other fault too is;
@@ -21,7 +21,7 @@ only_fault limits file fault is = record {
 }
 
 -- An error of reading the blob is one of reading the flattened image tree.
-pub blob_error : (limits : Bounds) (file : List ℕ) (error : Error) → IsRefused limits file error → IsReadError limits file error
+pub blob_error : (limits : Bounds) (file : List ℕ) (error : Error) → IsRefused limits file error → IsFitReadError limits file error
 blob_error limits file (Refused fault) is = only_fault limits file fault (InBlob is.is_fault)
 blob_error limits file OutOfMemory is = is
 blob_error limits file ReadFailed is = is

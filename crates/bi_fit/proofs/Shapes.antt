@@ -1,5 +1,6 @@
 use Rattle.std.proofs.Common.{◌≡◌, ℕ, ◌+◌, max, Bool, true, false, List, [], ◌∷◌, bytes_eq, Option, Some, refl, sym, ap, subst}
 use Rattle.bi_blob.specs.Tree.{Nodes, none, node, PropertyMap, names, with_each, depth, IsNew, AreNodes}
+use Rattle.bi_blob.proofs.Blobs.Lookups.{names-with_each}
 use Rattle.bi_fit.specs.declared.form.Form.{Form}
 use Rattle.bi_fit.specs.ImageTree.{children_of, with_children_of, without_payloads, HaveByteNames}
 use Rattle.bi_fit.specs.Text.{with_payloads, end_after}
@@ -7,11 +8,7 @@ use Rattle.bi_fit.proofs.Meanings.{same_in_some}
 
 -- Trees of one shape: names, depth, and what holds of each node.
 
--- What a node has itself makes no difference to the names.
-pub names-with_each : {A B : Type 0} (change : A → B) (nodes : Nodes A) → names (with_each change nodes) ≡ names nodes
-names-with_each change none = refl
-names-with_each change (node name own children later) = ap (λ l. name ∷ l) (names-with_each change later)
-
+-- What a node has itself makes no difference to whether its name is bytes.
 pub bytes-with_each : {A B : Type 0} (change : A → B) (nodes : Nodes A) → HaveByteNames nodes → HaveByteNames (with_each change nodes)
 bytes-with_each change none are = tt
 bytes-with_each change (node name own children later) are =

@@ -4,11 +4,11 @@ use Rattle.std.specs.List.{AllByRecursion, list_all}
 use Rattle.std.proofs.lemmas.Bool.{and_parts, not-true, eqb-false, ltb-true, false≢true}
 use Rattle.bi_base.specs.Cells.{AreBytes}
 use Rattle.bi_base.proofs.ByteLists.{AreBytes-none, AreBytes-cons}
+use Rattle.bi_base.proofs.EqualBytes.{other_bytes}
+use Rattle.bi_base.proofs.ListMembers.{each-append}
 use Rattle.bi_blob.specs.Tree.{Nodes, none, node, Root, Property, names, IsChildName, IsNew, AreProperties, AreNodes}
 use Rattle.bi_blob.specs.Events.{NodeProperty, NodeEnd, events}
 use Rattle.bi_blob.specs.Layout.{AreEventBytes, IsContent}
-use Rattle.bi_blob.proofs.Texts.Members.{each-append}
-use Rattle.bi_fit.proofs.BuiltTrees.{tested_apart}
 
 -- Trees that tests show to be ones that can be laid out.
 
@@ -49,7 +49,7 @@ new_by_test : (name : List ℕ) (others : List (List ℕ)) → is_new name other
 new_by_test name [] passes = tt
 new_by_test name (other ∷ later) passes =
     let both = and_parts (not (bytes_eq other name)) (is_new name later) passes in
-    (tested_apart other name (not-true (bytes_eq other name) both.0), new_by_test name later both.1)
+    (other_bytes other name (not-true (bytes_eq other name) both.0), new_by_test name later both.1)
 
 -- Whether these are properties, and bytes.
 abbrev are_properties : List Property → Bool

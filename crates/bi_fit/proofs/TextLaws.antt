@@ -69,7 +69,7 @@ each_external_text_has_its_length tree = record {
 }
 
 -- Payloads end where the last of them do.
-payloads_end-append : (end : ℕ) (first later : List (Option (List ℕ))) → payloads_end end (first ++ later) ≡ payloads_end (payloads_end end first) later
+pub payloads_end-append : (end : ℕ) (first later : List (Option (List ℕ))) → payloads_end end (first ++ later) ≡ payloads_end (payloads_end end first) later
 payloads_end-append end [] later = refl
 payloads_end-append end (payload ∷ first) later = payloads_end-append (end_after end payload) first later
 

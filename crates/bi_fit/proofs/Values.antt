@@ -3,6 +3,7 @@ use Rattle.std.specs.Prelude.{⊤}
 use Rattle.std.specs.List.{AllByRecursion, AllZip}
 use Rattle.bi_base.specs.Cells.{cell, slice}
 use Rattle.bi_base.proofs.CellLaws.{length-cell, length-slice}
+use Rattle.bi_base.proofs.ListMembers.{each-front, each-back, each-map_back}
 use Rattle.bi_blob.specs.Tokens.{Token, BeginNode, EndNode, Prop, Nop, End, token_bytes, width, IsTokenAt}
 use Rattle.bi_blob.specs.Tree.{Nodes, none, node, Root, FileProperty, FileNode, as_nodes}
 use Rattle.bi_blob.specs.Events.{FileEvent, FileNodeStart, FileNodeProperty, FileNodeEnd, file_events, file_events_of, EncodeEvents}
@@ -10,7 +11,6 @@ use Rattle.bi_blob.specs.Blob.{Reservation, tree_blocks, IsBlob}
 use Rattle.bi_blob.proofs.Blobs.Cells.{BytesAt, BytesAt-right, BytesAt-within}
 use Rattle.bi_blob.proofs.Blobs.TokenEncoding.{AllStand}
 use Rattle.bi_blob.proofs.Blobs.OneBlob.{HoldsTree-stand}
-use Rattle.bi_blob.proofs.Texts.Members.{each-front, each-back, each-map_back}
 use Rattle.bi_blob.specs.Lookups.{property_named}
 use Rattle.bi_fit.specs.Names.{data_name, images_name}
 use Rattle.bi_fit.specs.ImageTree.{children_of, each_own, image_nodes}

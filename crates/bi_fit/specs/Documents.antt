@@ -1,4 +1,4 @@
-use Rattle.std.specs.Prelude.{◌≡◌, ◌<◌, ◌≤◌, ⊤, length}
+use Rattle.std.specs.Prelude.{ℕ, ◌≡◌, ◌<◌, ◌≤◌, List, Option, length}
 use Rattle.bi_base.specs.declared.fault.Error.{Error}
 use Rattle.bi_base.specs.declared.fault.Error.TheVariants.{Refused, OutOfMemory, ReadFailed}
 use Rattle.bi_base.specs.declared.fault.Error.TheVariants.{WriteFailed}
@@ -9,8 +9,9 @@ use Rattle.bi_blob.specs.Following.{stage_of_events}
 use Rattle.bi_blob.specs.Stages.{AfterRoot}
 use Rattle.bi_lay.specs.Contents.{Content}
 use Rattle.bi_fit.specs.declared.form.Form.{Form}
+use Rattle.bi_fit.specs.declared.form.Form.TheVariants.{Embedded, External}
 use Rattle.bi_fit.specs.ImageTree.{ImageTree}
-use Rattle.bi_fit.specs.Text.{normal_tree, fit_text}
+use Rattle.bi_fit.specs.Text.{normal_tree, payloads_end, fit_text}
 
 -- The document of an image tree in a form: its text is the blob of the normal text.
 
@@ -30,11 +31,17 @@ pub record IsDocument (limits : Bounds) (form : Form) (tree : ImageTree) (docume
   pub is_closed : stage_of_events document.events ≡ AfterRoot
   pub fits : length (fit_text form tree) ≤ limits.file
 
+-- How many bytes follow the blob in a form: external payloads, of which these are all.
+abbrev pub length_after_blob : Form → List (Option (List ℕ)) → ℕ
+length_after_blob Embedded payloads = 0
+length_after_blob External payloads = payloads_end 0 payloads
+
 -- The error of making the document: TooLarge at the limit, exactly if the normal text is longer, or
--- memory ran out.
+-- memory ran out. It never runs out where what follows the blob is longer than the limit by itself.
 abbrev pub IsDocumentError : Bounds → Form → ImageTree → Error → Type 0
 IsDocumentError limits form tree (Refused fault) =
     (fault ≡ too_large limits.file) × (limits.file < length (fit_text form tree))
-IsDocumentError limits form tree OutOfMemory = ⊤
+IsDocumentError limits form tree OutOfMemory =
+    length_after_blob form tree.payloads ≤ limits.file
 IsDocumentError limits form tree ReadFailed = ⊥
 IsDocumentError limits form tree WriteFailed = ⊥

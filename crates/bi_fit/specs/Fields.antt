@@ -9,6 +9,6 @@ abbrev pub content_of : Fields → FitContent
 content_of fit = record { blob = fit.blob; images = map read_image fit.images.items }
 
 -- What is true of the fields.
-pub record IsConsistent (fit : Fields) : Type 0 where
+pub record IsConsistentFit (fit : Fields) : Type 0 where
   pub held : IsHeld (content_of fit)
   pub indices : HasIndices fit.indices (content_of fit).images

@@ -3,10 +3,11 @@ use Rattle.std.specs.Prelude.{option_and_then, length, filter, bytes_eq, nat_eq,
 use Rattle.std.specs.Prelude.{if◌then◌else◌}
 use Rattle.std.specs.List.{ends_with, find}
 use Rattle.std.specs.FinMap.{get}
+use Rattle.bi_base.specs.Strings.{text_before_nul}
 use Rattle.bi_blob.specs.Tree.{Nodes, PropertyMap, names}
 use Rattle.bi_blob.specs.Lookups.{Sibling, siblings, node_named}
 use Rattle.bi_hash.specs.declared.verdicts.Verdict.{Verdict}
-use Rattle.bi_hash.specs.Verdicts.{verdict_of, text_before_nul}
+use Rattle.bi_hash.specs.Verdicts.{verdict_of}
 use Rattle.bi_fit.specs.declared.key.Key.{Key}
 use Rattle.bi_fit.specs.Names.{configurations_name, algo_name, value_name, default_name}
 use Rattle.bi_fit.specs.Names.{is_hash_name, is_signature_name, key_name}

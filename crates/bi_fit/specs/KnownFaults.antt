@@ -16,8 +16,8 @@ use Rattle.bi_fit.specs.KnownFiles.{file_of_images, region_of, shared_file}
 -- that of `images` at 64, that of the first image node at 76 and that of its first property at 84.
 
 -- A file has this fault under these limits.
-abbrev pub HasFault : Bounds → List ℕ → Cause → ℕ → Type 0
-HasFault bounds file cause offset =
+abbrev pub HasFitFault : Bounds → List ℕ → Cause → ℕ → Type 0
+HasFitFault bounds file cause offset =
     IsFitFault bounds file (record { cause = cause; offset = offset })
 
 -- A file whose tree is a root with these nodes.
@@ -36,30 +36,30 @@ file_of_two first second =
 -- Files that have no image nodes: a root alone, and one whose child `images` is no child of the
 -- root.
 pub record WithoutImages : Type 0 where
-  pub no_child : HasFault widest (file_of_nodes none) NoImages 56
+  pub no_child : HasFitFault widest (file_of_nodes none) NoImages 56
   pub elsewhere :
-      HasFault widest
+      HasFitFault widest
       (file_of_nodes (node (codes "x") [] (node images_name [] none none) none))
       NoImages 56
 
 -- Files with one image node in which one check fails.
 pub record RegionsHaveFaults : Type 0 where
   pub offset_no_cell :
-      HasFault widest
+      HasFitFault widest
       (file_of_image ((data_offset_name, codes "abc") ∷ (data_size_name, cell 0) ∷ []))
       BadCell 84
   pub position_no_cell :
-      HasFault widest
+      HasFitFault widest
       (file_of_image ((data_position_name, codes "abcde") ∷ (data_size_name, cell 0) ∷ []))
       BadCell 84
-  pub no_size : HasFault widest (file_of_image ((data_offset_name, cell 0) ∷ [])) NoSize 84
+  pub no_size : HasFitFault widest (file_of_image ((data_offset_name, cell 0) ∷ [])) NoSize 84
   pub size_no_cell :
-      HasFault widest
+      HasFitFault widest
       (file_of_image ((data_offset_name, cell 0) ∷ (data_size_name, codes "abc") ∷ []))
       BadCell 100
-  pub offset_outside : HasFault widest (shared_file 0 1001) OutsideFile 84
+  pub offset_outside : HasFitFault widest (shared_file 0 1001) OutsideFile 84
   pub position_outside :
-      HasFault widest
+      HasFitFault widest
       (file_of_image ((data_position_name, cell 172) ∷ (data_size_name, cell 1) ∷ []))
       OutsideFile 84
 
@@ -68,17 +68,17 @@ pub record RegionsHaveFaults : Type 0 where
 -- too.
 pub record FirstFaultCounts : Type 0 where
   pub cell_before_size :
-      HasFault widest (file_of_image ((data_offset_name, codes "abc") ∷ [])) BadCell 84
+      HasFitFault widest (file_of_image ((data_offset_name, codes "abc") ∷ [])) BadCell 84
   pub cell_before_size_cell :
-      HasFault widest
+      HasFitFault widest
       (file_of_image ((data_size_name, codes "abc") ∷ (data_offset_name, codes "abc") ∷ []))
       BadCell 100
   pub size_cell_before_region :
-      HasFault widest
+      HasFitFault widest
       (file_of_image ((data_offset_name, cell 0xffffffff) ∷ (data_size_name, codes "abc") ∷ []))
       BadCell 100
   pub position_alone :
-      HasFault widest
+      HasFitFault widest
       (file_of_image
       ((data_offset_name, codes "abc")
       ∷ (data_position_name, cell 0xffffffff)
@@ -86,12 +86,12 @@ pub record FirstFaultCounts : Type 0 where
       ∷ []))
       OutsideFile 100
   pub first_image :
-      HasFault widest
+      HasFitFault widest
       (file_of_two (region_of 0 1000) ((data_offset_name, codes "abc") ∷ []))
       OutsideFile 84
   pub second_image :
-      HasFault widest
+      HasFitFault widest
       (file_of_two (region_of 0 0) ((data_offset_name, cell 0) ∷ []))
       NoSize 128
   pub limit_before_images :
-      HasFault (record { file = 71; depth = 64 }) (file_of_nodes none) TooLarge 71
+      HasFitFault (record { file = 71; depth = 64 }) (file_of_nodes none) TooLarge 71

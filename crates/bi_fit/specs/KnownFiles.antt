@@ -1,5 +1,5 @@
-use Rattle.std.specs.Prelude.{◌≡◌, ℕ, List, [], ◌∷◌, ◌++◌, length, replicate, codes, Option, Some}
-use Rattle.std.specs.Prelude.{None}
+use Rattle.std.specs.Prelude.{◌≡◌, ℕ, List, [], ◌∷◌, ◌++◌, length, map, replicate, codes}
+use Rattle.std.specs.Prelude.{Option, Some, None}
 use Rattle.std.specs.FinMap.{empty, insert}
 use Rattle.bi_base.specs.Cells.{cell}
 use Rattle.bi_blob.specs.Tree.{Nodes, none, node, Root, Property, PropertyMap}
@@ -11,7 +11,7 @@ use Rattle.bi_fit.specs.Names.{images_name, data_name, data_offset_name, data_po
 use Rattle.bi_fit.specs.Names.{data_size_name}
 use Rattle.bi_fit.specs.ImageTree.{ImageTree}
 use Rattle.bi_fit.specs.File.{IsFitFile}
-use Rattle.bi_fit.specs.Text.{blob_of, payload_places, fit_text}
+use Rattle.bi_fit.specs.Text.{blob_of, payload_places, payload_area, fit_text}
 
 -- Small files with what they mean, and their texts, by which a reader can judge the definitions.
 
@@ -84,6 +84,35 @@ pub record PositionIsBeforeData : Type 0 where
   pub embedded_length :
       length (fit_text Embedded (plain_tree (codes "a" ∷ []) (Some (codes "new") ∷ []))) ≡ 124
 
+-- A file whose image `a` has `data`, `data-offset` 0 and `data-size` 3.
+abbrev pub offset_and_data_file : List ℕ
+offset_and_data_file =
+    file_of_images
+    (node (codes "a")
+    ((data_name, codes "old") ∷ (data_offset_name, cell 0) ∷ (data_size_name, cell 3) ∷ [])
+    none none)
+    (codes "new")
+
+-- The payload is `new`, which follows the blob: `data-offset` comes before `data`.
+pub record OffsetIsBeforeData : Type 0 where
+  pub means : IsFitFile offset_and_data_file (plain_tree (codes "a" ∷ []) (Some (codes "new") ∷ []))
+
+-- A file whose image `a` has all four properties: `data-position` 0 and `data-size` 4 are those of
+-- its header.
+abbrev pub all_properties_file : List ℕ
+all_properties_file =
+    file_of_images
+    (node (codes "a")
+    ((data_name, codes "old") ∷ (data_offset_name, cell 0) ∷ (data_position_name, cell 0)
+    ∷ (data_size_name, cell 4) ∷ [])
+    none none)
+    (codes "last")
+
+-- The payload is the first cell of the file: `data-position` comes before `data-offset`.
+pub record PositionIsBeforeOffset : Type 0 where
+  pub means : IsFitFile all_properties_file
+      (plain_tree (codes "a" ∷ []) (Some (0xd0 ∷ 0x0d ∷ 0xfe ∷ 0xed ∷ []) ∷ []))
+
 -- A file whose image `a` has no payload, and one whose image `a` has an empty one.
 abbrev pub bare_file : List ℕ
 bare_file = file_of_images (node (codes "a") [] none none) []
@@ -136,6 +165,42 @@ pub record ThreeImagesHaveTexts : Type 0 where
   pub external_blob : length (blob_of External three_tree) ≡ 244
   pub external_length : length three_external ≡ 253
   pub places : payload_places 244 0 three_tree.payloads ≡ Some 244 ∷ Some 252 ∷ Some 252 ∷ []
+
+-- Three images with the payload `x`, an empty one, and `y`, in the form External: the offsets are
+-- 0, 4 and 4, and three zeros follow `x`.
+abbrev pub aligned_external : List ℕ
+aligned_external =
+    file_of_images
+    (node (codes "a") ((data_offset_name, cell 0) ∷ (data_size_name, cell 1) ∷ []) none
+    (node (codes "b") ((data_offset_name, cell 4) ∷ (data_size_name, cell 0) ∷ []) none
+    (node (codes "c") ((data_offset_name, cell 4) ∷ (data_size_name, cell 1) ∷ []) none none)))
+    (codes "x" ++ 0 ∷ 0 ∷ 0 ∷ codes "y")
+
+-- What it means.
+abbrev pub aligned_tree : ImageTree
+aligned_tree =
+    plain_tree
+    (codes "a" ∷ codes "b" ∷ codes "c" ∷ [])
+    (Some (codes "x") ∷ Some [] ∷ Some (codes "y") ∷ [])
+
+-- External payloads begin at multiples of four. The last payload of a text may be an empty one,
+-- and zeros precede it too. An image without a payload takes no room.
+pub record PayloadsAreAligned : Type 0 where
+  pub means : IsFitFile aligned_external aligned_tree
+  pub external : fit_text External aligned_tree ≡ aligned_external
+  pub external_length : length aligned_external ≡ 249
+  pub places : payload_places 244 0 aligned_tree.payloads ≡ Some 244 ∷ Some 248 ∷ Some 248 ∷ []
+  pub areas : map (payload_area 0)
+      ((Some (codes "x") ∷ Some (codes "y") ∷ [])
+      ∷ (Some (codes "x") ∷ Some [] ∷ [])
+      ∷ (Some (codes "x") ∷ None ∷ [])
+      ∷ (None ∷ Some (codes "x") ∷ None ∷ Some (codes "yzxyz") ∷ Some (codes "y") ∷ [])
+      ∷ [])
+      ≡ (codes "x" ++ 0 ∷ 0 ∷ 0 ∷ codes "y")
+      ∷ (codes "x" ++ 0 ∷ 0 ∷ 0 ∷ [])
+      ∷ codes "x"
+      ∷ (codes "x" ++ (0 ∷ 0 ∷ 0 ∷ (codes "yzxyz" ++ 0 ∷ 0 ∷ 0 ∷ codes "y")))
+      ∷ []
 
 -- A region of the file.
 abbrev pub shared_region : List ℕ

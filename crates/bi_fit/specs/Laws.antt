@@ -28,39 +28,39 @@ use Rattle.bi_fit.specs.Building.{configuration_name, is_under}
 -- and texts (profile of this project). Each is the contract of a function in `laws`.
 
 -- A file is a flattened image tree of at most one meaning.
-abbrev pub OneMeaning : Type 0
-OneMeaning = (file : List ℕ) (one other : ImageTree) → IsFitFile file one → IsFitFile file other
+abbrev pub OneFitMeaning : Type 0
+OneFitMeaning = (file : List ℕ) (one other : ImageTree) → IsFitFile file one → IsFitFile file other
     → one ≡ other
 
 -- A flattened image tree begins with the magic number of a blob: a file that begins with another
 -- is none.
-abbrev pub BeginsWithMagic : Type 0
-BeginsWithMagic = (file : List ℕ) (tree : ImageTree) → IsFitFile file tree
+abbrev pub FitBeginsWithMagic : Type 0
+FitBeginsWithMagic = (file : List ℕ) (tree : ImageTree) → IsFitFile file tree
     → magic file ≡ blob_magic
 
 -- A file that is a flattened image tree within limits has no fault under them.
-abbrev pub MeaningHasNoFault : Type 0
-MeaningHasNoFault =
+abbrev pub FitHasNoFault : Type 0
+FitHasNoFault =
     (bounds : Bounds) (file : List ℕ) (tree : ImageTree) (fault : Fault)
     → FitMeans bounds file tree → ¬ (IsFitFault bounds file fault)
 
 -- A file has at most one fault under limits.
-abbrev pub OneFault : Type 0
-OneFault =
+abbrev pub OneFitFault : Type 0
+OneFitFault =
     (bounds : Bounds) (file : List ℕ) (one other : Fault)
     → IsFitFault bounds file one → IsFitFault bounds file other → one ≡ other
 
 -- A file of bytes is a flattened image tree within limits, or it has a fault under them.
-abbrev pub MeaningOrFault : Type 0
-MeaningOrFault =
+abbrev pub FitMeaningOrFault : Type 0
+FitMeaningOrFault =
     (bounds : Bounds) (file : List ℕ) → AreBytes file
     → ((tree : ImageTree) × FitMeans bounds file tree)
     ⊎ ((fault : Fault) × IsFitFault bounds file fault)
 
 -- A file of bytes is a flattened image tree within limits exactly where it has no fault under
 -- them.
-abbrev pub MeaningWhereNoFault : Type 0
-MeaningWhereNoFault =
+abbrev pub FitMeaningWhereNoFault : Type 0
+FitMeaningWhereNoFault =
     (bounds : Bounds) (file : List ℕ) → AreBytes file
     → ((tree : ImageTree) × FitMeans bounds file tree)
     ↔ ((fault : Fault) → ¬ (IsFitFault bounds file fault))

@@ -2,10 +2,11 @@ use Rattle.std.specs.Prelude.{◌≡◌, ℕ, ◌+◌, ◌<◌, length, List, []
 use Rattle.std.specs.Prelude.{Option, Some, None, option_map, option_and_then, bytes_eq, nat_eq}
 use Rattle.std.specs.Prelude.{if◌then◌else◌}
 use Rattle.std.specs.List.{ends_with, find}
+use Rattle.bi_base.specs.Strings.{text_before_nul}
 use Rattle.bi_blob.specs.Tree.{Nodes, FileNode, properties_of}
 use Rattle.bi_blob.specs.Lookups.{Sibling, siblings, node_named, value_named}
 use Rattle.bi_fdt.specs.Content.{BlobContent, root_of}
-use Rattle.bi_hash.specs.Verdicts.{verdict_of, text_before_nul}
+use Rattle.bi_hash.specs.Verdicts.{verdict_of}
 use Rattle.bi_fit.specs.declared.key.Key.{Key}
 use Rattle.bi_fit.specs.Names.{configurations_name, algo_name, value_name}
 use Rattle.bi_fit.specs.Names.{is_hash_name, is_signature_name, key_name}

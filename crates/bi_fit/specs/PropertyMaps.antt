@@ -4,7 +4,7 @@ use Rattle.std.specs.Ordering.{nat_cmp}
 use Rattle.std.specs.Cmp.Lexicographic.{slice_cmp}
 use Rattle.std.specs.FinMap.{from_sorted, is_sorted}
 use Rattle.bi_lay.specs.declared.items.Value.{Value}
-use Rattle.bi_lay.specs.Items.{value_bytes}
+use Rattle.bi_lay.specs.Values.{value_bytes}
 use Rattle.bi_blob.specs.Tree.{Property, PropertyMap}
 use Rattle.bi_fit.specs.declared.document.property_map.PropertyMap.TheInside.{Inside as Fields}
 
@@ -19,6 +19,6 @@ abbrev pub by_name : Fields → PropertyMap
 by_name properties = from_sorted (properties_in properties.values.entries)
 
 -- What is true of the fields: the names are in byte order.
-abbrev pub IsConsistent : Fields → Type 0
-IsConsistent properties =
+abbrev pub IsConsistentMap : Fields → Type 0
+IsConsistentMap properties =
     T (is_sorted (slice_cmp nat_cmp) (properties_in properties.values.entries))

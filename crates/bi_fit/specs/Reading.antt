@@ -24,15 +24,15 @@ pub record IsReadFrom (limits : Bounds) (file : List ℕ) (content : FitContent)
   pub no_fault : (fault : Fault) → ¬ (IsFitFault limits file fault)
 
 -- A file that has this fault, and no other, is no flattened image tree within the limits.
-pub record IsOnlyFault (limits : Bounds) (file : List ℕ) (fault : Fault) : Type 0 where
+pub record IsOnlyFitFault (limits : Bounds) (file : List ℕ) (fault : Fault) : Type 0 where
   pub is_fault : IsFitFault limits file fault
   pub only : (other : Fault) → IsFitFault limits file other → other ≡ fault
   pub means_nothing : (tree : ImageTree) → ¬ (FitMeans limits file tree)
 
 -- The error of reading a file: its fault; or that memory ran out, which happens only if the header
 -- and the reservation block have no fault.
-abbrev pub IsReadError : Bounds → List ℕ → Error → Type 0
-IsReadError limits file (Refused fault) = IsOnlyFault limits file fault
-IsReadError limits file OutOfMemory = HasNoFaultBeforeTree limits file
-IsReadError limits file ReadFailed = ⊥
-IsReadError limits file WriteFailed = ⊥
+abbrev pub IsFitReadError : Bounds → List ℕ → Error → Type 0
+IsFitReadError limits file (Refused fault) = IsOnlyFitFault limits file fault
+IsFitReadError limits file OutOfMemory = HasNoFaultBeforeTree limits file
+IsFitReadError limits file ReadFailed = ⊥
+IsFitReadError limits file WriteFailed = ⊥

@@ -10,8 +10,8 @@ use crate::fit::Fit;
 use crate::key::Key;
 use crate::lists::list_images;
 use crate::nodes::Siblings;
+use bi_base::text_before_nul;
 use bi_fdt::NodeRef;
-use bi_hash::text_before_nul;
 use std::alloc::{AllocFailed, Global};
 use std::marker::Model;
 

@@ -20,6 +20,7 @@ mod property_map;
 mod tree;
 
 pub use crate::document::nodes::begin_with;
+pub use crate::document::payload_area::end_after;
 use crate::document::payload_area::payloads_end;
 pub use crate::document::property_map::PropertyMap;
 use crate::document::tree::add_tree;
@@ -43,8 +44,9 @@ impl<'a> Fit<'a> {
     /// Takes time n log n in the number n of nodes and properties.
     ///
     /// Errors: TooLarge at `limits.file()`, exactly if the normal text, with the payloads after the
-    /// blob, is longer than that, unless memory runs out; OutOfMemory. ReadFailed and WriteFailed
-    /// never come.
+    /// blob, is longer than that, unless memory runs out; OutOfMemory, which never comes if the
+    /// payloads after the blob are longer than that by themselves. ReadFailed and WriteFailed never
+    /// come.
     pub fn to_doc(&self, alloc: Global, form: Form, limits: Limits) -> Result<Doc<'a>, Error>
         ensures document { IfOk result (IsDocument limits form (tree_of self.now)) }
         ensures failed { IfErr result (IsDocumentError limits form (tree_of self.now)) }
@@ -90,8 +92,10 @@ fn add_reservations(doc: &mut Doc<'_>, blob: &Blob<'_>) -> Result<(), Error>
     Ok(())
 }
 
-/// TooLarge at the limit, exactly if the text of a document and `after` bytes are longer than that.
-fn check_size(doc: &Doc<'_>, after: u32, limit: u32) -> Result<(), Fault>
+/// Checks that the text of a closed document and `after` bytes after it are no longer than a limit.
+///
+/// Error: TooLarge at the limit, exactly if they are longer.
+pub fn check_size(doc: &Doc<'_>, after: u32, limit: u32) -> Result<(), Fault>
     requires closed { stage_of_events doc.now.events ≡ AfterRoot }
     requires within { after ≤ limit }
     requires small { limit ≤ longest_text }

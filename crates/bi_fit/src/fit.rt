@@ -5,7 +5,7 @@ ghost use Rattle.std.specs.Option.{option_map, option_and_then};
 ghost use Rattle.bi_base.specs.declared.fault.Error.TheVariants.{OutOfMemory};
 ghost use Rattle.bi_fit.specs.Content.{index_of, place_or_absent, read_image};
 ghost use Rattle.bi_fit.specs.Content.{HasIndices, IsHeld};
-ghost use Rattle.bi_fit.specs.Reading.{IsReadFrom, IsReadError};
+ghost use Rattle.bi_fit.specs.Reading.{IsReadFrom, IsFitReadError};
 
 use crate::image::{Image, Place};
 use crate::images::read_images;
@@ -29,11 +29,11 @@ impl<'a> Model for Fit<'a> {
 
     ghost Value = { FitContent };
 
-    ghost use Rattle.bi_fit.specs.Fields.{content_of, IsConsistent};
+    ghost use Rattle.bi_fit.specs.Fields.{content_of, IsConsistentFit};
 
     ghost view = { content_of };
 
-    ghost invariant = { IsConsistent };
+    ghost invariant = { IsConsistentFit };
 }
 
 impl<'a> Fit<'a> {
@@ -50,7 +50,7 @@ impl<'a> Fit<'a> {
     /// WriteFailed never come.
     pub fn read(alloc: Global, file: &'a [u8], limits: Limits) -> Result<Fit<'a>, Error>
         ensures read { IfOk result (IsReadFrom limits file.entry.now) }
-        ensures failed { IfErr result (IsReadError limits file.entry.now) }
+        ensures failed { IfErr result (IsFitReadError limits file.entry.now) }
     {
         let blob = Blob::read(alloc, file, limits)?;
         let root = blob.root();

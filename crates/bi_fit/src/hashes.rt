@@ -12,9 +12,9 @@ ghost use Rattle.bi_fit.specs.Nodes.{file_hash, file_hashes};
 
 use crate::fit::Fit;
 use crate::nodes::Siblings;
-use bi_base::Error;
+use bi_base::{Error, text_before_nul};
 use bi_fdt::NodeRef;
-use bi_hash::{PayloadDigests, Verdict, text_before_nul};
+use bi_hash::{PayloadDigests, Verdict};
 use std::alloc::{AllocError, Global};
 
 /// A hash node, and the verdict on it.

@@ -4,11 +4,11 @@ ghost use Rattle.std.specs.Prelude.{◌≡◌, ◌+◌, ◌<◌, ◌≤◌, ◌^
 ghost use Rattle.std.specs.List.{AllByRecursion, AllZip};
 ghost use Rattle.std.specs.Option.{option_map};
 ghost use Rattle.bi_base.specs.Checks.{IsFirstFault};
+ghost use Rattle.bi_base.specs.Errors.{IsRefusal};
 ghost use Rattle.bi_blob.specs.Blob.{totalsize};
 ghost use Rattle.bi_blob.specs.Layout.{longest_text};
 ghost use Rattle.bi_blob.specs.Lookups.{siblings};
-ghost use Rattle.bi_fdt.specs.Growth.{IsRefusal};
-ghost use Rattle.bi_fdt.specs.Table.{file_property_of};
+ghost use Rattle.bi_fdt.specs.Properties.{file_property_of};
 ghost use Rattle.bi_fdt.specs.Views.{node_of};
 ghost use Rattle.bi_fit.specs.Payloads.{source_of, number_of, external_base as external_base_of};
 ghost use Rattle.bi_fit.specs.Payloads.{HasPayload, IsSizedRegion};

@@ -2,13 +2,15 @@
 //! nothing: what each of them ensures is a fact about the definitions.
 
 ghost use Rattle.bi_fit.specs.KnownFiles.{SmallestIsFit, OffsetIsFromAlignedEnd};
-ghost use Rattle.bi_fit.specs.KnownFiles.{PositionIsBeforeData, NoneIsNotEmpty};
+ghost use Rattle.bi_fit.specs.KnownFiles.{PositionIsBeforeData, OffsetIsBeforeData};
+ghost use Rattle.bi_fit.specs.KnownFiles.{PositionIsBeforeOffset, NoneIsNotEmpty};
 ghost use Rattle.bi_fit.specs.KnownFiles.{ThreeImagesHaveTexts, SharedRegionIsRepeated};
+ghost use Rattle.bi_fit.specs.KnownFiles.{PayloadsAreAligned};
 ghost use Rattle.bi_fit.specs.KnownFiles.{ChildrenKeepOrder, OnlyImagesHavePayloads};
 ghost use Rattle.bi_fit.specs.KnownFiles.{UnusedHaveNoMeaning};
 ghost use Rattle.bi_fit.specs.KnownFaults.{WithoutImages, RegionsHaveFaults, FirstFaultCounts};
 ghost use Rattle.bi_fit.specs.KnownJudgements.{ListsAreRead, HashesAreJudged};
-ghost use Rattle.bi_fit.specs.KnownBuilds.{BuiltIsKnown};
+ghost use Rattle.bi_fit.specs.KnownBuilds.{BuiltIsKnown, EachKeyIsKnown};
 
 /// A file of 88 bytes with a root and its child `images` is a flattened image tree, and is its own
 /// text in both forms.
@@ -27,6 +29,16 @@ pub fn position_is_before_data()
     ensures position { PositionIsBeforeData }
 {}
 
+/// `data-offset` gives the payload also where there is `data`.
+pub fn offset_is_before_data()
+    ensures offset { OffsetIsBeforeData }
+{}
+
+/// `data-position` gives the payload of an image that has all four properties.
+pub fn position_is_before_offset()
+    ensures position { PositionIsBeforeOffset }
+{}
+
 /// An image without a payload is not one with an empty payload.
 pub fn none_is_not_empty()
     ensures none { NoneIsNotEmpty }
@@ -36,6 +48,12 @@ pub fn none_is_not_empty()
 /// one the payloads are at offsets 0, 8 and 8 from the end of the blob.
 pub fn three_images_have_texts()
     ensures three { ThreeImagesHaveTexts }
+{}
+
+/// External payloads begin at multiples of four: those of 1, 0 and 1 bytes are at offsets 0, 4 and
+/// 4 from the end of the blob.
+pub fn payloads_are_aligned()
+    ensures aligned { PayloadsAreAligned }
 {}
 
 /// Three images that share a region of 1,000 bytes in a file of 1,244 bytes have texts of 3,168
@@ -91,4 +109,10 @@ pub fn hashes_are_judged()
 /// and a text of 824 bytes.
 pub fn built_is_known()
     ensures built { BuiltIsKnown }
+{}
+
+/// The keys have known names, types of images and an order, and the configuration of a built tree
+/// lists the images of each of them in this order.
+pub fn each_key_is_known()
+    ensures keys { EachKeyIsKnown }
 {}

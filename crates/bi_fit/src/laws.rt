@@ -1,8 +1,8 @@
 //! Laws of flattened image trees. Their functions do nothing: what each of them ensures is the
 //! law.
 
-ghost use Rattle.bi_fit.specs.Laws.{OneMeaning, BeginsWithMagic, MeaningHasNoFault, OneFault};
-ghost use Rattle.bi_fit.specs.Laws.{MeaningOrFault, MeaningWhereNoFault, FileMeansImageTree};
+ghost use Rattle.bi_fit.specs.Laws.{OneFitMeaning, FitBeginsWithMagic, FitHasNoFault, OneFitFault};
+ghost use Rattle.bi_fit.specs.Laws.{FitMeaningOrFault, FitMeaningWhereNoFault, FileMeansImageTree};
 ghost use Rattle.bi_fit.specs.Laws.{TextIsAccepted, NormalTextIsAccepted, SameTextSameTree};
 ghost use Rattle.bi_fit.specs.Laws.{TextKeepsJudgement, SameTextSameJudgement};
 ghost use Rattle.bi_fit.specs.Laws.{EachExternalTextHasItsLength, PayloadsEndLater};
@@ -12,34 +12,34 @@ ghost use Rattle.bi_fit.specs.Laws.{BuiltHasConfiguration};
 
 /// A file is a flattened image tree of at most one meaning.
 pub fn one_meaning()
-    ensures { OneMeaning }
+    ensures { OneFitMeaning }
 {}
 
 /// A flattened image tree begins with the magic number of a blob, 0xd00dfeed. So no file that
 /// begins with another number, as a legacy image does, is one.
 pub fn begins_with_magic()
-    ensures { BeginsWithMagic }
+    ensures { FitBeginsWithMagic }
 {}
 
 /// A file that is a flattened image tree within limits has no fault under them.
 pub fn meaning_has_no_fault()
-    ensures { MeaningHasNoFault }
+    ensures { FitHasNoFault }
 {}
 
 /// A file has at most one fault under limits.
 pub fn one_fault()
-    ensures { OneFault }
+    ensures { OneFitFault }
 {}
 
 /// A file of bytes is a flattened image tree within limits, or it has a fault under them.
 pub fn meaning_or_fault()
-    ensures { MeaningOrFault }
+    ensures { FitMeaningOrFault }
 {}
 
 /// A file of bytes is a flattened image tree within limits exactly where it has no fault under
 /// them.
 pub fn meaning_where_no_fault()
-    ensures { MeaningWhereNoFault }
+    ensures { FitMeaningWhereNoFault }
 {}
 
 /// The payload of each image node is in the file at its place: the value of `data` at the offset

@@ -18,7 +18,7 @@ mod nodes;
 mod signatures;
 
 pub use configurations::{ConfigError, Configuration, Configurations, Named};
-pub use document::{PropertyMap, begin_with};
+pub use document::{PropertyMap, begin_with, check_size, end_after};
 pub use fit::Fit;
 pub use form::Form;
 pub use hashes::Checked;

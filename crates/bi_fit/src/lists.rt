@@ -9,8 +9,8 @@ ghost use Rattle.bi_fit.specs.Nodes.{file_list, file_listed, BeginsWithName};
 use crate::configurations::{ConfigError, Named};
 use crate::fit::Fit;
 use crate::key::Key;
+use bi_base::text_before_nul;
 use bi_fdt::NodeRef;
-use bi_hash::text_before_nul;
 use std::alloc::Global;
 
 /// Returns the images that a configuration node lists under a key, in their order.

@@ -1,11 +1,12 @@
 //! The signature nodes of a flattened image tree.
 
 ghost use Rattle.std.specs.Prelude.{◌≡◌, ◌<◌, ◌^◌, length, flat_map};
+ghost use Rattle.bi_blob.specs.Lookups.{siblings};
 ghost use Rattle.bi_fdt.specs.Views.{node_of};
 ghost use Rattle.bi_fit.specs.Content.{tree_of};
 ghost use Rattle.bi_fit.specs.Judgement.{signature_count};
 ghost use Rattle.bi_fit.specs.Nodes.{file_signatures};
-ghost use Rattle.bi_fit.specs.Siblings.{siblings_left};
+ghost use Rattle.bi_fit.specs.Siblings.{siblings_left, children_of_each};
 
 use crate::fit::Fit;
 use crate::nodes::Siblings;
@@ -24,8 +25,9 @@ impl<'a> Fit<'a> {
 
 /// The number of signature nodes among the children of these nodes.
 fn count_signatures(parents: Siblings) -> usize
+    requires { length (children_of_each (siblings_left parents)) < 2 ^ 31 }
     ensures count { result ≡ length (flat_map file_signatures (siblings_left parents.entry)) }
-    ensures small { result < 2 ^ 63 }
+    ensures small { result < 2 ^ 31 }
 {
     let mut count = 0;
     for parent in parents {
@@ -36,6 +38,7 @@ fn count_signatures(parents: Siblings) -> usize
 
 /// The number of signature nodes among the children of a node.
 fn count_children(parent: NodeRef) -> usize
+    requires { length (siblings (node_of parent).children) < 2 ^ 31 }
     ensures { result ≡ length (file_signatures (node_of parent.entry)) }
 {
     Siblings::children(parent)

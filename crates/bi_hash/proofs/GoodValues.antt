@@ -1,13 +1,14 @@
 use Rattle.std.proofs.Common.{◌≡◌, ℕ, Bool, true, false, cond, List, ◌∷◌, ◌++◌, Option, Some, None, refl, ap, ◌∙◌}
 use Rattle.std.proofs.lemmas.Slice.Eq.{bytes_eq-Decides}
+use Rattle.bi_base.specs.Strings.{text_before_nul}
+use Rattle.bi_base.proofs.NulTexts.{text_then_zero}
 use Rattle.bi_hash.specs.declared.algo.Algo.{Algo}
 use Rattle.bi_hash.specs.declared.algo.Algo.TheVariants.{Crc32, Md5, Sha1, Sha256, Sha384, Sha512}
 use Rattle.bi_hash.specs.declared.verdicts.Verdict.TheVariants.{Good, Bad}
 use Rattle.bi_hash.specs.Algos.{algorithm_name, find_algorithm}
 use Rattle.bi_hash.specs.Digests.{digest_of}
-use Rattle.bi_hash.specs.Verdicts.{HasItsDigest, text_before_nul, verdict_of, verdict_by_name, verdict_by_algorithm}
+use Rattle.bi_hash.specs.Verdicts.{HasItsDigest, verdict_of, verdict_by_name, verdict_by_algorithm}
 use Rattle.bi_hash.proofs.Names.{find_algorithm-algorithm_name, algorithm_name-find_algorithm}
-use Rattle.bi_hash.proofs.Texts.{text_then_zero}
 
 -- The text of an algorithm's name, a NUL and any bytes is the name.
 text_before_nul-name : (algo : Algo) (rest : List ℕ) → text_before_nul (algorithm_name algo ++ 0 ∷ rest) ≡ Some (algorithm_name algo)

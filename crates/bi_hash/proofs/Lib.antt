@@ -2,5 +2,5 @@ pub mod Bytes
 pub mod DigestBytes
 pub mod GoodValues
 pub mod Names
-pub mod Texts
+pub mod VerdictFacts
 pub mod KeptDigests

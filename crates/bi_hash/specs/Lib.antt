@@ -1,4 +1,5 @@
 pub mod Algos
 pub mod Digests
 pub mod Verdicts
+pub mod KnownVerdicts
 pub mod KeptDigests

@@ -1,22 +1,13 @@
-use Rattle.std.specs.Prelude.{◌≡◌, ◌↔◌, ℕ, ◌==◌, List, ◌∷◌, ◌++◌, if◌then◌else◌}
+use Rattle.std.specs.Prelude.{◌≡◌, ◌↔◌, ℕ, List, ◌∷◌, ◌++◌, if◌then◌else◌}
 use Rattle.std.specs.Prelude.{Option, Some, None, option_and_then}
-use Rattle.std.specs.List.{list_any}
-use Rattle.bi_base.specs.Strings.{before_nul}
 use Rattle.std.specs.Str.{bytes_eq}
+use Rattle.bi_base.specs.Strings.{text_before_nul}
 use Rattle.bi_hash.specs.Algos.{algorithm_name, find_algorithm}
 use Rattle.bi_hash.specs.Digests.{digest_of}
 use Rattle.bi_hash.specs.declared.algo.Algo.{Algo}
 use Rattle.bi_hash.specs.declared.verdicts.Verdict.{Verdict}
 use Rattle.bi_hash.specs.declared.verdicts.Verdict.TheVariants.{Malformed, UnknownAlgo}
 use Rattle.bi_hash.specs.declared.verdicts.Verdict.TheVariants.{NoPayload, Good, Bad}
-
--- The text of a property's value: the bytes before its first NUL. None if there is no NUL
--- (Devicetree Specification, 2.2.4.2: a string is NUL-terminated).
-unfoldable pub text_before_nul : List ℕ → Option (List ℕ)
-text_before_nul value =
-    if list_any (λ byte. byte == 0) value
-    then Some (before_nul value)
-    else None
 
 -- The verdict on a value, by the algorithm, if it is known, and the payload, if there is one.
 abbrev pub verdict_by_algorithm : Option Algo → List ℕ → Option (List ℕ) → Verdict

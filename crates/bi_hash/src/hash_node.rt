@@ -1,9 +1,8 @@
 //! The verdict on a hash node.
-#![tactic(auto, unfolding(crate::specs::Verdicts::text_before_nul))]
 
-ghost use Rattle.std.specs.Prelude.{◌≡◌, ◌==◌, position};
+ghost use Rattle.std.specs.Prelude.{◌≡◌};
 ghost use Rattle.std.specs.Option.{option_copied};
-ghost use Rattle.bi_hash.specs.Verdicts.{text_before_nul, verdict_of};
+ghost use Rattle.bi_hash.specs.Verdicts.{verdict_of};
 
 use crate::payload_digests::PayloadDigests;
 use crate::verdicts::Verdict;
@@ -22,20 +21,4 @@ pub fn verdict(algo: Option<&[u8]>, value: Option<&[u8]>, payload: Option<&[u8]>
         (option_copied payload.entry) }
 {
     PayloadDigests::new(payload).verdict(algo, value)
-}
-
-/// The text of the value of a property: the bytes before its first NUL. None exactly if there is no
-/// NUL.
-pub fn text_before_nul(value: &[u8]) -> Option<&[u8]>
-    ensures { option_copied result ≡ text_before_nul value.now }
-{
-    let end = position_of_nul(value)?;
-    Some(&value[..end])
-}
-
-/// The index of the first NUL, if there is one.
-fn position_of_nul(bytes: &[u8]) -> Option<usize>
-    ensures { result ≡ position (λ byte. byte == 0) bytes.now }
-{
-    bytes.iter().position(|&byte| byte == 0)
 }

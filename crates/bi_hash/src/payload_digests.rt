@@ -1,5 +1,5 @@
 //! The digests of one payload.
-#![tactic(auto, unfolding(crate::specs::Verdicts::text_before_nul))]
+#![tactic(auto, unfolding(bi_base::specs::Strings::text_before_nul))]
 
 ghost use Rattle.std.specs.Prelude.{◌≡◌, ◌<◌, ◌≤◌, Option, Some, IfSome};
 ghost use Rattle.std.specs.Option.{option_copied};
@@ -8,8 +8,8 @@ ghost use Rattle.bi_hash.specs.Verdicts.{verdict_of};
 ghost use Rattle.bi_hash.specs.KeptDigests.{IsDigest};
 
 use crate::algo::Algo;
-use crate::hash_node::text_before_nul;
 use crate::verdicts::Verdict;
+use bi_base::text_before_nul;
 use std::marker::Model;
 
 /// A digest: the first bytes of a buffer.

@@ -1,17 +1,18 @@
 use Rattle.std.proofs.Common.{◌≡◌, ℕ, ◌+◌, ◌≤◌, List, [], ◌∷◌, ◌++◌, length, Some, Bor, Contains, refl, sym, ap, subst, ◌∙◌, arith, vec_len, vec_capacity}
 use Rattle.std.specs.List.{AllByRecursion}
+use Rattle.bi_base.proofs.ListMembers.{each-append}
 use Rattle.bi_blob.specs.Events.{NodeStart, NodeEnd}
 use Rattle.bi_blob.specs.Stages.{BeforeRoot, next_stage, open_nodes}
 use Rattle.bi_blob.specs.Layout.{offset_in, used_names, distinct_names}
-use Rattle.bi_blob.proofs.Texts.Members.{each-append}
 use Rattle.bi_lay.specs.declared.document.Doc.TheInside.{Inside as Fields}
 use Rattle.bi_lay.specs.declared.items.Item.{Item}
 use Rattle.bi_lay.specs.declared.items.Item.TheVariants.{Begin, Property, End}
 use Rattle.bi_lay.specs.declared.items.Property.{Property as PropertyItem}
 use Rattle.bi_lay.specs.Names.{with_name, capped}
-use Rattle.bi_lay.specs.Items.{event_of, events_of_items, value_bytes, HasOffset}
+use Rattle.bi_lay.specs.Items.{event_of, events_of_items, HasOffset}
+use Rattle.bi_lay.specs.Values.{value_bytes}
 use Rattle.bi_blob.specs.Following.{stage_of_events, MayBegin, most_open_nodes, MayHaveNextProperty, MayEnd, MayFollowInText, AllFollow}
-use Rattle.bi_lay.specs.Documents.{IsConsistent, IsNewest, last, stage_of, outer_nodes}
+use Rattle.bi_lay.specs.Documents.{IsConsistentDocument, IsNewest, last, stage_of, outer_nodes}
 use Rattle.bi_lay.proofs.Growing.{HasChild, events-push, stage-push, follow-push, last-push, names-same, begun-depth, begun-shallow, begun-newest, begun-parents, added-depth, added-newest, added-parents, ended-depth, ended-newest, ended-parents}
 use Rattle.bi_lay.proofs.UsedNames.{names-push, with_name-has, each-with_name}
 
@@ -49,7 +50,7 @@ offsets-more old new item more each has =
     subst (AllByRecursion (HasOffset new.names)) (sym more.items) (each-append (HasOffset new.names) old.items.items (item ∷ []) each (has, tt))
 
 -- A node begins.
-pub kept-begun : (old new : Fields) (name : Bor (List ℕ)) → IsConsistent old → MayBegin most_open_nodes name.now (stage_of old) → HasOneMore old new (Begin name) → new.depth ≡ old.depth + 1 → new.names ≡ old.names → IsConsistent new
+pub kept-begun : (old new : Fields) (name : Bor (List ℕ)) → IsConsistentDocument old → MayBegin most_open_nodes name.now (stage_of old) → HasOneMore old new (Begin name) → new.depth ≡ old.depth + 1 → new.names ≡ old.names → IsConsistentDocument new
 kept-begun old new name kept may more deeper same = record {
   follow = follow-more old new (Begin name) more kept.follow may;
   is_depth = deeper ∙ (omega (arith, kept.is_depth, begun-depth (stage_of old) name.now may)) ∙ ap (λ stage. length (open_nodes stage)) (sym (stage-more old new (Begin name) more));
@@ -62,7 +63,7 @@ kept-begun old new name kept may more deeper same = record {
 }
 
 -- A node ends.
-pub kept-ended : (old new : Fields) → IsConsistent old → MayEnd (stage_of old) → HasOneMore old new End → new.depth + 1 ≡ old.depth → new.names ≡ old.names → IsConsistent new
+pub kept-ended : (old new : Fields) → IsConsistentDocument old → MayEnd (stage_of old) → HasOneMore old new End → new.depth + 1 ≡ old.depth → new.names ≡ old.names → IsConsistentDocument new
 kept-ended old new kept may more less same = record {
   follow = follow-more old new End more kept.follow may;
   is_depth = (omega (arith, less, kept.is_depth, ended-depth (stage_of old) may)) ∙ ap (λ stage. length (open_nodes stage)) (sym (stage-more old new End more));
@@ -75,7 +76,7 @@ kept-ended old new kept may more less same = record {
 }
 
 -- A node gets a property.
-pub kept-added : (old new : Fields) (property : PropertyItem) → IsConsistent old → MayHaveNextProperty property.name.now (stage_of old) → HasOneMore old new (Property property) → new.depth ≡ old.depth → new.names ≡ with_name old.names property.name.now → property.name_offset ≡ capped (offset_in new.names property.name.now) → IsConsistent new
+pub kept-added : (old new : Fields) (property : PropertyItem) → IsConsistentDocument old → MayHaveNextProperty property.name.now (stage_of old) → HasOneMore old new (Property property) → new.depth ≡ old.depth → new.names ≡ with_name old.names property.name.now → property.name_offset ≡ capped (offset_in new.names property.name.now) → IsConsistentDocument new
 kept-added old new property kept may more same names is_offset = record {
   follow = follow-more old new (Property property) more kept.follow may;
   is_depth = same ∙ kept.is_depth ∙ sym (added-depth (stage_of old) property.name.now (value_bytes property.value)) ∙ ap (λ stage. length (open_nodes stage)) (sym (stage-more old new (Property property) more));

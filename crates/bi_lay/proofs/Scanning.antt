@@ -1,9 +1,9 @@
 use Rattle.std.proofs.Common.{◌≡◌, ◌≢◌, ℕ, ◌+◌, ◌<◌, ◌≤◌, Bool, true, List, [], ◌∷◌, ◌++◌, length, IsTrue, ◌↔◌, refl, sym, subst, arith, inl, inr, ◌⊎◌}
 use Rattle.std.proofs.lemmas.Bool.{cases_lt}
+use Rattle.bi_base.proofs.ListMembers.{each-append, each-front, each-back}
 use Rattle.bi_blob.specs.Tree.{IsNew}
 use Rattle.bi_blob.specs.Events.{NodeStart}
 use Rattle.bi_blob.specs.Stages.{OpenNode, Stage, BeforeRoot, Inside, AfterRoot, next_stage, open_nodes}
-use Rattle.bi_blob.proofs.Texts.Members.{each-append, each-front, each-back}
 use Rattle.bi_lay.specs.Siblings.{KnowsChildren}
 
 -- How a search for a child goes on.

@@ -17,8 +17,9 @@ use Rattle.bi_lay.specs.declared.items.Item.TheVariants.{Begin, Property, End}
 use Rattle.bi_blob.specs.TextLaws.{HasLengthOfEvents}
 use Rattle.bi_lay.specs.Contents.{text_of}
 use Rattle.bi_lay.specs.Names.{capped}
-use Rattle.bi_lay.specs.Items.{event_of, events_of_items, value_bytes, item_encoding, structure_of_items, reservations_of, HasOffset}
-use Rattle.bi_lay.specs.Documents.{IsConsistent, content_of}
+use Rattle.bi_lay.specs.Items.{event_of, events_of_items, item_encoding, structure_of_items, reservations_of, HasOffset}
+use Rattle.bi_lay.specs.Values.{value_bytes}
+use Rattle.bi_lay.specs.Documents.{IsConsistentDocument, content_of}
 
 -- The text of a document is made of what its fields hold.
 
@@ -57,7 +58,7 @@ same_items names [] each short = refl
 same_items names (item ∷ later) each short = λ j. same_item names item each.0 short j ++ same_items names later each.1 short j
 
 -- The structure block of items is that of their events.
-pub same_structure : (doc : Fields) → IsConsistent doc → length (strings_of doc.names) < 2 ^ 32 → structure_of_items doc.items.items ≡ structure_block (events_of_items doc.items.items)
+pub same_structure : (doc : Fields) → IsConsistentDocument doc → length (strings_of doc.names) < 2 ^ 32 → structure_of_items doc.items.items ≡ structure_block (events_of_items doc.items.items)
 same_structure doc kept short =
     ap (λ l. l ++ encoding EndToken) (same_items doc.names doc.items.items kept.offsets short ∙ ap (λ names. flat_map encoding (map (token_of names) events)) kept.names)
     ∙ ap (λ l. flat_map encoding (tokens_of events) ++ l) (sym (append-nil (encoding EndToken)))
@@ -72,7 +73,7 @@ length-reservations [] = refl
 length-reservations (pair ∷ later) = ap suc (length-reservations later)
 
 -- How long the text of a document is.
-is_text_length : (doc : Fields) → IsConsistent doc → length (text_of (content_of doc)) ≡ up4 (length_before_padding (16 * length doc.reservations.items + 16) (length (structure_of_items doc.items.items)) (length (strings_of doc.names)))
+is_text_length : (doc : Fields) → IsConsistentDocument doc → length (text_of (content_of doc)) ≡ up4 (length_before_padding (16 * length doc.reservations.items + 16) (length (structure_of_items doc.items.items)) (length (strings_of doc.names)))
 is_text_length doc kept =
     law.is_length
     ∙ (λ j. up4 (length_before_padding (same_reserved j) (same_length j) (length (strings_of (sym kept.names j)))))
@@ -108,7 +109,7 @@ pub strings-exact : (doc : Fields) (count : ℕ) (items : List Item) (strings : 
 strings-exact doc count items strings are short = omega (arith, are.is_strings)
 
 -- The text is as long as what is measured, if that is not too long.
-pub measured-exact : (doc : Fields) (count : ℕ) (items : List Item) (strings : ℕ) → IsConsistent doc → AreMeasured doc count items strings → measured count items strings ≤ longest_text → length (text_of (content_of doc)) ≡ measured count items strings
+pub measured-exact : (doc : Fields) (count : ℕ) (items : List Item) (strings : ℕ) → IsConsistentDocument doc → AreMeasured doc count items strings → measured count items strings ≤ longest_text → length (text_of (content_of doc)) ≡ measured count items strings
 measured-exact doc count items strings kept are short =
     is_text_length doc kept
     ∙ (λ j. up4 (length_before_padding (16 * same_count j + 16) (length (structure_of_items (sym are.are_items j))) (sym (strings-exact doc count items strings are short) j)))
@@ -117,12 +118,12 @@ measured-exact doc count items strings kept are short =
     same_count = omega (arith, are.is_count, doc.reservations.ok.0)
 
 -- The text is too long if what is measured is.
-pub measured-long : (doc : Fields) (count : ℕ) (items : List Item) (strings : ℕ) → IsConsistent doc → AreMeasured doc count items strings → longest_text < measured count items strings → longest_text < length (text_of (content_of doc))
+pub measured-long : (doc : Fields) (count : ℕ) (items : List Item) (strings : ℕ) → IsConsistentDocument doc → AreMeasured doc count items strings → longest_text < measured count items strings → longest_text < length (text_of (content_of doc))
 measured-long doc count items strings kept are long =
     omega (arith, long, are.is_count, are.is_strings, doc.reservations.ok.0, ap (λ l. length (structure_of_items l)) are.are_items, is_text_length doc kept)
 
 -- The text is put together of its blocks.
-pub same_text : (doc : Fields) (pairs : List (ℕ × ℕ)) (items : List Item) (names : List (List ℕ)) → IsConsistent doc → pairs ≡ doc.reservations.items → items ≡ doc.items.items → names ≡ doc.names → length (text_of (content_of doc)) ≤ longest_text → text_of_blocks doc.boot_cpu (reservation_block (reservations_of pairs)) (structure_of_items items) (strings_of names) ≡ text_of (content_of doc)
+pub same_text : (doc : Fields) (pairs : List (ℕ × ℕ)) (items : List Item) (names : List (List ℕ)) → IsConsistentDocument doc → pairs ≡ doc.reservations.items → items ≡ doc.items.items → names ≡ doc.names → length (text_of (content_of doc)) ≤ longest_text → text_of_blocks doc.boot_cpu (reservation_block (reservations_of pairs)) (structure_of_items items) (strings_of names) ≡ text_of (content_of doc)
 unfolding text_of_events
 same_text doc pairs items names kept are_pairs are_items are_names short =
     λ j. text_of_blocks doc.boot_cpu (reservation_block (reservations_of (are_pairs j))) ((ap structure_of_items are_items ∙ same_structure doc kept fits) j) (strings_of ((are_names ∙ kept.names) j))

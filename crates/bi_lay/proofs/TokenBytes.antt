@@ -1,4 +1,4 @@
-use Rattle.std.proofs.Common.{◌≡◌, ℕ, ◌+◌, ◌-◌, ◌/◌, ◌%◌, ◌^◌, suc, List, [], ◌∷◌, ◌++◌, length, replicate, flat_map, refl, sym, ap, ◌∙◌, arith, append_assoc, length-append}
+use Rattle.std.proofs.Common.{◌≡◌, ℕ, ◌+◌, ◌-◌, ◌/◌, ◌%◌, ◌^◌, List, [], ◌∷◌, ◌++◌, length, replicate, flat_map, refl, sym, ap, ◌∙◌, arith, length-append}
 use Rattle.bi_base.specs.Cells.{cell, up4}
 use Rattle.bi_blob.specs.Tokens.{BeginNode, Prop, token_bytes}
 use Rattle.bi_blob.specs.Layout.{encoding, padding_to_4}
@@ -7,21 +7,11 @@ use Rattle.bi_blob.proofs.Texts.TokenEncoding.{length_unpadded-prop}
 
 -- The bytes of tokens, put together of the pieces that are written.
 
--- The token that begins a node: its number, the name, and one to four zeros.
-pub begin_bytes : (name : List ℕ) → (cell 1 ++ name) ++ replicate (4 - length name % 4) 0 ≡ encoding (BeginNode name)
-begin_bytes name =
-    ap (λ n. (cell 1 ++ name) ++ replicate n 0) one_more
-    ∙ sym (append_assoc (cell 1 ++ name) (0 ∷ []) padding)
-    ∙ ap (λ l. l ++ padding) (append_assoc (cell 1) name (0 ∷ []))
-  where
-    padding : List ℕ
-    padding = padding_to_4 (length (token_bytes (BeginNode name)))
-
-    is_length : length (token_bytes (BeginNode name)) ≡ length name + 5
-    is_length = length-append (cell 1) (name ++ 0 ∷ []) ∙ omega (arith, length-cell 1, length-append name (0 ∷ []))
-
-    one_more : 4 - length name % 4 ≡ suc (up4 (length (token_bytes (BeginNode name))) - length (token_bytes (BeginNode name)))
-    one_more = omega (arith, is_length)
+-- The token that begins a node: its number, the name with its zero byte, and the padding.
+pub begin_bytes : (name : List ℕ) → (cell 1 ++ (name ++ 0 ∷ [])) ++ padding_to_4 (length name + 5) ≡ encoding (BeginNode name)
+begin_bytes name = ap (λ n. (cell 1 ++ (name ++ 0 ∷ [])) ++ padding_to_4 n) (sym is_length) where
+  is_length : length (token_bytes (BeginNode name)) ≡ length name + 5
+  is_length = length-append (cell 1) (name ++ 0 ∷ []) ∙ omega (arith, length-cell 1, length-append name (0 ∷ []))
 
 -- A cell has the low 32 bits of a number.
 pub cell-low : (n : ℕ) → cell (n % 2 ^ 32) ≡ cell n

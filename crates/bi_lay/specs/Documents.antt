@@ -45,7 +45,7 @@ IsNewest (Some End) AfterRoot = Unit {0}
 IsNewest item stage = ⊥
 
 -- What is true of the fields. There is room for the ends of all open nodes.
-pub record IsConsistent (doc : Fields) : Type 0 where
+pub record IsConsistentDocument (doc : Fields) : Type 0 where
   pub follow : AllFollow MayFollowInText BeforeRoot (events_of_items doc.items.items)
   pub is_depth : doc.depth ≡ length (open_nodes (stage_of doc))
   pub shallow : doc.depth ≤ 64

@@ -1,23 +1,15 @@
-use Rattle.std.specs.Prelude.{◌≡◌, ℕ, List, [], ◌∷◌, ◌++◌, map, flat_map, Contains}
-use Rattle.bi_base.specs.Cells.{cell}
+use Rattle.std.specs.Prelude.{◌≡◌, ℕ, List, ◌++◌, map, flat_map, Contains}
 use Rattle.std.specs.Borrow.{Bor}
 use Rattle.bi_blob.specs.Blob.{Reservation}
 use Rattle.bi_blob.specs.Events.{Event, NodeStart, NodeProperty, NodeEnd}
 use Rattle.bi_blob.specs.Tokens.{BeginNode, Prop, EndNode, End as EndToken}
 use Rattle.bi_blob.specs.Layout.{offset_in, encoding}
-use Rattle.bi_lay.specs.declared.items.Value.{Value}
-use Rattle.bi_lay.specs.declared.items.Value.TheVariants.{Slice, Cell, Text}
 use Rattle.bi_lay.specs.declared.items.Item.{Item}
 use Rattle.bi_lay.specs.declared.items.Item.TheVariants.{Begin, Property, End}
+use Rattle.bi_lay.specs.Values.{value_bytes}
 use Rattle.bi_lay.specs.Names.{capped}
 
 -- The events that a document stores.
-
--- The bytes of a value.
-abbrev pub value_bytes : Value → List ℕ
-value_bytes (Slice bytes) = bytes.now
-value_bytes (Cell number) = cell number
-value_bytes (Text bytes) = bytes.now ++ 0 ∷ []
 
 -- The event that an item is.
 abbrev pub event_of : Item → Event

@@ -7,7 +7,7 @@ ghost use Rattle.bi_lay.specs.Items.{event_of, events_of_items, reservations_of}
 use crate::items::{Item, Value};
 
 impl<'a> Value<'a> {
-    ghost use Rattle.bi_lay.specs.Items.{value_bytes};
+    ghost use Rattle.bi_lay.specs.Values.{value_bytes};
 
     /// Whether both values have the same bytes.
     pub(crate) fn has_same_bytes(self, other: Value<'_>) -> bool

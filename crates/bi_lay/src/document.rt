@@ -6,13 +6,13 @@ ghost use Rattle.bi_base.specs.Sinks.{Wrote};
 ghost use Rattle.bi_base.specs.declared.fault.Error.TheVariants.{OutOfMemory};
 
 use crate::comparing::{have_same_events, have_same_reservations};
-use crate::conditions::{is_child_name, is_property_name};
 use crate::items::{Item, Property, Value};
 use crate::names::Names;
 use crate::siblings::is_new_child;
 use crate::sizes::BlockSizes;
 use crate::text::{Parts, put_text};
 use bi_base::{Error, Sink};
+use bi_blob::{is_child_name, is_property_name};
 use std::alloc::Global;
 use std::marker::Model;
 
@@ -39,11 +39,11 @@ impl<'a> Model for Doc<'a> {
 
     ghost Value = { Content };
 
-    ghost use Rattle.bi_lay.specs.Documents.{content_of, IsConsistent};
+    ghost use Rattle.bi_lay.specs.Documents.{content_of, IsConsistentDocument};
 
     ghost view = { content_of };
 
-    ghost invariant = { IsConsistent };
+    ghost invariant = { IsConsistentDocument };
 }
 
 impl<'a> Doc<'a> {
@@ -54,7 +54,7 @@ impl<'a> Doc<'a> {
     ghost use Rattle.bi_blob.specs.Layout.{longest_text};
     ghost use Rattle.bi_blob.specs.TextLaws.{HasOneNormalTree};
     ghost use Rattle.bi_lay.specs.Contents.{empty_content, text_of, with_reservation, with_event};
-    ghost use Rattle.bi_lay.specs.Items.{value_bytes};
+    ghost use Rattle.bi_lay.specs.Values.{value_bytes};
 
     /// A document for this boot processor, without reservations, in which no node was begun. The
     /// only error is `OutOfMemory`.

@@ -15,7 +15,7 @@ pub enum Value<'a> {
 }
 
 impl<'a> Value<'a> {
-    ghost use Rattle.bi_lay.specs.Items.{value_bytes};
+    ghost use Rattle.bi_lay.specs.Values.{value_bytes};
 
     /// Returns how many bytes the value has.
     pub(crate) fn len(&self) -> usize

@@ -3,7 +3,6 @@
 #![tactic(auto)]
 
 mod comparing;
-mod conditions;
 mod document;
 mod items;
 pub mod laws;

@@ -1,12 +1,13 @@
 //! The sizes of the blocks of a text.
 
 ghost use Rattle.std.specs.Prelude.{◌≡◌, ◌+◌, ◌-◌, ◌*◌, ◌<◌, ◌≤◌, ◌^◌, min, length, MatchOption};
-ghost use Rattle.bi_base.specs.Cells.{up4};
+ghost use Rattle.bi_base.specs.Cells.{up4 as up4_of};
 ghost use Rattle.bi_blob.specs.Layout.{length_before_padding, longest_text};
 ghost use Rattle.bi_lay.specs.Items.{structure_of_items};
 
 use crate::items::Item;
 use crate::structure::structure_size;
+use bi_base::up4;
 
 /// The most bytes that a text may have before its padding.
 const LONGEST_BEFORE_PADDING: u64 = 0x7fff_fffc;
@@ -20,7 +21,7 @@ pub(crate) struct BlockSizes {
     pub(crate) reservations: u32,
     pub(crate) structure: u32,
     pub(crate) strings: u32,
-    ghost fits: { up4 (length_before_padding reservations structure strings) ≤ longest_text },
+    ghost fits: { up4_of (length_before_padding reservations structure strings) ≤ longest_text },
 }
 
 impl BlockSizes {
@@ -34,7 +35,7 @@ impl BlockSizes {
         ensures { let structure = length (structure_of_items items.now) in
             let reserved = 16 * reservation_count + 16 in
             MatchOption result
-            (longest_text < up4 (length_before_padding reserved structure strings))
+            (longest_text < up4_of (length_before_padding reserved structure strings))
             (λ sizes. (sizes.reservations ≡ reserved) × (sizes.structure ≡ structure)
             × (sizes.strings ≡ strings)) }
     {
@@ -80,8 +81,9 @@ impl BlockSizes {
     /// Returns the length of the text.
     pub(crate) fn total(&self) -> u32
         ensures { let sizes = self.now in
-            result ≡ up4 (length_before_padding sizes.reservations sizes.structure sizes.strings) }
+            result ≡ up4_of
+            (length_before_padding sizes.reservations sizes.structure sizes.strings) }
     {
-        self.before_padding().div_ceil(4) * 4
+        up4(self.before_padding() as usize) as u32
     }
 }

@@ -1,28 +1,18 @@
 //! Writing the structure block (Devicetree Specification, 5.4).
 #![tactic(auto, unfolding(bi_base::specs::Cells::cell))]
 
-ghost use Rattle.std.specs.Prelude.{◌≡◌, ◌-◌, ◌%◌, ◌^◌, ◌≤◌, [], ◌∷◌, ◌++◌, length};
+ghost use Rattle.std.specs.Prelude.{◌≡◌, ◌+◌, ◌-◌, ◌%◌, ◌^◌, ◌<◌, ◌≤◌, [], ◌∷◌, ◌++◌, length};
 ghost use Rattle.std.specs.Prelude.{replicate, min};
 ghost use Rattle.bi_base.specs.Cells.{cell};
 ghost use Rattle.bi_base.specs.Sinks.{Wrote};
 ghost use Rattle.bi_blob.specs.Tokens.{BeginNode, Prop, End};
 ghost use Rattle.bi_blob.specs.Layout.{encoding, padding_to_4};
-ghost use Rattle.bi_lay.specs.Items.{value_bytes, item_encoding, structure_of_items};
+ghost use Rattle.bi_lay.specs.Items.{item_encoding, structure_of_items};
+ghost use Rattle.bi_lay.specs.Values.{value_bytes};
 
 use crate::items::{Item, Property, Value};
-use bi_base::{CountSink, Error, Sink, put_cell, put_cells};
-
-/// The number of the token that begins a node (Devicetree Specification, 5.4.1).
-const BEGIN_NODE: u32 = 1;
-
-/// The number of the token that ends a node (Devicetree Specification, 5.4.1).
-const END_NODE: u32 = 2;
-
-/// The number of the token of a property (Devicetree Specification, 5.4.1).
-const PROP: u32 = 3;
-
-/// The number of the token that ends the structure block (Devicetree Specification, 5.4.1).
-const END: u32 = 9;
+use bi_base::{CountSink, Error, Sink, put_cell, put_cells, up4};
+use bi_blob::format::{BEGIN_NODE, END, END_NODE, PROP};
 
 /// Returns how many bytes the structure block of these items has, or the greatest u64 if it has
 /// more than that.
@@ -60,8 +50,9 @@ fn put_begin<S: Sink>(name: &[u8], sink: &mut S) -> Result<(), Error>
     ensures { Wrote S.appends S.fails sink.old (encoding (BeginNode name.now)) result sink.new }
 {
     put_cell(sink, BEGIN_NODE)?;
-    sink.put(name)?;
-    put_zeros(4 - name.len() % 4, sink)
+    put_string(name, sink)?;
+    // The token has its number of four bytes, the name and a zero byte.
+    put_padding(name.len() + 5, sink)
 }
 
 /// Appends the token of a property. Fails as the sink does.
@@ -101,9 +92,10 @@ pub(crate) fn put_string<S: Sink>(bytes: &[u8], sink: &mut S) -> Result<(), Erro
 
 /// Appends the zeros that pad this many bytes to a multiple of four. Fails as the sink does.
 pub(crate) fn put_padding<S: Sink>(size: usize, sink: &mut S) -> Result<(), Error>
+    requires { size + 3 < 2 ^ 64 }
     ensures { Wrote S.appends S.fails sink.old (padding_to_4 size) result sink.new }
 {
-    put_zeros((4 - size % 4) % 4, sink)
+    put_zeros(up4(size) - size, sink)
 }
 
 /// Appends up to four zeros. Fails as the sink does.

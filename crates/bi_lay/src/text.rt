@@ -12,9 +12,7 @@ use crate::items::Item;
 use crate::sizes::BlockSizes;
 use crate::structure::{put_padding, put_string, put_structure};
 use bi_base::{Error, Sink, put_cells};
-
-/// The number that a blob begins with (Devicetree Specification, 5.2).
-const MAGIC: u32 = 0xd00d_feed;
+use bi_blob::format::MAGIC;
 
 /// The offset of the reservation block, after the header (Devicetree Specification, 5.2).
 const RESERVATIONS_OFFSET: u32 = 40;

@@ -1,13 +1,18 @@
-use Rattle.std.proofs.Common.{◌≡◌, ℕ, ◌+◌, List, ◌++◌, length, take, slice_index, arith, refl, ap, ◌∙◌}
+use Rattle.std.proofs.Common.{◌≡◌, ℕ, ◌+◌, ◌<◌, ◌^◌, List, ◌++◌, length, take, slice_index, arith, refl, ap, ◌∙◌}
 use Rattle.std.proofs.lemmas.List.{take_at, drop_at, length-append}
 use Rattle.bi_base.specs.Cells.{cell, u32_at, slice}
 use Rattle.bi_base.specs.Crc.{crc32}
+use Rattle.bi_base.proofs.FileSlices.{cell_read}
 use Rattle.bi_legacy.specs.Faults.{body_of, header_without_checksum}
 use Rattle.bi_legacy.specs.File.{header_with, header, IsLegacyFile}
 use Rattle.bi_legacy.specs.Meaning.{LegacyImage}
-use Rattle.bi_legacy.proofs.FileSlices.{cell_read, crc32_fits}
 
 -- What is read at the offsets of the fields of a legacy image.
+
+-- A CRC-32 fits 32 bits.
+crc32_fits : (bytes : List ℕ) → crc32 bytes < 2 ^ 32
+unfolding crc32
+crc32_fits bytes = omega arith
 
 -- The magic of a legacy image.
 pub magic_read : (file : List ℕ) (image : LegacyImage) (is : IsLegacyFile file image) → u32_at file 0 ≡ 0x27051956

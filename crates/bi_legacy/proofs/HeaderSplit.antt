@@ -3,7 +3,7 @@ use Rattle.std.proofs.lemmas.List.{drop_more, take_at, length-append}
 use Rattle.bi_base.specs.Cells.{cell, u32_at, slice, AreBytes}
 use Rattle.bi_base.specs.Crc.{crc32}
 use Rattle.bi_base.proofs.CellLaws.{cell-u32_at, length-cell, length-slice}
-use Rattle.bi_legacy.proofs.FileSlices.{drop_slice, drop_cell}
+use Rattle.bi_base.proofs.FileSlices.{drop_slice, drop_cell}
 use Rattle.bi_legacy.specs.File.{header_with, header}
 use Rattle.bi_legacy.specs.Faults.{body_of, header_without_checksum}
 use Rattle.bi_legacy.specs.ReadImage.{read_image}

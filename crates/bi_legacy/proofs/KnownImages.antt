@@ -3,7 +3,7 @@ use Rattle.bi_base.specs.Cells.{cell}
 use Rattle.bi_base.specs.Crc.{crc32, crc_after, low_bits}
 use Rattle.bi_legacy.specs.File.{header}
 use Rattle.bi_legacy.specs.Text.{legacy_text}
-use Rattle.bi_legacy.specs.KnownImages.{HasKernelText, HasMultiText}
+use Rattle.bi_legacy.specs.KnownImages.{HasKernelText, HasMultiText, HasFirmwareText}
 
 -- The normal texts of known images.
 
@@ -16,3 +16,8 @@ kernel_text = refl
 pub multi_text : HasMultiText
 unfolding legacy_text header cell crc32 crc_after low_bits
 multi_text = refl
+
+-- The normal text of a firmware image.
+pub firmware_text : HasFirmwareText
+unfolding legacy_text header cell crc32 crc_after low_bits
+firmware_text = refl

@@ -2,7 +2,6 @@ pub mod CheckLists
 pub mod EmitFaults
 pub mod EmitParts
 pub mod FaultLaws
-pub mod FileSlices
 pub mod HeaderReads
 pub mod HeaderSplit
 pub mod HeaderSum
@@ -32,3 +31,6 @@ pub mod PartOffsets
 pub mod TextMeans
 pub mod TextPieces
 pub mod KnownImages
+pub mod LegacyFaultFacts
+pub mod FileFacts
+pub mod EmitFaultFacts

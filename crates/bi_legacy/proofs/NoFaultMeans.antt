@@ -3,6 +3,7 @@ use Rattle.bi_base.specs.Cells.{slice, u32_at, AreBytes}
 use Rattle.bi_base.specs.Checks.{HasNoFault}
 use Rattle.bi_base.specs.Limits.{Bounds}
 use Rattle.bi_base.proofs.CellLaws.{AreBytes-slice, length-slice, u32_at-fits}
+use Rattle.bi_base.proofs.FileSlices.{drop_slice}
 use Rattle.bi_legacy.specs.Faults.{Passes, InPartTable, HasNoLegacyFault, body_of}
 use Rattle.bi_legacy.specs.PartTables.{TablePasses, table_checks}
 use Rattle.bi_legacy.specs.File.{header, LegacyMeans}
@@ -10,7 +11,6 @@ use Rattle.bi_legacy.specs.Meaning.{FitsFields, has_part_table}
 use Rattle.bi_legacy.specs.Parts.{HasPartTable}
 use Rattle.bi_legacy.specs.ReadImage.{read_image}
 use Rattle.bi_legacy.proofs.CheckLists.{HasNoFault-unmap}
-use Rattle.bi_legacy.proofs.FileSlices.{drop_slice}
 use Rattle.bi_legacy.proofs.HeaderSplit.{header_split}
 use Rattle.bi_legacy.proofs.TableParts.{parts_in_table, table_of_sizes}
 use Rattle.bi_legacy.proofs.NameField.{field_holds_name}

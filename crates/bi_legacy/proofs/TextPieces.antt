@@ -1,4 +1,4 @@
-use Rattle.std.proofs.Common.{◌≡◌, ℕ, ◌-◌, ◌%◌, ◌<◌, ◌≤◌, List, [], ◌∷◌, ◌++◌, length, take, drop, get_or, replicate, flat_map, append-nil, append_assoc, zero, suc, arith, refl, sym, ap, ◌∙◌, subst}
+use Rattle.std.proofs.Common.{◌≡◌, ℕ, ◌-◌, ◌<◌, ◌≤◌, List, [], ◌∷◌, ◌++◌, length, take, drop, get_or, replicate, flat_map, append-nil, append_assoc, zero, suc, arith, refl, sym, ap, ◌∙◌}
 use Rattle.std.specs.Borrow.{Bor}
 use Rattle.std.proofs.lemmas.List.{length-append, length-map, get_or-map, map-append, take-replicate, drop-replicate}
 use Rattle.std.proofs.lemmas.List.Folds.{flat_map-map}
@@ -58,12 +58,8 @@ slice_within slices i d within =
     )
 
 -- The zeros that pad bytes to a multiple of four.
-pub padding_zeros : (n : ℕ) → take {A = ℕ} ((4 - n % 4) % 4) (0 ∷ 0 ∷ 0 ∷ []) ≡ replicate (up4 n - n) 0
-padding_zeros n =
-    let count = (4 - n % 4) % 4 in
-    let same : count ≡ up4 n - n = omega arith in
-    let zeros : take {A = ℕ} count (0 ∷ 0 ∷ 0 ∷ []) ≡ replicate count 0 = take-replicate count 3 0 (omega arith) in
-    subst (λ (k : ℕ). take {A = ℕ} count (0 ∷ 0 ∷ 0 ∷ []) ≡ replicate k 0) same zeros
+pub padding_zeros : (n end : ℕ) → end ≡ up4 n → take {A = ℕ} (end - n) (0 ∷ 0 ∷ 0 ∷ []) ≡ replicate (up4 n - n) 0
+padding_zeros n end is = ap (λ e. take {A = ℕ} (e - n) (0 ∷ 0 ∷ 0 ∷ [])) is ∙ take-replicate (up4 n - n) 3 0 (omega arith)
 
 -- The zeros that pad a name to the size of its field.
 pub name_zeros : (n : ℕ) → n ≤ 32 → take {A = ℕ} (32 - n) (drop n (replicate 32 0)) ≡ replicate (32 - n) 0

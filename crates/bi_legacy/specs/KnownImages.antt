@@ -2,7 +2,7 @@ use Rattle.std.specs.Prelude.{ℕ, ◌≡◌, List, [], ◌∷◌, codes}
 use Rattle.bi_legacy.specs.Meaning.{LegacyImage}
 use Rattle.bi_legacy.specs.Text.{legacy_text}
 
--- Two images, and the files that U-Boot's `mkimage` writes for them.
+-- Three images, and the files that U-Boot's `mkimage` writes for them.
 
 -- A Linux kernel for ARM with time 0, the name "k" and the data "123456789".
 abbrev pub kernel_image : LegacyImage
@@ -59,3 +59,37 @@ multi_file =
 -- The normal text of the multi-file image is the file that `mkimage` writes.
 abbrev pub HasMultiText : Type 0
 HasMultiText = legacy_text multi_image ≡ multi_file
+
+-- A firmware image, compressed with gzip, with time 1 and an entry point that is not its load
+-- address.
+abbrev pub firmware_image : LegacyImage
+firmware_image =
+    record {
+      time = 1;
+      load = 0x8000;
+      entry = 0x8040;
+      os = 5;
+      arch = 2;
+      image_type = 5;
+      compression = 1;
+      name = codes "firmware";
+      parts = codes "123456789" ∷ [];
+    }
+
+-- The file that `mkimage` writes for it.
+abbrev pub firmware_file : List ℕ
+firmware_file =
+    0x27 ∷ 0x05 ∷ 0x19 ∷ 0x56 ∷ 0xd6 ∷ 0x49 ∷ 0xbf ∷ 0xb8
+    ∷ 0x00 ∷ 0x00 ∷ 0x00 ∷ 0x01 ∷ 0x00 ∷ 0x00 ∷ 0x00 ∷ 0x09
+    ∷ 0x00 ∷ 0x00 ∷ 0x80 ∷ 0x00 ∷ 0x00 ∷ 0x00 ∷ 0x80 ∷ 0x40
+    ∷ 0xcb ∷ 0xf4 ∷ 0x39 ∷ 0x26 ∷ 0x05 ∷ 0x02 ∷ 0x05 ∷ 0x01
+    ∷ 0x66 ∷ 0x69 ∷ 0x72 ∷ 0x6d ∷ 0x77 ∷ 0x61 ∷ 0x72 ∷ 0x65
+    ∷ 0x00 ∷ 0x00 ∷ 0x00 ∷ 0x00 ∷ 0x00 ∷ 0x00 ∷ 0x00 ∷ 0x00
+    ∷ 0x00 ∷ 0x00 ∷ 0x00 ∷ 0x00 ∷ 0x00 ∷ 0x00 ∷ 0x00 ∷ 0x00
+    ∷ 0x00 ∷ 0x00 ∷ 0x00 ∷ 0x00 ∷ 0x00 ∷ 0x00 ∷ 0x00 ∷ 0x00
+    ∷ 0x31 ∷ 0x32 ∷ 0x33 ∷ 0x34 ∷ 0x35 ∷ 0x36 ∷ 0x37 ∷ 0x38
+    ∷ 0x39 ∷ []
+
+-- The normal text of the firmware image is the file that `mkimage` writes.
+abbrev pub HasFirmwareText : Type 0
+HasFirmwareText = legacy_text firmware_image ≡ firmware_file

@@ -13,8 +13,9 @@ use Rattle.bi_legacy.specs.Emitting.{HasNoEmitFault}
 -- `laws` proves each of them.
 
 -- A file means at most one image.
-abbrev pub OneMeaning : Type 0
-OneMeaning = (file : List ℕ) (a b : LegacyImage) → IsLegacyFile file a → IsLegacyFile file b → a ≡ b
+abbrev pub OneLegacyMeaning : Type 0
+OneLegacyMeaning = (file : List ℕ) (a b : LegacyImage) → IsLegacyFile file a → IsLegacyFile file b
+    → a ≡ b
 
 -- A file that is shorter than four bytes, or does not begin with the magic number, means no image
 -- within any limits.
@@ -34,8 +35,8 @@ MeaningWithoutFault =
     ((image : LegacyImage) × LegacyMeans limits file image) ↔ HasNoLegacyFault limits file
 
 -- Bytes mean an image within the limits or have a fault.
-abbrev pub MeaningOrFault : Type 0
-MeaningOrFault =
+abbrev pub LegacyMeaningOrFault : Type 0
+LegacyMeaningOrFault =
     (file : List ℕ) (limits : Bounds) → AreBytes file →
     ((image : LegacyImage) × LegacyMeans limits file image)
     ⊎ ((fault : Fault) × IsLegacyFault limits file fault)
@@ -47,8 +48,8 @@ NoMeaningWithFault =
     (image : LegacyImage) → ¬ (LegacyMeans limits file image)
 
 -- A file has at most one fault.
-abbrev pub OneFault : Type 0
-OneFault =
+abbrev pub OneLegacyFault : Type 0
+OneLegacyFault =
     (file : List ℕ) (limits : Bounds) (a b : Fault) →
     IsLegacyFault limits file a → IsLegacyFault limits file b → a ≡ b
 

@@ -11,5 +11,7 @@ pub mod Faults
 pub mod Reading
 pub mod Emitting
 pub mod NormalForm
+pub mod KnownFaults
+pub mod KnownFiles
 pub mod Laws
 pub mod ReadImage

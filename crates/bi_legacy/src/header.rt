@@ -5,8 +5,8 @@ ghost use Rattle.bi_base.specs.Crc.{crc32 as crc32_of};
 ghost use Rattle.bi_base.specs.Checks.{IsFirstFault, HasNoFault};
 ghost use Rattle.bi_legacy.specs.Faults.{Passes, fault_of, header_checks, header_without_checksum};
 
-use crate::cells::cell_at;
-use bi_base::{Cause, Crc32, Fault, Limits, be32_at, crc32, refuse};
+use crate::offsets::{IH_DCRC, IH_HCRC, IH_SIZE, IH_TIME};
+use bi_base::{Cause, Crc32, Fault, Limits, be32_at, cell_at, crc32, refuse};
 
 /// The magic number of a legacy image (U-Boot, include/image.h: `IH_MAGIC`).
 pub const MAGIC: u32 = 0x2705_1956;
@@ -35,15 +35,15 @@ pub(crate) fn check_header(file: &[u8], limits: Limits) -> Result<(), Fault>
     if file.len() < HEADER_SIZE {
         return refuse(Cause::Truncated, 0);
     }
-    if cell_at(file, 4) != header_checksum(file) {
-        return refuse(Cause::BadHeaderCrc, 4);
+    if cell_at(file, IH_HCRC) != header_checksum(file) {
+        return refuse(Cause::BadHeaderCrc, IH_HCRC as u32);
     }
-    let data_size = cell_at(file, 12) as usize;
+    let data_size = cell_at(file, IH_SIZE) as usize;
     if data_size > file.len() - HEADER_SIZE {
-        return refuse(Cause::Truncated, 12);
+        return refuse(Cause::Truncated, IH_SIZE as u32);
     }
-    if cell_at(file, 24) != crc32(&file[HEADER_SIZE..HEADER_SIZE + data_size]) {
-        return refuse(Cause::BadDataCrc, 24);
+    if cell_at(file, IH_DCRC) != crc32(&file[HEADER_SIZE..HEADER_SIZE + data_size]) {
+        return refuse(Cause::BadDataCrc, IH_DCRC as u32);
     }
     Ok(())
 }
@@ -54,8 +54,8 @@ fn header_checksum(file: &[u8]) -> u32
     ensures { result ≡ crc32_of (header_without_checksum file.now) }
 {
     let mut sum = Crc32::new();
-    sum.update(&file[..4]);
+    sum.update(&file[..IH_HCRC]);
     sum.update(&[0; 4]);
-    sum.update(&file[8..HEADER_SIZE]);
+    sum.update(&file[IH_TIME..HEADER_SIZE]);
     sum.finish()
 }

@@ -1,15 +1,18 @@
 //! The laws of legacy images. Each function does nothing; its contract is the law.
 
-ghost use Rattle.bi_legacy.specs.Laws.{OneMeaning, NoMeaningWithoutMagic, TextBeginsWithMagic};
-ghost use Rattle.bi_legacy.specs.Laws.{MeaningWithoutFault, MeaningOrFault, NoMeaningWithFault};
-ghost use Rattle.bi_legacy.specs.Laws.{OneFault, ImagesOfFiles, TextMeansImage, TextIsNoLonger};
+ghost use Rattle.bi_legacy.specs.Laws.{OneLegacyMeaning, NoMeaningWithoutMagic};
+ghost use Rattle.bi_legacy.specs.Laws.{TextBeginsWithMagic};
+ghost use Rattle.bi_legacy.specs.Laws.{MeaningWithoutFault, LegacyMeaningOrFault};
+ghost use Rattle.bi_legacy.specs.Laws.{NoMeaningWithFault};
+ghost use Rattle.bi_legacy.specs.Laws.{OneLegacyFault, ImagesOfFiles, TextMeansImage};
+ghost use Rattle.bi_legacy.specs.Laws.{TextIsNoLonger};
 ghost use Rattle.bi_legacy.specs.Laws.{TextIsItsOwnNormalForm, TextsDiffer, MeaningCanBeWritten};
 ghost use Rattle.bi_legacy.specs.Laws.{WrittenTextMeansImage};
-ghost use Rattle.bi_legacy.specs.KnownImages.{HasKernelText, HasMultiText};
+ghost use Rattle.bi_legacy.specs.KnownImages.{HasKernelText, HasMultiText, HasFirmwareText};
 
 /// A file means at most one image.
 pub fn one_meaning()
-    ensures { OneMeaning }
+    ensures { OneLegacyMeaning }
 {}
 
 /// A file that is shorter than four bytes, or does not begin with the magic number, means no image
@@ -30,7 +33,7 @@ pub fn meaning_without_fault()
 
 /// Each file means an image within the limits or has a fault.
 pub fn meaning_or_fault()
-    ensures { MeaningOrFault }
+    ensures { LegacyMeaningOrFault }
 {}
 
 /// A file with a fault means no image within the limits.
@@ -40,7 +43,7 @@ pub fn no_meaning_with_fault()
 
 /// A file has at most one fault.
 pub fn one_fault()
-    ensures { OneFault }
+    ensures { OneLegacyFault }
 {}
 
 /// An image fits the format exactly if some file means it.
@@ -86,4 +89,9 @@ pub fn kernel_text()
 /// The normal text of a multi-file image is the file that `mkimage` writes for it.
 pub fn multi_text()
     ensures { HasMultiText }
+{}
+
+/// The normal text of a firmware image is the file that `mkimage` writes for it.
+pub fn firmware_text()
+    ensures { HasFirmwareText }
 {}

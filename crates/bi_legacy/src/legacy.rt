@@ -14,12 +14,14 @@ ghost use Rattle.bi_legacy.specs.Text.{normal_body};
 ghost use Rattle.bi_legacy.specs.Reading.{ParsedImage, IsParsedImage, part_places};
 ghost use Rattle.bi_legacy.specs.ReadImage.{IsReaderState, parts_of_body, read_image, read_end};
 
-use crate::cells::cell_at;
 use crate::fields::{Fields, has_part_table};
 use crate::header::{HEADER_SIZE, check_header};
+use crate::offsets::{
+    IH_ARCH, IH_COMP, IH_DCRC, IH_EP, IH_LOAD, IH_NAME, IH_OS, IH_SIZE, IH_TIME, IH_TYPE,
+};
 use crate::part_table::{PartTable, find_parts};
 use crate::parts::Parts;
-use bi_base::{Fault, Limits, before_nul};
+use bi_base::{Fault, Limits, before_nul, cell_at};
 use std::marker::Model;
 
 /// A legacy image that was read. It borrows the file, and allocates nothing.
@@ -150,7 +152,7 @@ fn parse<'a>(file: &'a [u8], limits: Limits) -> Result<Legacy<'a>, Fault>
         fields,
         body,
         table,
-        data_checksum: cell_at(file, 24),
+        data_checksum: cell_at(file, IH_DCRC),
         unused,
     })
 }
@@ -161,7 +163,7 @@ fn body_at<'a>(file: &'a [u8]) -> &'a [u8]
     requires within { 64 + u32_at file.now 12 ≤ length file.now }
     ensures { result.now ≡ body_of file.entry.now }
 {
-    let size = cell_at(file, 12) as usize;
+    let size = cell_at(file, IH_SIZE) as usize;
     &file[HEADER_SIZE..HEADER_SIZE + size]
 }
 
@@ -171,13 +173,13 @@ fn fields_of<'a>(file: &'a [u8]) -> Fields<'a>
     ensures { image_of result (read_image file.entry.now).parts ≡ read_image file.entry.now }
 {
     Fields {
-        time: cell_at(file, 8),
-        load: cell_at(file, 16),
-        entry: cell_at(file, 20),
-        os: file[28],
-        arch: file[29],
-        image_type: file[30],
-        compression: file[31],
-        name: before_nul(&file[32..HEADER_SIZE]),
+        time: cell_at(file, IH_TIME),
+        load: cell_at(file, IH_LOAD),
+        entry: cell_at(file, IH_EP),
+        os: file[IH_OS],
+        arch: file[IH_ARCH],
+        image_type: file[IH_TYPE],
+        compression: file[IH_COMP],
+        name: before_nul(&file[IH_NAME..HEADER_SIZE]),
     }
 }

@@ -2,13 +2,14 @@
 //! normal form.
 #![tactic(auto)]
 
-mod cells;
 pub mod codes;
 mod emitting;
 mod fields;
 mod header;
+pub mod known_files;
 pub mod laws;
 mod legacy;
+mod offsets;
 mod part_ranges;
 mod part_table;
 mod parts;

@@ -7,8 +7,7 @@ ghost use Rattle.bi_legacy.specs.PartRanges.{IsRangesState, part_sizes, first_pa
 ghost use Rattle.bi_legacy.specs.PartRanges.{part_ranges};
 ghost use Rattle.bi_legacy.specs.declared.part_ranges.PartRange.{PartRange};
 
-use crate::cells::cell_at;
-use bi_base::up4;
+use bi_base::{cell_at, up4};
 use std::marker::Model;
 
 /// Where a part is in the data of an image, in bytes. It may end after the data.

@@ -11,7 +11,7 @@ ghost use Rattle.bi_legacy.specs.Emitting.{bytes_of, image_of_parts};
 
 use crate::fields::{Fields, has_part_table};
 use crate::header::{MAGIC, NAME_SIZE};
-use bi_base::{Crc32, Error, Sink, put_cell, put_cells};
+use bi_base::{Crc32, Error, Sink, put_cell, put_cells, up4};
 
 /// The size of the data in bytes, and its CRC-32.
 #[derive(Clone, Copy)]
@@ -143,5 +143,5 @@ fn put_padded<S: Sink>(bytes: &[u8], sink: &mut S) -> Result<(), Error>
     ensures { Wrote S.appends S.fails sink.old (padded bytes.now) result sink.new }
 {
     sink.put(bytes)?;
-    sink.put(&[0; 3][..(4 - bytes.len() % 4) % 4])
+    sink.put(&[0; 3][..up4(bytes.len()) - bytes.len()])
 }

@@ -1,7 +1,7 @@
 use Rattle.std.proofs.Common.{◌≡◌, ℕ, List, Result, Ok, Err, OnOk, IfErr, subst, sym}
 use Rattle.bi_base.specs.declared.fault.Error.{Error}
 use Rattle.bi_base.specs.declared.fault.Error.TheVariants.{OutOfMemory}
-use Rattle.bi_norm.specs.Outputs.{Appended, AppendFailed, WasRefused, SinkFailed}
+use Rattle.bi_base.specs.Commands.{Appended, AppendFailed, WasRefused, SinkFailed}
 
 -- Calls that append a text to a sink.
 
@@ -16,7 +16,7 @@ appended_as appends IsText IsOther old new implies appended = record {
 -- Appending a text failed, and what the text and the errors are implies more.
 pub failed_as : {S : Type 0} (fails : S → List ℕ → S → Error → Type 0) (IsText IsOther : List ℕ → Type 0) (HasError HasOther : Error → Type 0) (old new : S) (error : Error) → ((text : List ℕ) → IsText text → IsOther text) → (HasError error → HasOther error) → AppendFailed fails IsText HasError old new error → AppendFailed fails IsOther HasOther old new error
 failed_as fails IsText IsOther HasError HasOther old new error text_implies error_implies (WasRefused is same) = WasRefused (error_implies is) same
-failed_as fails IsText IsOther HasError HasOther old new error text_implies error_implies (SinkFailed text is failed) = SinkFailed text (text_implies text is) failed
+failed_as fails IsText IsOther HasError HasOther old new error text_implies error_implies (SinkFailed text cause is failed same) = SinkFailed text cause (text_implies text is) failed same
 
 -- The same of a call's result.
 pub result_appended_as : {S V : Type 0} (appends : S → List ℕ → S → Type 0) (IsText IsOther : List ℕ → Type 0) (old new : S) (result : Result V Error) → ((text : List ℕ) → IsText text → IsOther text) → OnOk result (Appended appends IsText old new) → OnOk result (Appended appends IsOther old new)
@@ -31,5 +31,5 @@ result_failed_as fails IsText IsOther HasError HasOther old new (Err error) text
 -- The error of a call with a sink that fails only where memory runs out.
 pub error_in_memory : {S : Type 0} (fails : S → List ℕ → S → Error → Type 0) (IsText : List ℕ → Type 0) (HasError : Error → Type 0) (old new : S) (error : Error) → ((text : List ℕ) → fails old text new error → error ≡ OutOfMemory) → ((text : List ℕ) → IsText text → HasError OutOfMemory) → AppendFailed fails IsText HasError old new error → HasError error
 error_in_memory fails IsText HasError old new error full needs (WasRefused is same) = is
-error_in_memory fails IsText HasError old new error full needs (SinkFailed text is failed) =
-    subst HasError (sym (full text failed)) (needs text is)
+error_in_memory fails IsText HasError old new error full needs (SinkFailed text cause is failed same) =
+    subst HasError (sym (full text (subst (fails old text new) (sym same) failed))) (needs text is)

@@ -1,6 +1,5 @@
-use Rattle.std.proofs.Common.{◌≡◌, ℕ, ◌+◌, ◌<◌, false, List, [], ◌∷◌, drop, get_or, length, codes, Option, Some, None, nat_cmp, refl, sym, ap, subst, ◌∙◌, arith}
+use Rattle.std.proofs.Common.{◌≡◌, ℕ, ◌+◌, ◌<◌, false, List, [], ◌∷◌, drop, get_or, length, codes, Some, nat_cmp, refl, sym, ap, subst, ◌∙◌, arith}
 use Rattle.std.specs.Cmp.Lexicographic.{slice_cmp}
-use Rattle.std.specs.List.{AllByRecursion}
 use Rattle.std.specs.FinMap.{from_entries, entries, get-from_entries}
 use Rattle.std.proofs.lemmas.Cmp.{nat_list_cmp_total}
 use Rattle.bi_base.specs.Cells.{up4}
@@ -9,7 +8,6 @@ use Rattle.bi_blob.specs.Events.{Event, events, events_of, NodeEnd}
 use Rattle.bi_blob.specs.Following.{AreClosedEvents, MayFollowInText, MayEnd, stage_of_events}
 use Rattle.bi_blob.specs.Stages.{AfterRoot}
 use Rattle.bi_blob.proofs.Blobs.EventTrees.{same_events}
-use Rattle.bi_blob.proofs.Texts.Members.{each-append}
 use Rattle.bi_blob.proofs.Texts.Normal.{has_one_order}
 use Rattle.bi_blob.proofs.Texts.NormalEvents.{normal_events_have_one_tree}
 use Rattle.bi_lay.specs.Contents.{Content, empty_content, with_event}
@@ -21,7 +19,7 @@ use Rattle.bi_fit.specs.Documents.{document_of}
 use Rattle.bi_fit.specs.ImageTree.{with_image_nodes, without_payload}
 use Rattle.bi_fit.specs.Names.{is_payload_name}
 use Rattle.bi_fit.specs.Text.{normal_tree, with_payload, with_payloads, end_after}
-use Rattle.bi_fit.proofs.BuiltTrees.{built_is_image_tree, depth-built, none_found}
+use Rattle.bi_fit.proofs.BuiltTrees.{built_is_image_tree, depth-built, none_found, no_load, no_entry}
 use Rattle.bi_fit.proofs.Contents.{content-normal_tree}
 use Rattle.bi_fit.proofs.ImageNodes.{next_end}
 use Rattle.bi_fit.proofs.Maps.{taken_out}
@@ -29,20 +27,12 @@ use Rattle.bi_fit.proofs.NodeEvents.{IsAdding, adding_all, may_add_first, adding
 use Rattle.bi_fit.proofs.Adding.{whole, may_begin, may_have_children, may_end, whole_added}
 use Rattle.bi_fit.proofs.Texts.{depth-normal_tree}
 use Rattle.std.proofs.lemmas.List.{at_drop_more}
+use Rattle.bi_base.proofs.ListMembers.{each-append}
 use Rattle.bi_norm.specs.declared.building.ImageSpec.{ImageSpec}
 use Rattle.bi_norm.specs.Building.{specification_of, specifications_of}
 use Rattle.bi_norm.specs.BuiltNodes.{payloads_of, hash_node, placed_properties, image_nodes, images_node, configurations_node}
 
 -- The document of a tree to be built.
-
--- An address holds no payload.
-no_load : (number : Option ℕ) → AllByRecursion (λ property. is_payload_name property.0 ≡ false) (cell_property (codes "load") number)
-no_load None = tt
-no_load (Some number) = (refl, tt)
-
-no_entry : (number : Option ℕ) → AllByRecursion (λ property. is_payload_name property.0 ≡ false) (cell_property (codes "entry") number)
-no_entry None = tt
-no_entry (Some number) = (refl, tt)
 
 -- The properties of an image node to be built give no payload.
 pub properties_apart : (head : FitHead) (image : ImageSpecification) → without_payload (from_entries (image_properties head image)) ≡ from_entries (image_properties head image)

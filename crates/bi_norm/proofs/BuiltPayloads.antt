@@ -1,19 +1,21 @@
 use Rattle.std.proofs.Common.{◌≡◌, ℕ, ◌+◌, ◌<◌, ◌≤◌, List, [], ◌∷◌, ◌++◌, take, drop, get_or, length, Option, Some, refl, sym, ap, subst, ◌∙◌, arith, append-nil}
 use Rattle.std.proofs.lemmas.List.{at_drop_more, take_more, take-append-drop}
 use Rattle.bi_base.specs.Cells.{up4}
-use Rattle.bi_blob.specs.Layout.{padding_to_4}
+use Rattle.bi_blob.specs.Layout.{padding_to_4, longest_text}
 use Rattle.bi_lay.specs.Contents.{Content, text_of}
 use Rattle.bi_fit.specs.declared.form.Form.{Form}
 use Rattle.bi_fit.specs.declared.form.Form.TheVariants.{Embedded, External}
-use Rattle.bi_fit.specs.Documents.{document_of}
+use Rattle.bi_fit.specs.Additions.{AreWithin}
+use Rattle.bi_fit.specs.Documents.{document_of, length_after_blob}
 use Rattle.bi_fit.specs.ImageTree.{ImageTree}
 use Rattle.bi_fit.specs.Text.{payload_area, payloads_end, end_after, blob_of, after_blob, fit_text}
 use Rattle.bi_fit.proofs.Areas.{payloads_end-le}
-use Rattle.bi_fit.proofs.TextLaws.{payloads_end_later}
+use Rattle.bi_fit.proofs.NormalTrees.{length-fit_text}
+use Rattle.bi_fit.proofs.TextLaws.{payloads_end-append, payloads_end_later}
 use Rattle.bi_norm.specs.declared.building.ImageSpec.{ImageSpec}
 use Rattle.bi_norm.specs.Building.{specifications_of}
 use Rattle.bi_norm.specs.BuiltNodes.{payloads_of}
-use Rattle.bi_norm.proofs.PayloadAreas.{payloads_end-append, payload_area-append}
+use Rattle.bi_norm.proofs.PayloadAreas.{payload_area-append}
 
 -- The payloads of images to be built, as they are appended one by one, and where they end.
 
@@ -27,6 +29,15 @@ module _ (images : List ImageSpec) (index : ℕ) (d : ImageSpec) (within : index
   one_end-le end =
       subst (λ payloads. end_after end (Some (get_or images index d).payload.now) ≤ payloads_end end payloads) (sym payloads_from)
       (payloads_end-le (end_after end (Some (get_or images index d).payload.now)) (payloads_of (specifications_of (drop (index + 1) images))))
+
+-- Payloads after the blob that end within the longest text do so in this form.
+pub are_within : (form : Form) (payloads : List (Option (List ℕ))) → length_after_blob form payloads ≤ longest_text → AreWithin form 0 payloads
+are_within Embedded payloads short = tt
+are_within External payloads short = short
+
+-- A text is too long where the payloads after its blob are.
+pub payloads_too_long : (form : Form) (tree : ImageTree) (limit : ℕ) → limit < length_after_blob form tree.payloads → limit < length (fit_text form tree)
+payloads_too_long form tree limit long = omega (arith, long, length-fit_text form tree)
 
 -- The payloads of images to be built.
 abbrev pub payloads_in : List ImageSpec → List (Option (List ℕ))

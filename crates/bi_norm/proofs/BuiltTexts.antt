@@ -1,10 +1,10 @@
-use Rattle.std.proofs.Common.{◌≡◌, ◌≤◌, List, [], ◌∷◌, length, sym, subst, inl, arith, ℕ}
+use Rattle.std.proofs.Common.{◌≡◌, ◌≤◌, List, [], ◌∷◌, ◌++◌, length, sym, subst, inl, arith, ℕ}
 use Rattle.bi_base.specs.declared.fault.Error.{Error}
 use Rattle.bi_base.specs.declared.fault.Error.TheVariants.{Refused, OutOfMemory, ReadFailed, WriteFailed}
 use Rattle.bi_base.specs.Checks.{HasNoFault}
 use Rattle.bi_base.specs.Limits.{Bounds}
+use Rattle.bi_base.proofs.ListMembers.{each-append}
 use Rattle.bi_blob.specs.Layout.{longest_text}
-use Rattle.bi_blob.proofs.Texts.Members.{each-append}
 use Rattle.bi_fit.specs.declared.form.Form.{Form}
 use Rattle.bi_fit.specs.Building.{CanBeBuilt}
 use Rattle.bi_fit.specs.Documents.{IsDocumentError}
@@ -15,11 +15,21 @@ use Rattle.bi_fit.proofs.BuiltConfigurations.{built_has_configuration}
 use Rattle.bi_fit.proofs.ReadImages.{fault_after}
 use Rattle.bi_norm.specs.declared.building.Head.{Head}
 use Rattle.bi_norm.specs.declared.building.ImageSpec.{ImageSpec}
-use Rattle.bi_norm.specs.Building.{head_of, specifications_of, tree_of_images, BuildPasses, build_fault, FitsLimit, image_checks, IsBuilt, IsBuildError, IsTextOfTree}
+use Rattle.bi_norm.specs.Building.{head_of, specifications_of, tree_of_images, BuildPasses, build_fault, FitsLimit, image_checks, IsBuilt, IsBuildError, IsTextOfTree, BuildCheck, first_image_checks}
 use Rattle.bi_norm.specs.BuildChecks.{early_checks}
-use Rattle.bi_norm.specs.Outputs.{Appended, AppendFailed, WasRefused, SinkFailed}
+use Rattle.bi_base.specs.Commands.{Appended, AppendFailed, WasRefused, SinkFailed}
 
 -- The texts of trees to be built.
+
+-- Checks of the first image pass where all checks of images do.
+first_of_images : (limits : Bounds) (form : Form) (head : Head) (all images : List ImageSpec) → HasNoFault (BuildPasses limits form head all) (image_checks 0 [] images) → HasNoFault (BuildPasses limits form head all) (first_image_checks images)
+first_of_images limits form head all [] fine = tt
+first_of_images limits form head all (image ∷ images) fine = (fine.0, (fine.1.0, tt))
+
+-- The same where more checks follow.
+first_of_all : (limits : Bounds) (form : Form) (head : Head) (all images : List ImageSpec) (later : List BuildCheck) → HasNoFault (BuildPasses limits form head all) (image_checks 0 [] images ++ later) → HasNoFault (BuildPasses limits form head all) (first_image_checks images)
+first_of_all limits form head all [] later fine = tt
+first_of_all limits form head all (image ∷ images) later fine = (fine.0, (fine.1.0, tt))
 
 module _ (limits : Bounds) (form : Form) (head : Head) (images : List ImageSpec) (fine : HasNoFault (BuildPasses limits form head images) (early_checks images)) (can : CanBeBuilt (head_of head) (specifications_of images)) (most : limits.file ≤ longest_text) where
   -- The text of the tree is what is built.
@@ -41,7 +51,8 @@ module _ (limits : Bounds) (form : Form) (head : Head) (images : List ImageSpec)
   document_error (Refused fault) is =
       fault_after (BuildPasses limits form head images) (build_fault limits) (early_checks images) (FitsLimit ∷ []) fault fine
       (inl ((λ fits. omega (arith, fits, is.1)), is.0))
-  document_error OutOfMemory is = tt
+  document_error OutOfMemory is =
+      (fine.0, (fine.1.0, first_of_images limits form head images images fine.1.1))
   document_error ReadFailed is = is
   document_error WriteFailed is = is
 
@@ -53,10 +64,11 @@ module _ (limits : Bounds) (form : Form) (head : Head) (images : List ImageSpec)
     -- and a failure to append it is one to append that.
     pub build_failed : (error : Error) → AppendFailed fails (IsTextOfTree limits form (tree_of_images head images)) (IsDocumentError limits form (tree_of_images head images)) old new error → AppendFailed fails (IsBuilt limits form head images) (IsBuildError limits form head images) old new error
     build_failed error (WasRefused is same) = WasRefused (document_error error is) same
-    build_failed error (SinkFailed text is failed) = SinkFailed text (text_is_built text is) failed
+    build_failed error (SinkFailed text cause is failed same) = SinkFailed text cause (text_is_built text is) failed same
 
 -- An error of building into memory is one of building.
 pub memory_build_error : {S : Type 0} (fails : S → List ℕ → S → Error → Type 0) (limits : Bounds) (form : Form) (head : Head) (images : List ImageSpec) (old new : S) (error : Error) → ((text : List ℕ) → fails old text new error → error ≡ OutOfMemory) → AppendFailed fails (IsBuilt limits form head images) (IsBuildError limits form head images) old new error → IsBuildError limits form head images error
 memory_build_error fails limits form head images old new error full (WasRefused is same) = is
-memory_build_error fails limits form head images old new error full (SinkFailed text is failed) =
-    subst (IsBuildError limits form head images) (sym (full text failed)) tt
+memory_build_error fails limits form head images old new error full (SinkFailed text cause is failed same) =
+    subst (IsBuildError limits form head images) (sym (full text (subst (fails old text new) (sym same) failed)))
+    (is.no_fault.0, (is.no_fault.1.0, first_of_all limits form head images images (FitsLimit ∷ []) is.no_fault.1.1))

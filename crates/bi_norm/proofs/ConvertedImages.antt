@@ -3,6 +3,7 @@ use Rattle.std.specs.Prelude.{◌==◌, unwrap_or}
 use Rattle.std.specs.List.{AllByRecursion}
 use Rattle.bi_base.specs.Cells.{AreBytes}
 use Rattle.bi_base.proofs.ByteLists.{AreBytes-none}
+use Rattle.bi_base.proofs.EqualBytes.{other_bytes}
 use Rattle.bi_blob.specs.Tree.{IsNew, AreDistinct, IsChildName, HasNoZero}
 use Rattle.bi_fit.specs.declared.key.Key.{Key}
 use Rattle.bi_fit.specs.declared.key.Key.TheVariants.{Kernel, Fdt, Ramdisk, Firmware, Loadables, Script}
@@ -11,7 +12,7 @@ use Rattle.bi_fit.specs.Judgement.{CheckedHash}
 use Rattle.bi_fit.specs.Laws.{good_hash}
 use Rattle.bi_fit.proofs.Building.{built_is_accepted, built_has_good_payloads}
 use Rattle.bi_fit.proofs.BuiltConfigurations.{built_has_configuration}
-use Rattle.bi_fit.proofs.BuiltTrees.{tested_child, tested_apart}
+use Rattle.bi_fit.proofs.BuiltTrees.{tested_child}
 use Rattle.bi_fit.proofs.Contents.{tested_name}
 use Rattle.bi_hash.specs.declared.verdicts.Verdict.TheVariants.{Good}
 use Rattle.bi_legacy.specs.Codes.{CodeName, os_names, arch_names, compression_names, name_of_code}
@@ -167,8 +168,8 @@ keys_distinct image_type =
           (tt, tt),
           (
             (
-              (tested_apart _ _ refl, (tested_apart _ _ refl, tt)),
-              ((tested_apart _ _ refl, tt), (tt, tt)),
+              (other_bytes _ _ refl, (other_bytes _ _ refl, tt)),
+              ((other_bytes _ _ refl, tt), (tt, tt)),
             ),
             ((tt, tt), ((tt, tt), ((tt, tt), tt))),
           ),

@@ -7,7 +7,7 @@ use Rattle.bi_legacy.specs.Meaning.{LegacyImage}
 use Rattle.bi_norm.specs.declared.building.ImageSpec.{ImageSpec}
 use Rattle.bi_norm.specs.Building.{specification_of, specifications_of, HasBuildableType}
 use Rattle.std.specs.List.{AllByRecursion}
-use Rattle.bi_blob.proofs.Texts.Members.{each-append}
+use Rattle.bi_base.proofs.ListMembers.{each-append}
 use Rattle.bi_norm.specs.Converting.{first_image, later_image, later_images, images_of_parts, converted_images, keys_of_type}
 
 -- The images of a legacy image, as they are made part by part.

@@ -1,11 +1,12 @@
-use Rattle.std.proofs.Common.{◌≡◌, ℕ, ◌+◌, ◌<◌, ◌≤◌, List, [], ◌∷◌, ◌++◌, map, take, drop, get_or, length, None, refl, sym, ap, subst, ◌∙◌, inl, inr}
+use Rattle.std.proofs.Common.{◌≡◌, ℕ, ◌+◌, ◌<◌, ◌≤◌, List, [], ◌∷◌, ◌++◌, map, take, drop, get_or, length, None, refl, sym, ap, subst, ◌∙◌, inl, inr, arith}
+use Rattle.std.proofs.lemmas.Bool.{cases_lt}
 use Rattle.std.proofs.lemmas.List.{drop_more, drop_all, take_more, map-append}
 use Rattle.std.specs.List.{AllByRecursion}
 use Rattle.bi_base.specs.declared.fault.Fault.{Fault}
 use Rattle.bi_base.specs.declared.fault.Cause.TheVariants.{DuplicateNode}
 use Rattle.bi_blob.specs.Tree.{IsNew}
 use Rattle.bi_norm.specs.declared.building.ImageSpec.{ImageSpec}
-use Rattle.bi_norm.specs.Building.{BuildCheck, HasFields, HasCodeNames, HasNewName, image_checks}
+use Rattle.bi_norm.specs.Building.{BuildCheck, HasFields, HasCodeNames, HasNewName, image_checks, first_image_checks}
 use Rattle.bi_norm.specs.BuildChecks.{AllPass, IsFirstFailure, at_index, fields_and_names, HasBytes}
 
 -- The checks of images, made one image after the other.
@@ -36,10 +37,18 @@ pub record ArePassedTo (images : List ImageSpec) (index : ℕ) : Type 0 where
   pub passes : AllPass (checks_from images index) → AllPass (image_checks 0 [] images)
   pub fails : (fault : Fault) → IsFirstFailure (checks_from images index) fault → IsFirstFailure (image_checks 0 [] images) fault
   pub bytes : AllByRecursion HasBytes (drop index images) → AllByRecursion HasBytes images
+  pub first : 0 < index → AllPass (first_image_checks images)
 
 -- None was made.
 pub passed_none : (images : List ImageSpec) → ArePassedTo images 0
-passed_none images = record { passes = λ all. all; fails = λ fault first. first; bytes = λ all. all }
+passed_none images = record { passes = λ all. all; fails = λ fault first. first; bytes = λ all. all; first = λ some. absurd (omega (arith, some)) }
+
+-- The checks of an image that look at no other, if it is the first.
+first_fine : (images : List ImageSpec) (index : ℕ) (d : ImageSpec) → index < length images → index ≡ 0 → AllPass (fields_and_names index (get_or images index d)) → AllPass (first_image_checks images)
+first_fine images index d within none fine = by images within (subst (λ index. AllPass (fields_and_names index (get_or images index d))) none fine) where
+  by : (images : List ImageSpec) → index < length images → AllPass (fields_and_names 0 (get_or images 0 d)) → AllPass (first_image_checks images)
+  by [] within fine = λ limits form head all. tt
+  by (image ∷ later) within fine = fine
 
 module _ (images : List ImageSpec) (index : ℕ) (d : ImageSpec) (within : index < length images) (passed : ArePassedTo images index) where
   abbrev image : ImageSpec
@@ -80,6 +89,13 @@ module _ (images : List ImageSpec) (index : ℕ) (d : ImageSpec) (within : index
       let both = fine limits form head all in
       inr (both.0, inr (both.1.0, inl (held, refl)))))
 
+  -- Once its fields and codes have no fault, those of the first image have none.
+  pub first_passed : AllPass (fields_and_names index image) → AllPass (first_image_checks images)
+  first_passed fine = elim (cases_lt 0 index) [
+    | inl later ↦ passed.first later
+    | inr none ↦ first_fine images index d within (omega (arith, none)) fine
+  ]
+
   -- Else the images after it decide.
   pub passed_more : AllPass (fields_and_names index image) → HasBytes image → IsNew image.name.now (names_of (take index images)) → ArePassedTo images (index + 1)
   passed_more fine bytes new = record {
@@ -92,6 +108,7 @@ module _ (images : List ImageSpec) (index : ℕ) (d : ImageSpec) (within : index
         let both = fine limits form head all in
         inr (both.0, inr (both.1.0, inr (new, later limits form head all)))));
     bytes = λ later. passed.bytes (subst (AllByRecursion HasBytes) (sym (drop_more images index d within)) (bytes, later));
+    first = λ some. first_passed fine;
   }
 
 -- After the last image none are left.

@@ -1,7 +1,6 @@
 pub mod Opening
 pub mod PayloadAreas
 pub mod NormalForms
-pub mod Writing
 pub mod KindLaws
 pub mod ConvertedImages
 pub mod Pieces
@@ -12,6 +11,7 @@ pub mod Conversions
 pub mod Comparisons
 pub mod ListedNames
 pub mod ImageChecks
+pub mod BuildFaultFacts
 pub mod BuiltChecks
 pub mod BuiltProperties
 pub mod BuiltPayloads

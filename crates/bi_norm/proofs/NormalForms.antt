@@ -1,8 +1,6 @@
-use Rattle.std.proofs.Common.{◌≡◌, ◌<◌, ◌≤◌, ◌⊎◌, ◌↔◌, ℕ, List, ◌∷◌, length, Option, refl, sym, ap, ◌∙◌, inl, inr, arith}
+use Rattle.std.proofs.Common.{◌≡◌, ◌≤◌, ◌⊎◌, ◌↔◌, ℕ, List, ◌∷◌, length, refl, sym, ap, ◌∙◌, inl, inr, arith}
 use Rattle.bi_base.specs.Cells.{cell, u32_at}
 use Rattle.bi_base.specs.Limits.{Bounds}
-use Rattle.bi_base.specs.Reading.{IsReadError, too_large}
-use Rattle.bi_base.proofs.TransferLaws.{IsErrorOfReading, error_of_reading}
 use Rattle.bi_base.specs.declared.fault.Error.{Error}
 use Rattle.bi_base.specs.declared.fault.Error.TheVariants.{Refused, OutOfMemory, ReadFailed, WriteFailed}
 use Rattle.bi_base.specs.declared.fault.Fault.{Fault}
@@ -26,8 +24,8 @@ use Rattle.bi_fit.specs.Text.{fit_text}
 use Rattle.bi_fit.proofs.Faults.{meaning_has_no_fault}
 use Rattle.bi_fit.proofs.TextLaws.{file_means_image_tree, normal_text_is_accepted, same_text_same_tree, text_keeps_judgement}
 use Rattle.bi_norm.specs.Meaning.{Meaning, OfLegacy, OfFit, Means, normal_text}
-use Rattle.bi_norm.specs.NormalForm.{IsNormalForm, IsOpenError, IsNormaliseError, IsStreamError, Normalised, NeedsMemory, ForLegacyImage, ForTree}
-use Rattle.bi_norm.proofs.Opening.{means_legacy, means_tree, too_long_is_file_fault, too_long_means_nothing}
+use Rattle.bi_norm.specs.NormalForm.{IsNormalForm, IsOpenError, IsNormaliseError, Normalised, NeedsMemory, ForLegacyImage, ForTree}
+use Rattle.bi_norm.proofs.Opening.{means_legacy, means_tree}
 
 -- Normal forms of files that were read.
 
@@ -50,7 +48,7 @@ unfolding legacy_text header cell
 legacy_text_begins image = legacy_begins _
 
 -- No text is that of both kinds.
-texts_differ : (form : Form) (image : LegacyImage) (tree : ImageTree) → ¬ (legacy_text image ≡ fit_text form tree)
+pub texts_differ : (form : Form) (image : LegacyImage) (tree : ImageTree) → ¬ (legacy_text image ≡ fit_text form tree)
 texts_differ form image tree same =
     omega (arith, legacy_text_begins image, tree_text_begins form tree, ap (λ text. u32_at text 0) same)
 
@@ -147,30 +145,9 @@ document_error limits form file content OutOfMemory opened is = needs_memory lim
 document_error limits form file content ReadFailed opened is = is
 document_error limits form file content WriteFailed opened is = is
 
--- An error of a file in memory is one that a call can have for the same file from a reader.
-pub stream_error : (HasError : List ℕ → Error → Type 0) (file : List ℕ) (error : Error) → HasError file error → IsStreamError HasError file error
-stream_error HasError file (Refused fault) is = is
-stream_error HasError file OutOfMemory is = tt
-stream_error HasError file ReadFailed is = tt
-stream_error HasError file WriteFailed is = tt
-
 -- An error of reading a file is one of normalising it.
 pub open_error : (limits : Bounds) (form : Form) (file : List ℕ) (error : Error) → IsOpenError limits file error → IsNormaliseError limits form file error
 open_error limits form file (Refused fault) is = inl is
 open_error limits form file OutOfMemory is = is
 open_error limits form file ReadFailed is = is
 open_error limits form file WriteFailed is = is
-
--- An error of reading is one that a call which refuses files that are too long can have.
-pub error_of_stream : (HasError : List ℕ → Error → Type 0) (remaining : Option (List ℕ)) (most : ℕ) (MustStop : Type 0) (error : Error) → ((file : List ℕ) → most < length file → HasError file (Refused (too_large most))) → IsReadError remaining most MustStop error → IsErrorOfReading remaining most MustStop (λ file. IsStreamError HasError file error) error
-error_of_stream HasError remaining most MustStop error too_long is =
-    error_of_reading remaining most MustStop (λ error file. IsStreamError HasError file error) error is too_long (λ file. tt) (λ file. tt)
-
--- A file that is too long is refused.
-pub too_long_is_refused : (limits : Bounds) (form : Form) (file : List ℕ) → limits.file < length file → IsNormaliseError limits form file (Refused (too_large limits.file))
-too_long_is_refused limits form file longer = inl (too_long_is_file_fault limits file longer, too_long_means_nothing limits file longer)
-
--- An error of reading is one that normalising from a reader can have.
-pub reading_error : (limits : Bounds) (form : Form) (remaining : Option (List ℕ)) (MustStop : Type 0) (error : Error) → IsReadError remaining limits.file MustStop error → IsErrorOfReading remaining limits.file MustStop (λ file. IsStreamError (IsNormaliseError limits form) file error) error
-reading_error limits form remaining MustStop error is =
-    error_of_stream (IsNormaliseError limits form) remaining limits.file MustStop error (too_long_is_refused limits form) is

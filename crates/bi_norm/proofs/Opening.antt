@@ -16,7 +16,7 @@ use Rattle.bi_blob.specs.BlobFaults.{InHeader}
 use Rattle.bi_fit.specs.ImageTree.{ImageTree}
 use Rattle.bi_fit.specs.File.{FitMeans}
 use Rattle.bi_fit.specs.Faults.{InBlob}
-use Rattle.bi_fit.specs.Reading.{IsReadError as IsFitReadError}
+use Rattle.bi_fit.specs.Reading.{IsFitReadError as IsFitReadError}
 use Rattle.bi_fit.proofs.Meanings.{begins_with_magic}
 use Rattle.bi_legacy.specs.Meaning.{LegacyImage}
 use Rattle.bi_legacy.specs.File.{LegacyMeans}
@@ -36,7 +36,7 @@ nat_le_decided a b = by (cases_lt b a) where
   by (inr most) = inl most
 
 -- A file begins as a legacy image or not.
-legacy_or_not : (file : List ℕ) → BeginsAs file Legacy ⊎ ¬ (BeginsAs file Legacy)
+pub legacy_or_not : (file : List ℕ) → BeginsAs file Legacy ⊎ ¬ (BeginsAs file Legacy)
 legacy_or_not file = by (nat_le_decided 4 (length file)) (eqb_tells (u32_at file 0) legacy_magic) where
   by : (4 ≤ length file) ⊎ ¬ (4 ≤ length file)
       → ((eqb (u32_at file 0) legacy_magic ≡ true) × (u32_at file 0 ≡ legacy_magic))

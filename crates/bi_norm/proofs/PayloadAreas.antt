@@ -1,7 +1,6 @@
 use Rattle.std.proofs.Common.{◌≡◌, ℕ, ◌+◌, ◌-◌, ◌<◌, ◌≤◌, List, [], ◌∷◌, ◌++◌, length, take, drop, get_or, map, replicate, Option, Some, None, Bor, refl, sym, ap, ◌∙◌, subst, arith, append-nil, append_assoc}
 use Rattle.std.proofs.lemmas.List.{take-append-drop, take_more, map-append, take-replicate}
 use Rattle.std.proofs.lemmas.Simd.{map-map}
-use Rattle.std.specs.Int.{next_multiple_of}
 use Rattle.std.specs.Prelude.{option_map}
 use Rattle.bi_base.specs.Cells.{up4}
 use Rattle.bi_blob.specs.Layout.{padding_to_4}
@@ -13,7 +12,7 @@ use Rattle.bi_fit.specs.Documents.{document_of}
 use Rattle.bi_fit.specs.Content.{read_image, ReadImage, FitContent, tree_of}
 use Rattle.bi_fit.specs.ImageTree.{ImageTree}
 use Rattle.bi_fit.specs.Text.{blob_of, payload_area, payloads_end, end_after, after_blob, fit_text}
-use Rattle.bi_fit.proofs.TextLaws.{payloads_end_later, each_external_text_has_its_length}
+use Rattle.bi_fit.proofs.TextLaws.{payloads_end-append, payloads_end_later, each_external_text_has_its_length}
 
 -- The payloads after the blob of a text, as they are appended one by one.
 
@@ -26,16 +25,11 @@ abbrev pub payloads_of : List Image → List (Option (List ℕ))
 payloads_of images = map payload_of images
 
 -- The zeros before a payload.
-pub area_zeros : (end begin : ℕ) → begin ≡ next_multiple_of end 4 → take {A = ℕ} (begin - end) (0 ∷ 0 ∷ 0 ∷ []) ≡ padding_to_4 end
+pub area_zeros : (end begin : ℕ) → begin ≡ up4 end → take {A = ℕ} (begin - end) (0 ∷ 0 ∷ 0 ∷ []) ≡ padding_to_4 end
 area_zeros end begin is =
     let same : begin - end ≡ up4 end - end = omega (arith, is) in
     let zeros : take {A = ℕ} (begin - end) (0 ∷ 0 ∷ 0 ∷ []) ≡ replicate (begin - end) 0 = take-replicate (begin - end) 3 0 (omega (arith, is)) in
     subst (λ (count : ℕ). take {A = ℕ} (begin - end) (0 ∷ 0 ∷ 0 ∷ []) ≡ replicate count 0) same zeros
-
--- Payloads end where the last of them do.
-pub payloads_end-append : (end : ℕ) (first later : List (Option (List ℕ))) → payloads_end end (first ++ later) ≡ payloads_end (payloads_end end first) later
-payloads_end-append end [] later = refl
-payloads_end-append end (payload ∷ first) later = payloads_end-append (end_after end payload) first later
 
 -- Payloads take up what the first of them do, and then what the others do.
 pub payload_area-append : (end : ℕ) (first later : List (Option (List ℕ))) → payload_area end (first ++ later) ≡ payload_area end first ++ payload_area (payloads_end end first) later

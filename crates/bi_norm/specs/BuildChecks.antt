@@ -1,5 +1,8 @@
 use Rattle.std.specs.Prelude.{ℕ, List, [], ◌∷◌}
 use Rattle.bi_base.specs.declared.fault.Fault.{Fault}
+use Rattle.bi_base.specs.declared.fault.Error.{Error}
+use Rattle.bi_base.specs.declared.fault.Error.TheVariants.{Refused, OutOfMemory, ReadFailed}
+use Rattle.bi_base.specs.declared.fault.Error.TheVariants.{WriteFailed}
 use Rattle.bi_base.specs.Cells.{AreBytes}
 use Rattle.bi_base.specs.Checks.{IsFirstFault, HasNoFault}
 use Rattle.bi_base.specs.Limits.{Bounds}
@@ -8,7 +11,7 @@ use Rattle.bi_norm.specs.declared.building.Head.{Head}
 use Rattle.bi_norm.specs.declared.building.ImageSpec.{ImageSpec}
 use Rattle.bi_norm.specs.Building.{BuildCheck, HasFewImages, HasTextDescription, HasFields}
 use Rattle.bi_norm.specs.Building.{HasCodeNames, BuildPasses, build_fault, image_checks}
-use Rattle.bi_norm.specs.Building.{IndexedImage}
+use Rattle.bi_norm.specs.Building.{IndexedImage, first_image_checks}
 
 -- The checks of what is to be built, one after the other.
 
@@ -27,6 +30,14 @@ abbrev pub IsFirstFailure : List BuildCheck → Fault → Type 0
 IsFirstFailure checks fault =
     (limits : Bounds) (form : Form) (head : Head) (images : List ImageSpec)
     → IsFirstFault (BuildPasses limits form head images) (build_fault limits) checks fault
+
+-- The error that the checks of images can have. Memory is needed only after the checks of the first
+-- image that look at no other.
+abbrev pub IsImagesError : List ImageSpec → Error → Type 0
+IsImagesError images (Refused fault) = IsFirstFailure (image_checks 0 [] images) fault
+IsImagesError images OutOfMemory = AllPass (first_image_checks images)
+IsImagesError images ReadFailed = ⊥
+IsImagesError images WriteFailed = ⊥
 
 -- An image at an index after images of these names.
 abbrev pub at_index : ℕ → List (List ℕ) → ImageSpec → IndexedImage

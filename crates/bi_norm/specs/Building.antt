@@ -1,4 +1,4 @@
-use Rattle.std.specs.Prelude.{ℕ, ◌≡◌, ◌≢◌, ◌+◌, ◌≤◌, ⊤, List, [], ◌∷◌, ◌++◌, length, map, IsSome}
+use Rattle.std.specs.Prelude.{ℕ, ◌≡◌, ◌≢◌, ◌+◌, ◌≤◌, List, [], ◌∷◌, ◌++◌, length, map, IsSome}
 use Rattle.bi_base.specs.declared.fault.Fault.{Fault}
 use Rattle.bi_base.specs.declared.fault.Cause.TheVariants.{TooLarge, NoCodeName, BadField}
 use Rattle.bi_base.specs.declared.fault.Cause.TheVariants.{DuplicateNode}
@@ -121,10 +121,24 @@ IsBuildFault limits form head images fault =
     IsFirstFault (BuildPasses limits form head images) (build_fault limits) (build_checks images)
     fault
 
--- The error that building can have, except those of a sink.
+-- The checks of the first image that look at no other image.
+abbrev pub first_image_checks : List ImageSpec → List BuildCheck
+first_image_checks [] = []
+first_image_checks (image ∷ later) =
+    let at : IndexedImage = record { index = 0; earlier = []; image = image } in
+    HasFields at ∷ HasCodeNames at ∷ []
+
+-- The checks before the first that needs memory, which is that of the names of images. They are the
+-- first of all checks.
+abbrev pub checks_without_memory : List ImageSpec → List BuildCheck
+checks_without_memory images = HasFewImages ∷ HasTextDescription ∷ first_image_checks images
+
+-- The error that building can have, except those of a sink. Memory is needed only after the checks
+-- that need none.
 abbrev pub IsBuildError : Bounds → Form → Head → List ImageSpec → Error → Type 0
 IsBuildError limits form head images (Refused fault) = IsBuildFault limits form head images fault
-IsBuildError limits form head images OutOfMemory = ⊤
+IsBuildError limits form head images OutOfMemory =
+    HasNoFault (BuildPasses limits form head images) (checks_without_memory images)
 IsBuildError limits form head images ReadFailed = ⊥
 IsBuildError limits form head images WriteFailed = ⊥
 

@@ -1,4 +1,4 @@
-use Rattle.std.specs.Prelude.{ℕ, ◌≡◌, ◌+◌, ◌<◌, ◌≤◌, ⊤, List, ◌∷◌, ◌++◌, length, map}
+use Rattle.std.specs.Prelude.{ℕ, ◌≡◌, ◌+◌, ◌<◌, ◌≤◌, List, ◌∷◌, ◌++◌, length, map}
 use Rattle.std.specs.List.{concat, sum}
 use Rattle.bi_base.specs.declared.fault.Fault.{Fault}
 use Rattle.bi_base.specs.declared.fault.Cause.TheVariants.{BadPart}
@@ -22,9 +22,9 @@ pub data IsCutFault (input lengths : List ℕ) (fault : Fault) : Type 0 where
   TooShort : sum lengths < length input
       → fault ≡ record { cause = BadPart; offset = sum lengths } → IsCutFault input lengths fault
 
--- The error that cutting an input can have.
+-- The error that cutting an input can have. Memory is needed only for an input that can be cut.
 abbrev pub IsCutError : List ℕ → List ℕ → Error → Type 0
 IsCutError input lengths (Refused fault) = IsCutFault input lengths fault
-IsCutError input lengths OutOfMemory = ⊤
+IsCutError input lengths OutOfMemory = sum lengths ≡ length input
 IsCutError input lengths ReadFailed = ⊥
 IsCutError input lengths WriteFailed = ⊥

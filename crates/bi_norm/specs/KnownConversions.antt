@@ -14,12 +14,13 @@ use Rattle.bi_norm.specs.Converting.{converted_images, fit_of, keys_of_type, IsC
 -- Small legacy images with the images that they are converted to, or with the fault why they cannot
 -- be, by which a reader can judge the definitions.
 
--- An image for Linux on ARM, with the name `k`, that is loaded and entered at 0x8000.
+-- An image for Linux on ARM, with the name `k` and time 1, that is loaded at 0x8000 and entered at
+-- 0x8040.
 abbrev pub known_image : (image_type compression : ℕ) → List (List ℕ) → LegacyImage
 known_image image_type compression parts = record {
-  time = 0;
+  time = 1;
   load = 0x8000;
-  entry = 0x8000;
+  entry = 0x8040;
   os = 5;
   arch = 2;
   image_type = image_type;

@@ -1,8 +1,17 @@
-use Rattle.std.specs.Prelude.{ℕ, List}
+use Rattle.std.specs.Prelude.{◌≡◌, ◌⊎◌, ◌↔◌, ℕ, ◌≤◌, List, length}
+use Rattle.bi_base.specs.declared.fault.Fault.{Fault}
+use Rattle.bi_base.specs.Cells.{AreBytes}
+use Rattle.bi_base.specs.Limits.{Bounds}
+use Rattle.bi_blob.specs.Layout.{longest_text}
+use Rattle.bi_fit.specs.declared.form.Form.{Form}
 use Rattle.bi_fit.specs.File.{IsFitFile}
 use Rattle.bi_fit.specs.ImageTree.{ImageTree}
+use Rattle.bi_fit.specs.Text.{fit_text}
 use Rattle.bi_legacy.specs.File.{IsLegacyFile}
 use Rattle.bi_legacy.specs.Meaning.{LegacyImage}
+use Rattle.bi_legacy.specs.Text.{legacy_text}
+use Rattle.bi_norm.specs.Faults.{IsFileFault}
+use Rattle.bi_norm.specs.Meaning.{Meaning, Means, normal_text}
 
 -- Laws of boot images of both kinds. Each is the contract of a function in `laws`.
 
@@ -10,3 +19,50 @@ use Rattle.bi_legacy.specs.Meaning.{LegacyImage}
 abbrev pub OneKind : Type 0
 OneKind = (file : List ℕ) (image : LegacyImage) (tree : ImageTree)
     → IsLegacyFile file image → ¬ (IsFitFile file tree)
+
+-- A file has at most one meaning, whatever the limits.
+abbrev pub OneFileMeaning : Type 0
+OneFileMeaning =
+    (limits other_limits : Bounds) (file : List ℕ) (one other : Meaning)
+    → Means limits file one → Means other_limits file other → one ≡ other
+
+-- A file has at most one fault under limits.
+abbrev pub OneFileFault : Type 0
+OneFileFault =
+    (limits : Bounds) (file : List ℕ) (one other : Fault)
+    → IsFileFault limits file one → IsFileFault limits file other → one ≡ other
+
+-- A file that means something within limits has no fault under them.
+abbrev pub FileHasNoFault : Type 0
+FileHasNoFault =
+    (limits : Bounds) (file : List ℕ) (meaning : Meaning) (fault : Fault)
+    → Means limits file meaning → ¬ (IsFileFault limits file fault)
+
+-- A file of bytes means something within limits, or it has a fault under them.
+abbrev pub FileMeaningOrFault : Type 0
+FileMeaningOrFault =
+    (limits : Bounds) (file : List ℕ) → AreBytes file
+    → ((meaning : Meaning) × Means limits file meaning)
+    ⊎ ((fault : Fault) × IsFileFault limits file fault)
+
+-- A file of bytes means something within limits exactly where it has no fault under them.
+abbrev pub FileMeaningWhereNoFault : Type 0
+FileMeaningWhereNoFault =
+    (limits : Bounds) (file : List ℕ) → AreBytes file
+    → ((meaning : Meaning) × Means limits file meaning)
+    ↔ ((fault : Fault) → ¬ (IsFileFault limits file fault))
+
+-- No normal text of a legacy image is one of a flattened image tree, in any form.
+abbrev pub TextsOfKindsDiffer : Type 0
+TextsOfKindsDiffer =
+    (form : Form) (image : LegacyImage) (tree : ImageTree)
+    → ¬ (legacy_text image ≡ fit_text form tree)
+
+-- Two files, each within limits of its own, have the same normal text in one form exactly where
+-- they mean the same, if one of the texts is not too long.
+abbrev pub NormalTextsDiffer : Type 0
+NormalTextsDiffer =
+    (form : Form) (limits other_limits : Bounds) (file other_file : List ℕ) (one other : Meaning)
+    → Means limits file one → Means other_limits other_file other
+    → length (normal_text form one) ≤ longest_text
+    → (normal_text form one ≡ normal_text form other) ↔ (one ≡ other)

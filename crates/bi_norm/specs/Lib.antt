@@ -3,7 +3,6 @@ pub mod Opening
 pub mod OpenedMeaning
 pub mod Meaning
 pub mod Faults
-pub mod Outputs
 pub mod NormalForm
 pub mod Converting
 pub mod Cutting
@@ -13,4 +12,6 @@ pub mod BuildChecks
 pub mod BuiltNodes
 pub mod Comparing
 pub mod KnownConversions
+pub mod KnownPieces
+pub mod KnownBuildFaults
 pub mod Laws

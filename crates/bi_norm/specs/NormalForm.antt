@@ -1,7 +1,8 @@
-use Rattle.std.specs.Prelude.{ℕ, ◌<◌, ◌≡◌, ◌↔◌, ◌⊎◌, ⊤, List, length}
+use Rattle.std.specs.Prelude.{ℕ, ◌<◌, ◌≡◌, ◌↔◌, ◌⊎◌, List, length}
 use Rattle.bi_base.specs.declared.fault.Error.{Error}
 use Rattle.bi_base.specs.declared.fault.Error.TheVariants.{Refused, OutOfMemory, ReadFailed}
 use Rattle.bi_base.specs.declared.fault.Error.TheVariants.{WriteFailed}
+use Rattle.bi_base.specs.Commands.{CommandPromise, PromiseLaws}
 use Rattle.bi_base.specs.Limits.{Bounds}
 use Rattle.bi_base.specs.Reading.{too_large}
 use Rattle.bi_blob.specs.BlobFaults.{HasNoFaultBeforeTree}
@@ -73,10 +74,19 @@ IsNormaliseError limits form file (Refused fault) =
     ⊎ (IsTooLong limits form file × (fault ≡ too_large limits.file))
 IsNormaliseError limits form file error = IsOpenError limits file error
 
--- The same for a file that comes from a reader, with an output that goes to a writer. Reading it
--- needs memory and may fail, and so may writing.
-abbrev pub IsStreamError : (List ℕ → Error → Type 0) → List ℕ → Error → Type 0
-IsStreamError HasError file (Refused fault) = HasError file (Refused fault)
-IsStreamError HasError file OutOfMemory = ⊤
-IsStreamError HasError file ReadFailed = ⊤
-IsStreamError HasError file WriteFailed = ⊤
+-- What normalising promises as a command.
+abbrev pub normalise_promise : Form → Bounds → CommandPromise ℕ Error
+normalise_promise form limits = record {
+  is_output = λ count file text. Normalised limits form count file text;
+  is_text = IsNormalForm limits form;
+  has_error = IsNormaliseError limits form;
+  wraps = λ error. error;
+}
+
+pub normalise_laws : (form : Form) (limits : Bounds) → PromiseLaws (normalise_promise form limits)
+normalise_laws form limits = record {
+  is_text = λ count file text is. is.normal;
+  wraps_once = λ a b same. same;
+  no_read_error = λ file is. is;
+  no_write_error = λ file is. is;
+}

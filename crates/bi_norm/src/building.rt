@@ -7,7 +7,7 @@ ghost use Rattle.bi_fit.specs.Documents.{IsDocumentError};
 ghost use Rattle.bi_norm.specs.Building.{head_of, specifications_of, tree_of_images, IsTextOfTree};
 ghost use Rattle.bi_norm.specs.Building.{HasBuildableType};
 ghost use Rattle.bi_norm.specs.Building.{IsBuilt, IsBuildError};
-ghost use Rattle.bi_norm.specs.Outputs.{Appended, AppendFailed};
+ghost use Rattle.bi_base.specs.Commands.{Appended, AppendFailed};
 
 mod checks;
 mod digests;
@@ -20,6 +20,7 @@ use crate::building::checks::check;
 use crate::building::digests::digest_payloads;
 use crate::building::document::{Parts, tree_doc};
 use crate::building::lists::KeyLists;
+use crate::building::payload_area::length_after_blob;
 use crate::payloads::put_built_payloads;
 use bi_base::{Error, Limits, Sink, VecSink};
 use bi_fit::Form;
@@ -62,8 +63,9 @@ pub struct ImageSpec<'a> {
 /// BadField at 0, if the description has a zero byte; then for each image in order, at its index
 /// from 0: BadField, if its name is empty or has a zero byte or a `/`, or its type is multi;
 /// NoCodeName, if one of its codes has no name; DuplicateNode, if an earlier image has its name;
-/// then TooLarge at the limit, if the text is longer. OutOfMemory may come in place of any of them.
-/// ReadFailed and WriteFailed never come.
+/// then TooLarge at the limit, if the text is longer. OutOfMemory comes only if the number of
+/// images, the description, and the name, type and codes of the first image are accepted, and then
+/// in place of any other error. ReadFailed and WriteFailed never come.
 pub fn build_fit(
     alloc: Global,
     head: Head<'_>,
@@ -105,6 +107,7 @@ pub fn build_fit_into<S: Sink>(
 
 /// Appends the text of a flattened image tree whose description and images can be built to a sink.
 /// Fails with TooLarge at the limit, if the text is longer, with OutOfMemory, or as the sink does.
+/// OutOfMemory never comes if the payloads after the blob are longer than the limit by themselves.
 /// All allocations but those of the sink are made before the first byte is appended.
 pub(crate) fn append_tree<S: Sink>(
     alloc: Global,
@@ -122,6 +125,7 @@ pub(crate) fn append_tree<S: Sink>(
         IfErr result (AppendFailed S.fails (IsTextOfTree limits form tree)
         (IsDocumentError limits form tree) sink.old sink.new) }
 {
+    let after = length_after_blob(images, form, limits.file())?;
     let digests = digest_payloads(alloc, images)?;
     let lists = KeyLists::new(alloc, images)?;
     let parts = Parts {
@@ -130,7 +134,7 @@ pub(crate) fn append_tree<S: Sink>(
         digests: &digests,
         lists: &lists,
     };
-    let document = tree_doc(alloc, parts, form, limits)?;
+    let document = tree_doc(alloc, parts, form, after, limits)?;
     document.emit(sink)?;
     if form == Form::External {
         put_built_payloads(images, sink)?;

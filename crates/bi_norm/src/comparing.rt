@@ -27,8 +27,12 @@ pub fn same_meaning(alloc: Global, one: &[u8], other: &[u8], limits: Limits) -> 
 }
 
 impl<'a> BootImage<'a> {
-    /// Whether both images mean the same. The only error is OutOfMemory.
-    fn has_same_meaning(&self, alloc: Global, other: &BootImage<'_>) -> Result<bool, Error>
+    /// Returns whether both images mean the same. Images of different kinds do not. If images of a
+    /// flattened image tree share regions of its file, this takes time in the sum of the lengths of
+    /// the payloads.
+    ///
+    /// Fails with OutOfMemory alone.
+    pub fn has_same_meaning(&self, alloc: Global, other: &BootImage<'_>) -> Result<bool, Error>
         ensures compared { IfOk result (λ same. IsTrue same
             ↔ (meaning_of self.now ≡ meaning_of other.now)) }
         ensures failed { IfErr result (λ error. error ≡ Error.OutOfMemory) }

@@ -3,7 +3,7 @@
 ghost use Rattle.std.specs.Prelude.{OnOk, IfOk, IfErr};
 ghost use Rattle.bi_norm.specs.Converting.{IsConvertedFile, IsConvertError, CanBeConverted};
 ghost use Rattle.bi_norm.specs.Converting.{IsConvertFault};
-ghost use Rattle.bi_norm.specs.Outputs.{Appended, AppendFailed};
+ghost use Rattle.bi_base.specs.Commands.{Appended, AppendFailed};
 
 mod images;
 

@@ -1,36 +1,53 @@
 //! Cutting an input into pieces.
 
-ghost use Rattle.std.specs.Prelude.{◌≤◌, length, map, IfOk, IfErr};
+ghost use Rattle.std.specs.Prelude.{◌≡◌, ◌≤◌, length, map, OnOk, IfOk, IfErr};
+ghost use Rattle.std.specs.List.{sum};
 ghost use Rattle.bi_blob.specs.Layout.{longest_text};
-ghost use Rattle.bi_norm.specs.Cutting.{IsCut, IsCutError};
+ghost use Rattle.bi_norm.specs.Cutting.{IsCut, IsCutFault, IsCutError};
 
-use bi_base::{Cause, Error, refuse};
+use bi_base::{Cause, Error, Fault, refuse};
 use std::alloc::Global;
 
 /// Cuts an input of at most 0x7fffffff bytes into consecutive pieces of these lengths, which
 /// together are the whole input.
 ///
 /// Errors: BadPart at the beginning of the first piece that does not fit, or at the end of the
-/// pieces, if bytes are left. OutOfMemory may come in place of it. ReadFailed and WriteFailed never
-/// come.
+/// pieces, if bytes are left; OutOfMemory, which comes only for an input that can be cut.
+/// ReadFailed and WriteFailed never come.
 pub fn cut<'a>(alloc: Global, input: &'a [u8], lengths: &[u32]) -> Result<Vec<&'a [u8]>, Error>
     requires { length input.now ≤ longest_text }
     ensures pieces { IfOk result (λ pieces. IsCut input.entry.now lengths.now
         (map (λ piece. piece.now) pieces.items)) }
     ensures failed { IfErr result (IsCutError input.entry.now lengths.now) }
 {
+    check_lengths(input, lengths)?;
     let mut pieces = Vec::with_capacity(alloc, lengths.len())?;
     let mut start = 0;
     for piece_length in lengths {
         let end = start + *piece_length as usize;
-        let Some(piece) = input.get(start..end) else {
-            return refuse(Cause::BadPart, start as u32).map_err(Error::from);
-        };
-        pieces.push(piece)?;
+        pieces.push(&input[start..end])?;
+        start = end;
+    }
+    Ok(pieces)
+}
+
+/// Checks that pieces of these lengths are together the whole input. Fails as `cut` does, but never
+/// with OutOfMemory.
+fn check_lengths(input: &[u8], lengths: &[u32]) -> Result<(), Fault>
+    requires { length input.now ≤ longest_text }
+    ensures whole { OnOk result (sum lengths.now ≡ length input.now) }
+    ensures refused { IfErr result (IsCutFault input.now lengths.now) }
+{
+    let mut start = 0;
+    for piece_length in lengths {
+        let end = start + *piece_length as usize;
+        if end > input.len() {
+            return refuse(Cause::BadPart, start as u32);
+        }
         start = end;
     }
     if start < input.len() {
-        return refuse(Cause::BadPart, start as u32).map_err(Error::from);
+        return refuse(Cause::BadPart, start as u32);
     }
-    Ok(pieces)
+    Ok(())
 }

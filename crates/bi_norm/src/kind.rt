@@ -5,10 +5,8 @@ ghost use Rattle.bi_norm.specs.declared.kind.Kind.{Kind};
 ghost use Rattle.bi_norm.specs.Kinds.{BeginsAs, IsKindFault};
 
 use bi_base::{Cause, Fault, be32_at, refuse};
+use bi_blob::format::MAGIC as BLOB_MAGIC;
 use bi_legacy::MAGIC as LEGACY_MAGIC;
-
-/// The magic number of a blob, and so of a flattened image tree (Devicetree Specification, 5.2).
-const FIT_MAGIC: u32 = 0xd00d_feed;
 
 /// A kind of boot image.
 #[derive(Clone, Copy, Debug, PartialEq, Eq)]
@@ -29,7 +27,7 @@ pub fn kind_of(file: &[u8]) -> Result<Kind, Fault>
     match be32_at(file, 0) {
         None => refuse(Cause::Truncated, 0),
         Some(LEGACY_MAGIC) => Ok(Kind::Legacy),
-        Some(FIT_MAGIC) => Ok(Kind::Fit),
+        Some(BLOB_MAGIC) => Ok(Kind::Fit),
         Some(_) => refuse(Cause::BadMagic, 0),
     }
 }

@@ -1,8 +1,11 @@
-//! Small legacy images with what they are converted to. Each function does nothing: what it ensures
-//! is a fact about the definitions.
+//! Small legacy images with what they are converted to, small inputs with their pieces, and small
+//! trees that cannot be built. Each function does nothing: what it ensures is a fact about the
+//! definitions.
 
 ghost use Rattle.bi_norm.specs.KnownConversions.{ConversionsAreKnown, ConvertFaultsAreKnown};
 ghost use Rattle.bi_norm.specs.KnownConversions.{TypesHaveTheirKeys};
+ghost use Rattle.bi_norm.specs.KnownPieces.{CutsAreKnown, CutFaultsAreKnown};
+ghost use Rattle.bi_norm.specs.KnownBuildFaults.{BuildFaultsAreKnown, RefusalsAreKnown};
 
 /// Small legacy images of each type become images of known names, keys, compressions and addresses.
 pub fn conversions_are_known()
@@ -18,4 +21,27 @@ pub fn convert_faults_are_known()
 /// The images of each type are listed under the key whose images have this type.
 pub fn types_have_their_keys()
     ensures { TypesHaveTheirKeys }
+{}
+
+/// Small inputs have known pieces.
+pub fn cuts_are_known()
+    ensures { CutsAreKnown }
+{}
+
+/// Small inputs that cannot be cut have known faults.
+pub fn cut_faults_are_known()
+    ensures { CutFaultsAreKnown }
+{}
+
+/// Small trees that cannot be built have known faults: each check but that of the text's length is
+/// the first that fails for one of them, and of two checks that fail the first in their order gives
+/// the fault.
+pub fn build_faults_are_known()
+    ensures { BuildFaultsAreKnown }
+{}
+
+/// Building never runs out of memory if there are too many images, the description has a zero byte,
+/// or the first image has a type or code that is refused.
+pub fn refusals_need_no_memory()
+    ensures { RefusalsAreKnown }
 {}

@@ -1,11 +1,10 @@
 //! Building a legacy image.
 
 ghost use Rattle.std.specs.Prelude.{IfOk, IfErr};
-ghost use Rattle.bi_base.specs.Cells.{AreBytes};
 ghost use Rattle.bi_legacy.specs.Emitting.{image_of_parts};
 ghost use Rattle.bi_norm.specs.LegacyBuilding.{IsBuiltLegacy, IsBuildLegacyError};
 
-use bi_base::{Error, Limits, VecSink};
+use bi_base::{Error, Limits, VecSink, are_bytes};
 use bi_legacy::{Fields, emit};
 use std::alloc::Global;
 
@@ -34,9 +33,3 @@ pub fn build_legacy(
     are_bytes(&text);
     Ok(text)
 }
-
-/// Does nothing: each item of a slice of bytes is a byte, so the name and the parts in a text are
-/// bytes.
-fn are_bytes(bytes: &[u8])
-    ensures { AreBytes bytes.now }
-{}

@@ -22,4 +22,4 @@ pub use cutting::cut;
 pub use image::BootImage;
 pub use kind::{Kind, kind_of};
 pub use legacy::build_legacy;
-pub use normal_form::{normalise, normalise_into, normalise_to, normalise_traced};
+pub use normal_form::{Normaliser, normalise, normalise_into, normalise_to};

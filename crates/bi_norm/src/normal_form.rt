@@ -1,25 +1,17 @@
 //! The normal form of a boot image.
 
-ghost use Rattle.std.specs.Prelude.{◌≡◌, ◌+◌, ℕ, List, [], map, IfOk, IfErr, IsErrOf};
-ghost use Rattle.bi_base.specs.BufferedSinks.{buffered};
-ghost use Rattle.bi_base.specs.Reading.{TakesAtMost};
-ghost use Rattle.bi_base.specs.Traces.{ReadsWell, WritesWell};
-ghost use Rattle.bi_base.specs.Writing.{WroteAndFlushed, WriteOrFlushStopped};
-ghost use Rattle.bi_base.specs.Transfers.{Moved, MoveFailed, Transferred, TransferFailed};
-ghost use Rattle.bi_base.specs.Transfers.{SameStreams};
+ghost use Rattle.std.specs.Prelude.{◌≡◌, ℕ, List, ⊤, map, IfOk, IfErr};
+ghost use Rattle.bi_base.specs.Commands.{Appended, AppendFailed};
+ghost use Rattle.bi_base.specs.Pipes.{IsPiped};
 ghost use Rattle.bi_fit.specs.declared.form.Form.{Form};
 ghost use Rattle.bi_fit.specs.Reading.{IsReadFrom};
 ghost use Rattle.bi_legacy.specs.Reading.{IsParsedImage};
-ghost use Rattle.bi_norm.specs.NormalForm.{IsNormalForm, IsNormaliseError, IsStreamError};
-ghost use Rattle.bi_norm.specs.NormalForm.{Normalised};
-ghost use Rattle.bi_norm.specs.Outputs.{Appended, AppendFailed};
+ghost use Rattle.bi_norm.specs.NormalForm.{IsNormalForm, IsNormaliseError, Normalised};
+ghost use Rattle.bi_norm.specs.NormalForm.{normalise_promise, normalise_laws};
 
 use crate::image::BootImage;
 use crate::payloads::put_payloads;
-use bi_base::{
-    BufferedSink, Error, Limits, Sink, TracedRead, TracedReader, TracedWrite, TracedWriter,
-    VecSink, read_all_traced,
-};
+use bi_base::{Command, Error, Limits, Sink, VecSink, pipe_to};
 use bi_fit::{Fit, Form};
 use bi_legacy::{Legacy, emit_image};
 use std::alloc::Global;
@@ -125,91 +117,41 @@ fn parts_of<'a>(alloc: Global, image: &Legacy<'a>) -> Result<Vec<&'a [u8]>, Erro
     Ok(parts)
 }
 
-/// Writes the normal form of a boot image, and flushes: `normalise_into` with a buffered sink over
-/// a writer that records the outcome of its calls.
-fn write_normal_form<T: TracedWrite>(
-    alloc: Global,
-    file: &[u8],
-    form: Form,
-    limits: Limits,
-    target: &mut T,
-) -> Result<usize, Error>
-    ensures written { IfOk result (λ count. Appended WroteAndFlushed
-        (Normalised limits form count file.now) (T.trace target.old) (T.trace target.new)) }
-    ensures failed { IfErr result (AppendFailed WriteOrFlushStopped
-        (IsNormalForm limits form file.now) (IsNormaliseError limits form file.now)
-        (T.trace target.old) (T.trace target.new)) }
-{
-    let mut sink = BufferedSink::new(target);
-    normalise_and_finish(alloc, file, form, limits, &mut sink)
+/// Normalising, as a command: `normalise_into` with this form.
+#[derive(Clone, Copy, Debug, PartialEq, Eq)]
+pub struct Normaliser {
+    /// Where the normal form of a flattened image tree has the payloads.
+    pub form: Form,
 }
 
-/// Appends the normal form of a boot image to a sink whose buffer is empty, and finishes the sink.
-fn normalise_and_finish<T: TracedWrite>(
-    alloc: Global,
-    file: &[u8],
-    form: Form,
-    limits: Limits,
-    sink: &mut BufferedSink<'_, T>,
-) -> Result<usize, Error>
-    requires { (buffered T.trace sink.now).held ≡ [] }
-    ensures same_borrow { (buffered T.trace sink.new).borrow ≡ (buffered T.trace sink.old).borrow }
-    ensures written { IfOk result (λ count. Appended WroteAndFlushed
-        (Normalised limits form count file.now)
-        (buffered T.trace sink.old).trace (buffered T.trace sink.new).trace) }
-    ensures failed { IfErr result (AppendFailed WriteOrFlushStopped
-        (IsNormalForm limits form file.now) (IsNormaliseError limits form file.now)
-        (buffered T.trace sink.old).trace (buffered T.trace sink.new).trace) }
-{
-    let count = normalise_into(alloc, file, form, limits, sink)?;
-    sink.finish()?;
-    Ok(count)
+impl Command for Normaliser {
+    type Value = usize;
+
+    type Failure = Error;
+
+    ghost can_run = { λ _. ⊤ };
+
+    ghost promise = { λ normaliser. normalise_promise normaliser.form };
+
+    fn run<S: Sink>(
+        &self,
+        alloc: Global,
+        input: &[u8],
+        limits: Limits,
+        sink: &mut S,
+    ) -> Result<usize, Error> {
+        normalise_into(alloc, input, self.form, limits, sink)
+    }
+
+    ghost wraps_from = { λ _ _ _ _ same. same };
+
+    ghost laws = { λ normaliser. normalise_laws normaliser.form };
 }
 
-/// Reads a boot image to its end, writes its normal form, and flushes: `normalise_into` from a
-/// reader to a writer that record the outcome of their calls. Returns the number of signature
-/// nodes, which is 0 for a legacy image.
+/// Reads a boot image to its end, writes its normal form, and flushes: `pipe_to` with a
+/// `Normaliser`. Returns the number of signature nodes, which is 0 for a legacy image.
 ///
-/// The errors of the file are those of `normalise`; OutOfMemory may come for any file, since
-/// reading it allocates. ReadFailed comes after a read that failed with an error other than an
-/// interruption, or after 1,024 interrupted reads in a row; WriteFailed after a write or flush that
-/// failed with such an error, after a write that wrote none of the remaining bytes, or after 1,024
-/// interruptions in a row. No such failure is ignored. After WriteFailed a prefix of the normal
-/// form was written, the whole of it if the flush failed; after any other error nothing was
-/// written.
-pub fn normalise_traced<S: TracedRead, T: TracedWrite>(
-    alloc: Global,
-    source: &mut S,
-    target: &mut T,
-    form: Form,
-    limits: Limits,
-) -> Result<usize, Error>
-    ensures done { IfOk result (λ count. Transferred (S.trace source.old) (S.trace source.new)
-        (T.trace target.old) (T.trace target.new) (Normalised limits form count)) }
-    ensures failed { IfErr result (λ error. TransferFailed (S.trace source.old) (S.trace source.new)
-        (T.trace target.old) (T.trace target.new) (IsNormalForm limits form)
-        (λ file. IsStreamError (IsNormaliseError limits form) file error)
-        (error ≡ Error.ReadFailed) (error ≡ Error.WriteFailed)) }
-    ensures takes_at_most_one_byte_more { let old = S.trace source.old in
-        TakesAtMost old.remaining (S.trace source.new).remaining (limits.file + 1) }
-    ensures no_failed_read_ignored { ReadsWell (S.trace source.old) →
-        (IsErrOf result Error.ReadFailed → ⊥) → ReadsWell (S.trace source.new) }
-    ensures no_failed_write_ignored { WritesWell (T.trace target.old) →
-        (IsErrOf result Error.WriteFailed → ⊥) → WritesWell (T.trace target.new) }
-    ensures same_streams { SameStreams (S.trace source.old) (S.trace source.new)
-        (T.trace target.old) (T.trace target.new) }
-{
-    let file = read_all_traced(alloc, source, limits)?;
-    write_normal_form(alloc, &file, form, limits, target)
-}
-
-/// Reads a boot image to its end, writes its normal form, and flushes: `normalise_traced` over a
-/// plain reader and a plain writer. Returns the number of signature nodes, which is 0 for a legacy
-/// image.
-///
-/// The errors are those of `normalise_traced`. A plain reader or writer does not record a failed
-/// call, so the contract cannot state why ReadFailed and WriteFailed come. After WriteFailed a
-/// prefix of the normal form was written; after any other error nothing was written.
+/// The errors are those of `pipe_to`, and of the file those of `normalise`.
 pub fn normalise_to<R: Read, W: Write>(
     alloc: Global,
     reader: &mut R,
@@ -217,17 +159,8 @@ pub fn normalise_to<R: Read, W: Write>(
     form: Form,
     limits: Limits,
 ) -> Result<usize, Error>
-    ensures done { IfOk result (λ count. Moved (R.remaining reader.old) (R.remaining reader.new)
-        (W.contents writer.old) (W.contents writer.new) (Normalised limits form count)) }
-    ensures failed { IfErr result (λ error. MoveFailed
-        (R.remaining reader.old) (R.remaining reader.new)
-        (W.contents writer.old) (W.contents writer.new) ⊥ (IsNormalForm limits form)
-        (λ file. IsStreamError (IsNormaliseError limits form) file error)
-        (error ≡ Error.WriteFailed)) }
-    ensures takes_at_most_one_byte_more { TakesAtMost (R.remaining reader.old)
-        (R.remaining reader.new) (limits.file + 1) }
+    ensures { IsPiped (normalise_promise form limits) limits (R.remaining reader.old)
+        (R.remaining reader.new) (W.contents writer.old) (W.contents writer.new) result }
 {
-    let mut source = TracedReader::new(reader);
-    let mut target = TracedWriter::new(writer);
-    normalise_traced(alloc, &mut source, &mut target, form, limits)
+    pipe_to(alloc, &Normaliser { form }, reader, writer, limits)
 }

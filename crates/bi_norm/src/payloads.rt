@@ -1,7 +1,7 @@
 //! The payloads after the blob of a normal form.
 
 ghost use Rattle.std.specs.Prelude.{◌≡◌, ◌≤◌, ◌+◌, ◌++◌, length, map, IfOk};
-ghost use Rattle.bi_base.specs.Cells.{up4};
+ghost use Rattle.bi_base.specs.Cells.{up4 as up4_of};
 ghost use Rattle.bi_base.specs.Sinks.{Wrote};
 ghost use Rattle.bi_blob.specs.Layout.{longest_text, padding_to_4};
 ghost use Rattle.bi_fit.specs.Content.{read_image};
@@ -10,7 +10,7 @@ ghost use Rattle.bi_norm.specs.Building.{specifications_of};
 ghost use Rattle.bi_norm.specs.BuiltNodes.{payloads_of};
 
 use crate::building::ImageSpec;
-use bi_base::{Error, Sink};
+use bi_base::{Error, Sink, up4};
 use bi_fit::Image;
 
 /// Appends the payloads of images in their order, each after zeros up to a multiple of four, also
@@ -50,12 +50,12 @@ pub(crate) fn put_built_payloads<S: Sink>(
 /// Appends zeros up to a multiple of four, and a payload, after payloads that end at `end`. Returns
 /// where this one ends. Fails as the sink does.
 fn put_payload<S: Sink>(end: usize, payload: &[u8], sink: &mut S) -> Result<usize, Error>
-    requires { up4 end + length payload.now ≤ longest_text }
-    ensures end { IfOk result (λ new_end. new_end ≡ up4 end + length payload.now) }
+    requires { up4_of end + length payload.now ≤ longest_text }
+    ensures end { IfOk result (λ new_end. new_end ≡ up4_of end + length payload.now) }
     ensures written { Wrote S.appends S.fails sink.old (padding_to_4 end ++ payload.now) result
         sink.new }
 {
-    let begin = end.next_multiple_of(4);
+    let begin = up4(end);
     sink.put(&[0; 3][..begin - end])?;
     sink.put(payload)?;
     Ok(begin + payload.len())

@@ -1,14 +1,4 @@
-pub mod Hexadecimal
-pub mod Lines
-pub mod Reported
-pub mod FitLines
-pub mod FitListings
-pub mod PartLines
-pub mod ShownBytes
-pub mod Choices
-pub mod Opened
-pub mod Streams
-pub mod ConvertedFiles
-pub mod LegacyOutputs
-pub mod FitOutputs
 pub mod CodeWords
+pub mod TaskFailures
+pub mod CommandLines
+pub mod RunFacts

@@ -5,8 +5,8 @@ use Rattle.bi_base.specs.declared.fault.Error.TheVariants.{Refused, OutOfMemory,
 use Rattle.bi_base.specs.declared.fault.Error.TheVariants.{WriteFailed}
 use Rattle.bi_base.specs.Causes.{name_of}
 use Rattle.bi_fit.specs.declared.configurations.ConfigError.TheVariants as list
-use Rattle.bootimg.specs.declared.extract.ExtractError.{ExtractError}
-use Rattle.bootimg.specs.declared.extract.ExtractError.TheVariants as extract
+use Rattle.bi_commands.specs.declared.extract.ExtractError.{ExtractError}
+use Rattle.bi_commands.specs.declared.extract.ExtractError.TheVariants as extract
 use Rattle.bootimg.specs.declared.failure.Failure.{Failure}
 use Rattle.bootimg.specs.declared.failure.Failure.TheVariants.{Call, WrongKind, NoPart, NoImage}
 use Rattle.bootimg.specs.declared.failure.Failure.TheVariants.{NoConfig, NoKey, BadList, Missing}

@@ -1,11 +1,6 @@
-pub mod Building
 pub mod CodeWords
 pub mod CommandLine
-pub mod Extracting
 pub mod Failures
-pub mod Listing
 pub mod Numbers
-pub mod Shown
-pub mod FitListing
-pub mod ReadListing
-pub mod Reports
+pub mod Tasks
+pub mod Runs

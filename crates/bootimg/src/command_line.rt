@@ -2,25 +2,29 @@
 
 mod build;
 mod extract;
+mod image;
 mod options;
+mod table;
 
-ghost use Rattle.std.specs.Prelude.{IfOk};
-ghost use Rattle.bootimg.specs.CommandLine.{HasLengths};
+ghost use Rattle.std.specs.Prelude.{◌≡◌, IfOk, IfErr};
+ghost use Rattle.bi_base.specs.declared.fault.Error.TheVariants.{OutOfMemory};
+ghost use Rattle.bootimg.specs.CommandLine.{HasLengths, IsRequest, IsTask, IsTaskOutcome};
+ghost use Rattle.bootimg.specs.CommandLine.{IsTextOutcome};
+ghost use Rattle.bootimg.specs.declared.command_line.Outcome.TheVariants as outcome;
+ghost use Rattle.bootimg.specs.declared.failure.Failure.TheVariants.{Call};
 
-use crate::extract::Select;
 use crate::failure::Failure;
 use bi_base::{Error, Limits};
+use bi_commands::extract::Select;
 use bi_norm::Form;
 pub use build::{FitPlan, LegacyPlan};
-use build::{build_fit, build_legacy, fit_plan, legacy_plan};
+use build::{fit_plan, legacy_plan};
+use clap::ArgMatches;
 use clap::error::ErrorKind;
-use clap::{ArgMatches, Command};
-use extract::{extract, selection};
-use options::{external, form, limit, limits};
+use extract::selection;
+use options::{form, limits};
 use std::alloc::{AllocError, AllocFailed, Global};
-
-/// The version that `--version` prints.
-const VERSION: &str = "0.1.0";
+use table::program;
 
 /// A command, and the options that only this command has.
 #[derive(Debug, Drop)]
@@ -29,6 +33,8 @@ pub enum Task<'a> {
     Normalise(Form),
     /// Write the listing.
     List,
+    /// Write the description of what the image means.
+    Describe,
     /// Write the report on the checksums and digests.
     Verify,
     /// Write what the selection chooses.
@@ -69,18 +75,24 @@ impl From<clap::Error> for Outcome {
 }
 
 impl From<AllocError> for Outcome {
+    ghost from_gives = { λ _ result. result ≡ outcome.Failure (Call OutOfMemory) };
+
     fn from(error: AllocError) -> Outcome {
         Outcome::Failure(Failure::Call(Error::from(error)))
     }
 }
 
 impl<T: Drop> From<AllocFailed<T>> for Outcome {
+    ghost from_gives = { λ _ result. result ≡ outcome.Failure (Call OutOfMemory) };
+
     fn from(error: AllocFailed<T>) -> Outcome {
         Outcome::Failure(Failure::Call(Error::from(error)))
     }
 }
 
 impl From<Failure> for Outcome {
+    ghost from_gives = { λ failure result. result ≡ outcome.Failure failure };
+
     fn from(failure: Failure) -> Outcome {
         Outcome::Failure(failure)
     }
@@ -92,7 +104,9 @@ impl From<Failure> for Outcome {
 /// number that is malformed or out of range, an unknown code or an unknown key; an image of
 /// `build-fit` that cannot be read. A call that allocates may run out of memory.
 pub fn parse_arguments<'a>(alloc: Global, arguments: &'a [&'a str]) -> Result<Request<'a>, Outcome>
+    ensures request { IfOk result IsRequest }
     ensures lengths { IfOk result (λ request. HasLengths request.task) }
+    ensures depth { IfOk result (λ request. request.limits.depth ≡ 64) }
 {
     let matches = program(alloc)?.try_get_matches_from(arguments)?;
     let Some((name, options)) = matches.subcommand() else {
@@ -105,11 +119,14 @@ pub fn parse_arguments<'a>(alloc: Global, arguments: &'a [&'a str]) -> Result<Re
 
 /// Returns the command of this name with the options. Fails as `parse_arguments` does.
 fn parse_task<'a>(alloc: Global, name: &str, options: &ArgMatches<'a>) -> Result<Task<'a>, Outcome>
+    ensures task { IfOk result (IsTask name.now options.now) }
     ensures lengths { IfOk result (λ task. HasLengths task) }
+    ensures failure { IfErr result (IsTaskOutcome name.now options.now) }
 {
     Ok(match name {
         "normalise" => Task::Normalise(form(options)),
         "list" => Task::List,
+        "describe" => Task::Describe,
         "verify" => Task::Verify,
         "extract" => Task::Extract(selection(options)?),
         "convert" => Task::Convert,
@@ -124,123 +141,9 @@ fn parse_task<'a>(alloc: Global, name: &str, options: &ArgMatches<'a>) -> Result
 }
 
 /// The outcome of arguments without a command.
-fn no_command(alloc: Global) -> Result<Outcome, AllocError> {
+fn no_command(alloc: Global) -> Result<Outcome, AllocError>
+    ensures { IfOk result IsTextOutcome }
+{
     let text = program(alloc)?.error(ErrorKind::MissingSubcommand, "a command is required")?;
     Ok(Outcome::Text(text))
-}
-
-/// The program with its commands and options.
-fn program<'a>(alloc: Global) -> Result<Command<'a>, AllocError> {
-    let program = Command::new(alloc, "bootimg")
-        .bin_name("bootimg")?
-        .no_binary_name(true)
-        .version(VERSION)
-        .about("Normalises, lists, verifies, takes apart, converts and builds U-Boot boot images")
-        .after_help(
-            "The input is read from standard input, and the output is written to standard \
-             output. An\n\
-             image is a legacy image, or a flattened image tree (FIT):\n\n\
-             \x20   bootimg list < kernel.uimage\n\n\
-             The exit status is 0 after success. A failure is reported on standard error, and \
-             the exit\n\
-             status is then 2. It is 1 if verify wrote a verdict that is not good.",
-        )
-        .subcommand_required(true);
-    let program = add_image_commands(alloc, program)?;
-    let program = add_part_commands(alloc, program)?;
-    add_build_commands(alloc, program)
-}
-
-/// Adds `normalise`, `list` and `verify`.
-fn add_image_commands<'a>(alloc: Global, program: Command<'a>) -> Result<Command<'a>, AllocError> {
-    program
-        .subcommand(normalise(alloc)?)?
-        .subcommand(list(alloc)?)?
-        .subcommand(verify(alloc)?)
-}
-
-/// Adds `extract` and `convert`.
-fn add_part_commands<'a>(alloc: Global, program: Command<'a>) -> Result<Command<'a>, AllocError> {
-    program
-        .subcommand(extract(alloc)?)?
-        .subcommand(convert(alloc)?)
-}
-
-/// Adds `build-legacy` and `build-fit`.
-fn add_build_commands<'a>(alloc: Global, program: Command<'a>) -> Result<Command<'a>, AllocError> {
-    program
-        .subcommand(build_legacy(alloc)?)?
-        .subcommand(build_fit(alloc)?)
-}
-
-fn normalise<'a>(alloc: Global) -> Result<Command<'a>, AllocError> {
-    let external_help =
-        "Write the payloads of a flattened image tree after the tree, not inside it";
-    Command::new(alloc, "normalise")
-        .about("Write the normal form of an image")
-        .override_usage("bootimg normalise [OPTIONS] < IMAGE > NORMAL")
-        .after_help(
-            "Reads an image from standard input, and writes its normal form to standard output.\n\
-             Two images of one kind have the same normal form exactly if they mean the same. \
-             A\n\
-             flattened image tree has one normal form with --external, and another without \
-             it.\n\n\
-             Signature nodes are kept, and not checked: a signature may no longer be valid. A \
-             note on\n\
-             standard error has their number, if there are any.\n\n\
-             Example: bootimg normalise < kernel.uimage > normal.uimage",
-        )
-        .arg(external(alloc, external_help))?
-        .arg(limit(alloc))
-}
-
-fn list<'a>(alloc: Global) -> Result<Command<'a>, AllocError> {
-    Command::new(alloc, "list")
-        .about("List what an image holds")
-        .override_usage("bootimg list [OPTIONS] < IMAGE")
-        .after_help(
-            "Reads an image from standard input, and writes to standard output what it holds.\n\
-             Of a legacy image: its fields, the size and offset of each part, and the number of \
-             bytes\n\
-             after the last part. Of a flattened image tree: its memory reservations, the size \
-             and\n\
-             offset of each payload, and what each configuration lists. Sizes and offsets are \
-             in bytes.\n\n\
-             Example: bootimg list < kernel.uimage",
-        )
-        .arg(limit(alloc))
-}
-
-fn verify<'a>(alloc: Global) -> Result<Command<'a>, AllocError> {
-    Command::new(alloc, "verify")
-        .about("Check the checksums and digests of an image")
-        .override_usage("bootimg verify [OPTIONS] < IMAGE")
-        .after_help(
-            "Reads an image from standard input, and writes to standard output a verdict on \
-             each\n\
-             checksum of a legacy image, or on each hash node of a flattened image tree. \
-             Signatures\n\
-             are not checked.\n\n\
-             The exit status is 0 if each verdict is good, or if there is none. It is 1 if one \
-             is not.\n\n\
-             Example: bootimg verify < kernel.itb",
-        )
-        .arg(limit(alloc))
-}
-
-fn convert<'a>(alloc: Global) -> Result<Command<'a>, AllocError> {
-    Command::new(alloc, "convert")
-        .about("Convert a legacy image to a flattened image tree")
-        .override_usage("bootimg convert [OPTIONS] < IMAGE > FIT")
-        .after_help(
-            "Reads a legacy image from standard input, and writes a flattened image tree with \
-             the same\n\
-             payloads to standard output. The parts of a multi-file image become a kernel, a \
-             ramdisk and\n\
-             a devicetree, in this order. Each payload has its SHA-256, and configuration \
-             conf-1 lists\n\
-             the images.\n\n\
-             Example: bootimg convert < kernel.uimage > kernel.itb",
-        )
-        .arg(limit(alloc))
 }

@@ -4,8 +4,8 @@ ghost use Rattle.std.specs.Prelude.{◌≡◌, Some};
 ghost use Rattle.bootimg.specs.declared.failure.Failure.TheVariants.{Call};
 ghost use Rattle.bootimg.specs.Failures.{failure_of, failure_text};
 
-use crate::extract::ExtractError;
 use bi_base::{Error, Fault};
+use bi_commands::extract::ExtractError;
 use bi_fit::ConfigError;
 use std::fmt;
 

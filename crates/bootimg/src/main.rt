@@ -1,17 +1,13 @@
-//! `bootimg` normalises, lists, verifies, extracts from, converts and builds U-Boot's boot images.
+//! `bootimg` normalises, lists, describes, verifies, extracts from, converts and builds U-Boot's
+//! boot images.
 #![tactic(auto)]
 
-mod building;
 mod codes;
 mod command_line;
-mod converting;
-mod extract;
 mod failure;
-mod listing;
 mod numbers;
-mod report;
 mod run;
-mod shown;
+mod tasks;
 
 use run::run;
 use std::io::{self, Write};

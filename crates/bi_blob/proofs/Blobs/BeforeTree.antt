@@ -33,7 +33,7 @@ not_both_before bounds file fault fine (inr faulty) =
     no_reservations_with_fault file (off_mem_rsvmap file) (totalsize file) fine.count fault fine.reservations faulty.1
 
 -- A fault before the tree is the fault of the file.
-first_fault : (bounds : Bounds) (file : List ℕ) (fault : Fault) → IsFaultBeforeTree bounds file fault → IsBlobFault bounds file fault
+pub first_fault : (bounds : Bounds) (file : List ℕ) (fault : Fault) → IsFaultBeforeTree bounds file fault → IsBlobFault bounds file fault
 first_fault bounds file fault (inl first) = InHeader first
 first_fault bounds file fault (inr faulty) = InReservations faulty.0 faulty.1
 

@@ -6,9 +6,9 @@ use Rattle.bi_blob.specs.Stages.{BeforeRoot, Inside, AfterRoot, next_stage}
 use Rattle.bi_blob.specs.Following.{MayFollow, AreClosedEvents}
 use Rattle.bi_blob.specs.BlobLaws.{HasOneTree, ClosedEventsHaveOneTree}
 use Rattle.bi_blob.proofs.Blobs.Trees.{trees_agree}
-use Rattle.bi_blob.proofs.Blobs.PartialNodes.{Growth, NotBegun, Growing, Grown, begun, with_one_property, with_one_child, root_of, opens_of, stage_of, said_so_far, IsGrowth, IsWholeTree}
-use Rattle.bi_blob.proofs.Blobs.Growing.{AreProperties-push, open_of-property, open_of-child, said_by-property, said_by-child, said_by-root}
-use Rattle.bi_blob.proofs.Blobs.Steps.{AreOpenNodes-property, AreOpenNodes-child, innermost_properties, length-opens_of}
+use Rattle.bi_blob.specs.OpenNodes.{TreeSoFar, NoTree, OpenTree, WholeTree, new_node, with_one_property, with_one_child, outer_nodes_of, stage_of, events_so_far, IsTreeSoFar, IsWholeTree}
+use Rattle.bi_blob.proofs.Blobs.OpenNodes.{root_of, AreProperties-push, open_node_of-property, open_node_of-child, events_of_open_nodes-property, events_of_open_nodes-child, events_of_open_nodes-root}
+use Rattle.bi_blob.proofs.Blobs.Steps.{AreOpenNodes-property, AreOpenNodes-child, innermost_properties, length-outer_nodes_of}
 use Rattle.bi_blob.proofs.Blobs.Passing.{event_without_place}
 use Rattle.bi_blob.proofs.Blobs.Complete.{tree_events_without_places, depth-properties_of}
 use Rattle.bi_blob.proofs.Blobs.Following.{FollowToEnd, to_end, follow_to_end, closed_at_end, tree_follows}
@@ -80,86 +80,86 @@ same_events root other same =
     tree-at_0 root = ap₂ (λ own children. record { own = own; children = children }) (properties-at_0 root.own) (nodes-at_0 root.children)
 
 -- A tree has grown by an event.
-pub record HasGrown (depth_limit : ℕ) (growth : Growth) (event : Event) : Type 0 where
-  pub after : Growth
-  pub is_growth : IsGrowth depth_limit after
-  pub is_stage : next_stage (stage_of growth) event ≡ stage_of after
-  pub said : said_so_far after ≡ said_so_far growth ++ event_at_0 event ∷ []
+pub record HasGrown (depth_limit : ℕ) (so_far : TreeSoFar) (event : Event) : Type 0 where
+  pub after : TreeSoFar
+  pub is_tree_so_far : IsTreeSoFar depth_limit after
+  pub is_stage : next_stage (stage_of so_far) event ≡ stage_of after
+  pub adds_event : events_so_far after ≡ events_so_far so_far ++ event_at_0 event ∷ []
 
 module _ (depth_limit : ℕ) where
   -- A tree grows by each event that may follow.
-  grow : (growth : Growth) (event : Event) → IsGrowth depth_limit growth → MayFollow depth_limit (stage_of growth) event → HasGrown depth_limit growth event
-  grow NotBegun (NodeStart name) is may = record {
-    after = Growing (begun name 0) [];
-    is_growth = (record { properties = record { named = tt; distinct = tt }; children = tt; shallow = omega (arith, may.0) }, may.1);
+  grow : (so_far : TreeSoFar) (event : Event) → IsTreeSoFar depth_limit so_far → MayFollow depth_limit (stage_of so_far) event → HasGrown depth_limit so_far event
+  grow NoTree (NodeStart name) is may = record {
+    after = OpenTree (new_node name 0) [];
+    is_tree_so_far = (record { properties = record { named = tt; distinct = tt }; children = tt; shallow = omega (arith, may.0) }, may.1);
     is_stage = refl;
-    said = refl;
+    adds_event = refl;
   }
-  grow (Growing parent outer) (NodeStart name) is may =
-      let few : suc (length (opens_of parent.name outer)) < depth_limit = may.0 in
-      let open_here : length (opens_of parent.name outer) ≡ length outer = length-opens_of parent.name outer in
+  grow (OpenTree parent outer) (NodeStart name) is may =
+      let few : suc (length (outer_nodes_of parent.name outer)) < depth_limit = may.0 in
+      let open_here : length (outer_nodes_of parent.name outer) ≡ length outer = length-outer_nodes_of parent.name outer in
       record {
-        after = Growing (begun name 0) (parent ∷ outer);
-        is_growth = (
+        after = OpenTree (new_node name 0) (parent ∷ outer);
+        is_tree_so_far = (
           record { properties = record { named = tt; distinct = tt }; children = tt; shallow = omega arith },
           record { is_name = may.1; is_new = may.2 },
           is,
         );
         is_stage = refl;
-        said = refl;
+        adds_event = refl;
       }
-  grow (Grown root) (NodeStart name) is may = absurd may
-  grow NotBegun (NodeProperty property) is may = absurd may
-  grow (Growing innermost outer) (NodeProperty property) is may = record {
-    after = Growing (with_one_property innermost (property_at_0 property)) outer;
-    is_growth = AreOpenNodes-property depth_limit innermost outer (property_at_0 property) is
+  grow (WholeTree root) (NodeStart name) is may = absurd may
+  grow NoTree (NodeProperty property) is may = absurd may
+  grow (OpenTree innermost outer) (NodeProperty property) is may = record {
+    after = OpenTree (with_one_property innermost (property_at_0 property)) outer;
+    is_tree_so_far = AreOpenNodes-property depth_limit innermost outer (property_at_0 property) is
         (AreProperties-push innermost.properties (property_at_0 property) (innermost_properties depth_limit innermost outer is) may.1 may.2);
-    is_stage = ap (λ open_node. Inside open_node (opens_of innermost.name outer)) (sym (open_of-property innermost (property_at_0 property)));
-    said = said_by-property innermost outer (property_at_0 property) may.0;
+    is_stage = ap (λ open_node. Inside open_node (outer_nodes_of innermost.name outer)) (sym (open_node_of-property innermost (property_at_0 property)));
+    adds_event = events_of_open_nodes-property innermost outer (property_at_0 property) may.0;
   }
-  grow (Grown root) (NodeProperty property) is may = absurd may
-  grow NotBegun NodeEnd is may = absurd may
-  grow (Growing outermost []) NodeEnd is may =
+  grow (WholeTree root) (NodeProperty property) is may = absurd may
+  grow NoTree NodeEnd is may = absurd may
+  grow (OpenTree outermost []) NodeEnd is may =
       let shallow = is.0.shallow in
       record {
-        after = Grown (root_of outermost);
-        is_growth = record { is_tree = record { is_own = is.0.properties; children = is.0.children }; shallow = omega (arith, shallow) };
+        after = WholeTree (root_of outermost);
+        is_tree_so_far = record { is_tree = record { is_own = is.0.properties; children = is.0.children }; shallow = omega (arith, shallow) };
         is_stage = refl;
-        said = said_by-root outermost is.1;
+        adds_event = events_of_open_nodes-root outermost is.1;
       }
-  grow (Growing child (parent ∷ outer)) NodeEnd is may = record {
-    after = Growing (with_one_child parent child) outer;
-    is_growth = AreOpenNodes-child depth_limit child parent outer is;
-    is_stage = ap (λ open_node. Inside open_node (opens_of parent.name outer)) (sym (open_of-child parent child));
-    said = said_by-child parent child outer;
+  grow (OpenTree child (parent ∷ outer)) NodeEnd is may = record {
+    after = OpenTree (with_one_child parent child) outer;
+    is_tree_so_far = AreOpenNodes-child depth_limit child parent outer is;
+    is_stage = ap (λ open_node. Inside open_node (outer_nodes_of parent.name outer)) (sym (open_node_of-child parent child));
+    adds_event = events_of_open_nodes-child parent child outer;
   }
-  grow (Grown root) NodeEnd is may = absurd may
+  grow (WholeTree root) NodeEnd is may = absurd may
 
   -- A tree that has ended.
-  ended : (growth : Growth) → IsGrowth depth_limit growth → stage_of growth ≡ AfterRoot → (root : Root FileNode) × (file_events_of root ≡ said_so_far growth) × IsWholeTree depth_limit root
-  ended NotBegun is closed = absurd cc
-  ended (Growing innermost outer) is closed = absurd cc
-  ended (Grown root) is closed = (root, refl, is)
+  ended : (so_far : TreeSoFar) → IsTreeSoFar depth_limit so_far → stage_of so_far ≡ AfterRoot → (root : Root FileNode) × (file_events_of root ≡ events_so_far so_far) × IsWholeTree depth_limit root
+  ended NoTree is closed = absurd cc
+  ended (OpenTree innermost outer) is closed = absurd cc
+  ended (WholeTree root) is closed = (root, refl, is)
 
   -- A tree grows by events that follow to the end, and ends.
-  grow_to_end : (growth : Growth) (later : List Event) → IsGrowth depth_limit growth → FollowToEnd (MayFollow depth_limit) (stage_of growth) later → (root : Root FileNode) × (file_events_of root ≡ said_so_far growth ++ map event_at_0 later) × IsWholeTree depth_limit root
-  grow_to_end growth [] is follow =
-      let done = ended growth is follow in
-      (done.0, done.1 ∙ sym (append-nil (said_so_far growth)), done.2)
-  grow_to_end growth (event ∷ later) is follow =
-      let one : HasGrown depth_limit growth event = grow growth event is follow.0 in
-      let done = grow_to_end one.after later one.is_growth (subst (λ stage. FollowToEnd (MayFollow depth_limit) stage later) one.is_stage follow.1) in (
+  grow_to_end : (so_far : TreeSoFar) (later : List Event) → IsTreeSoFar depth_limit so_far → FollowToEnd (MayFollow depth_limit) (stage_of so_far) later → (root : Root FileNode) × (file_events_of root ≡ events_so_far so_far ++ map event_at_0 later) × IsWholeTree depth_limit root
+  grow_to_end so_far [] is follow =
+      let done = ended so_far is follow in
+      (done.0, done.1 ∙ sym (append-nil (events_so_far so_far)), done.2)
+  grow_to_end so_far (event ∷ later) is follow =
+      let one : HasGrown depth_limit so_far event = grow so_far event is follow.0 in
+      let done = grow_to_end one.after later one.is_tree_so_far (subst (λ stage. FollowToEnd (MayFollow depth_limit) stage later) one.is_stage follow.1) in (
         done.0,
         done.1
-            ∙ ap (λ l. l ++ map event_at_0 later) one.said
-            ∙ append_assoc (said_so_far growth) (event_at_0 event ∷ []) (map event_at_0 later),
+            ∙ ap (λ l. l ++ map event_at_0 later) one.adds_event
+            ∙ append_assoc (events_so_far so_far) (event_at_0 event ∷ []) (map event_at_0 later),
         done.2,
       )
 
   -- Closed events are those of one tree.
   one_tree : (events : List Event) → AreClosedEvents (MayFollow depth_limit) events → HasOneTree depth_limit events
   one_tree events closed =
-      let done = grow_to_end NotBegun events tt (to_end (MayFollow depth_limit) BeforeRoot events closed.follow closed.closed) in
+      let done = grow_to_end NoTree events tt (to_end (MayFollow depth_limit) BeforeRoot events closed.follow closed.closed) in
       let same : events_of (tree_without_places done.0) ≡ events =
       sym (tree_events_without_places done.0) ∙ ap (map event_without_place) done.1 ∙ events_without_places-at_0 events in
       record {

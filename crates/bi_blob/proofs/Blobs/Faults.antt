@@ -3,13 +3,13 @@ use Rattle.bi_base.specs.declared.fault.Fault.{Fault}
 use Rattle.bi_base.specs.Cells.{AreBytes}
 use Rattle.bi_base.specs.Limits.{Bounds}
 use Rattle.bi_blob.specs.Tokens.{Token}
-use Rattle.bi_blob.specs.Blob.{Header, IsBlobWithin, tree_blocks, off_mem_rsvmap, totalsize, boot_cpuid_phys}
+use Rattle.bi_blob.specs.Blob.{Header, IsBlobWithin, tree_blocks, off_mem_rsvmap, totalsize, boot_cpuid_phys, reservations_at}
 use Rattle.bi_blob.specs.BlobFaults.{HeaderPasses, header_checks, header_fault, HasNoHeaderFault, IsHeaderFault, HasReservations, IsStructureFault, IsBlobFault, InHeader, InReservations, InStructure}
-use Rattle.bi_blob.specs.BlobLaws.{BlobHasNoFault, OneFault, BlobOrFault, BlobWhereNoFault}
+use Rattle.bi_blob.specs.BlobLaws.{BlobHasNoFault, OneBlobFault, BlobOrFault, BlobWhereNoFault}
 use Rattle.bi_base.proofs.FirstFault.{one_fault, not_both, fault_or_none}
 use Rattle.bi_blob.proofs.Blobs.Decided.{header_decided}
 use Rattle.bi_blob.proofs.Blobs.Headers.{HasNoHeaderFault-Header, Header-HasNoHeaderFault, Header-IsReadable}
-use Rattle.bi_blob.proofs.Blobs.ReservationFaults.{Found, reservations_or_fault, one_reservations_fault, no_reservations_with_fault, reservations_at, HasReservations-BeginsWithReservations, BeginsWithReservations-HasReservations}
+use Rattle.bi_blob.proofs.Blobs.ReservationFaults.{Found, reservations_or_fault, one_reservations_fault, no_reservations_with_fault, HasReservations-BeginsWithReservations, BeginsWithReservations-HasReservations}
 use Rattle.bi_blob.proofs.Blobs.Whole.{HasTree, tree_or_fault}
 use Rattle.bi_blob.proofs.Blobs.OneFault.{IsEnded, one_structure_fault, no_fault_in_ended}
 use Rattle.bi_blob.proofs.Blobs.Complete.{tree_ends}
@@ -33,7 +33,7 @@ blob_has_no_fault bounds file fault within (InStructure fine count has faulty) =
 no_fault_or_fault : (bounds : Bounds) (file : List ℕ) (fault : Fault) → HasNoHeaderFault bounds file → IsHeaderFault bounds file fault → ⊥
 no_fault_or_fault bounds file fault fine first = not_both (HeaderPasses bounds file) (header_fault bounds) header_checks fault fine first
 
-pub one_blob_fault : OneFault
+pub one_blob_fault : OneBlobFault
 one_blob_fault bounds file f g (InHeader one) (InHeader other) = one_fault (HeaderPasses bounds file) (header_fault bounds) header_checks f g one other
 one_blob_fault bounds file f g (InHeader one) (InReservations fine other) = absurd (no_fault_or_fault bounds file f fine one)
 one_blob_fault bounds file f g (InHeader one) (InStructure fine count has other) = absurd (no_fault_or_fault bounds file f fine one)

@@ -8,7 +8,7 @@ use Rattle.bi_blob.specs.Events.{Event, NodeProperty, NodeEnd, events, events_of
 use Rattle.bi_blob.specs.Stages.{Stage, BeforeRoot, Inside, AfterRoot, OpenNode, next_stage, open_nodes, child_names, property_names, is_expected}
 use Rattle.bi_blob.specs.Following.{MayBegin, MayHaveProperty, MayEnd, MayFollow, AllFollow}
 use Rattle.bi_blob.specs.BlobFaults.{MayBeNamed}
-use Rattle.bi_blob.proofs.Blobs.Growing.{All-push}
+use Rattle.bi_blob.proofs.Blobs.OpenNodes.{All-push}
 use Rattle.bi_blob.proofs.Blobs.Trees.{regrouped}
 
 -- The events of a tree may follow one another, and end the root.

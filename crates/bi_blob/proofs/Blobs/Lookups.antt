@@ -1,9 +1,9 @@
-use Rattle.std.proofs.Common.{◌≡◌, ℕ, zero, suc, Bool, true, false, cond, List, [], ◌∷◌, map, Some, bytes_eq, refl, sym, ap, subst, ◌∙◌, arith}
+use Rattle.std.proofs.Common.{◌≡◌, ℕ, zero, suc, Bool, true, false, cond, List, [], ◌∷◌, map, Option, Some, bytes_eq, refl, sym, ap, subst, ◌∙◌, arith}
 use Rattle.std.specs.List.{slice_get}
 use Rattle.std.specs.Map.{lookup}
 use Rattle.std.proofs.lemmas.Slice.Eq.{bytes_eq-Decides}
-use Rattle.bi_blob.specs.Tree.{Nodes, none, node, FileProperty, FileNode, names, IsNew, AreDistinct}
-use Rattle.bi_blob.specs.Lookups.{Sibling, siblings, node_at}
+use Rattle.bi_blob.specs.Tree.{Nodes, none, node, FileProperty, FileNode, names, with_each, IsNew, AreDistinct}
+use Rattle.bi_blob.specs.Lookups.{Sibling, siblings, siblings_from, node_at}
 use Rattle.bi_blob.specs.BlobLaws.{NodesAreFound, PropertiesAreFound}
 
 -- What is found by a name among things with distinct names.
@@ -53,9 +53,23 @@ module _ {X : Type 0} (name_of : X → List ℕ) where
           (there.0, suc there.1, there.2)
 
 -- The names of nodes are those of the nodes with their later siblings.
-names-siblings : {Own : Type 0} (nodes : Nodes Own) → map (λ (s : Sibling Own). s.name) (siblings nodes) ≡ names nodes
+pub names-siblings : {Own : Type 0} (nodes : Nodes Own) → map (λ (s : Sibling Own). s.name) (siblings nodes) ≡ names nodes
 names-siblings none = refl
 names-siblings (node name own children later) = ap (λ l. name ∷ l) (names-siblings later)
+
+-- What nodes have themselves makes no difference to their names.
+pub names-with_each : {A B : Type 0} (change : A → B) (nodes : Nodes A) → names (with_each change nodes) ≡ names nodes
+names-with_each change none = refl
+names-with_each change (node name own children later) = ap (λ l. name ∷ l) (names-with_each change later)
+
+-- From the first of some nodes on, there are all of them.
+pub siblings_from-first : {Own : Type 0} (nodes : Nodes Own) → siblings_from (node_at nodes 0) ≡ siblings nodes
+siblings_from-first none = refl
+siblings_from-first (node name own children later) = refl
+
+-- From a node on, there are the node and those from the next one on.
+pub siblings_from-next : {Own : Type 0} (next after : Option (Sibling Own)) (first : Sibling Own) → next ≡ Some first → after ≡ node_at first.later 0 → siblings_from next ≡ first ∷ siblings_from after
+siblings_from-next next after first is after_is = ap siblings_from is ∙ ap (λ l. first ∷ l) (sym (ap siblings_from after_is ∙ siblings_from-first first.later))
 
 -- After a node comes the first of its later siblings.
 next_node : {Own : Type 0} (nodes : Nodes Own) (index : ℕ) (sibling : Sibling Own) → node_at nodes index ≡ Some sibling → node_at sibling.later 0 ≡ node_at nodes (suc index)

@@ -10,7 +10,7 @@ use Rattle.bi_blob.specs.Stages.{next_stage}
 use Rattle.bi_blob.specs.Blob.{TreeBlocks}
 use Rattle.bi_blob.specs.BlobFaults.{TokenPasses, token_checks, token_events, stage_after, place_after, ArePassed}
 use Rattle.bi_base.proofs.CellLaws.{length-cell, length-slice, slice-first, slice-rest}
-use Rattle.bi_blob.proofs.Blobs.PartialNodes.{Growth, stage_of, said_so_far, IsGrowth, Standing}
+use Rattle.bi_blob.specs.OpenNodes.{TreeSoFar, stage_of, events_so_far, IsTreeSoFar, IsOpenAt}
 use Rattle.bi_blob.proofs.Blobs.Tokens.{width-at_least}
 use Rattle.bi_blob.proofs.Blobs.TokenEncoding.{place_after_all, place_after_all-append, AllStand}
 use Rattle.bi_blob.proofs.Blobs.EventEncoding.{EncodeEvents-append}
@@ -89,25 +89,25 @@ AllStand-encoded file at (t ∷ later) stand within =
     )
 
 -- The state of a reader after one more token that passes, where what was read grows by the events of the token.
-pub stand_more : (blocks : TreeBlocks) (depth_limit place : ℕ) (old new : Growth) (t : Token) (more : List FileEvent) → Standing blocks depth_limit place old → t ≢ End → IsTokenAt blocks.file place t → HasNoFault (TokenPasses blocks depth_limit place (stage_of old)) (token_checks (u32_at blocks.file place)) → EncodeEvents blocks.strings place (t ∷ []) more → said_so_far new ≡ said_so_far old ++ more → fold next_stage (stage_of old) (token_events blocks.strings t) ≡ stage_of new → IsGrowth depth_limit new → Standing blocks depth_limit (place + width t) new
-stand_more blocks depth_limit place old new t more standing no_end is_at passes encodes_events grown staged is_growth = record {
-  readable = standing.readable;
-  tokens = t ∷ standing.tokens;
+pub after_token : (blocks : TreeBlocks) (depth_limit place : ℕ) (old new : TreeSoFar) (t : Token) (more : List FileEvent) → IsOpenAt blocks depth_limit place old → t ≢ End → IsTokenAt blocks.file place t → HasNoFault (TokenPasses blocks depth_limit place (stage_of old)) (token_checks (u32_at blocks.file place)) → EncodeEvents blocks.strings place (t ∷ []) more → events_so_far new ≡ events_so_far old ++ more → fold next_stage (stage_of old) (token_events blocks.strings t) ≡ stage_of new → IsTreeSoFar depth_limit new → IsOpenAt blocks depth_limit (place + width t) new
+after_token blocks depth_limit place old new t more position no_end is_at passes encodes_events grown staged is_tree_so_far = record {
+  readable = position.readable;
+  tokens = t ∷ position.tokens;
   passed = (
     record {
       no_end = no_end;
-      is_at = subst (λ p. IsTokenAt blocks.file p t) (sym standing.is_place) is_at;
-      passes = subst (λ p. HasNoFault (TokenPasses blocks depth_limit p (stage_after blocks.strings standing.tokens)) (token_checks (u32_at blocks.file p)))
-          (sym standing.is_place)
-          (subst (λ stage. HasNoFault (TokenPasses blocks depth_limit place stage) (token_checks (u32_at blocks.file place))) (sym standing.is_stage) passes);
+      is_at = subst (λ p. IsTokenAt blocks.file p t) (sym position.is_place) is_at;
+      passes = subst (λ p. HasNoFault (TokenPasses blocks depth_limit p (stage_after blocks.strings position.tokens)) (token_checks (u32_at blocks.file p)))
+          (sym position.is_place)
+          (subst (λ stage. HasNoFault (TokenPasses blocks depth_limit place stage) (token_checks (u32_at blocks.file place))) (sym position.is_stage) passes);
     },
-    standing.passed,
+    position.passed,
   );
-  is_place = ap (λ p. p + width t) standing.is_place;
-  is_stage = ap (λ stage. fold next_stage stage (token_events blocks.strings t)) standing.is_stage ∙ staged;
-  encodes = subst (λ ts. EncodeEvents blocks.strings blocks.begin ts (said_so_far new)) (sym (reverse-cons t standing.tokens))
-      (subst (EncodeEvents blocks.strings blocks.begin (reverse standing.tokens ++ t ∷ [])) (sym grown)
-      (EncodeEvents-append blocks.strings blocks.begin (reverse standing.tokens) (t ∷ []) (said_so_far old) more standing.encodes
-      (subst (λ p. EncodeEvents blocks.strings p (t ∷ []) more) (sym (place_after_all-reverse blocks standing.tokens ∙ standing.is_place)) encodes_events)));
-  is_growth = is_growth;
+  is_place = ap (λ p. p + width t) position.is_place;
+  is_stage = ap (λ stage. fold next_stage stage (token_events blocks.strings t)) position.is_stage ∙ staged;
+  encodes = subst (λ ts. EncodeEvents blocks.strings blocks.begin ts (events_so_far new)) (sym (reverse-cons t position.tokens))
+      (subst (EncodeEvents blocks.strings blocks.begin (reverse position.tokens ++ t ∷ [])) (sym grown)
+      (EncodeEvents-append blocks.strings blocks.begin (reverse position.tokens) (t ∷ []) (events_so_far old) more position.encodes
+      (subst (λ p. EncodeEvents blocks.strings p (t ∷ []) more) (sym (place_after_all-reverse blocks position.tokens ∙ position.is_place)) encodes_events)));
+  is_tree_so_far = is_tree_so_far;
 }

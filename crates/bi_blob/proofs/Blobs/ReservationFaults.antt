@@ -6,13 +6,13 @@ use Rattle.std.proofs.Math.Seq.{take-add}
 use Rattle.bi_base.specs.declared.fault.Cause.TheVariants.{Truncated}
 use Rattle.bi_base.specs.declared.fault.Fault.{Fault}
 use Rattle.bi_base.specs.Cells.{cell8, slice, u64_at, AreBytes}
-use Rattle.bi_blob.specs.Blob.{Reservation, IsReservation, pair_bytes, end_pair, reservation_block, BeginsWithReservations}
+use Rattle.bi_blob.specs.Blob.{Reservation, IsReservation, pair_bytes, end_pair, reservation_block, BeginsWithReservations, pair_at, reservations_at}
 use Rattle.bi_blob.specs.BlobFaults.{IsEndPair, HasReservations, IsReservationsFault}
 use Rattle.bi_base.proofs.CellLaws.{length-slice}
 use Rattle.bi_blob.proofs.Blobs.Cells.{BytesAt, BytesAt-from, BytesAt-left, BytesAt-right, BytesAt-join, BytesAt-cell8, u64_at-BytesAt, u64_at-fits, length-cell8}
 use Rattle.bi_blob.proofs.Blobs.Decided.{IsEndPair_decided}
 
--- A reservation block has reservations and an end pair, or a fault.
+-- Proves that a reservation block has reservations and an end pair, or a fault, and that they are those read at their offsets.
 
 pub length-pair_bytes : (pair : Reservation) → length (pair_bytes pair) ≡ 16
 length-pair_bytes pair = simp (length-append, length-cell8) refl
@@ -30,11 +30,7 @@ length-reservation_block (pair ∷ later) =
     ap length (reservation_block-first pair later) ∙ length-append (pair_bytes pair) (reservation_block later) in
     omega arith
 
--- The pair that is read at an offset.
-abbrev pub pair_at : List ℕ → ℕ → Reservation
-pair_at file at = record { address = u64_at file at; size = u64_at file (at + 8) }
-
--- It is there.
+-- The pair that is read at an offset is there.
 pair_is_there : (file : List ℕ) (at : ℕ) → AreBytes file → at + 16 ≤ length file → BytesAt file at (pair_bytes (pair_at file at))
 pair_is_there file at bytes within =
     BytesAt-join file at (cell8 (u64_at file at)) (cell8 (u64_at file (at + 8)))
@@ -179,11 +175,6 @@ no_reservations_with_fault file at total count fault has faulty =
     let past : total < at + 16 * faulty.index + 16 = faulty.past in
     faulty.before count (omega arith) has.end
 
--- The reservations that a block of this many has.
-abbrev pub reservations_at : List ℕ → ℕ → ℕ → List Reservation
-reservations_at file at zero = []
-reservations_at file at (suc count) = pair_at file at ∷ reservations_at file (at + 16) count
-
 -- The reservations after the first one of a block.
 HasReservations-later : (file : List ℕ) (at total count : ℕ) → HasReservations file at total (suc count) → HasReservations file (at + 16) total count
 HasReservations-later file at total count has =
@@ -224,7 +215,7 @@ reservations_are_there file at total (suc count) bytes inside has =
     (subst (λ n. BytesAt file (at + n) (reservation_block (reservations_at file (at + 16) count))) (sym (length-pair_bytes (pair_at file at)))
     (reservations_are_there file (at + 16) total count bytes inside (HasReservations-later file at total count has))))
 
-length-reservations_at : (file : List ℕ) (at count : ℕ) → length (reservations_at file at count) ≡ count
+pub length-reservations_at : (file : List ℕ) (at count : ℕ) → length (reservations_at file at count) ≡ count
 length-reservations_at file at zero = refl
 length-reservations_at file at (suc count) = ap suc (length-reservations_at file (at + 16) count)
 

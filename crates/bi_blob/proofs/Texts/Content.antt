@@ -9,9 +9,9 @@ use Rattle.bi_blob.specs.TextLaws.{BlobHasContent, TextHasOneContent}
 use Rattle.bi_base.proofs.CellLaws.{AreBytes-slice}
 use Rattle.bi_base.proofs.CellLaws.{u32_at-fits}
 use Rattle.bi_blob.proofs.Blobs.OneBlob.{one_blob}
-use Rattle.bi_blob.proofs.Texts.Members.{each-front}
 use Rattle.bi_blob.proofs.Texts.Places.{properties_of-tree}
 use Rattle.bi_base.proofs.ByteLists.{AreBytes-none, AreBytes-left}
+use Rattle.bi_base.proofs.ListMembers.{each-front}
 use Rattle.bi_blob.proofs.Texts.EncodedBytes.{TokenHasBytes, tokens_bytes, tree_bytes}
 use Rattle.bi_blob.proofs.Texts.TextBlob.{text_blob}
 

@@ -7,8 +7,8 @@ use Rattle.bi_blob.specs.Tokens.{Token, BeginNode, EndNode, Prop, Nop, End, toke
 use Rattle.bi_blob.specs.Tree.{Nodes, none, node, Root, FileProperty, FileNode, as_nodes, with_each, properties_of, tree_without_places, property_of}
 use Rattle.bi_blob.specs.Events.{Event, NodeStart, NodeProperty, NodeEnd, events, events_of, FileEvent, FileNodeStart, FileNodeProperty, FileNodeEnd, file_events, file_events_of, EncodeEvents}
 use Rattle.bi_blob.specs.Layout.{AreEventBytes}
-use Rattle.bi_blob.proofs.Texts.Members.{each-map}
 use Rattle.bi_base.proofs.ByteLists.{AreBytes-left, AreBytes-right, AreBytes-drop, AreBytes-take}
+use Rattle.bi_base.proofs.ListMembers.{each-map}
 
 -- The events of tokens that are bytes have names and values that are bytes.
 

@@ -1,10 +1,10 @@
 use Rattle.std.specs.Prelude.{⊤}
 use Rattle.std.proofs.Common.{◌≡◌, ℕ, ◌+◌, ◌^◌, ◌<◌, ◌≤◌, Bool, true, false, List, [], ◌∷◌, ◌++◌, length, map, flat_map, Contains, bytes_eq, refl, sym, ap, subst, arith, length-append}
 use Rattle.std.specs.List.{AllByRecursion}
+use Rattle.bi_base.proofs.ListMembers.{Contains-first, Contains-others}
 use Rattle.bi_blob.specs.Tokens.{Prop, token_bytes, IsToken, IsNameAt}
 use Rattle.bi_blob.specs.Events.{Event, NodeStart, NodeProperty, NodeEnd, EncodeEvents}
 use Rattle.bi_blob.specs.Layout.{used_names, strings_of, offset_in, padding_to_4, encoding, token_of, event_width}
-use Rattle.bi_blob.proofs.Texts.Members.{Contains-first, Contains-others}
 use Rattle.bi_blob.proofs.Texts.Names.{found_at_offset}
 use Rattle.bi_blob.proofs.Texts.Trees.{NameEndsAtZero}
 use Rattle.bi_blob.proofs.Texts.TokenEncoding.{width-token, length_unpadded-prop}

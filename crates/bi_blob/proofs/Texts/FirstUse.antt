@@ -3,11 +3,11 @@ use Rattle.std.specs.List.{list_any}
 use Rattle.std.proofs.lemmas.Slice.Eq.{bytes_eq-Decides}
 use Rattle.std.proofs.lemmas.List.Concat.{flat_map-append}
 use Rattle.std.proofs.lemmas.List.Elements.{filter-append}
+use Rattle.bi_base.proofs.ListMembers.{Contains-none, Contains-cases, Contains-first, Contains-others}
 use Rattle.bi_blob.specs.Tree.{Property}
 use Rattle.bi_blob.specs.Events.{Event, NodeProperty}
 use Rattle.bi_blob.specs.Layout.{event_names, used_names, distinct_names, strings_of, strings_block}
 use Rattle.bi_blob.specs.TextLaws.{StringsGrowByUse}
-use Rattle.bi_blob.proofs.Texts.Members.{Contains-none, Contains-cases, Contains-first, Contains-others}
 
 -- The strings block has names in the order of their first use.
 

@@ -1,20 +1,12 @@
-use Rattle.std.proofs.Common.{◌≡◌, ◌≢◌, ◌⊎◌, ℕ, ◌+◌, Bool, true, false, not, List, [], ◌∷◌, ◌++◌, length, drop, Contains, filter, bytes_eq, inl, inr, refl, ap, ◌∙◌, sym, append_assoc, true≢false, drop-drop}
-use Rattle.std.proofs.lemmas.Slice.Eq.{bytes_eq-Decides}
+use Rattle.std.proofs.Common.{◌≡◌, ◌≢◌, ◌⊎◌, ℕ, ◌+◌, Bool, true, false, not, List, [], ◌∷◌, ◌++◌, length, drop, Contains, filter, bytes_eq, inl, inr, refl, ap, ◌∙◌, sym, append_assoc, drop-drop}
 use Rattle.std.proofs.lemmas.List.{drop_at, length_push}
+use Rattle.bi_base.proofs.EqualBytes.{same_bytes, other_bytes}
+use Rattle.bi_base.proofs.ListMembers.{Contains-none, Contains-cases, Contains-first, Contains-others, Contains-filter, Contains-from_filter, each-filter}
 use Rattle.bi_blob.specs.Tree.{IsNew, AreDistinct}
 use Rattle.bi_blob.specs.Layout.{used_names, distinct_names, strings_of, offset_in}
 use Rattle.bi_blob.specs.TextLaws.{EachNameIsThereOnce, EachNameIsFound}
-use Rattle.bi_blob.proofs.Texts.Members.{Contains-none, Contains-cases, Contains-first, Contains-others, Contains-filter, Contains-from_filter, each-filter}
 
 -- The names in a strings block: each once, and each at its offset.
-
--- Names that the test finds equal are the same.
-same_names : (name other : List ℕ) → bytes_eq name other ≡ true → name ≡ other
-same_names name other is = (bytes_eq-Decides name other).0 is
-
--- Names that the test finds different are not the same.
-other_names : (name other : List ℕ) → bytes_eq name other ≡ false → name ≢ other
-other_names name other is same = true≢false (sym ((bytes_eq-Decides name other).1 same) ∙ is)
 
 -- The name, and a zero byte after it, are at its offset among names.
 pub found_at_offset : (names : List (List ℕ)) (name : List ℕ) → Contains names name → (trailing : List ℕ) × (drop (offset_in names name) (strings_of names) ≡ name ++ 0 ∷ trailing)
@@ -24,8 +16,8 @@ found_at_offset (first ∷ others) name has =
   where
     where_first : (b : Bool) → bytes_eq first name ≡ b → (first ≡ name) ⊎ Contains others name → (Contains others name → (trailing : List ℕ) × (drop (offset_in others name) (strings_of others) ≡ name ++ 0 ∷ trailing)) → (trailing : List ℕ) × (drop (offset_in (first ∷ others) name) (strings_of (first ∷ others)) ≡ name ++ 0 ∷ trailing)
     where_first true is has is_at =
-        rw is (strings_of others, append_assoc first (0 ∷ []) (strings_of others) ∙ ap (λ l. l ++ 0 ∷ strings_of others) (same_names first name is))
-    where_first false is (inl same) is_at = absurd (other_names first name is same)
+        rw is (strings_of others, append_assoc first (0 ∷ []) (strings_of others) ∙ ap (λ l. l ++ 0 ∷ strings_of others) (same_bytes first name is))
+    where_first false is (inl same) is_at = absurd (other_bytes first name is same)
     where_first false is (inr has) is_at =
         let there = is_at has in
         rw is (
@@ -42,8 +34,8 @@ distinct_names-all (first ∷ others) name has =
     where_first (bytes_eq first name) refl (Contains-cases first others name has) (λ has. distinct_names-all others name has)
   where
     where_first : (b : Bool) → bytes_eq first name ≡ b → (first ≡ name) ⊎ Contains others name → (Contains others name → Contains (distinct_names others) name) → Contains (distinct_names (first ∷ others)) name
-    where_first true is has among = rw (← same_names first name is) (Contains-first first _)
-    where_first false is (inl same) among = absurd (other_names first name is same)
+    where_first true is has among = rw (← same_bytes first name is) (Contains-first first _)
+    where_first false is (inl same) among = absurd (other_bytes first name is same)
     where_first false is (inr has) among =
         Contains-others first _ name (Contains-filter (λ other. not (bytes_eq first other)) (distinct_names others) name (ap not is) (among has))
 
@@ -74,7 +66,7 @@ new-filter name (other ∷ later) = where_first (bytes_eq name other) refl (new-
   where
     where_first : (b : Bool) → bytes_eq name other ≡ b → IsNew name (filter (λ other. not (bytes_eq name other)) later) → IsNew name (filter (λ other. not (bytes_eq name other)) (other ∷ later))
     where_first true is rest = rw is rest
-    where_first false is rest = rw is ((λ same. other_names name other is (sym same)), rest)
+    where_first false is rest = rw is ((λ same. other_bytes name other is (sym same)), rest)
 
 -- The first ones are distinct.
 pub distinct_names-distinct : (names : List (List ℕ)) → AreDistinct (distinct_names names)

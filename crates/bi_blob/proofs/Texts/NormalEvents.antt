@@ -6,17 +6,17 @@ use Rattle.std.specs.FinMap.{is_sorted}
 use Rattle.std.specs.FinMap.Entries.{below_all}
 use Rattle.std.proofs.lemmas.Cmp.{nat_list_cmp_total}
 use Rattle.std.proofs.lemmas.List.{append_assoc, append-nil, length_push}
+use Rattle.bi_base.proofs.ListMembers.{each-weaker}
 use Rattle.bi_blob.specs.Tree.{Nodes, none, node, Root, Property, names, EachOwn, IsNew, IsNormal}
 use Rattle.bi_blob.specs.Events.{Event, NodeStart, NodeProperty, NodeEnd, events, events_of}
 use Rattle.bi_blob.specs.Stages.{Stage, BeforeRoot, Inside, AfterRoot, OpenNode, next_stage, open_nodes}
 use Rattle.bi_blob.specs.Following.{most_open_nodes, last_name, MayFollow, MayFollowInText, AllFollow, AreClosedEvents}
 use Rattle.bi_blob.specs.BlobLaws.{HasOneTree}
 use Rattle.bi_blob.specs.TextLaws.{NormalEventsHaveOneTree, HasOneNormalTree}
-use Rattle.bi_blob.proofs.Blobs.Growing.{All-push}
+use Rattle.bi_blob.proofs.Blobs.OpenNodes.{All-push}
 use Rattle.bi_blob.proofs.Blobs.Trees.{regrouped}
 use Rattle.bi_blob.proofs.Blobs.Following.{open_with, property_names_of}
 use Rattle.bi_blob.proofs.Blobs.EventTrees.{closed_events_have_one_tree}
-use Rattle.bi_blob.proofs.Texts.Members.{each-weaker}
 use Rattle.bi_blob.proofs.Texts.Ordering.{both_pass, below_other}
 
 -- Events that may follow one another in a normal text are those of a normal tree.

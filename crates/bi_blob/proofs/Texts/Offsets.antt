@@ -2,9 +2,9 @@ use Rattle.std.proofs.Common.{◌≡◌, ◌⊎◌, ℕ, ◌+◌, Bool, true, fa
 use Rattle.std.proofs.lemmas.Slice.Eq.{bytes_eq-Decides}
 use Rattle.std.proofs.lemmas.List.{length_push}
 use Rattle.std.proofs.lemmas.List.Concat.{flat_map-append}
+use Rattle.bi_base.proofs.ListMembers.{Contains-none, Contains-cases, Contains-first, Contains-others}
 use Rattle.bi_blob.specs.Layout.{event_names, used_names, distinct_names, strings_of, offset_in}
 use Rattle.bi_blob.specs.TextLaws.{OffsetsStay, NewOffsetIsAtEnd}
-use Rattle.bi_blob.proofs.Texts.Members.{Contains-none, Contains-cases, Contains-first, Contains-others}
 use Rattle.bi_blob.proofs.Texts.Names.{distinct_names-all, distinct_names-only}
 use Rattle.bi_blob.proofs.Texts.FirstUse.{is_among, distinct_names-push, distinct_names-new, used_names-push}
 

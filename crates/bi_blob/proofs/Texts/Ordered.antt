@@ -2,12 +2,12 @@ use Rattle.std.proofs.Common.{◌≡◌, List, ◌∷◌, ◌++◌, map, refl, s
 use Rattle.std.specs.List.{AllByRecursion}
 use Rattle.std.specs.Cmp.Lexicographic.{slice_cmp}
 use Rattle.std.specs.FinMap.{entries, from_entries}
+use Rattle.bi_base.proofs.ListMembers.{each-append, each-front, each-back, each-map, each-map_back}
 use Rattle.bi_blob.specs.Tree.{Nodes, none, node, Property, as_nodes, names, with_each, depth, IsNew, AreProperties, AreNodes}
 use Rattle.bi_blob.specs.Events.{NodeProperty, NodeEnd, events}
 use Rattle.bi_blob.specs.Layout.{AreEventBytes}
 use Rattle.bi_blob.specs.TextLaws.{ContentMayBeOrdered}
 use Rattle.bi_blob.proofs.Blobs.Complete.{depth-with_each}
-use Rattle.bi_blob.proofs.Texts.Members.{each-append, each-front, each-back, each-map, each-map_back}
 use Rattle.bi_blob.proofs.Texts.Ordering.{each-in_byte_order, AreProperties-in_byte_order}
 
 -- A tree in normal order is a tree, as deep and with the same names and values.

@@ -1,12 +1,12 @@
 use Rattle.std.proofs.Common.{ℕ, ◌^◌, ◌<◌, ◌≤◌, List, [], ◌∷◌, ◌++◌, length, flat_map, sym, subst, arith, length-append}
 use Rattle.std.proofs.lemmas.List.Concat.{flat_map-append}
+use Rattle.bi_base.proofs.ListMembers.{each-append}
 use Rattle.bi_blob.specs.Tokens.{IsToken, End}
 use Rattle.bi_blob.specs.Tree.{Root, Property}
 use Rattle.bi_blob.specs.Events.{Event, events_of, EncodeEvents}
 use Rattle.bi_blob.specs.Blob.{Reservation, reservation_block}
 use Rattle.bi_blob.specs.Layout.{used_names, distinct_names, encoding, tokens_of, structure_block, strings_block, structure_place, text_of_tree, length_before_padding}
 use Rattle.bi_blob.specs.TextLaws.{TextEncodesItsTree}
-use Rattle.bi_blob.proofs.Texts.Members.{each-append}
 use Rattle.bi_blob.proofs.Texts.Names.{distinct_names-all}
 use Rattle.bi_blob.proofs.Texts.Trees.{names_end-tree}
 use Rattle.bi_blob.proofs.Texts.TokenEncoding.{is_encoded}

@@ -6,8 +6,8 @@ use Rattle.bi_blob.specs.Tree.{Root, Property}
 use Rattle.bi_blob.specs.Events.{Event, NodeStart, NodeProperty, NodeEnd, events_of}
 use Rattle.bi_blob.specs.Blob.{Reservation, pair_bytes, end_pair, reservation_block, blob_magic}
 use Rattle.bi_blob.specs.Layout.{used_names, distinct_names, strings_of, offset_in, padding_to_4, encoding, token_of, structure_block, strings_block, length_before_padding, blob_header, text_of_blocks, text_of_events, text_of_tree, AreEventBytes, IsContent}
-use Rattle.bi_blob.proofs.Texts.Members.{each-append, each-filter}
 use Rattle.bi_base.proofs.ByteLists.{AreBytes-none, AreBytes-append, AreBytes-zeros, AreBytes-cell, AreBytes-cell8, AreBytes-flat_map}
+use Rattle.bi_base.proofs.ListMembers.{each-append, each-filter}
 
 -- A text is bytes, where its names and values are.
 

@@ -1,9 +1,9 @@
 use Rattle.std.specs.Prelude.{⊤}
 use Rattle.std.proofs.Common.{ℕ, List, [], ◌∷◌, ◌++◌, map}
 use Rattle.std.specs.List.{AllByRecursion}
+use Rattle.bi_base.proofs.ListMembers.{each-append, each-map, each-weaker}
 use Rattle.bi_blob.specs.Tree.{Nodes, none, node, Root, Property, HasNoZero, IsPropertyName, AreProperties, AreNodes, IsTree}
 use Rattle.bi_blob.specs.Events.{Event, NodeStart, NodeProperty, NodeEnd, events, events_of}
-use Rattle.bi_blob.proofs.Texts.Members.{each-append, each-map, each-weaker}
 
 -- The names in the events of a tree have no zero byte.
 

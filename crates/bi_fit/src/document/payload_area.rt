@@ -26,9 +26,10 @@ pub(super) fn payloads_end(images: &[Image<'_>], limit: u32) -> Result<u32, Faul
     Ok(end as u32)
 }
 
-/// Returns where payloads end after one more, if they end at `end` before it. Saturates at
-/// `usize::MAX`.
-pub(super) fn end_after(end: usize, payload: Option<&[u8]>) -> usize
+/// Returns where external payloads end after one more, if they end at `end` before it: both are
+/// counted in bytes from the end of the blob. An image without a payload changes nothing. Saturates
+/// at `usize::MAX`.
+pub fn end_after(end: usize, payload: Option<&[u8]>) -> usize
     requires { end + 3 < 2 ^ 64 }
     ensures { result ≡ min (end_after_of end (option_map (λ payload. payload.now) payload.entry))
         (2 ^ 64 - 1) }

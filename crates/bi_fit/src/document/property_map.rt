@@ -6,7 +6,7 @@ ghost use Rattle.std.specs.Option.{option_map};
 ghost use Rattle.bi_base.specs.declared.fault.Error.TheVariants.{OutOfMemory};
 ghost use Rattle.bi_blob.specs.Events.{NodeProperty};
 ghost use Rattle.bi_fdt.specs.Views.{node_of};
-ghost use Rattle.bi_lay.specs.Items.{value_bytes};
+ghost use Rattle.bi_lay.specs.Values.{value_bytes};
 ghost use Rattle.bi_fit.specs.Names.{is_payload_name as is_payload_name_of};
 ghost use Rattle.bi_fit.specs.ImageTree.{without_payload};
 ghost use Rattle.bi_fit.specs.Text.{with_payload};
@@ -36,11 +36,11 @@ impl<'a> Model for PropertyMap<'a> {
 
     ghost coded = { code (coded_list coded_ℕ) (coded_list coded_ℕ) };
 
-    ghost use Rattle.bi_fit.specs.PropertyMaps.{by_name, IsConsistent};
+    ghost use Rattle.bi_fit.specs.PropertyMaps.{by_name, IsConsistentMap};
 
     ghost view = { by_name };
 
-    ghost invariant = { IsConsistent };
+    ghost invariant = { IsConsistentMap };
 }
 
 impl<'a> PropertyMap<'a> {

@@ -3,19 +3,18 @@
 ghost use Rattle.std.specs.Prelude.{◌≡◌, ◌↔◌, ◌^◌, ◌<◌, [], length, OnOk, IfErr, IsTrue};
 ghost use Rattle.std.specs.List.{AllByRecursion};
 ghost use Rattle.bi_base.specs.declared.fault.Cause.TheVariants.{BadField};
-ghost use Rattle.bi_base.specs.Cells.{AreBytes};
 ghost use Rattle.bi_base.specs.Checks.{HasNoFault};
-ghost use Rattle.bi_blob.specs.Tree.{IsChildName, HasNoZero};
-ghost use Rattle.bi_fdt.specs.Growth.{IsRefusal};
+ghost use Rattle.bi_blob.specs.Tree.{HasNoZero};
 ghost use Rattle.bi_fit.specs.declared.form.Form.{Form};
 ghost use Rattle.bi_fit.specs.Building.{CanBeBuilt, IsText};
 ghost use Rattle.bi_norm.specs.Building.{head_of, specifications_of, image_checks, BuildPasses};
 ghost use Rattle.bi_norm.specs.Building.{IsBuildError, HasBuildableType, HasNames};
 ghost use Rattle.bi_norm.specs.BuildChecks.{early_checks, AllPass, IsFirstFailure};
-ghost use Rattle.bi_norm.specs.BuildChecks.{fields_and_names, HasBytes};
+ghost use Rattle.bi_norm.specs.BuildChecks.{IsImagesError, fields_and_names, HasBytes};
 
 use crate::building::{Head, ImageSpec};
-use bi_base::{Cause, Error, Fault, Limits, refuse};
+use bi_base::{Cause, Error, Fault, Limits, are_bytes, refuse};
+use bi_blob::is_child_name;
 use bi_legacy::codes::{arch_name, compression_name, os_name, type_name};
 use std::alloc::Global;
 use std::collections::BTreeSet;
@@ -58,12 +57,13 @@ fn check_description(description: &[u8]) -> Result<(), Fault>
     Ok(())
 }
 
-/// Makes the checks of images, of each in turn.
+/// Makes the checks of images, of each in turn. OutOfMemory comes only after those of the first
+/// image that look at no other.
 fn check_images(alloc: Global, images: &[ImageSpec<'_>]) -> Result<(), Error>
     requires { length images.now < 2 ^ 32 }
     ensures passed { OnOk result (AllPass (image_checks 0 [] images.now)) }
     ensures bytes { OnOk result (AllByRecursion HasBytes images.now) }
-    ensures failed { IfErr result (IsRefusal (IsFirstFailure (image_checks 0 [] images.now))) }
+    ensures failed { IfErr result (IsImagesError images.now) }
 {
     let mut names = BTreeSet::new(alloc);
     for (index, image) in images.iter().enumerate() {
@@ -89,21 +89,9 @@ fn check_image(image: &ImageSpec<'_>, index: u32) -> Result<(), Fault>
     if !has_code_names(image) {
         return refuse(Cause::NoCodeName, index);
     }
-    hold_bytes(image.name);
-    hold_bytes(image.payload);
+    are_bytes(image.name);
+    are_bytes(image.payload);
     Ok(())
-}
-
-/// Does nothing. Its contract states that the elements of a slice are bytes.
-fn hold_bytes(bytes: &[u8])
-    ensures { AreBytes bytes.now }
-{}
-
-/// Whether a node other than the root may have this name: it has a byte, and none is zero or `/`.
-fn is_child_name(name: &[u8]) -> bool
-    ensures { IsTrue result ↔ IsChildName name.now }
-{
-    !name.is_empty() && !name.contains(&0) && !name.contains(&b'/')
 }
 
 /// Whether each code of an image has a name.

@@ -1,18 +1,16 @@
 //! The document of a tree to be built.
 
-ghost use Rattle.std.specs.Prelude.{◌≡◌, ◌+◌, ◌<◌, ◌≤◌, Some, length, OnOk, IfOk, IfErr};
+ghost use Rattle.std.specs.Prelude.{◌≡◌, ◌≤◌, Some, OnOk, IfOk, IfErr};
 ghost use Rattle.bi_base.specs.Cells.{up4};
 ghost use Rattle.bi_base.specs.declared.fault.Error.TheVariants.{OutOfMemory};
-ghost use Rattle.bi_base.specs.Reading.{too_large};
 ghost use Rattle.bi_blob.specs.Events.{events};
 ghost use Rattle.bi_blob.specs.Following.{stage_of_events};
-ghost use Rattle.bi_blob.specs.Layout.{longest_text};
 ghost use Rattle.bi_blob.specs.Stages.{AfterRoot};
 ghost use Rattle.bi_hash.specs.declared.algo.Algo.TheVariants.{Sha256};
 ghost use Rattle.bi_hash.specs.Digests.{digest_of};
-ghost use Rattle.bi_lay.specs.Contents.{text_of};
 ghost use Rattle.bi_fit.specs.Additions.{MayAdd, with_events, AreWithin, HasCellSize};
-ghost use Rattle.bi_fit.specs.Documents.{document_of, IsDocument, IsDocumentError};
+ghost use Rattle.bi_fit.specs.Documents.{document_of, length_after_blob};
+ghost use Rattle.bi_fit.specs.Documents.{IsDocument, IsDocumentError};
 ghost use Rattle.bi_norm.specs.Building.{head_of, specification_of, specifications_of};
 ghost use Rattle.bi_norm.specs.Building.{tree_of_images, HasBuildableType};
 ghost use Rattle.bi_norm.specs.BuiltNodes.{image_node, image_nodes, leaf};
@@ -20,14 +18,13 @@ ghost use Rattle.bi_norm.specs.BuiltNodes.{images_node, configurations_node};
 ghost use Rattle.bi_norm.specs.BuiltNodes.{payloads_of, ArePrepared};
 
 use crate::building::lists::KeyLists;
-use crate::building::payload_area::{end_after, payloads_end};
 use crate::building::properties::{
     CONFIGURATION_NAME, configuration_properties, default_properties, hash_properties,
     image_properties, root_properties,
 };
 use crate::building::{Head, ImageSpec};
-use bi_base::{Cause, Error, Fault, Limits, refuse, up4};
-use bi_fit::{Form, PropertyMap, begin_with};
+use bi_base::{Error, Limits, up4};
+use bi_fit::{Form, PropertyMap, begin_with, check_size, end_after};
 use bi_lay::Doc;
 use std::alloc::Global;
 
@@ -42,8 +39,8 @@ pub(super) struct Parts<'a> {
     pub(super) lists: &'a KeyLists,
 }
 
-/// Returns the document of a tree to be built in a form. It borrows names, payloads and digests,
-/// and copies none.
+/// Returns the document of a tree to be built in a form, whose blob this many bytes follow. It
+/// borrows names, payloads and digests, and copies none.
 ///
 /// Takes time n log n in the number n of images.
 ///
@@ -53,37 +50,21 @@ pub(super) fn tree_doc<'a>(
     alloc: Global,
     parts: Parts<'a>,
     form: Form,
+    after: u32,
     limits: Limits,
 ) -> Result<Doc<'a>, Error>
     requires prepared { ArePrepared parts }
+    requires after { let payloads = payloads_of (specifications_of parts.images.now) in
+        after ≡ length_after_blob form payloads }
+    requires within { after ≤ limits.file }
     ensures document { let tree = tree_of_images parts.entry.head parts.entry.images.now in
         IfOk result (IsDocument limits form tree) }
     ensures failed { let tree = tree_of_images parts.entry.head parts.entry.images.now in
         IfErr result (IsDocumentError limits form tree) }
 {
-    let limit = limits.file();
-    let end = match form {
-        Form::Embedded => 0,
-        Form::External => payloads_end(parts.images, limit)?,
-    };
     let doc = build_doc(alloc, parts, form)?;
-    check_size(&doc, end, limit)?;
+    check_size(&doc, after, limits.file())?;
     Ok(doc)
-}
-
-/// TooLarge at the limit, exactly if the text of a document and `after` bytes are longer than that.
-fn check_size(doc: &Doc<'_>, after: u32, limit: u32) -> Result<(), Fault>
-    requires closed { stage_of_events doc.now.events ≡ AfterRoot }
-    requires within { after ≤ limit }
-    requires small { limit ≤ longest_text }
-    ensures fits { OnOk result (length (text_of doc.now) + after ≤ limit) }
-    ensures refused { IfErr result (λ fault. (fault ≡ too_large limit)
-        × (limit < length (text_of doc.now) + after)) }
-{
-    match doc.size() {
-        Some(size) if size + after <= limit => Ok(()),
-        _ => refuse(Cause::TooLarge, limit),
-    }
 }
 
 /// Builds the document of a tree in a form, however long the text is.
@@ -149,7 +130,7 @@ fn add_image_nodes<'a>(
         add_image_node(alloc, doc, parts.head, image, digest, form, up4(end) as u32)?;
         end = match form {
             Form::Embedded => end,
-            Form::External => end_after(end, image.payload),
+            Form::External => end_after(end, Some(image.payload)),
         };
     }
     Ok(())

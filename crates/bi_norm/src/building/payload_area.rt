@@ -1,16 +1,39 @@
-//! Where the external payloads of images to be built end, counted from the end of the blob.
+//! How many bytes of payloads follow the blob of images to be built.
 
-ghost use Rattle.std.specs.Prelude.{◌≡◌, ◌+◌, ◌-◌, ◌^◌, ◌<◌, ◌≤◌, min, Some, IfOk, IfErr};
+ghost use Rattle.std.specs.Prelude.{◌≡◌, ◌<◌, ◌≤◌, IfOk, IfErr};
 ghost use Rattle.bi_base.specs.Reading.{too_large};
-ghost use Rattle.bi_fit.specs.Text.{end_after as end_after_of, payloads_end as payloads_end_of};
+ghost use Rattle.bi_fit.specs.Documents.{length_after_blob as length_after_blob_of};
+ghost use Rattle.bi_fit.specs.Text.{payloads_end as payloads_end_of};
 ghost use Rattle.bi_norm.specs.Building.{specifications_of};
 ghost use Rattle.bi_norm.specs.BuiltNodes.{payloads_of};
 
 use crate::building::ImageSpec;
-use bi_base::{Cause, Fault, refuse, up4};
+use bi_base::{Cause, Fault, refuse};
+use bi_fit::{Form, end_after};
 
-/// Returns where the payloads of images end. TooLarge at the limit, exactly if that is after it.
-pub(super) fn payloads_end(images: &[ImageSpec<'_>], limit: u32) -> Result<u32, Fault>
+/// Returns how many bytes follow the blob of images to be built: their payloads in the form
+/// External, none in the form Embedded. TooLarge at the limit, exactly if they are more than that.
+pub(super) fn length_after_blob(
+    images: &[ImageSpec<'_>],
+    form: Form,
+    limit: u32,
+) -> Result<u32, Fault>
+    ensures length { let payloads = payloads_of (specifications_of images.now) in
+        IfOk result (λ length. length ≡ length_after_blob_of form payloads) }
+    ensures within { IfOk result (λ length. length ≤ limit) }
+    ensures refused { let payloads = payloads_of (specifications_of images.now) in
+        IfErr result (λ fault. (fault ≡ too_large limit)
+        × (limit < length_after_blob_of form payloads)) }
+{
+    match form {
+        Form::Embedded => Ok(0),
+        Form::External => payloads_end(images, limit),
+    }
+}
+
+/// Returns where the payloads of images end, counted from the end of the blob. TooLarge at the
+/// limit, exactly if that is after it.
+fn payloads_end(images: &[ImageSpec<'_>], limit: u32) -> Result<u32, Fault>
     ensures end { let payloads = payloads_of (specifications_of images.now) in
         IfOk result (λ end. end ≡ payloads_end_of 0 payloads) }
     ensures within { IfOk result (λ end. end ≤ limit) }
@@ -20,19 +43,10 @@ pub(super) fn payloads_end(images: &[ImageSpec<'_>], limit: u32) -> Result<u32, 
 {
     let mut end = 0;
     for image in images {
-        end = end_after(end, image.payload);
+        end = end_after(end, Some(image.payload));
         if end > limit as usize {
             return refuse(Cause::TooLarge, limit);
         }
     }
     Ok(end as u32)
-}
-
-/// Returns where payloads end after one more, if they end at `end` before it. Saturates at
-/// `usize::MAX`.
-pub(super) fn end_after(end: usize, payload: &[u8]) -> usize
-    requires { end + 3 < 2 ^ 64 }
-    ensures { result ≡ min (end_after_of end (Some payload.now)) (2 ^ 64 - 1) }
-{
-    up4(end).saturating_add(payload.len())
 }

@@ -8,7 +8,7 @@ ghost use Rattle.bi_blob.specs.Layout.{strings_of};
 ghost use Rattle.bi_blob.specs.Tree.{Property};
 ghost use Rattle.bi_hash.specs.declared.algo.Algo.TheVariants.{Sha256};
 ghost use Rattle.bi_hash.specs.Digests.{digest_of};
-ghost use Rattle.bi_lay.specs.Items.{value_bytes};
+ghost use Rattle.bi_lay.specs.Values.{value_bytes};
 ghost use Rattle.bi_fit.specs.Building.{ImageSpecification, list_property};
 ghost use Rattle.bi_fit.specs.Building.{root_properties as root_properties_of};
 ghost use Rattle.bi_fit.specs.Building.{image_properties as image_properties_of};

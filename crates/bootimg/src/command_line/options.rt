@@ -1,46 +1,41 @@
 //! Options that several commands have.
 
+ghost use Rattle.std.specs.Prelude.{◌≡◌, IfOk, IfErr, IfSome, IfNone, codes};
+ghost use Rattle.bootimg.specs.CommandLine.{limit_of, value_of};
+ghost use Rattle.bootimg.specs.CommandLine.{IsBadValue, IsForm, IsLimits, NoneIs};
+ghost use Rattle.bootimg.specs.Numbers.{IsNumber};
+
+use crate::command_line::table::{GREATEST_LIMIT, ZERO};
 use crate::failure::Failure;
 use crate::numbers::parse_number;
 use bi_base::Limits;
 use bi_norm::Form;
-use clap::{Arg, ArgAction, ArgMatches};
-use std::alloc::Global;
-
-/// The default of `--limit`, in bytes: the greatest limit.
-const GREATEST_LIMIT: &str = "2147483647";
+use clap::ArgMatches;
 
 /// The limit for the depth of a blob's tree.
 const DEPTH: u8 = 64;
 
-/// The option that each command has.
-pub fn limit<'a>(alloc: Global) -> Arg<'a> {
-    Arg::new(alloc, "limit")
-        .long("limit")
-        .value_name("N")
-        .help("Refuse an image of more than N bytes: 64 to 2147483647, or in hexadecimal with 0x")
-        .default_value(GREATEST_LIMIT)
-        .action(ArgAction::Set)
+/// Returns the limits that the options give. Fails with BadValue if `--limit` is not a number of 64
+/// to 0x7fffffff.
+pub fn limits(options: &ArgMatches<'_>) -> Result<Limits, Failure>
+    ensures value { IfOk result (IsLimits (limit_of options.now)) }
+    ensures bad { IfErr result (IsBadValue (IsLimits (limit_of options.now))) }
+{
+    parse_limits(value(options, "limit", GREATEST_LIMIT)).ok_or(Failure::BadValue)
 }
 
-/// Returns the limits that the options give. Fails with BadValue.
-pub fn limits(options: &ArgMatches<'_>) -> Result<Limits, Failure> {
-    let value = options.get_str("limit").unwrap_or(GREATEST_LIMIT);
-    parse_number(value)
-        .and_then(|file| Limits::new(file, DEPTH))
-        .ok_or(Failure::BadValue)
-}
-
-/// The option of each command that writes a flattened image tree, with this help.
-pub fn external<'a>(alloc: Global, help: &'a str) -> Arg<'a> {
-    Arg::new(alloc, "external")
-        .long("external")
-        .help(help)
-        .action(ArgAction::SetTrue)
+/// Parses the limit for a file. Returns None exactly for any text but a number of 64 to 0x7fffffff.
+fn parse_limits(word: &str) -> Option<Limits>
+    ensures some { IfSome result (IsLimits word.now) }
+    ensures none { IfNone result (NoneIs (IsLimits word.now)) }
+{
+    Limits::new(parse_number(word)?, DEPTH)
 }
 
 /// Returns the form that the options give.
-pub fn form(options: &ArgMatches<'_>) -> Form {
+pub fn form(options: &ArgMatches<'_>) -> Form
+    ensures { IsForm options.now result }
+{
     if options.get_flag("external") {
         Form::External
     } else {
@@ -48,7 +43,19 @@ pub fn form(options: &ArgMatches<'_>) -> Form {
     }
 }
 
-/// Parses a number. Fails with BadValue.
-pub fn number(value: &str) -> Result<u32, Failure> {
-    parse_number(value).ok_or(Failure::BadValue)
+/// Returns the number that is the value of an option, and 0 if it has none. Fails with BadValue if
+/// the value is no number.
+pub fn number(options: &ArgMatches<'_>, id: &str) -> Result<u32, Failure>
+    ensures value { IfOk result (IsNumber (value_of options.now id.now (codes "0"))) }
+    ensures bad { IfErr result (IsBadValue
+        (IsNumber (value_of options.now id.now (codes "0")))) }
+{
+    parse_number(value(options, id, ZERO)).ok_or(Failure::BadValue)
+}
+
+/// Returns the value of an option, or this one if it has none.
+pub fn value<'a>(options: &ArgMatches<'a>, id: &str, default: &'a str) -> &'a str
+    ensures { result.now ≡ value_of options.now id.now default.entry.now }
+{
+    options.get_str(id).unwrap_or(default)
 }

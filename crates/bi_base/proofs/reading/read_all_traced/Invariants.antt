@@ -1,4 +1,4 @@
-use Rattle.std.proofs.Common.{◌≡◌, ◌≤◌, ◌-◌, length, vec_len}
+use Rattle.std.proofs.Common.{◌≡◌, ◌≤◌, ◌-◌, ◌+◌, length, vec_len}
 use Rattle.std.specs.Io.KnownBytes.{Consumes}
 use Rattle.bi_base.specs.Traces.{ReadsWell}
 use Rattle.bi_base.proofs.reading.read_all_traced.Given as goal
@@ -11,7 +11,8 @@ invariant-loop-bytes g l =
     record {
       room : length l.chunk ≡ 65536;
       within : vec_len l.bytes ≤ l.fn.limits.file;
-      taken : Consumes old.remaining new.remaining l.bytes.items;
+      consumed : Consumes old.remaining new.remaining l.bytes.items;
+      counted : new.taken ≤ old.taken + vec_len l.bytes;
       no_failure_ignored : ReadsWell old → ReadsWell new;
       same_reader : new.reader ≡ old.reader;
     }

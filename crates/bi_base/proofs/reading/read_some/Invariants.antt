@@ -11,6 +11,7 @@ invariant-loop g l =
     record {
       room : length l.buffer ≡ length l.initial.buffer;
       kept : Keeps old.remaining new.remaining;
+      uncounted : new.taken ≡ old.taken;
       counted : l.counter ≤ new.interruptions;
       not_stopped : ReadsWell old → l.counter < 1024 → IsFalse new.stopped × (new.interruptions ≡ l.counter);
       same_reader : new.reader ≡ old.reader;

@@ -1,7 +1,7 @@
 use Rattle.std.proofs.Common.{◌≡◌, ◌+◌, ◌<◌, ◌≤◌, [], length, sym, ap, subst, arith}
 use Rattle.bi_base.specs.Cells.{up4}
 use Rattle.bi_blob.specs.Tokens.{name_from}
-use Rattle.bi_blob.proofs.Blobs.PartialNodes.{Standing, Growing, begun}
+use Rattle.bi_blob.specs.OpenNodes.{IsOpenAt, OpenTree, new_node}
 use Rattle.bi_fdt.specs.Blocks.{blocks_of}
 use Rattle.bi_fdt.proofs.TokenSteps.{up4-within}
 use Rattle.bi_fdt.proofs.RootSteps.{past_root}
@@ -17,10 +17,10 @@ returns-clause-ok c =
     let wide : c.up4.result ≡ up4 (length name + 5) = c.up4.ensures in
     let most : up4 (length name + 5) ≤ length name + 5 + 3 = (up4-within (length name + 5)).1 in
     record {
-      innermost = begun name c.args.place;
+      innermost = new_node name c.args.place;
       outer = [];
-      standing = subst (λ w. Standing blocks c.args.depth_limit (c.args.place + w) (Growing (begun name c.args.place) [])) (sym wide)
-          (past_root blocks c.args.depth_limit c.args.place name c.requires.standing c.requires.number c.in_ok-name.ensures.name passes);
+      position = subst (λ w. IsOpenAt blocks c.args.depth_limit (c.args.place + w) (OpenTree (new_node name c.args.place) [])) (sym wide)
+          (past_root blocks c.args.depth_limit c.args.place name c.requires.position c.requires.number c.in_ok-name.ensures.name passes);
       growing = c.in_ok-growing.ensures.ok;
       within = omega arith;
     }

@@ -1,25 +1,25 @@
 use Rattle.std.proofs.Common.{◌+◌, ◌≤◌, refl, sym, ◌∙◌, arith}
-use Rattle.bi_blob.proofs.Blobs.PartialNodes.{Grown}
+use Rattle.bi_base.proofs.Refusals.{fault_passed_on, refused_with}
+use Rattle.bi_blob.specs.OpenNodes.{WholeTree}
 use Rattle.bi_fdt.specs.Blocks.{blocks_of}
-use Rattle.bi_fdt.proofs.Refusals.{fault_passed_on, refused_with}
 use Rattle.bi_fdt.proofs.RootSteps.{past_nop, past_end, no_number, bad_token, unexpected_after}
 use Rattle.bi_fdt.proofs.structure.check_after_root.Goals as goal
 
 pub returns-in_err-number-clause-fault : goal.returns-in_err-number-clause-fault
 returns-in_err-number-clause-fault c =
     fault_passed_on _ c.in_err-number.field-0.0 _ c.from_residual.ensures.1
-    (λ depth_limit root standing. no_number (blocks_of c.args.blocks) depth_limit c.loop-number.place (Grown root) (c.loop-number.invariant.standing depth_limit root standing) _
+    (λ depth_limit root position. no_number (blocks_of c.args.blocks) depth_limit c.loop-number.place (WholeTree root) (c.loop-number.invariant.position depth_limit root position) _
     c.in_err-number.ensures.truncated.0 c.in_err-number.ensures.truncated.1)
 
 pub returns-then-number-eq-END-clause-ok : goal.returns-then-number-eq-END-clause-ok
-returns-then-number-eq-END-clause-ok c = λ depth_limit root standing.
-    past_end (blocks_of c.args.blocks) depth_limit c.loop-number.place root (c.loop-number.invariant.standing depth_limit root standing)
+returns-then-number-eq-END-clause-ok c = λ depth_limit root position.
+    past_end (blocks_of c.args.blocks) depth_limit c.loop-number.place root (c.loop-number.invariant.position depth_limit root position)
     (record { within = c.in_ok-number.ensures.within; is_number = sym c.in_ok-number.ensures.number ∙ c.if-number-eq-END.true })
 
 pub returns-then-number-ne-NOP-clause-fault : goal.returns-then-number-ne-NOP-clause-fault
 returns-then-number-ne-NOP-clause-fault c =
     refused_with _ _ _ c.refuse.ensures
-    (λ depth_limit root standing. bad_token (blocks_of c.args.blocks) depth_limit c.loop-number.place (Grown root) c.in_ok-number.number (c.loop-number.invariant.standing depth_limit root standing)
+    (λ depth_limit root position. bad_token (blocks_of c.args.blocks) depth_limit c.loop-number.place (WholeTree root) c.in_ok-number.number (c.loop-number.invariant.position depth_limit root position)
     (record { within = c.in_ok-number.ensures.within; is_number = sym c.in_ok-number.ensures.number })
     (unexpected_after c.in_ok-number.number c.if-number-ne-NOP.true c.if-number-eq-END.false))
 
@@ -27,7 +27,7 @@ pub loop-number-preserved : goal.loop-number-preserved
 loop-number-preserved c =
     let within : c.loop-number.place + 4 ≤ c.args.blocks.end = c.in_ok-number.ensures.within in
     record {
-      standing = λ depth_limit root standing. past_nop (blocks_of c.args.blocks) depth_limit c.loop-number.place (Grown root) (c.loop-number.invariant.standing depth_limit root standing)
+      position = λ depth_limit root position. past_nop (blocks_of c.args.blocks) depth_limit c.loop-number.place (WholeTree root) (c.loop-number.invariant.position depth_limit root position)
           (record { within = within; is_number = sym c.in_ok-number.ensures.number ∙ c.if-number-ne-NOP.false }) refl;
       within = omega arith;
     }

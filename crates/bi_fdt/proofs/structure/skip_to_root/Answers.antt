@@ -1,20 +1,20 @@
 use Rattle.std.proofs.Common.{◌+◌, ◌≤◌, refl, sym, ◌∙◌, arith}
-use Rattle.bi_blob.proofs.Blobs.PartialNodes.{NotBegun}
+use Rattle.bi_base.proofs.Refusals.{fault_passed_on, refused_with}
+use Rattle.bi_blob.specs.OpenNodes.{NoTree}
 use Rattle.bi_fdt.specs.Blocks.{blocks_of}
-use Rattle.bi_fdt.proofs.Refusals.{fault_passed_on, refused_with}
 use Rattle.bi_fdt.proofs.RootSteps.{past_nop, no_number, bad_token, unexpected_before}
 use Rattle.bi_fdt.proofs.structure.skip_to_root.Goals as goal
 
 pub returns-in_err-number-clause-fault : goal.returns-in_err-number-clause-fault
 returns-in_err-number-clause-fault c =
     fault_passed_on _ c.in_err-number.field-0.0 _ c.from_residual.ensures.1
-    (λ depth_limit. no_number (blocks_of c.args.blocks) depth_limit c.loop-number.place NotBegun (c.loop-number.invariant.standing depth_limit) _
+    (λ depth_limit. no_number (blocks_of c.args.blocks) depth_limit c.loop-number.place NoTree (c.loop-number.invariant.position depth_limit) _
     c.in_err-number.ensures.truncated.0 c.in_err-number.ensures.truncated.1)
 
 pub returns-then-number-ne-NOP-clause-fault : goal.returns-then-number-ne-NOP-clause-fault
 returns-then-number-ne-NOP-clause-fault c =
     refused_with _ _ _ c.refuse.ensures
-    (λ depth_limit. bad_token (blocks_of c.args.blocks) depth_limit c.loop-number.place NotBegun c.in_ok-number.number (c.loop-number.invariant.standing depth_limit)
+    (λ depth_limit. bad_token (blocks_of c.args.blocks) depth_limit c.loop-number.place NoTree c.in_ok-number.number (c.loop-number.invariant.position depth_limit)
     (record { within = c.in_ok-number.ensures.within; is_number = sym c.in_ok-number.ensures.number })
     (unexpected_before c.in_ok-number.number c.if-number-ne-NOP.true c.if-number-eq-BEGIN_NODE.false))
 
@@ -22,7 +22,7 @@ pub loop-number-preserved : goal.loop-number-preserved
 loop-number-preserved c =
     let within : c.loop-number.place + 4 ≤ c.args.blocks.end = c.in_ok-number.ensures.within in
     record {
-      standing = λ depth_limit. past_nop (blocks_of c.args.blocks) depth_limit c.loop-number.place NotBegun (c.loop-number.invariant.standing depth_limit)
+      position = λ depth_limit. past_nop (blocks_of c.args.blocks) depth_limit c.loop-number.place NoTree (c.loop-number.invariant.position depth_limit)
           (record { within = within; is_number = sym c.in_ok-number.ensures.number ∙ c.if-number-ne-NOP.false }) refl;
       within = omega arith;
     }

@@ -1,11 +1,11 @@
 use Rattle.std.proofs.Common.{ℕ, ◌+◌, ◌-◌, ◌≤◌}
-use Rattle.bi_blob.proofs.Blobs.PartialNodes.{Standing, NotBegun}
+use Rattle.bi_blob.specs.OpenNodes.{IsOpenAt, NoTree}
 use Rattle.bi_fdt.specs.Blocks.{blocks_of}
 use Rattle.bi_fdt.proofs.structure.skip_to_root.Given as goal
 
 abbrev pub invariant-loop-number : goal.invariant-loop-number
 invariant-loop-number l = record {
-  standing : (depth_limit : ℕ) → Standing (blocks_of l.blocks) depth_limit l.place NotBegun;
+  position : (depth_limit : ℕ) → IsOpenAt (blocks_of l.blocks) depth_limit l.place NoTree;
   within : l.place ≤ l.blocks.end + 3;
 }
 

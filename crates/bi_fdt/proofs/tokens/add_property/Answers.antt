@@ -1,13 +1,13 @@
 use Rattle.std.proofs.Common.{◌≡◌, ℕ, ◌+◌, ◌≤◌, length, sym, ap, subst, ◌∙◌, arith}
 use Rattle.bi_base.specs.Cells.{up4, u32_at}
 use Rattle.bi_base.proofs.CellLaws.{length-slice}
+use Rattle.bi_base.proofs.Refusals.{refused_by, passed_on}
 use Rattle.bi_blob.specs.Tree.{FileProperty}
 use Rattle.bi_blob.specs.BlobFaults.{token_fault, IsNewProperty}
-use Rattle.bi_blob.proofs.Blobs.PartialNodes.{Standing, Growing, open_of, opens_of, with_one_property}
+use Rattle.bi_blob.specs.OpenNodes.{IsOpenAt, OpenTree, open_node_of, outer_nodes_of, with_one_property}
 use Rattle.bi_blob.proofs.Blobs.Steps.{property_at}
 use Rattle.bi_fdt.specs.Blocks.{blocks_of}
-use Rattle.bi_fdt.specs.Table.{file_property_of}
-use Rattle.bi_fdt.proofs.Refusals.{refused_by, passed_on}
+use Rattle.bi_fdt.specs.Properties.{file_property_of}
 use Rattle.bi_fdt.proofs.TokenSteps.{up4-within, property_fault, duplicate_property, after_property}
 use Rattle.bi_fdt.proofs.tokens.add_property.Goals as goal
 
@@ -15,16 +15,16 @@ pub returns-in_err-property-clause-fault : goal.returns-in_err-property-clause-f
 returns-in_err-property-clause-fault c =
     let r = c.requires.reading in
     refused_by _ c.in_err-property.field-0.0 _ c.from_residual.ensures.1
-    (property_fault (blocks_of c.args.blocks) c.args.depth_limit c.args.reading.place r.innermost r.outer r.standing _ c.requires.number
-    (c.in_err-property.ensures.fault (open_of r.innermost) (opens_of r.innermost.name r.outer) (c.is_childless.ensures r.innermost r.outer r.growing)))
+    (property_fault (blocks_of c.args.blocks) c.args.depth_limit c.args.reading.place r.innermost r.outer r.position _ c.requires.number
+    (c.in_err-property.ensures.fault (open_node_of r.innermost) (outer_nodes_of r.innermost.name r.outer) (c.is_childless.ensures r.innermost r.outer r.growing)))
 
 pub returns-in_err-add_property-clause-fault : goal.returns-in_err-add_property-clause-fault
 returns-in_err-add_property-clause-fault c =
     let r = c.requires.reading in
-    let passes = c.in_ok-property.ensures.ok (open_of r.innermost) (opens_of r.innermost.name r.outer) (c.is_childless.ensures r.innermost r.outer r.growing) in
+    let passes = c.in_ok-property.ensures.ok (open_node_of r.innermost) (outer_nodes_of r.innermost.name r.outer) (c.is_childless.ensures r.innermost r.outer r.growing) in
     passed_on _ c.in_err-add_property.field-0.0 _ _ _ c.from_residual-in_err-add_property.ensures.1 c.in_err-add_property.ensures.fault c.in_err-add_property.ensures.duplicate
     (λ fault is old.
-    duplicate_property (blocks_of c.args.blocks) c.args.depth_limit c.args.reading.place r.innermost r.outer r.standing c.in_ok-property.property.name.now fault c.requires.number c.in_ok-property.ensures.name
+    duplicate_property (blocks_of c.args.blocks) c.args.depth_limit c.args.reading.place r.innermost r.outer r.position c.in_ok-property.property.name.now fault c.requires.number c.in_ok-property.ensures.name
     passes (is ∙ ap (λ p. token_fault p IsNewProperty) c.in_ok-property.ensures.place) (old r.innermost r.outer r.growing passes.0))
 
 pub returns-clause-ok : goal.returns-clause-ok
@@ -33,7 +33,7 @@ returns-clause-ok c =
     let place : ℕ = c.args.reading.place in
     let file = c.args.blocks.file.now in
     let p : FileProperty = file_property_of c.in_ok-property.property in
-    let passes = c.in_ok-property.ensures.ok (open_of r.innermost) (opens_of r.innermost.name r.outer) (c.is_childless.ensures r.innermost r.outer r.growing) in
+    let passes = c.in_ok-property.ensures.ok (open_node_of r.innermost) (outer_nodes_of r.innermost.name r.outer) (c.is_childless.ensures r.innermost r.outer r.growing) in
     let ends : place + 12 + u32_at file (place + 4) ≤ c.args.blocks.end = passes.1.0 in
     let inside : c.args.blocks.end ≤ length file = c.requires.blocks.readable.within in
     let long : length p.value ≡ u32_at file (place + 4) = ap length c.in_ok-property.ensures.value ∙ length-slice file (place + 12) (u32_at file (place + 4)) (omega arith) in
@@ -45,8 +45,8 @@ returns-clause-ok c =
       record {
         innermost = with_one_property r.innermost p;
         outer = r.outer;
-        standing = subst (λ w. Standing (blocks_of c.args.blocks) c.args.depth_limit (place + w) (Growing (with_one_property r.innermost p) r.outer)) (sym wide)
-            (after_property (blocks_of c.args.blocks) c.args.depth_limit place r.innermost r.outer r.standing p c.requires.number same passes
+        position = subst (λ w. IsOpenAt (blocks_of c.args.blocks) c.args.depth_limit (place + w) (OpenTree (with_one_property r.innermost p) r.outer)) (sym wide)
+            (after_property (blocks_of c.args.blocks) c.args.depth_limit place r.innermost r.outer r.position p c.requires.number same passes
             (c.in_ok-add_property.ensures.new r.innermost r.outer r.growing passes.0));
         growing = c.in_ok-add_property.ensures.grown r.innermost r.outer r.growing passes.0;
         within = omega arith;

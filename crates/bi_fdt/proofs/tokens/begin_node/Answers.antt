@@ -1,32 +1,33 @@
 use Rattle.std.proofs.Common.{◌≡◌, ◌+◌, ◌<◌, ◌≤◌, ◌∷◌, length, sym, ap, subst, arith}
 use Rattle.bi_base.specs.Cells.{up4}
+use Rattle.bi_base.proofs.Refusals.{refused_by, passed_on}
 use Rattle.bi_blob.specs.Tokens.{name_from}
-use Rattle.bi_blob.proofs.Blobs.PartialNodes.{Standing, Growing, open_of, opens_of, begun}
+use Rattle.bi_blob.specs.OpenNodes.{IsOpenAt, OpenTree, open_node_of, outer_nodes_of, new_node}
 use Rattle.bi_fdt.specs.Blocks.{blocks_of}
-use Rattle.bi_fdt.proofs.Refusals.{refused_by, passed_on}
-use Rattle.bi_fdt.proofs.TokenSteps.{length-opens, up4-within, begin_fault, duplicate_node, after_begin}
+use Rattle.bi_fdt.proofs.TokenSteps.{up4-within, begin_fault, duplicate_node, after_begin}
+use Rattle.bi_blob.proofs.Blobs.Steps.{length-outer_nodes_of}
 use Rattle.bi_fdt.proofs.tokens.begin_node.Goals as goal
 
 pub returns-in_err-name-clause-fault : goal.returns-in_err-name-clause-fault
 returns-in_err-name-clause-fault c =
     let r = c.requires.reading in
     let blocks = blocks_of c.args.blocks in
-    let deep : length (opens_of r.innermost.name r.outer) ≡ length r.outer = length-opens r.innermost.name r.outer in
+    let deep : length (outer_nodes_of r.innermost.name r.outer) ≡ length r.outer = length-outer_nodes_of r.innermost.name r.outer in
     let depth : c.depth.result ≡ length r.outer + 1 = c.depth.ensures r.innermost r.outer r.growing in
     refused_by _ c.in_err-name.field-0.0 _ c.from_residual.ensures.1
-    (begin_fault blocks c.args.depth_limit c.args.reading.place r.innermost r.outer r.standing _ c.requires.number
-    (c.in_err-name.ensures.fault (open_of r.innermost) (opens_of r.innermost.name r.outer) (omega arith)))
+    (begin_fault blocks c.args.depth_limit c.args.reading.place r.innermost r.outer r.position _ c.requires.number
+    (c.in_err-name.ensures.fault (open_node_of r.innermost) (outer_nodes_of r.innermost.name r.outer) (omega arith)))
 
 pub returns-in_err-growing-clause-fault : goal.returns-in_err-growing-clause-fault
 returns-in_err-growing-clause-fault c =
     let r = c.requires.reading in
     let blocks = blocks_of c.args.blocks in
-    let deep : length (opens_of r.innermost.name r.outer) ≡ length r.outer = length-opens r.innermost.name r.outer in
+    let deep : length (outer_nodes_of r.innermost.name r.outer) ≡ length r.outer = length-outer_nodes_of r.innermost.name r.outer in
     let depth : c.depth.result ≡ length r.outer + 1 = c.depth.ensures r.innermost r.outer r.growing in
     passed_on _ c.in_err-growing.field-0.0 _ _ _ c.from_residual-in_err-growing.ensures.1 c.in_err-growing.ensures.fault c.in_err-growing.ensures.duplicate
     (λ fault is old.
-    duplicate_node blocks c.args.depth_limit c.args.reading.place r.innermost r.outer r.standing c.in_ok-name.name.now fault c.requires.number c.in_ok-name.ensures.name
-    (c.in_ok-name.ensures.ok (open_of r.innermost) (opens_of r.innermost.name r.outer) (omega arith))
+    duplicate_node blocks c.args.depth_limit c.args.reading.place r.innermost r.outer r.position c.in_ok-name.name.now fault c.requires.number c.in_ok-name.ensures.name
+    (c.in_ok-name.ensures.ok (open_node_of r.innermost) (outer_nodes_of r.innermost.name r.outer) (omega arith))
     is (old r.innermost r.outer r.growing))
 
 pub returns-clause-ok : goal.returns-clause-ok
@@ -34,19 +35,19 @@ returns-clause-ok c =
     let r = c.requires.reading in
     let blocks = blocks_of c.args.blocks in
     let name = c.in_ok-name.name.now in
-    let deep : length (opens_of r.innermost.name r.outer) ≡ length r.outer = length-opens r.innermost.name r.outer in
+    let deep : length (outer_nodes_of r.innermost.name r.outer) ≡ length r.outer = length-outer_nodes_of r.innermost.name r.outer in
     let depth : c.depth.result ≡ length r.outer + 1 = c.depth.ensures r.innermost r.outer r.growing in
-    let passes = c.in_ok-name.ensures.ok (open_of r.innermost) (opens_of r.innermost.name r.outer) (omega arith) in
+    let passes = c.in_ok-name.ensures.ok (open_node_of r.innermost) (outer_nodes_of r.innermost.name r.outer) (omega arith) in
     let ends : c.args.reading.place + 4 + length (name_from c.args.blocks.file.now (c.args.reading.place + 4)) < c.args.blocks.end = passes.1.0 in
     let long : length name ≡ length (name_from c.args.blocks.file.now (c.args.reading.place + 4)) = ap length c.in_ok-name.ensures.name in
     let wide : c.up4.result ≡ up4 (length name + 5) = c.up4.ensures in
     let least : length name + 5 ≤ up4 (length name + 5) = (up4-within (length name + 5)).0 in
     let most : up4 (length name + 5) ≤ length name + 5 + 3 = (up4-within (length name + 5)).1 in (
       record {
-        innermost = begun name c.args.reading.place;
+        innermost = new_node name c.args.reading.place;
         outer = r.innermost ∷ r.outer;
-        standing = subst (λ w. Standing blocks c.args.depth_limit (c.args.reading.place + w) (Growing (begun name c.args.reading.place) (r.innermost ∷ r.outer))) (sym wide)
-            (after_begin blocks c.args.depth_limit c.args.reading.place r.innermost r.outer r.standing name c.requires.number c.in_ok-name.ensures.name passes
+        position = subst (λ w. IsOpenAt blocks c.args.depth_limit (c.args.reading.place + w) (OpenTree (new_node name c.args.reading.place) (r.innermost ∷ r.outer))) (sym wide)
+            (after_begin blocks c.args.depth_limit c.args.reading.place r.innermost r.outer r.position name c.requires.number c.in_ok-name.ensures.name passes
             (c.in_ok-growing.ensures.new r.innermost r.outer r.growing));
         growing = c.in_ok-growing.ensures.grown r.innermost r.outer r.growing;
         within = omega arith;

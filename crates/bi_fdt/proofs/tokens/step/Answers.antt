@@ -13,7 +13,7 @@ returns-then-number-eq-NOP-clause-ok c =
       record {
         innermost = r.innermost;
         outer = r.outer;
-        standing = after_nop (blocks_of c.args.blocks) c.args.depth_limit c.args.reading.place r.innermost r.outer r.standing (record { within = within; is_number = sym c.in_ok-number.ensures.number ∙ c.if-number-eq-NOP.true });
+        position = after_nop (blocks_of c.args.blocks) c.args.depth_limit c.args.reading.place r.innermost r.outer r.position (record { within = within; is_number = sym c.in_ok-number.ensures.number ∙ c.if-number-eq-NOP.true });
         growing = r.growing;
         within = omega arith;
       },

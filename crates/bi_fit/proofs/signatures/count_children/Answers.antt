@@ -5,13 +5,12 @@ use Rattle.bi_blob.specs.Lookups.{siblings}
 use Rattle.bi_fdt.specs.Views.{node_of}
 use Rattle.bi_fit.specs.Names.{is_signature_name}
 use Rattle.bi_fit.specs.Siblings.{siblings_left}
-use Rattle.bi_fit.proofs.FileSignatures.{children_small}
 use Rattle.bi_fit.proofs.signatures.count_children.Goals as goal
 
 pub count-requires-clause-fits : goal.count-requires-clause-fits
 count-requires-clause-fits c =
     let left : siblings_left c.filter.result.iter ≡ siblings (node_of c.args.parent).children = ap siblings_left c.filter.ensures.source ∙ c.children.ensures in
-    let few : length (siblings (node_of c.args.parent).children) < 2 ^ 63 = children_small c.args.parent in
+    let few : length (siblings (node_of c.args.parent).children) < 2 ^ 31 = c.requires in
     inl (simp left (omega arith))
 
 pub returns : goal.returns

@@ -1,7 +1,7 @@
 use Rattle.std.proofs.Common.{◌≤◌, refl, arith}
 use Rattle.std.proofs.lemmas.Result.{err_from_is_err_and}
 use Rattle.bi_blob.specs.Layout.{longest_text}
-use Rattle.bi_norm.specs.Outputs.{WasRefused}
+use Rattle.bi_base.specs.Commands.{WasRefused}
 use Rattle.bi_norm.proofs.BuiltTexts.{built_appended, build_failed}
 use Rattle.bi_norm.proofs.building.build_fit_into.Goals as goal
 

@@ -7,7 +7,7 @@ use Rattle.bi_fit.specs.Building.{FitHead, built}
 use Rattle.bi_fit.specs.Documents.{IsDocumentError}
 use Rattle.bi_norm.specs.Building.{specifications_of, IsTextOfTree}
 use Rattle.bi_norm.specs.Converting.{converted_images, IsConvertedFile, IsConvertError, NotLegacy, NotConvertible, head_of_image}
-use Rattle.bi_norm.specs.Outputs.{WasRefused}
+use Rattle.bi_base.specs.Commands.{WasRefused}
 use Rattle.bi_norm.proofs.Appending.{result_appended_as, result_failed_as}
 use Rattle.bi_norm.proofs.Conversions.{can_be_built, tree_is, is_converted, is_convert_error}
 use Rattle.bi_norm.proofs.converting.convert_into.Goals as goal

@@ -5,7 +5,7 @@ use Rattle.bi_lay.specs.Contents.{text_of}
 use Rattle.bi_fit.specs.declared.form.Form.TheVariants.{Embedded, External}
 use Rattle.bi_fit.specs.Content.{tree_of}
 use Rattle.bi_fit.specs.Text.{payload_area, after_blob, fit_text}
-use Rattle.bi_norm.specs.Outputs.{WasRefused, SinkFailed}
+use Rattle.bi_base.specs.Commands.{WasRefused, SinkFailed}
 use Rattle.bi_norm.proofs.NormalForms.{document_error, tree_normal_form, tree_normalised}
 use Rattle.bi_norm.proofs.PayloadAreas.{payloads_of, payloads_of_tree, payloads_fit, external_text, embedded_text}
 use Rattle.bi_norm.proofs.normal_form.emit_fit.Goals.{then-eq+in_ok-put_payloads, else-eq}
@@ -27,8 +27,8 @@ returns-in_err-emit-clause-failed g c file opened =
     let most : c.args.limits.file ≤ longest_text = omega arith in
     let failed = g.met.S.Sink.fails_before c.args.sink.now c.emit.new.sink (text_of c.in_ok-document.document) (after_blob form tree) error c.in_err-emit.ensures in
     rw (p.1, p.2)
-    (SinkFailed (fit_text form tree) (tree_normal_form c.args.limits form file c.args.fit.now opened document.fits most)
-    (subst (λ l. fails c.args.sink.now (l ++ after_blob form tree) c.emit.new.sink error) (ap text_of document.is) failed))
+    (SinkFailed (fit_text form tree) error (tree_normal_form c.args.limits form file c.args.fit.now opened document.fits most)
+    (subst (λ l. fails c.args.sink.now (l ++ after_blob form tree) c.emit.new.sink error) (ap text_of document.is) failed) refl)
 
 pub put_payloads-requires : goal.put_payloads-requires
 put_payloads-requires g c =
@@ -51,8 +51,8 @@ returns-in_err-put_payloads-clause-failed g c file opened =
     let same = external_text form c.args.fit.now c.in_ok-document.document c.images.result.now external document.is c.images.ensures in
     let failed = g.met.S.Sink.fails_after c.args.sink.now c.emit.new.sink c.put_payloads.new.sink (text_of c.in_ok-document.document) (payload_area 0 (payloads_of c.images.result.now)) error c.in_ok-emit.ensures c.in_err-put_payloads.ensures in
     rw (p.1, p.2)
-    (SinkFailed (fit_text form tree) (tree_normal_form c.args.limits form file c.args.fit.now opened document.fits most)
-    (subst (λ l. fails c.args.sink.now l c.put_payloads.new.sink error) same failed))
+    (SinkFailed (fit_text form tree) error (tree_normal_form c.args.limits form file c.args.fit.now opened document.fits most)
+    (subst (λ l. fails c.args.sink.now l c.put_payloads.new.sink error) same failed) refl)
 
 pub returns-clause-appended : goal.returns-clause-appended
 returns-clause-appended g c file opened =

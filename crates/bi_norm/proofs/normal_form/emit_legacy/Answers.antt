@@ -2,7 +2,7 @@ use Rattle.std.proofs.Common.{map, ap, ◌∙◌, ℕ, List, Bor, refl, subst, s
 use Rattle.std.proofs.lemmas.Result.{err_from_is_err_and}
 use Rattle.bi_legacy.specs.Text.{legacy_text}
 use Rattle.bi_norm.specs.NormalForm.{IsNormaliseError, ForLegacyImage}
-use Rattle.bi_norm.specs.Outputs.{WasRefused, SinkFailed}
+use Rattle.bi_base.specs.Commands.{WasRefused, SinkFailed}
 use Rattle.bi_norm.proofs.NormalForms.{legacy_normal_form, legacy_normalised}
 use Rattle.bi_norm.proofs.normal_form.emit_legacy.Goals as goal
 
@@ -19,7 +19,7 @@ returns-in_err-emit_image-clause-failed g c form file opened =
     let parsed = c.args.image.now in
     let failed = c.in_err-emit_image.ensures.written opened.normal_form.can_be_written in
     let p = err_from_is_err_and c.from_residual-in_err-emit_image.result c.from_residual-in_err-emit_image.ensures.1 in
-    rw (p.1, p.2) (SinkFailed (legacy_text parsed.image) (legacy_normal_form c.args.limits form file parsed opened) failed)
+    rw (p.1, p.2) (SinkFailed (legacy_text parsed.image) _ (legacy_normal_form c.args.limits form file parsed opened) failed refl)
 
 pub returns-clause-appended : goal.returns-clause-appended
 returns-clause-appended g c form file opened =

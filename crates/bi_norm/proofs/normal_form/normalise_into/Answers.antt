@@ -1,6 +1,6 @@
 use Rattle.std.proofs.Common.{refl, subst}
 use Rattle.std.proofs.lemmas.Result.{err_from_is_err_and}
-use Rattle.bi_norm.specs.Outputs.{WasRefused}
+use Rattle.bi_base.specs.Commands.{WasRefused}
 use Rattle.bi_norm.specs.Opening.{IsOpened}
 use Rattle.bi_norm.proofs.NormalForms.{open_error}
 use Rattle.bi_norm.proofs.normal_form.normalise_into.Goals as goal

@@ -1,20 +1,21 @@
 use Rattle.std.proofs.Common.{◌≡◌, subst, arith, rules}
 use Rattle.bi_base.specs.Cells.{AreBytes}
+use Rattle.bi_base.specs.Errors.{IsRefusal}
+use Rattle.bi_base.proofs.Refusals.{error_passed_on}
 use Rattle.bi_blob.specs.Blob.{tree_blocks}
 use Rattle.bi_blob.specs.BlobFaults.{IsStructureFault}
 use Rattle.bi_blob.proofs.Blobs.OneBlob.{one_blob}
 use Rattle.bi_blob.proofs.Blobs.Faults.{blob_has_no_fault}
-use Rattle.bi_fdt.specs.Growth.{IsRefusal}
 use Rattle.bi_fdt.specs.Reading.{HasTable}
-use Rattle.bi_fdt.proofs.Refusals.{error_passed_on}
-use Rattle.bi_fdt.proofs.Contents.{only_fault, fault_before, refused_in_tree, is_held, is_blob, is_blob_within}
+use Rattle.bi_fdt.proofs.Contents.{only_fault, refused_in_tree, is_held, is_blob, is_blob_within}
+use Rattle.bi_blob.proofs.Blobs.BeforeTree.{first_fault}
 use Rattle.bi_fdt.proofs.blob.Blob.read.Goals as goal
 
 pub returns-in_err-reservation_count-clause-refused : goal.returns-in_err-reservation_count-clause-refused
 returns-in_err-reservation_count-clause-refused c =
     error_passed_on _ _ _ c.from_residual.ensures.1
     (only_fault c.args.limits c.args.file.now c.in_err-reservation_count.field-0.0
-    (fault_before c.args.limits c.args.file.now c.in_err-reservation_count.field-0.0 c.in_err-reservation_count.ensures.fault))
+    (first_fault c.args.limits c.args.file.now c.in_err-reservation_count.field-0.0 c.in_err-reservation_count.ensures.fault))
 
 pub returns-in_err-entries-clause-refused : goal.returns-in_err-entries-clause-refused
 returns-in_err-entries-clause-refused c =

@@ -14,7 +14,7 @@ pub returns : goal.returns
 returns c =
     let blob = c.self.inside in
     let place : ℕ = off_mem_rsvmap blob.file.now + 16 * c.args.index in
-    let at : c.cell_at.result + 16 * c.args.index ≡ place = ap (λ n. n + 16 * c.args.index) c.cell_at.ensures in
+    let at : c.off_mem_rsvmap.result + 16 * c.args.index ≡ place = ap (λ n. n + 16 * c.args.index) c.off_mem_rsvmap.ensures in
     let address : c.two_cells_at.result ≡ u64_at blob.file.now place = c.two_cells_at.ensures ∙ ap (u64_at blob.file.now) at in
     let size : c.two_cells_at-2.result ≡ u64_at blob.file.now (place + 8) = c.two_cells_at-2.ensures ∙ ap (λ n. u64_at blob.file.now (n + 8)) at in
     (λ i. Some (address i, size i))

@@ -3,23 +3,23 @@ use Rattle.std.proofs.lemmas.Bool.{not-true, not-false}
 use Rattle.std.proofs.lemmas.List.{length-append, with_items_is}
 use Rattle.std.proofs.Math.ListN.{set}
 use Rattle.bi_blob.specs.Tree.{names, IsNew}
-use Rattle.bi_blob.proofs.Blobs.PartialNodes.{PartialNode}
+use Rattle.bi_blob.proofs.NameSets.{HoldsNames-new, HoldsNames-held}
+use Rattle.bi_blob.specs.OpenNodes.{OpenFileNode}
 use Rattle.bi_fdt.specs.declared.table.Entry.{Entry}
 use Rattle.bi_fdt.specs.declared.table.Entry.TheVariants as entry
 use Rattle.bi_fdt.specs.Growth.{IsGrowing}
-use Rattle.bi_fdt.proofs.NameSets.{Holds-new, Holds-held}
 use Rattle.bi_fdt.proofs.GrowingTables.{growing_property, innermost_within}
 use Rattle.bi_fdt.proofs.growing.Growing.add_property.Goals as goal
 
 pub returns-then-not-branch-clause-duplicate : goal.returns-then-not-branch-clause-duplicate
 returns-then-not-branch-clause-duplicate c =
-    let duplicate : (innermost : PartialNode) (outer : List PartialNode) → IsGrowing c.args.self innermost outer → names innermost.children ≡ [] → ¬ (IsNew c.args.property.name.now (map (λ other. other.name) innermost.properties)) = λ innermost outer growing childless.
-    Holds-held c.args.self.properties c.args.property.name _ (growing.properties childless) (not-false _ (sym c.in_ok-insert.ensures.added ∙ c.if-not-branch.true)) in
+    let duplicate : (innermost : OpenFileNode) (outer : List OpenFileNode) → IsGrowing c.args.self innermost outer → names innermost.children ≡ [] → ¬ (IsNew c.args.property.name.now (map (λ other. other.name) innermost.properties)) = λ innermost outer growing childless.
+    HoldsNames-held c.args.self.properties c.args.property.name _ (growing.properties childless) (not-false _ (sym c.in_ok-insert.ensures.added ∙ c.if-not-branch.true)) in
     search rules
 
 pub returns-clause-new : goal.returns-clause-new
 returns-clause-new c = λ innermost outer growing childless.
-    Holds-new c.args.self.properties c.args.property.name _ (growing.properties childless) (not-true _ (sym c.in_ok-insert.ensures.added ∙ c.if-not-branch.false))
+    HoldsNames-new c.args.self.properties c.args.property.name _ (growing.properties childless) (not-true _ (sym c.in_ok-insert.ensures.added ∙ c.if-not-branch.false))
 
 pub overflow_sub-property_count : goal.overflow_sub-property_count
 overflow_sub-property_count c =

@@ -2,29 +2,30 @@ use Rattle.std.proofs.Common.{◌≡◌, List, suc, ◌+◌, ◌∷◌, length, 
 use Rattle.std.proofs.lemmas.Bool.{not-true, not-false}
 use Rattle.std.proofs.lemmas.List.{length-reverse}
 use Rattle.bi_blob.specs.Tree.{names, IsNew}
-use Rattle.bi_blob.proofs.Blobs.PartialNodes.{PartialNode}
+use Rattle.bi_blob.specs.NameSets.{HoldsNames}
+use Rattle.bi_blob.proofs.NameSets.{HoldsNames-none, HoldsNames-insert, HoldsNames-new, HoldsNames-held}
+use Rattle.bi_blob.specs.OpenNodes.{OpenFileNode}
 use Rattle.bi_fdt.specs.Table.{NodeItem}
-use Rattle.bi_fdt.specs.Growth.{Holds, IsGrowing}
-use Rattle.bi_fdt.proofs.NameSets.{Holds-none, Holds-insert, Holds-new, Holds-held}
+use Rattle.bi_fdt.specs.Growth.{IsGrowing}
 use Rattle.bi_fdt.proofs.OpenEntries.{AreOpen-held, AreOpen-length}
 use Rattle.bi_fdt.proofs.GrowingTables.{growing_begun}
 use Rattle.bi_fdt.proofs.growing.Growing.begin_node.Goals as goal
 
 pub returns-then-not-branch-clause-duplicate : goal.returns-then-not-branch-clause-duplicate
 returns-then-not-branch-clause-duplicate c =
-    let duplicate : (innermost : PartialNode) (outer : List PartialNode) → IsGrowing c.args.self innermost outer → ¬ (IsNew c.args.name.now (names innermost.children)) = λ innermost outer growing.
-    let held : Holds c.args.self.innermost.children (names innermost.children) = AreOpen-held _ _ (names innermost.children) innermost.name outer growing.opened in
-    Holds-held c.args.self.innermost.children c.args.name (names innermost.children) held (not-false _ (sym c.in_ok-insert.ensures.added ∙ c.if-not-branch.true)) in
+    let duplicate : (innermost : OpenFileNode) (outer : List OpenFileNode) → IsGrowing c.args.self innermost outer → ¬ (IsNew c.args.name.now (names innermost.children)) = λ innermost outer growing.
+    let held : HoldsNames c.args.self.innermost.children (names innermost.children) = AreOpen-held _ _ (names innermost.children) innermost.name outer growing.opened in
+    HoldsNames-held c.args.self.innermost.children c.args.name (names innermost.children) held (not-false _ (sym c.in_ok-insert.ensures.added ∙ c.if-not-branch.true)) in
     search rules
 
 pub returns-clause-new : goal.returns-clause-new
 returns-clause-new c = λ innermost outer growing.
-    let held : Holds c.args.self.innermost.children (names innermost.children) = AreOpen-held _ _ (names innermost.children) innermost.name outer growing.opened in
-    Holds-new c.args.self.innermost.children c.args.name (names innermost.children) held (not-true _ (sym c.in_ok-insert.ensures.added ∙ c.if-not-branch.false))
+    let held : HoldsNames c.args.self.innermost.children (names innermost.children) = AreOpen-held _ _ (names innermost.children) innermost.name outer growing.opened in
+    HoldsNames-new c.args.self.innermost.children c.args.name (names innermost.children) held (not-true _ (sym c.in_ok-insert.ensures.added ∙ c.if-not-branch.false))
 
 pub returns-clause-grown : goal.returns-clause-grown
 returns-clause-grown c = λ innermost outer growing.
-    let held : Holds c.args.self.innermost.children (names innermost.children) = AreOpen-held _ _ (names innermost.children) innermost.name outer growing.opened in
+    let held : HoldsNames c.args.self.innermost.children (names innermost.children) = AreOpen-held _ _ (names innermost.children) innermost.name outer growing.opened in
     let long : suc (length (reverse c.args.self.outer.items)) ≡ length outer + 1 =
     AreOpen-length (c.args.self.innermost ∷ reverse c.args.self.outer.items) (names innermost.children) innermost.name outer growing.opened in
     let turned : length (reverse c.args.self.outer.items) ≡ length c.args.self.outer.items = length-reverse c.args.self.outer.items in
@@ -32,6 +33,6 @@ returns-clause-grown c = λ innermost outer growing.
     growing_begun c.args.self _ innermost outer c.args.name.now c.args.place
     (record { name = c.args.name; place = c.args.place; depth = c.len.result + 1; property_count = 0; after = 0 })
     (record { entry = c.args.self.innermost.entry; children = c.insert.new.self })
-    growing c.in_ok-push.ensures.items (ap (λ d. NodeItem d c.args.place c.args.name.now) depth) depth refl (search rules) (Holds-none c.new.result c.new.ensures.empty) c.in_ok-push-2.ensures.items refl
-    (Holds-insert c.args.self.innermost.children c.insert.new.self c.args.name (names innermost.children) held c.in_ok-insert.ensures.updates)
-    (Holds-none c.clear.new.self c.clear.ensures.empty)
+    growing c.in_ok-push.ensures.items (ap (λ d. NodeItem d c.args.place c.args.name.now) depth) depth refl (search rules) (HoldsNames-none c.new.result c.new.ensures.empty) c.in_ok-push-2.ensures.items refl
+    (HoldsNames-insert c.args.self.innermost.children c.insert.new.self c.args.name (names innermost.children) held c.in_ok-insert.ensures.updates)
+    (HoldsNames-none c.clear.new.self c.clear.ensures.empty)

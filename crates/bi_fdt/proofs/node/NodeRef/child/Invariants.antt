@@ -4,13 +4,13 @@ use Rattle.std.specs.Map.{lookup}
 use Rattle.std.specs.Option.{option_map}
 use Rattle.bi_blob.specs.Lookups.{node_named}
 use Rattle.bi_fdt.specs.Views.{node_of}
-use Rattle.bi_fdt.proofs.NodeViews.{from_sibling}
+use Rattle.bi_blob.specs.Lookups.{siblings_from}
 use Rattle.bi_fdt.proofs.node.NodeRef.child.Given as goal
 
 abbrev pub invariant-loop-next : goal.invariant-loop-next
 invariant-loop-next l =
-    lookup (λ other. bytes_eq other l.name) (map (λ sibling. (sibling.name, sibling)) (from_sibling (option_map node_of l.next)))
+    lookup (λ other. bytes_eq other l.name) (map (λ sibling. (sibling.name, sibling)) (siblings_from (option_map node_of l.next)))
     ≡ node_named (node_of l.self).children l.name
 
 abbrev pub decreases-loop-next : goal.decreases-loop-next
-decreases-loop-next l = length (from_sibling (option_map node_of l.next))
+decreases-loop-next l = length (siblings_from (option_map node_of l.next))

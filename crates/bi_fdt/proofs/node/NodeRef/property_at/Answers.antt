@@ -2,7 +2,7 @@ use Rattle.std.proofs.Common.{◌≡◌, ◌+◌, ◌<◌, length, map, drop, sy
 use Rattle.std.proofs.lemmas.List.{length-map}
 use Rattle.bi_blob.specs.Tree.{property_of}
 use Rattle.bi_fdt.specs.Content.{first_sibling}
-use Rattle.bi_fdt.specs.Table.{file_property_of}
+use Rattle.bi_fdt.specs.Properties.{file_property_of}
 use Rattle.bi_fdt.proofs.NodeEntries.{get_past, get_map}
 use Rattle.bi_fdt.proofs.NodeViews.{count_is, property_within, no_node_there, property_there}
 use Rattle.bi_fdt.proofs.node.NodeRef.property_at.Goals as goal

@@ -1,14 +1,14 @@
 use Rattle.std.proofs.Common.{◌≡◌, ◌≤◌, map, Some, None, sym, ap, subst, ◌∙◌, arith}
 use Rattle.std.specs.Option.{option_map}
 use Rattle.bi_base.specs.declared.fault.Cause.TheVariants.{NoImages}
+use Rattle.bi_base.proofs.Refusals.{error_passed_on}
 use Rattle.bi_blob.specs.Tree.{FileNode}
 use Rattle.bi_blob.specs.Lookups.{Sibling}
 use Rattle.bi_fdt.specs.Content.{root_of}
 use Rattle.bi_fdt.specs.Views.{node_of}
-use Rattle.bi_fdt.proofs.Refusals.{error_passed_on}
 use Rattle.bi_fit.specs.ImageTree.{image_nodes}
 use Rattle.bi_fit.specs.Content.{read_image, HasIndices}
-use Rattle.bi_fit.specs.Reading.{IsOnlyFault}
+use Rattle.bi_fit.specs.Reading.{IsOnlyFitFault}
 use Rattle.bi_fit.proofs.ReadErrors.{blob_error}
 use Rattle.bi_fit.proofs.ReadBlobs.{found_images, no_images, images_have_data, images_error, is_held, is_read}
 use Rattle.bi_fit.proofs.fit.Fit.read.Goals as goal
@@ -24,7 +24,7 @@ returns-in_default-clause-failed c =
     let blob = c.in_ok-blob.blob in
     let none : image_nodes (root_of blob) ≡ None =
     found_images c.root-root.result blob c.child.result c.root-root.ensures c.child.ensures ∙ ap (option_map (λ images. (node_of images).children)) c.in_default.is in
-    subst (λ place. IsOnlyFault c.args.limits c.args.file.now (record { cause = NoImages; offset = place })) (sym (c.place.ensures ∙ ap (λ (root : Sibling FileNode). root.own.place) c.root-root.ensures))
+    subst (λ place. IsOnlyFitFault c.args.limits c.args.file.now (record { cause = NoImages; offset = place })) (sym (c.place.ensures ∙ ap (λ (root : Sibling FileNode). root.own.place) c.root-root.ensures))
     (no_images c.args.limits c.args.file.now blob c.in_ok-blob.ensures.accepts c.in_ok-blob.ensures.content none)
 
 -- The image nodes of the blob.

@@ -3,7 +3,7 @@ use Rattle.bi_lay.specs.Contents.{text_of}
 use Rattle.bi_fit.specs.Text.{payloads_end, fit_text}
 use Rattle.bi_fit.specs.Content.{tree_of}
 use Rattle.bi_fit.specs.Additions.{payloads_of}
-use Rattle.bi_fit.proofs.NormalTrees.{length_after_blob}
+use Rattle.bi_fit.specs.Documents.{length_after_blob}
 use Rattle.bi_fit.proofs.NormalDocuments.{length-document, payloads_too_long, too_long}
 use Rattle.bi_fit.proofs.fit.Fit.to_doc.Goals as goal
 use Rattle.bi_fit.proofs.fit.Fit.to_doc.Goals.{After-check_size, in-Embedded, in-External+in_ok-end-in-External}

@@ -1,7 +1,7 @@
 use Rattle.std.proofs.Common.{◌≡◌, length, suc, ap, rules}
 use Rattle.std.specs.Option.{option_map}
 use Rattle.bi_fdt.specs.Views.{node_of}
-use Rattle.bi_fit.specs.Siblings.{siblings_from}
+use Rattle.bi_blob.specs.Lookups.{siblings_from}
 use Rattle.bi_fit.proofs.Siblings.{from_next}
 use Rattle.bi_fit.proofs.nodes.SiblingsIterator.next.Goals as goal
 

@@ -1,5 +1,5 @@
 use Rattle.std.proofs.Common.{ap}
-use Rattle.bi_lay.specs.Items.{value_bytes}
+use Rattle.bi_lay.specs.Values.{value_bytes}
 use Rattle.bi_lay.proofs.SameContents.{tells_with_zero}
 use Rattle.bi_lay.proofs.items.Value.is_text.Goals as goal
 

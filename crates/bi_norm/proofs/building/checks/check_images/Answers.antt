@@ -1,9 +1,9 @@
 use Rattle.std.proofs.Common.{take, get_or, sym, subst, ◌∙◌, rules}
 use Rattle.std.proofs.lemmas.Bool.{not-true, not-false}
 use Rattle.std.proofs.lemmas.Result.{err_from_is_err_and}
-use Rattle.bi_fdt.specs.Growth.{Holds}
-use Rattle.bi_fdt.proofs.NameSets.{Holds-insert, Holds-new, Holds-held}
-use Rattle.bi_norm.proofs.ImageChecks.{names_of, no_image, names_more, image_fails, name_fails, passed_more, passed_all}
+use Rattle.bi_blob.specs.NameSets.{HoldsNames}
+use Rattle.bi_blob.proofs.NameSets.{HoldsNames-insert, HoldsNames-new, HoldsNames-held}
+use Rattle.bi_norm.proofs.ImageChecks.{names_of, no_image, names_more, image_fails, name_fails, first_passed, passed_more, passed_all}
 use Rattle.bi_norm.proofs.building.checks.check_images.Goals as goal
 
 pub returns-in_err-check_image-clause-failed : goal.returns-in_err-check_image-clause-failed
@@ -11,12 +11,17 @@ returns-in_err-check_image-clause-failed c =
     let p = err_from_is_err_and c.from_residual.result c.from_residual.ensures.1 in
     rw (p.1, p.2) (image_fails c.args.images.now c.loop-index.index no_image c.loop-index-test.true c.loop-index.invariant.passed c.in_err-check_image.field-0.0 c.in_err-check_image.ensures.failed)
 
+pub returns-in_err-insert-clause-failed : goal.returns-in_err-insert-clause-failed
+returns-in_err-insert-clause-failed c =
+    let p = err_from_is_err_and c.from_residual-in_err-insert.result c.from_residual-in_err-insert.ensures.1 in
+    rw (p.1, p.2) (first_passed c.args.images.now c.loop-index.index no_image c.loop-index-test.true c.loop-index.invariant.passed c.in_ok-check_image.ensures.passed)
+
 pub returns-then-not-branch-clause-failed : goal.returns-then-not-branch-clause-failed
 returns-then-not-branch-clause-failed c =
     let images = c.args.images.now in
     let index = c.loop-index.index in
     let has = not-false _ (sym c.in_ok-insert.ensures.added ∙ c.if-not-branch.true) in
-    let held = Holds-held c.loop-index.names (get_or images index no_image).name (names_of (take index images)) c.loop-index.invariant.names has in
+    let held = HoldsNames-held c.loop-index.names (get_or images index no_image).name (names_of (take index images)) c.loop-index.invariant.names has in
     let first = name_fails images index no_image c.loop-index-test.true c.loop-index.invariant.passed c.in_ok-check_image.ensures.passed held in
     search rules
 
@@ -25,10 +30,10 @@ loop-index-preserved c =
     let images = c.args.images.now in
     let index = c.loop-index.index in
     let lacks = not-true _ (sym c.in_ok-insert.ensures.added ∙ c.if-not-branch.false) in
-    let new = Holds-new c.loop-index.names (get_or images index no_image).name (names_of (take index images)) c.loop-index.invariant.names lacks in
+    let new = HoldsNames-new c.loop-index.names (get_or images index no_image).name (names_of (take index images)) c.loop-index.invariant.names lacks in
     record {
-      names = subst (Holds c.insert.new.self) (sym (names_more images index no_image c.loop-index-test.true c.loop-index.invariant.passed))
-          (Holds-insert c.loop-index.names c.insert.new.self (get_or images index no_image).name (names_of (take index images)) c.loop-index.invariant.names c.in_ok-insert.ensures.updates);
+      names = subst (HoldsNames c.insert.new.self) (sym (names_more images index no_image c.loop-index-test.true c.loop-index.invariant.passed))
+          (HoldsNames-insert c.loop-index.names c.insert.new.self (get_or images index no_image).name (names_of (take index images)) c.loop-index.invariant.names c.in_ok-insert.ensures.updates);
       passed = passed_more images index no_image c.loop-index-test.true c.loop-index.invariant.passed c.in_ok-check_image.ensures.passed c.in_ok-check_image.ensures.bytes new;
     }
 

@@ -1,44 +1,34 @@
-use Rattle.std.proofs.Common.{◌≡◌, ◌+◌, ◌<◌, ◌≤◌, length, sym, ap, subst, ◌∙◌, refl}
+use Rattle.std.proofs.Common.{◌≡◌, ◌+◌, ◌<◌, ◌≤◌, length, subst, arith}
 use Rattle.bi_lay.specs.Contents.{text_of}
 use Rattle.bi_fit.specs.Text.{fit_text}
-use Rattle.bi_fit.proofs.NormalTrees.{length_after_blob}
-use Rattle.bi_fit.proofs.NormalDocuments.{length-document, payloads_too_long, too_long}
+use Rattle.bi_fit.proofs.NormalDocuments.{length-document, too_long}
 use Rattle.bi_norm.specs.Building.{specifications_of, tree_of_images}
 use Rattle.bi_norm.specs.BuiltNodes.{payloads_of}
+use Rattle.bi_norm.proofs.BuiltPayloads.{are_within}
 use Rattle.bi_norm.proofs.building.document.tree_doc.Goals as goal
-use Rattle.bi_norm.proofs.building.document.tree_doc.Goals.{After-check_size, in-Embedded, in-External+in_ok-end-in-External}
-
-pub returns-in_err-end-in-External-clause-failed : goal.returns-in_err-end-in-External-clause-failed
-returns-in_err-end-in-External-clause-failed c =
-    let tree = tree_of_images c.args.parts.head c.args.parts.images.now in
-    let refused = c.in_err-end-in-External.ensures.refused in
-    too_long c.from_residual.result c.args.limits c.args.form tree c.file-limit.result c.in_err-end-in-External.field-0.0
-    c.file-limit.ensures.value c.from_residual.ensures.1 refused.0
-    (payloads_too_long c.args.form tree (payloads_of (specifications_of c.args.parts.images.now)) c.file-limit.result c.in-External.is refl refused.1)
+use Rattle.bi_norm.proofs.building.document.tree_doc.Goals.{After-check_size}
 
 -- The length of the text and of what follows it.
-length_of_all : (c : After-check_size) → length (text_of c.in_ok-doc.doc) + c.match-form.end ≡ length (fit_text c.args.form (tree_of_images c.args.parts.head c.args.parts.images.now))
+length_of_all : (c : After-check_size) → length (text_of c.in_ok-doc.doc) + c.args.after ≡ length (fit_text c.args.form (tree_of_images c.args.parts.head c.args.parts.images.now))
 length_of_all c =
-    let tree = tree_of_images c.args.parts.head c.args.parts.images.now in
-    let after : c.match-form.end ≡ length_after_blob c.args.form tree.payloads = elim c.match-form.branch [
-      | in-Embedded w ↦ w.end-is ∙ ap (λ form. length_after_blob form tree.payloads) (sym w.in-Embedded.is)
-      | in-External+in_ok-end-in-External w ↦ w.end-is ∙ w.in_ok-end-in-External.ensures.end
-          ∙ ap (λ form. length_after_blob form tree.payloads) (sym w.in-External.is)
-    ] in
-    length-document c.args.form tree c.in_ok-doc.doc c.match-form.end c.in_ok-doc.ensures.document after
+    length-document c.args.form (tree_of_images c.args.parts.head c.args.parts.images.now) c.in_ok-doc.doc c.args.after c.in_ok-doc.ensures.document c.requires.after
+
+pub build_doc-requires-clause-within : goal.build_doc-requires-clause-within
+build_doc-requires-clause-within c =
+    are_within c.args.form (payloads_of (specifications_of c.args.parts.images.now)) (omega (arith, c.requires.after, c.requires.within))
 
 pub returns-in_err-check_size-clause-failed : goal.returns-in_err-check_size-clause-failed
 returns-in_err-check_size-clause-failed c =
     let tree = tree_of_images c.args.parts.head c.args.parts.images.now in
     let refused = c.in_err-check_size.ensures.refused in
-    too_long c.from_residual-in_err-check_size.result c.args.limits c.args.form tree c.file-limit.result c.in_err-check_size.field-0.0
-    c.file-limit.ensures.value c.from_residual-in_err-check_size.ensures.1 refused.0
-    (subst (λ n. c.file-limit.result < n) (length_of_all (goal.at.returns-in_err-check_size-clause-failed c).After-check_size) refused.1)
+    too_long c.from_residual-in_err-check_size.result c.args.limits c.args.form tree c.file.result c.in_err-check_size.field-0.0
+    c.file.ensures.value c.from_residual-in_err-check_size.ensures.1 refused.0
+    (subst (λ n. c.file.result < n) (length_of_all (goal.at.returns-in_err-check_size-clause-failed c).After-check_size) refused.1)
 
 pub returns-clause-document : goal.returns-clause-document
 returns-clause-document c =
-    let fits : length (text_of c.in_ok-doc.doc) + c.match-form.end ≤ c.args.limits.file =
-    subst (λ n. length (text_of c.in_ok-doc.doc) + c.match-form.end ≤ n) c.file-limit.ensures.value c.in_ok-check_size.ensures.fits in
+    let fits : length (text_of c.in_ok-doc.doc) + c.args.after ≤ c.args.limits.file =
+    subst (λ n. length (text_of c.in_ok-doc.doc) + c.args.after ≤ n) c.file.ensures.value c.in_ok-check_size.ensures.fits in
     record {
       is = c.in_ok-doc.ensures.document;
       is_closed = c.in_ok-doc.ensures.closed;

@@ -1,7 +1,7 @@
 use Rattle.std.proofs.Common.{◌≡◌, ◌++◌, [], codes, unwrap_or, nat_cmp, ap, ◌∙◌, rules}
 use Rattle.std.specs.Cmp.Lexicographic.{slice_cmp}
 use Rattle.std.specs.FinMap.{from_entries}
-use Rattle.bi_lay.specs.Items.{value_bytes}
+use Rattle.bi_lay.specs.Values.{value_bytes}
 use Rattle.bi_fit.specs.Building.{text_value, type_name, cell_property}
 use Rattle.bi_norm.specs.Building.{specification_of}
 use Rattle.bi_norm.specs.BuiltNodes.{with_cell}

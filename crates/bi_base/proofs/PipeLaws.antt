@@ -1,0 +1,129 @@
+use Rattle.std.proofs.Common.{◌≡◌, ◌++◌, ℕ, List, [], Option, Result, Ok, Err, IfErr, refl, sym, ap, ◌∙◌, subst}
+use Rattle.std.proofs.KnownBytes.{Keeps-refl}
+use Rattle.std.specs.Io.KnownBytes.{Keeps}
+use Rattle.bi_base.specs.BufferedSinks.{buffered, BufferAppends, BufferFails}
+use Rattle.bi_base.specs.Commands.{Appended, CommandFailed, CommandPromise, PipeError, PromiseLaws, WasRefused, SinkFailed, OfCommand, InputTooLong, NoMemory, NoRead, NoWrite}
+use Rattle.bi_base.specs.Limits.{Bounds}
+use Rattle.bi_base.specs.Pipes.{IsPiped, IsTracedPipe}
+use Rattle.bi_base.specs.Reading.{IsReadError, ReadWhole}
+use Rattle.bi_base.specs.Sinks.{Wrote}
+use Rattle.bi_base.specs.Traces.{ReadTrace, WriteTrace, MustStopReading}
+use Rattle.bi_base.specs.Transfers.{MoveFailed, TransferFailed}
+use Rattle.bi_base.specs.Writing.{WriteStopped, WroteAndFlushed, WriteOrFlushStopped}
+use Rattle.bi_base.specs.declared.buffered_sink.BufferedSink.{BufferedSink}
+use Rattle.bi_base.specs.declared.fault.Error.{Error}
+use Rattle.bi_base.specs.declared.fault.Error.TheVariants.{ReadFailed, WriteFailed}
+use Rattle.bi_base.proofs.TransferLaws.{stopped_writing, finished_after, write_stopped, refused_after, read_stopped, error_of_reading}
+
+-- What running a command from a reader to a writer does, from what reading, the command and its sink do.
+
+-- Where a command failed over a new sink, writing failed.
+pub failed_writing : {T E : Type 0} (trace : T → WriteTrace) (wraps : Error → E) (IsText : List ℕ → Type 0) (HasError : E → Type 0)
+    (old new : BufferedSink T) (error : E) → (buffered trace old).held ≡ []
+    → CommandFailed (BufferFails trace) wraps IsText HasError old new error
+    → CommandFailed WriteOrFlushStopped wraps IsText HasError (buffered trace old).trace (buffered trace new).trace error
+failed_writing trace wraps IsText HasError old new error none (WasRefused is same) =
+    WasRefused is (ap (λ sink. (buffered trace sink).trace) same)
+failed_writing trace wraps IsText HasError old new error none (SinkFailed text cause is stops wrapped) =
+    SinkFailed text cause is
+    (stopped_writing (buffered trace old).trace text (buffered trace new).trace cause
+    (subst (λ l. WriteStopped (buffered trace old).trace (l ++ text) (buffered trace new).trace cause) none stops.stopped))
+    wrapped
+
+-- A sink over which a command failed still has its writer.
+pub failed_same_borrow : {T E : Type 0} (trace : T → WriteTrace) (wraps : Error → E) (IsText : List ℕ → Type 0)
+    (HasError : E → Type 0) (old new : BufferedSink T) (error : E)
+    → CommandFailed (BufferFails trace) wraps IsText HasError old new error → new.target.ghost_name ≡ old.target.ghost_name
+failed_same_borrow trace wraps IsText HasError old new error (WasRefused is same) = ap (λ sink. (buffered trace sink).borrow) same
+failed_same_borrow trace wraps IsText HasError old new error (SinkFailed text cause is stops wrapped) = stops.same_borrow
+
+-- Where a new sink took the text, finishing it writes and flushes the text, or that stops.
+pub finished_writing : {T : Type 0} (trace : T → WriteTrace) (IsText : List ℕ → Type 0) (old mid : BufferedSink T)
+    (new : WriteTrace) (result : Result (Unit {0}) Error) → (buffered trace old).held ≡ []
+    → (appended : Appended (BufferAppends trace) IsText old mid)
+    → Wrote WroteAndFlushed WriteOrFlushStopped (buffered trace mid).trace (buffered trace mid).held result new
+    → Wrote WroteAndFlushed WriteOrFlushStopped (buffered trace old).trace appended.text result new
+finished_writing trace IsText old mid new result none appended finished =
+    finished_after (buffered trace old) (buffered trace mid) appended.text new result none appended.appended finished
+
+-- A failed write is no failed read.
+write_is_no_read : ¬ (WriteFailed ≡ ReadFailed)
+write_is_no_read e = absurd cc
+
+-- Reading the input failed.
+pub reading_failed : {V E : Type 0} (promise : CommandPromise V E) (limits : Bounds) → PromiseLaws promise
+    → (source new_source : ReadTrace) (target : WriteTrace) (error : Error)
+    → IsReadError source.remaining limits.file (MustStopReading new_source) error
+    → TransferFailed source new_source target target promise.is_text (λ input. PipeError promise limits input (promise.wraps error))
+    (promise.wraps error ≡ promise.wraps ReadFailed) (promise.wraps error ≡ promise.wraps WriteFailed)
+reading_failed promise limits laws source new_source target error is =
+    read_stopped source new_source target promise.is_text (λ input. PipeError promise limits input (promise.wraps error)) limits.file
+    (promise.wraps error ≡ promise.wraps ReadFailed) (promise.wraps error ≡ promise.wraps WriteFailed) error
+    (error_of_reading source.remaining limits.file (MustStopReading new_source)
+    (λ error input. PipeError promise limits input (promise.wraps error)) error is
+    (λ input longer. InputTooLong longer refl) (λ input. NoMemory refl) (λ input. NoRead refl))
+    (λ same. laws.wraps_once error ReadFailed same) (λ same. laws.wraps_once error WriteFailed same)
+
+-- After a whole input was read, the command failed, or writing its output did.
+pub piping_failed : {V E : Type 0} (promise : CommandPromise V E) (limits : Bounds) → PromiseLaws promise
+    → (source new_source : ReadTrace) (target new_target : WriteTrace) (input bytes : List ℕ) (result : Result V E)
+    → ReadWhole source.remaining new_source.remaining bytes → input ≡ bytes
+    → IfErr result (CommandFailed WriteOrFlushStopped promise.wraps (promise.is_text input) (promise.has_error input) target new_target)
+    → IfErr result (λ error. TransferFailed source new_source target new_target promise.is_text
+    (λ input. PipeError promise limits input error) (error ≡ promise.wraps ReadFailed) (error ≡ promise.wraps WriteFailed))
+piping_failed promise limits laws source new_source target new_target input bytes (Ok value) read same failed = tt
+piping_failed promise limits laws source new_source target new_target input bytes (Err error) read same (WasRefused is kept) =
+    refused_after source new_source target new_target promise.is_text (λ input. PipeError promise limits input error)
+    (error ≡ promise.wraps ReadFailed) (error ≡ promise.wraps WriteFailed) input
+    (subst (ReadWhole source.remaining new_source.remaining) (sym same) read)
+    (OfCommand is)
+    (λ e. laws.no_read_error input (subst (promise.has_error input) e is))
+    (λ e. laws.no_write_error input (subst (promise.has_error input) e is))
+    (subst (λ (trace : WriteTrace). Keeps target.contents trace.contents) (sym kept) (Keeps-refl target.contents))
+piping_failed promise limits laws source new_source target new_target input bytes (Err error) read same (SinkFailed text cause is stopped wrapped) =
+    let is_write : error ≡ promise.wraps WriteFailed = wrapped ∙ ap promise.wraps stopped.is in
+    write_stopped source new_source target new_target promise.is_text (λ input. PipeError promise limits input error)
+    (error ≡ promise.wraps ReadFailed) (error ≡ promise.wraps WriteFailed) input text cause
+    (subst (ReadWhole source.remaining new_source.remaining) (sym same) read) is
+    (NoWrite is_write)
+    (λ e. write_is_no_read (laws.wraps_once WriteFailed ReadFailed (sym is_write ∙ e))) is_write stopped
+
+-- What failed with streams whose calls are traced, failed with plain ones.
+pub moving_failed : (source new_source : ReadTrace) (target new_target : WriteTrace) (IsOutput : List ℕ → List ℕ → Type 0)
+    (HasError : List ℕ → Type 0) (read_failed write_failed : Type 0)
+    → TransferFailed source new_source target new_target IsOutput HasError read_failed write_failed
+    → MoveFailed source.remaining new_source.remaining target.contents new_target.contents ⊥ IsOutput HasError write_failed
+moving_failed source new_source target new_target IsOutput HasError read_failed write_failed all = record {
+  input = all.failed.input;
+  is_input = all.failed.is_input;
+  has_error = all.failed.has_error;
+  prefix = λ w. let p = all.failed.prefix w in record {
+    input = p.input;
+    output = p.output;
+    count = p.count;
+    read = p.read;
+    within = p.within;
+    written = p.written;
+    whole = λ no. absurd no;
+    is_output = p.is_output;
+  };
+  else_nothing = all.failed.else_nothing;
+}
+
+-- A command that was run over streams whose calls are traced was run over plain ones, where these have what the traces say.
+pub piped : {V E : Type 0} (promise : CommandPromise V E) (limits : Bounds) (source new_source : ReadTrace)
+    (target new_target : WriteTrace) (remaining new_remaining contents new_contents : Option (List ℕ)) (result : Result V E)
+    → source.remaining ≡ remaining → new_source.remaining ≡ new_remaining → target.contents ≡ contents
+    → new_target.contents ≡ new_contents → IsTracedPipe promise limits source new_source target new_target result
+    → IsPiped promise limits remaining new_remaining contents new_contents result
+piped promise limits source new_source target new_target remaining new_remaining contents new_contents (Ok value) r nr c nc is =
+    rw (sym r, sym nr, sym c, sym nc)
+    record { done = is.done.moved; failed = tt; takes_at_most_one_byte_more = is.takes_at_most_one_byte_more.known }
+piped promise limits source new_source target new_target remaining new_remaining contents new_contents (Err error) r nr c nc is =
+    rw (sym r, sym nr, sym c, sym nc)
+    record {
+      done = tt;
+      failed = moving_failed source new_source target new_target promise.is_text (λ input. PipeError promise limits input error)
+          (error ≡ promise.wraps ReadFailed) (error ≡ promise.wraps WriteFailed) is.failed;
+      takes_at_most_one_byte_more = is.takes_at_most_one_byte_more.known;
+    }

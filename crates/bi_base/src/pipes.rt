@@ -1,0 +1,109 @@
+//! Running a command from a reader to a writer.
+
+ghost use Rattle.std.specs.Prelude.{◌≡◌, ◌≤◌, [], length, IfOk, IfErr};
+ghost use Rattle.bi_base.specs.BufferedSinks.{buffered};
+ghost use Rattle.bi_base.specs.Commands.{Appended, CommandFailed};
+ghost use Rattle.bi_base.specs.Pipes.{IsPiped, IsTracedPipe};
+ghost use Rattle.bi_base.specs.Writing.{WroteAndFlushed, WriteOrFlushStopped};
+
+use crate::buffered_sink::BufferedSink;
+use crate::commands::Command;
+use crate::limits::Limits;
+use crate::reading::read_all_traced;
+use crate::traced_read::{TracedRead, TracedReader};
+use crate::traced_write::{TracedWrite, TracedWriter};
+use std::alloc::Global;
+use std::io::{Read, Write};
+
+/// Reads an input to its end, runs a command on it, writes the output and flushes, from a reader to
+/// a writer that record the outcome of their calls. Returns what the command returns.
+///
+/// Errors: `ReadFailed` after a read that failed with an error other than an interruption, or after
+/// 1,024 interrupted reads in a row; `Refused` with `TooLarge` at the limit for files, if the input
+/// is longer; those of the command; `WriteFailed` after a write or flush that failed with an error
+/// other than an interruption, after a write that wrote none of the remaining bytes, or after 1,024
+/// interruptions in a row; `OutOfMemory` for any input, since reading it allocates. No such failure
+/// is ignored. After `WriteFailed` a prefix of the output was written, the whole of it if the flush
+/// failed. After any other error nothing was written. At most one byte more than the limit is read.
+pub fn pipe<C: Command, S: TracedRead, T: TracedWrite>(
+    alloc: Global,
+    command: &C,
+    source: &mut S,
+    target: &mut T,
+    limits: Limits,
+) -> Result<C::Value, C::Failure>
+    requires { C.can_run command.now }
+    ensures { IsTracedPipe (C.promise command.now limits) limits (S.trace source.old)
+        (S.trace source.new) (T.trace target.old) (T.trace target.new) result }
+{
+    let input = read_all_traced(alloc, source, limits)?;
+    write_output(alloc, command, &input, limits, target)
+}
+
+/// Reads an input to its end, runs a command on it, writes the output and flushes: `pipe` over a
+/// plain reader and a plain writer, with the same errors.
+///
+/// A plain reader or writer does not record a failed call, so the contract cannot state why
+/// `ReadFailed` and `WriteFailed` come, that no failed call is ignored, and that the writer was
+/// flushed. `pipe` promises all three.
+pub fn pipe_to<C: Command, R: Read, W: Write>(
+    alloc: Global,
+    command: &C,
+    reader: &mut R,
+    writer: &mut W,
+    limits: Limits,
+) -> Result<C::Value, C::Failure>
+    requires { C.can_run command.now }
+    ensures { IsPiped (C.promise command.now limits) limits (R.remaining reader.old)
+        (R.remaining reader.new) (W.contents writer.old) (W.contents writer.new) result }
+{
+    let mut source = TracedReader::new(reader);
+    let mut target = TracedWriter::new(writer);
+    pipe(alloc, command, &mut source, &mut target, limits)
+}
+
+/// Runs a command over a buffered sink of a writer, and flushes.
+fn write_output<C: Command, T: TracedWrite>(
+    alloc: Global,
+    command: &C,
+    input: &[u8],
+    limits: Limits,
+    target: &mut T,
+) -> Result<C::Value, C::Failure>
+    requires can { C.can_run command.now }
+    requires short { length input.now ≤ limits.file }
+    ensures written { IfOk result (λ value. Appended WroteAndFlushed
+        ((C.promise command.now limits).is_output value input.now)
+        (T.trace target.old) (T.trace target.new)) }
+    ensures failed { let promise = C.promise command.now limits in
+        IfErr result (CommandFailed WriteOrFlushStopped promise.wraps (promise.is_text input.now)
+        (promise.has_error input.now) (T.trace target.old) (T.trace target.new)) }
+{
+    let mut sink = BufferedSink::new(target);
+    run_and_finish(alloc, command, input, limits, &mut sink)
+}
+
+/// Runs a command over a sink whose buffer is empty, and finishes the sink.
+fn run_and_finish<C: Command, T: TracedWrite>(
+    alloc: Global,
+    command: &C,
+    input: &[u8],
+    limits: Limits,
+    sink: &mut BufferedSink<'_, T>,
+) -> Result<C::Value, C::Failure>
+    requires can { C.can_run command.now }
+    requires short { length input.now ≤ limits.file }
+    requires none_held { (buffered T.trace sink.now).held ≡ [] }
+    ensures same_borrow { (buffered T.trace sink.new).borrow ≡ (buffered T.trace sink.old).borrow }
+    ensures written { IfOk result (λ value. Appended WroteAndFlushed
+        ((C.promise command.now limits).is_output value input.now)
+        (buffered T.trace sink.old).trace (buffered T.trace sink.new).trace) }
+    ensures failed { let promise = C.promise command.now limits in
+        IfErr result (CommandFailed WriteOrFlushStopped promise.wraps (promise.is_text input.now)
+        (promise.has_error input.now)
+        (buffered T.trace sink.old).trace (buffered T.trace sink.new).trace) }
+{
+    let value = command.run(alloc, input, limits, sink)?;
+    sink.finish()?;
+    Ok(value)
+}

@@ -1,0 +1,67 @@
+use Rattle.std.proofs.Common.{◌≡◌, ◌≤◌, ℕ, List, length, map, sym, ap, ◌∙◌}
+use Rattle.std.specs.List.{concat, sum}
+use Rattle.std.proofs.lemmas.List.Concat.{concat_is, length-flat_map}
+use Rattle.std.proofs.lemmas.List.Sums.{sum-map}
+use Rattle.bi_base.specs.Limits.{Bounds}
+use Rattle.bi_base.specs.declared.fault.Error.{Error}
+use Rattle.bi_base.specs.declared.fault.Error.TheVariants.{Refused, OutOfMemory, ReadFailed, WriteFailed}
+use Rattle.bi_fit.specs.declared.form.Form.{Form}
+use Rattle.bi_norm.specs.declared.building.Head.{Head}
+use Rattle.bi_norm.specs.declared.building.ImageSpec.{ImageSpec}
+use Rattle.bi_norm.specs.Building.{IsBuilt, IsBuildError}
+use Rattle.bi_norm.specs.Cutting.{IsCut, IsCutError}
+use Rattle.bi_base.specs.Commands.{Appended, AppendFailed, WasRefused, SinkFailed}
+use Rattle.bi_commands.specs.Building.{HavePayloads, IsFitOutput, IsFitOutputError, NotCut, NotBuilt}
+
+-- Flattened image trees that are built from an input.
+
+-- An error of cutting the input is one of building from it.
+pub cut_error : (limits : Bounds) (form : Form) (head : Head) (given : List ImageSpec) (lengths input : List ℕ) (error : Error) → length input ≤ limits.file → IsCutError input lengths error → IsFitOutputError limits form head given lengths input error
+cut_error limits form head given lengths input (Refused fault) short is = NotCut short is
+cut_error limits form head given lengths input OutOfMemory short is = is
+cut_error limits form head given lengths input ReadFailed short is = is
+cut_error limits form head given lengths input WriteFailed short is = is
+
+-- The lengths of the pieces of an input are together its length.
+length_concat : (pieces : List (List ℕ)) → sum (map length pieces) ≡ length (concat pieces)
+length_concat pieces = sum-map length pieces ∙ sym (ap length (concat_is pieces) ∙ length-flat_map (λ piece. piece) pieces)
+
+pub sum_of_cut : (input lengths : List ℕ) (pieces : List (List ℕ)) → IsCut input lengths pieces → sum lengths ≡ length input
+sum_of_cut input lengths pieces cut = ap sum (sym cut.have_lengths) ∙ length_concat pieces ∙ ap length cut.are_whole
+
+-- An input within the limits, its pieces, and the images with these pieces as their payloads.
+pub record Completed (limits : Bounds) (given : List ImageSpec) (lengths input : List ℕ) (payloads : List (List ℕ)) (images : List ImageSpec) : Type 0 where
+  pub short : length input ≤ limits.file
+  pub cut : IsCut input lengths payloads
+  pub have : HavePayloads given payloads images
+
+-- An error of building the images is one of building from the input.
+build_error : (limits : Bounds) (form : Form) (head : Head) (given : List ImageSpec) (lengths input : List ℕ) (payloads : List (List ℕ)) (images : List ImageSpec) (error : Error) → Completed limits given lengths input payloads images → IsBuildError limits form head images error → IsFitOutputError limits form head given lengths input error
+build_error limits form head given lengths input payloads images (Refused fault) completed is = NotBuilt completed.short payloads completed.cut images completed.have is
+build_error limits form head given lengths input payloads images OutOfMemory completed is = sum_of_cut input lengths payloads completed.cut
+build_error limits form head given lengths input payloads images ReadFailed completed is = is
+build_error limits form head given lengths input payloads images WriteFailed completed is = is
+
+-- A text that was built is the output.
+is_output : (limits : Bounds) (form : Form) (head : Head) (given : List ImageSpec) (lengths input : List ℕ) (payloads : List (List ℕ)) (images : List ImageSpec) (text : List ℕ) → Completed limits given lengths input payloads images → IsBuilt limits form head images text → IsFitOutput limits form head given lengths input text
+is_output limits form head given lengths input payloads images text completed built = record {
+  payloads = payloads;
+  cut = completed.cut;
+  images = images;
+  have = completed.have;
+  built = built;
+}
+
+-- Images that were built are the output.
+pub appended : {S : Type 0} (appends : S → List ℕ → S → Type 0) (limits : Bounds) (form : Form) (head : Head) (given : List ImageSpec) (lengths input : List ℕ) (payloads : List (List ℕ)) (images : List ImageSpec) (old new : S) → Completed limits given lengths input payloads images → Appended appends (IsBuilt limits form head images) old new → Appended appends (IsFitOutput limits form head given lengths input) old new
+appended appends limits form head given lengths input payloads images old new completed built = record {
+  text = built.text;
+  is_text = is_output limits form head given lengths input payloads images built.text completed built.is_text;
+  appended = built.appended;
+}
+
+-- Images that were not built were refused, or the sink failed.
+pub not_appended : {S : Type 0} (fails : S → List ℕ → S → Error → Type 0) (limits : Bounds) (form : Form) (head : Head) (given : List ImageSpec) (lengths input : List ℕ) (payloads : List (List ℕ)) (images : List ImageSpec) (old new : S) (error : Error) → Completed limits given lengths input payloads images → AppendFailed fails (IsBuilt limits form head images) (IsBuildError limits form head images) old new error → AppendFailed fails (IsFitOutput limits form head given lengths input) (IsFitOutputError limits form head given lengths input) old new error
+not_appended fails limits form head given lengths input payloads images old new error completed (WasRefused is same) = WasRefused (build_error limits form head given lengths input payloads images error completed is) same
+not_appended fails limits form head given lengths input payloads images old new error completed (SinkFailed text cause is failed same) =
+    SinkFailed text cause (is_output limits form head given lengths input payloads images text completed is) failed same

@@ -1,0 +1,114 @@
+use Rattle.std.proofs.Common.{◌≡◌, ℕ, List, [], ◌∷◌, ◌++◌, codes, flat_map, Option, None, Some, refl, ap, ◌∙◌, nat_cmp}
+use Rattle.std.specs.Cmp.Lexicographic.{slice_cmp}
+use Rattle.std.specs.Fmt.{digits}
+use Rattle.std.specs.FinMap.{get, from_entries, find, get-from_entries}
+use Rattle.std.proofs.lemmas.Cmp.{nat_list_cmp_total}
+use Rattle.bi_base.specs.Cells.{cell, cell8, u32_at}
+use Rattle.bi_base.specs.Crc.{crc32, crc_after, low_bits}
+use Rattle.bi_base.specs.Strings.{text_before_nul}
+use Rattle.bi_blob.specs.Layout.{text_of_events, text_of_blocks}
+use Rattle.bi_blob.specs.Tree.{Property}
+use Rattle.bi_hash.specs.Algos.{find_algorithm}
+use Rattle.bi_hash.specs.Digests.{digest_of}
+use Rattle.bi_hash.specs.Verdicts.{verdict_of}
+use Rattle.bi_hash.specs.declared.verdicts.Verdict.{Verdict}
+use Rattle.bi_hash.specs.declared.verdicts.Verdict.TheVariants.{Good, Bad, UnknownAlgo, NoPayload, Malformed}
+use Rattle.bi_fit.specs.Judgement.{CheckedHash, verdicts_of}
+use Rattle.bi_fit.specs.Names.{key_name, default_name, algo_name, value_name}
+use Rattle.bi_fit.specs.declared.key.Key.TheVariants.{Kernel, Fdt, Ramdisk, Firmware, Loadables, Script}
+use Rattle.bi_fit.specs.KnownJudgements.{configuration_lists, other_lists, default_list, hashed_tree, good_crc, short_crc, other_crc, no_value}
+use Rattle.bi_fit.proofs.JudgementFacts.{lists_are_read}
+use Rattle.bi_commands.specs.Extracting.{choice_of_listed}
+use Rattle.bi_commands.specs.Reports.{hash_line, summary_line}
+use Rattle.bi_commands.specs.KnownTexts.{NamesAreShown, ChoicesAreKnown, ReportsAreKnown, LegacyListingsAreKnown, FitListingIsKnown, ConfigurationLinesAreKnown}
+
+-- What the definitions compute for small boot images.
+
+pub names_are_shown : NamesAreShown
+names_are_shown = record {
+  empty = refl;
+  minus = refl;
+  space = refl;
+  percent = refl;
+  first = refl;
+  before_first = refl;
+  last = refl;
+  after_last = refl;
+  greatest = refl;
+  plain = refl;
+  minus_inside = refl;
+}
+
+pub choices_are_known : ChoicesAreKnown
+choices_are_known = record {
+  first_part = refl;
+  second_part = refl;
+  no_part = refl;
+  image_of_legacy = refl;
+  entry_of_legacy = refl;
+  part_of_tree = refl;
+  image = refl;
+  no_image = refl;
+  no_payload = refl;
+  entry = ap (λ listed. choice_of_listed listed 0) lists_are_read.listed;
+  no_entry = ap (λ listed. choice_of_listed listed 1) lists_are_read.listed;
+  missing = ap (λ listed. choice_of_listed listed 0) lists_are_read.missing;
+  bad_list = ap (λ listed. choice_of_listed listed 0) lists_are_read.no_zero;
+  no_key = ap (λ listed. choice_of_listed listed 0) lists_are_read.no_key;
+  no_configuration = refl;
+}
+
+-- A property of a list by its name.
+found : (properties : List Property) (name : List ℕ) → get (from_entries {R = slice_cmp nat_cmp} properties) name ≡ find (slice_cmp nat_cmp) name properties
+found properties name = get-from_entries nat_list_cmp_total properties name
+
+-- The hash nodes of the tree with one of each verdict.
+abbrev crc32_of_abc : List ℕ
+crc32_of_abc = 0x35 ∷ 0x24 ∷ 0x41 ∷ 0xc2 ∷ []
+
+abbrev known_hash : (image node_name algo : List ℕ) → Option (List ℕ) → Verdict → CheckedHash
+known_hash image node_name algo value verdict = record { image = image; node_name = node_name; algo = Some algo; value = value; verdict = verdict }
+
+abbrev known_hashes : List CheckedHash
+known_hashes =
+    known_hash (codes "a") (codes "hash-1") (codes "crc32") (Some crc32_of_abc) Good
+    ∷ known_hash (codes "a") (codes "hash") (codes "crc32") (Some (0x35 ∷ 0x24 ∷ 0x41 ∷ [])) Bad
+    ∷ known_hash (codes "a") (codes "hash@3") (codes "crc16-ccitt") (Some (0 ∷ 0 ∷ [])) UnknownAlgo
+    ∷ known_hash (codes "a") (codes "hash-4") (codes "crc32") None Malformed
+    ∷ known_hash (codes "b") (codes "hash-1") (codes "crc32") (Some crc32_of_abc) NoPayload
+    ∷ []
+
+hashes_are_known : verdicts_of hashed_tree ≡ known_hashes
+unfolding text_before_nul verdict_of find_algorithm digest_of cell crc32 crc_after low_bits
+hashes_are_known =
+    rw (found good_crc algo_name, found good_crc value_name, found short_crc algo_name, found short_crc value_name, found other_crc algo_name, found other_crc value_name, found no_value algo_name, found no_value value_name)
+    refl
+
+-- The report on hash nodes.
+abbrev report : List CheckedHash → List ℕ
+report hashes = flat_map hash_line hashes ++ summary_line hashes
+
+pub reports_are_known : ReportsAreKnown
+unfolding digits
+reports_are_known = record {
+  legacy = refl;
+  no_hashes = refl;
+  hashes = ap report hashes_are_known ∙ refl;
+}
+
+pub legacy_listings_are_known : LegacyListingsAreKnown
+unfolding digits cell
+legacy_listings_are_known = record {
+  kernel = refl;
+  multi = refl;
+}
+
+pub fit_listing_is_known : FitListingIsKnown
+unfolding digits text_of_events text_of_blocks cell cell8 u32_at
+fit_listing_is_known = refl
+
+pub configuration_lines_are_known : ConfigurationLinesAreKnown
+unfolding digits text_before_nul
+configuration_lines_are_known =
+    rw (found configuration_lists (key_name Kernel), found configuration_lists (key_name Fdt), found configuration_lists (key_name Ramdisk), found configuration_lists (key_name Firmware), found configuration_lists (key_name Loadables), found configuration_lists (key_name Script), found other_lists (key_name Kernel), found other_lists (key_name Fdt), found other_lists (key_name Ramdisk), found other_lists (key_name Firmware), found other_lists (key_name Loadables), found other_lists (key_name Script), found default_list default_name)
+    refl

@@ -1,0 +1,23 @@
+use Rattle.std.proofs.lemmas.Result.{err_from_is_err_and}
+use Rattle.bi_commands.proofs.Compared.{opened_means, result_same, result_memory}
+use Rattle.bi_norm.specs.OpenedMeaning.{meaning_of}
+use Rattle.bi_commands.proofs.compare.have_same_meaning.Goals as goal
+
+pub returns-in_err-image-clause-failed : goal.returns-in_err-image-clause-failed
+returns-in_err-image-clause-failed c =
+    let p = err_from_is_err_and c.from_residual.result c.from_residual.ensures.1 in
+    rw (p.1, p.2) (c.in_err-image.ensures.failed c.args.other.now)
+
+pub returns-in_err-other_image-clause-failed : goal.returns-in_err-other_image-clause-failed
+returns-in_err-other_image-clause-failed c =
+    let p = err_from_is_err_and c.from_residual-in_err-other_image.result c.from_residual-in_err-other_image.ensures.1 in
+    rw (p.1, p.2) (c.in_err-other_image.ensures.failed c.args.one.now (meaning_of c.in_ok-image.image) (opened_means c.args.limits c.args.one.now c.in_ok-image.image c.in_ok-image.ensures.opened).means)
+
+pub returns-clause-compared : goal.returns-clause-compared
+returns-clause-compared c =
+    result_same c.args.limits c.args.one.now c.args.other.now c.in_ok-image.image c.in_ok-other_image.other_image c.mean_the_same.result c.in_ok-image.ensures.opened c.in_ok-other_image.ensures.opened
+    c.mean_the_same.ensures.compared
+
+pub returns-clause-failed : goal.returns-clause-failed
+returns-clause-failed c =
+    result_memory c.args.limits c.args.one.now c.args.other.now c.in_ok-image.image c.mean_the_same.result c.in_ok-image.ensures.opened c.mean_the_same.ensures.failed

@@ -1,0 +1,12 @@
+use Rattle.std.proofs.lemmas.Result.{err_from_is_err_and}
+use Rattle.bi_commands.proofs.DescribedFiles.{error_of_reading, failed_of_result}
+use Rattle.bi_commands.proofs.describe.describe.Goals as goal
+
+pub returns-in_err-image-clause-failed : goal.returns-in_err-image-clause-failed
+returns-in_err-image-clause-failed c =
+    let p = err_from_is_err_and c.from_residual.result c.from_residual.ensures.1 in
+    rw (p.1, p.2) (error_of_reading c.args.limits c.args.file.now c.in_err-image.field-0.0 c.in_err-image.ensures.failed)
+
+pub returns-clause-failed : goal.returns-clause-failed
+returns-clause-failed c =
+    failed_of_result c.args.limits c.args.file.now c.in_ok-image.image c.describe_image.result c.in_ok-image.ensures.opened c.describe_image.ensures.failed

@@ -1,0 +1,8 @@
+use Rattle.std.proofs.Common.{rules}
+use Rattle.bi_commands.proofs.verify.verify.Goals as goal
+
+pub returns-in-Legacy-clause-failed : goal.returns-in-Legacy-clause-failed
+returns-in-Legacy-clause-failed c = c.verify_legacy.ensures.failed _ _ (search rules)
+
+pub returns-in-Fit-clause-failed : goal.returns-in-Fit-clause-failed
+returns-in-Fit-clause-failed c = c.verify_fit.ensures.failed _ _ (search rules)

@@ -1,0 +1,187 @@
+use Rattle.std.specs.Prelude.{◌≡◌, ℕ, List, [], ◌∷◌, ◌++◌, Some, codes}
+use Rattle.std.specs.Option.{option_map}
+use Rattle.std.specs.Borrow.{Bor}
+use Rattle.bi_blob.specs.Layout.{tree_with_places}
+use Rattle.bi_blob.specs.Tree.{none, node, Root, FileNode}
+use Rattle.bi_fit.specs.declared.key.Key.{Key}
+use Rattle.bi_fit.specs.declared.key.Key.TheVariants.{Kernel, Fdt, Ramdisk, Script}
+use Rattle.bi_fit.specs.KnownFiles.{plain_tree, tree_of_images, region_of}
+use Rattle.bi_fit.specs.KnownFiles.{three_external, three_tree}
+use Rattle.bi_fit.specs.ImageTree.{image_nodes}
+use Rattle.bi_fit.specs.Judgement.{default_of}
+use Rattle.bi_fit.specs.KnownJudgements.{configured_tree, hashed_tree}
+use Rattle.bi_legacy.specs.KnownImages.{kernel_image, multi_image}
+use Rattle.bi_norm.specs.Meaning.{OfLegacy, OfFit}
+use Rattle.bi_commands.specs.declared.extract.Select.{Select}
+use Rattle.bi_commands.specs.declared.extract.Select.TheVariants.{Part, Image, Config}
+use Rattle.bi_commands.specs.Extracting.{Choice, OfOtherKind, NoSuchPart, NoSuchImage}
+use Rattle.bi_commands.specs.Extracting.{NoSuchConfiguration, NoSuchKey, HasBadList}
+use Rattle.bi_commands.specs.Extracting.{HasMissingImage, NoSuchEntry, HasNoPayload, Chosen}
+use Rattle.bi_commands.specs.Extracting.{choice_of}
+use Rattle.bi_commands.specs.FitListing.{configuration_lines, default_line, fit_listing}
+use Rattle.bi_commands.specs.Listing.{legacy_listing}
+use Rattle.bi_commands.specs.Reports.{fit_report, legacy_report}
+use Rattle.bi_commands.specs.Shown.{shown}
+
+-- Small boot images with what the commands write of them, by which a reader can judge the
+-- definitions.
+
+-- Names as they are shown.
+pub record NamesAreShown : Type 0 where
+  pub empty : shown [] ≡ codes "-"
+  pub minus : shown (codes "-") ≡ codes "%2D"
+  pub space : shown (codes " ") ≡ codes "%20"
+  pub percent : shown (codes "%") ≡ codes "%25"
+  pub first : shown (0x21 ∷ []) ≡ codes "!"
+  pub before_first : shown (0x1f ∷ []) ≡ codes "%1F"
+  pub last : shown (0x7e ∷ []) ≡ codes "~"
+  pub after_last : shown (0x7f ∷ []) ≡ codes "%7F"
+  pub greatest : shown (0xff ∷ []) ≡ codes "%FF"
+  pub plain : shown (codes "kernel-1") ≡ codes "kernel-1"
+  pub minus_inside : shown (codes "a-b c") ≡ codes "a-b%20c"
+
+-- Bytes that are lent.
+abbrev pub lent : List ℕ → Bor (List ℕ)
+lent bytes = record { ref_ptr = (0, 0); now = bytes }
+
+-- The image, or the entry of a configuration, of this name.
+abbrev pub image_selection : List ℕ → Select
+image_selection name = Image (lent name)
+
+abbrev pub entry_selection : (configuration : List ℕ) → Key → (index : ℕ) → Select
+entry_selection configuration key index = Config (lent configuration) key index
+
+-- What is chosen of a multi-file image, whose parts are `hello` and `abc`.
+abbrev pub choice_of_multi : Select → Choice
+choice_of_multi select = choice_of select (OfLegacy multi_image)
+
+-- What is chosen of a tree whose image `a` has the payload `abc`: the configuration `conf-1` lists
+-- it as its kernel, and lists it and `z` as its devicetrees; its list of ramdisks has no zero.
+abbrev pub choice_of_configured : Select → Choice
+choice_of_configured select = choice_of select (OfFit configured_tree)
+
+-- What is chosen of a tree whose image `b` has no payload.
+abbrev pub choice_of_hashed : Select → Choice
+choice_of_hashed select = choice_of select (OfFit hashed_tree)
+
+-- Each choice, and each reason why there is none.
+pub record ChoicesAreKnown : Type 0 where
+  pub first_part : choice_of_multi (Part 0) ≡ Chosen (codes "hello")
+  pub second_part : choice_of_multi (Part 1) ≡ Chosen (codes "abc")
+  pub no_part : choice_of_multi (Part 2) ≡ NoSuchPart
+  pub image_of_legacy : choice_of_multi (image_selection (codes "a")) ≡ OfOtherKind
+  pub entry_of_legacy :
+      choice_of_multi (entry_selection (codes "conf-1") Kernel 0) ≡ OfOtherKind
+  pub part_of_tree : choice_of_configured (Part 0) ≡ OfOtherKind
+  pub image : choice_of_configured (image_selection (codes "a")) ≡ Chosen (codes "abc")
+  pub no_image : choice_of_configured (image_selection (codes "d")) ≡ NoSuchImage
+  pub no_payload : choice_of_hashed (image_selection (codes "b")) ≡ HasNoPayload
+  pub entry : choice_of_configured (entry_selection (codes "conf-1") Kernel 0)
+      ≡ Chosen (codes "abc")
+  pub no_entry : choice_of_configured (entry_selection (codes "conf-1") Kernel 1) ≡ NoSuchEntry
+  pub missing : choice_of_configured (entry_selection (codes "conf-1") Fdt 0) ≡ HasMissingImage 1
+  pub bad_list : choice_of_configured (entry_selection (codes "conf-1") Ramdisk 0) ≡ HasBadList
+  pub no_key : choice_of_configured (entry_selection (codes "conf-1") Script 0) ≡ NoSuchKey
+  pub no_configuration : choice_of_configured (entry_selection (codes "conf-3") Kernel 0)
+      ≡ NoSuchConfiguration
+
+-- Lines of a text, each with its newline.
+abbrev pub lines : List (List ℕ) → List ℕ
+lines [] = []
+lines (text ∷ later) = text ++ 10 ∷ lines later
+
+-- The reports on a legacy image, on a tree without hash nodes, and on a tree with a hash node of
+-- each verdict.
+pub record ReportsAreKnown : Type 0 where
+  pub legacy : legacy_report
+      ≡ lines (codes "header crc32 good" ∷ codes "data crc32 good" ∷ [])
+  pub no_hashes : fit_report (plain_tree [] [])
+      ≡ lines
+      (codes "summary good 0 bad 0 unknown-algorithm 0 no-payload 0 malformed 0" ∷ [])
+  pub hashes : fit_report hashed_tree
+      ≡ lines
+      (codes "a hash-1 crc32 good 352441c2"
+      ∷ codes "a hash crc32 bad 352441"
+      ∷ codes "a hash@3 crc16-ccitt unknown-algorithm 0000"
+      ∷ codes "a hash-4 crc32 malformed -"
+      ∷ codes "b hash-1 crc32 no-payload 352441c2"
+      ∷ codes "summary good 1 bad 1 unknown-algorithm 1 no-payload 1 malformed 1"
+      ∷ [])
+
+-- The listings of a kernel image, and of a multi-file image whose file goes on after the last part.
+pub record LegacyListingsAreKnown : Type 0 where
+  pub kernel : legacy_listing (record { image = kernel_image; unused = 0 })
+      ≡ lines
+      (codes "kind legacy"
+      ∷ codes "name k"
+      ∷ codes "time 0"
+      ∷ codes "load 0x00008000"
+      ∷ codes "entry 0x00008000"
+      ∷ codes "os linux"
+      ∷ codes "arch arm"
+      ∷ codes "type kernel"
+      ∷ codes "compression none"
+      ∷ codes "parts 1"
+      ∷ codes "part 0 size 9 at 64"
+      ∷ codes "unused 0"
+      ∷ [])
+  pub multi : legacy_listing
+      (record {
+        image = record multi_image { os = 200; load = 0xdeadbeef; time = 1000000000 };
+        unused = 7;
+      })
+      ≡ lines
+      (codes "kind legacy"
+      ∷ codes "name k"
+      ∷ codes "time 1000000000"
+      ∷ codes "load 0xdeadbeef"
+      ∷ codes "entry 0x00008000"
+      ∷ codes "os 200"
+      ∷ codes "arch arm"
+      ∷ codes "type multi"
+      ∷ codes "compression none"
+      ∷ codes "parts 2"
+      ∷ codes "part 0 size 5 at 76"
+      ∷ codes "part 1 size 3 at 84"
+      ∷ codes "unused 7"
+      ∷ [])
+
+-- The root of a file of 253 bytes with three images, the payloads of which follow the blob.
+abbrev pub three_root : Root FileNode
+three_root =
+    tree_with_places []
+    (tree_of_images
+    (node (codes "a") (region_of 0 5) none
+    (node (codes "b") (region_of 8 0) none
+    (node (codes "c") (region_of 8 1) none none))))
+
+-- The listing of this file, which is a flattened image tree.
+abbrev pub FitListingIsKnown : Type 0
+FitListingIsKnown =
+    option_map (λ images. fit_listing three_external images three_tree) (image_nodes three_root)
+    ≡ Some (lines
+    (codes "kind fit"
+    ∷ codes "boot-cpu 0"
+    ∷ codes "total-size 244"
+    ∷ codes "image a size 5 data-offset at 244"
+    ∷ codes "image b size 0 data-offset at 252"
+    ∷ codes "image c size 1 data-offset at 252"
+    ∷ []))
+
+-- The lines of the configurations of a tree and of its default.
+abbrev pub ConfigurationLinesAreKnown : Type 0
+ConfigurationLinesAreKnown =
+    configuration_lines configured_tree (codes "conf-1")
+    ++ (configuration_lines configured_tree (codes "conf-2")
+    ++ default_line (default_of configured_tree))
+    ≡ lines
+    (codes "config conf-1"
+    ∷ codes "key conf-1 kernel ok a"
+    ∷ codes "key conf-1 fdt missing 1"
+    ∷ codes "key conf-1 ramdisk bad-list"
+    ∷ codes "key conf-1 firmware missing 0"
+    ∷ codes "key conf-1 loadables missing 1"
+    ∷ codes "config conf-2"
+    ∷ codes "key conf-2 kernel bad-list"
+    ∷ codes "default conf-3"
+    ∷ [])

@@ -1,0 +1,120 @@
+use Rattle.std.specs.Prelude.{◌≡◌, ◌↔◌, ℕ, Bool, true, false, IsTrue, List, [], ◌∷◌, ◌++◌}
+use Rattle.std.specs.Prelude.{Option, None, Some, flat_map, count_by, codes, bytes_eq}
+use Rattle.std.specs.Prelude.{if◌then◌else◌}
+use Rattle.std.specs.List.{AllByRecursion}
+use Rattle.std.specs.Fmt.{decimal}
+use Rattle.bi_base.specs.Commands.{CommandPromise, PromiseLaws}
+use Rattle.bi_base.specs.declared.fault.Error.{Error}
+use Rattle.bi_base.specs.Limits.{Bounds}
+use Rattle.bi_fit.specs.ImageTree.{ImageTree}
+use Rattle.bi_fit.specs.Judgement.{CheckedHash, verdicts_of}
+use Rattle.bi_hash.specs.declared.verdicts.Verdict.{Verdict}
+use Rattle.bi_hash.specs.declared.verdicts.Verdict.TheVariants.{Good, Bad, UnknownAlgo, NoPayload}
+use Rattle.bi_hash.specs.declared.verdicts.Verdict.TheVariants.{Malformed}
+use Rattle.bi_norm.specs.Meaning.{Meaning, OfLegacy, OfFit, Means}
+use Rattle.bi_norm.specs.NormalForm.{IsOpenError}
+use Rattle.bi_commands.specs.Shown.{line, digits_of_byte, shown}
+
+-- The text of a report on the checksums and digests of a boot image (profile of this project).
+
+-- The word for a verdict.
+abbrev pub verdict_word : Verdict → List ℕ
+verdict_word Good = codes "good"
+verdict_word Bad = codes "bad"
+verdict_word UnknownAlgo = codes "unknown-algorithm"
+verdict_word NoPayload = codes "no-payload"
+verdict_word Malformed = codes "malformed"
+
+-- A name that may not be there: `-` if it is not.
+abbrev pub shown_or_none : Option (List ℕ) → List ℕ
+shown_or_none None = codes "-"
+shown_or_none (Some name) = shown name
+
+-- A value in hexadecimal digits of lower case: `-` if it is empty or not there.
+abbrev pub value_word : Option (List ℕ) → List ℕ
+value_word None = codes "-"
+value_word (Some value) =
+    if bytes_eq value [] then codes "-" else flat_map (digits_of_byte false) value
+
+-- The line of a hash node.
+abbrev pub hash_line : CheckedHash → List ℕ
+hash_line hash =
+    line
+    (shown hash.image ∷ shown hash.node_name ∷ shown_or_none hash.algo ∷ verdict_word hash.verdict
+    ∷ value_word hash.value ∷ [])
+
+-- Whether a verdict is the wanted one.
+abbrev pub is_verdict : (wanted verdict : Verdict) → Bool
+is_verdict Good Good = true
+is_verdict Bad Bad = true
+is_verdict UnknownAlgo UnknownAlgo = true
+is_verdict NoPayload NoPayload = true
+is_verdict Malformed Malformed = true
+is_verdict wanted verdict = false
+
+-- How many of these hash nodes have a verdict.
+abbrev pub count_of : Verdict → List CheckedHash → ℕ
+count_of wanted hashes = count_by (λ hash. is_verdict wanted hash.verdict) hashes
+
+-- The last line: how many hash nodes have each verdict.
+abbrev pub summary_line : List CheckedHash → List ℕ
+summary_line hashes =
+    line
+    (codes "summary"
+    ∷ verdict_word Good ∷ decimal (count_of Good hashes)
+    ∷ verdict_word Bad ∷ decimal (count_of Bad hashes)
+    ∷ verdict_word UnknownAlgo ∷ decimal (count_of UnknownAlgo hashes)
+    ∷ verdict_word NoPayload ∷ decimal (count_of NoPayload hashes)
+    ∷ verdict_word Malformed ∷ decimal (count_of Malformed hashes) ∷ [])
+
+-- The report on a flattened image tree.
+abbrev pub fit_report : ImageTree → List ℕ
+fit_report tree = flat_map hash_line (verdicts_of tree) ++ summary_line (verdicts_of tree)
+
+-- The report on a legacy image: a wrong checksum is a refusal, so both are good.
+abbrev pub legacy_report : List ℕ
+legacy_report =
+    line (codes "header" ∷ codes "crc32" ∷ codes "good" ∷ [])
+    ++ line (codes "data" ∷ codes "crc32" ∷ codes "good" ∷ [])
+
+-- The report on what a file means.
+abbrev pub report_of : Meaning → List ℕ
+report_of (OfLegacy image) = legacy_report
+report_of (OfFit tree) = fit_report tree
+
+-- The hash nodes of what a file means, with their verdicts. A legacy image has none.
+abbrev pub hashes_of : Meaning → List CheckedHash
+hashes_of (OfLegacy image) = []
+hashes_of (OfFit tree) = verdicts_of tree
+
+-- The text is the report on the file.
+pub record IsReport (limits : Bounds) (file text : List ℕ) : Type 0 where
+  pub meaning : Meaning
+  pub means : Means limits file meaning
+  pub is : text ≡ report_of meaning
+
+-- Each of these hash nodes has the verdict Good.
+abbrev pub AreGood : List CheckedHash → Type 0
+AreGood hashes = AllByRecursion (λ hash. hash.verdict ≡ Good) hashes
+
+-- The text is the report on the file, and this is whether no verdict in it is other than Good.
+pub record Verified (limits : Bounds) (good : Bool) (file text : List ℕ) : Type 0 where
+  pub report : IsReport limits file text
+  pub all_good : IsTrue good ↔ AreGood (hashes_of report.meaning)
+
+-- What verifying promises as a command.
+abbrev pub verify_promise : Bounds → CommandPromise Bool Error
+verify_promise limits = record {
+  is_output = λ good file text. Verified limits good file text;
+  is_text = IsReport limits;
+  has_error = IsOpenError limits;
+  wraps = λ error. error;
+}
+
+pub verify_laws : (limits : Bounds) → PromiseLaws (verify_promise limits)
+verify_laws limits = record {
+  is_text = λ good file text is. is.report;
+  wraps_once = λ a b same. same;
+  no_read_error = λ file is. is;
+  no_write_error = λ file is. is;
+}

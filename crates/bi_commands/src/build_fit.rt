@@ -1,0 +1,108 @@
+//! Building a flattened image tree from an input that holds its payloads.
+
+ghost use Rattle.std.specs.Prelude.{◌≡◌, length, IfOk, IfErr};
+ghost use Rattle.bi_base.specs.declared.fault.Error.TheVariants.{OutOfMemory};
+ghost use Rattle.bi_base.specs.Pipes.{IsPiped};
+ghost use Rattle.bi_legacy.specs.Emitting.{bytes_of};
+ghost use Rattle.bi_commands.specs.Building.{HavePayloads};
+ghost use Rattle.bi_commands.specs.Building.{build_fit_promise, build_fit_laws};
+
+use bi_base::{Command, Error, Limits, Sink, pipe_to};
+use bi_norm::{Form, Head, ImageSpec, build_fit_into, cut};
+use std::alloc::Global;
+use std::io::{Read, Write};
+
+/// Building a flattened image tree, as a command: `build_fit_into` with these images. The payloads
+/// are consecutive pieces of the input, one of each length for each image.
+#[derive(Clone, Copy, Debug, PartialEq, Eq)]
+pub struct FitBuilder<'a> {
+    /// The description and the time.
+    pub head: Head<'a>,
+    /// The images. Their payloads are replaced by the pieces of the input.
+    pub images: &'a [ImageSpec<'a>],
+    /// The length of the payload of each image, in bytes.
+    pub lengths: &'a [u32],
+    /// Where the payloads are.
+    pub form: Form,
+}
+
+impl<'a> Command for FitBuilder<'a> {
+    type Value = ();
+
+    type Failure = Error;
+
+    ghost can_run = { λ builder. length builder.lengths.now ≡ length builder.images.now };
+
+    ghost promise = { λ builder.
+        build_fit_promise builder.form builder.head builder.images.now builder.lengths.now };
+
+    /// Appends the flattened image tree.
+    ///
+    /// Errors, the first that applies: BadPart at the beginning of the first payload that does not
+    /// fit, or at the end of the payloads, if bytes are left; those of `build_fit`. OutOfMemory
+    /// comes only for an input that can be cut, and then in place of any other error.
+    fn run<S: Sink>(
+        &self,
+        alloc: Global,
+        input: &[u8],
+        limits: Limits,
+        sink: &mut S,
+    ) -> Result<(), Error> {
+        let payloads = cut(alloc, input, self.lengths)?;
+        let complete = with_payloads(alloc, self.images, &payloads)?;
+        build_fit_into(alloc, self.head, &complete, self.form, limits, sink)?;
+        Ok(())
+    }
+
+    ghost wraps_from = { λ _ _ _ _ same. same };
+
+    ghost laws = { λ builder.
+        build_fit_laws builder.form builder.head builder.images.now builder.lengths.now };
+}
+
+/// Reads the payloads of a flattened image tree to the end of the input, writes the flattened image
+/// tree of these images, and flushes: `pipe_to` with a `FitBuilder`. The payloads that the images
+/// have are replaced by consecutive pieces of the input, of these lengths.
+///
+/// The errors are those of `pipe_to`, and of the input those of `FitBuilder::run`.
+pub fn build_fit_to<R: Read, W: Write>(
+    alloc: Global,
+    reader: &mut R,
+    writer: &mut W,
+    head: Head<'_>,
+    images: &[ImageSpec<'_>],
+    lengths: &[u32],
+    form: Form,
+    limits: Limits,
+) -> Result<(), Error>
+    requires one_each { length lengths.now ≡ length images.now }
+    ensures { IsPiped (build_fit_promise form head.entry images.now lengths.now limits) limits
+        (R.remaining reader.old) (R.remaining reader.new)
+        (W.contents writer.old) (W.contents writer.new) result }
+{
+    let builder = FitBuilder {
+        head,
+        images,
+        lengths,
+        form,
+    };
+    pipe_to(alloc, &builder, reader, writer, limits)
+}
+
+/// Returns these images with these payloads, in their order.
+fn with_payloads<'a>(
+    alloc: Global,
+    images: &[ImageSpec<'a>],
+    payloads: &[&'a [u8]],
+) -> Result<Vec<ImageSpec<'a>>, Error>
+    requires { length payloads.now ≡ length images.now }
+    ensures have { IfOk result (λ complete. HavePayloads images.now (bytes_of payloads.now)
+        complete.items) }
+    ensures error { IfErr result (λ error. error ≡ OutOfMemory) }
+{
+    let mut complete = Vec::with_capacity(alloc, images.len())?;
+    for (image, payload) in images.iter().zip(payloads) {
+        complete.push(ImageSpec { payload, ..*image })?;
+    }
+    Ok(complete)
+}

@@ -1,0 +1,104 @@
+//! The description of a flattened image tree.
+
+ghost use Rattle.std.specs.Prelude.{◌≡◌, ◌≤◌, OnOk, IfErr, flat_map, length, map};
+ghost use Rattle.bi_base.specs.Commands.{Appended, AppendFailed};
+ghost use Rattle.bi_base.specs.Sinks.{Wrote};
+ghost use Rattle.bi_fit.specs.Content.{tree_of};
+ghost use Rattle.bi_norm.specs.Meaning.{OfFit};
+ghost use Rattle.bi_commands.specs.Describing.{IsImageError};
+ghost use Rattle.bi_blob.specs.Blob.{Reservation};
+ghost use Rattle.bi_commands.specs.Descriptions.{reservation_words};
+ghost use Rattle.bi_commands.specs.Shown.{line};
+ghost use Rattle.bi_commands.specs.ReadDescription.{IsDescriptionOf, head_lines, read_lines};
+ghost use Rattle.bi_commands.specs.TreeEntries.{most_open, tree_entry};
+
+use super::digests::check_payloads;
+use super::entries::Entry;
+use super::image_nodes::entries_of;
+use super::limited_sink::LimitedSink;
+use super::lines::{most_open, put_tree};
+use super::words::{Word, put_line, put_lines};
+use bi_base::{Error, Limits, Sink};
+use bi_fdt::Blob;
+use bi_fit::Fit;
+use std::alloc::Global;
+
+/// Appends the description of a flattened image tree that was read.
+pub(super) fn describe_fit<S: Sink>(
+    alloc: Global,
+    fit: &Fit,
+    limits: Limits,
+    sink: &mut S,
+) -> Result<(), Error>
+    ensures appended { OnOk result (Appended S.appends
+        (IsDescriptionOf limits (OfFit (tree_of fit.now))) sink.old sink.new) }
+    ensures failed { IfErr result (AppendFailed S.fails
+        (IsDescriptionOf limits (OfFit (tree_of fit.now)))
+        (IsImageError limits (OfFit (tree_of fit.now))) sink.old sink.new) }
+{
+    check_payloads(fit.images(), limits.file())?;
+    let entries = entries_of(alloc, fit)?;
+    let mut names = vec![in alloc; b"".as_slice(); most_open(&entries)]?;
+    let mut measure = LimitedSink::new(limits.file());
+    put_fit(fit.blob(), &entries, &mut names, &mut measure)?;
+    put_fit(fit.blob(), &entries, &mut names, sink)?;
+    Ok(())
+}
+
+/// Appends the lines of a flattened image tree with these entries. Fails as the sink does. `names`
+/// has room for the names of all nodes that are open at once.
+fn put_fit<'a, S: Sink>(
+    blob: &Blob,
+    entries: &[Entry<'a>],
+    names: &mut [&'a [u8]],
+    sink: &mut S,
+) -> Result<(), Error>
+    requires { most_open 0 (map tree_entry entries.now) ≤ length names.old }
+    ensures wrote { Wrote S.appends S.fails sink.old
+        (flat_map line (read_lines blob.now (map tree_entry entries.now))) result sink.new }
+    ensures room { length names.new ≡ length names.old }
+{
+    put_head(blob.boot_cpu(), sink)?;
+    put_reservations(blob, sink)?;
+    put_tree(entries, names, sink)
+}
+
+/// Appends the line of the kind, and that of the boot processor. Fails as the sink does.
+fn put_head<S: Sink>(boot_cpu: u32, sink: &mut S) -> Result<(), Error>
+    ensures { Wrote S.appends S.fails sink.old (flat_map line (head_lines boot_cpu)) result
+        sink.new }
+{
+    put_lines(
+        &[
+            [Word::Text(b"kind"), Word::Text(b"fit")],
+            [Word::Text(b"boot-cpu"), Word::Decimal(u64::from(boot_cpu))],
+        ],
+        sink,
+    )
+}
+
+/// Appends a line for each memory reservation. Fails as the sink does.
+fn put_reservations<S: Sink>(blob: &Blob, sink: &mut S) -> Result<(), Error>
+    ensures { Wrote S.appends S.fails sink.old
+        (flat_map line (map reservation_words blob.now.reservations)) result sink.new }
+{
+    for index in 0..blob.reservation_count() {
+        if let Some((address, size)) = blob.reservation(index) {
+            put_reservation(address, size, sink)?;
+        }
+    }
+    Ok(())
+}
+
+/// Appends the line of a memory reservation. Fails as the sink does.
+fn put_reservation<S: Sink>(address: u64, size: u64, sink: &mut S) -> Result<(), Error>
+    ensures { let reservation : Reservation = record { address = address; size = size } in
+        Wrote S.appends S.fails sink.old (line (reservation_words reservation)) result sink.new }
+{
+    let words = [
+        Word::Text(b"reservation"),
+        Word::Hexadecimal64(address),
+        Word::Hexadecimal64(size),
+    ];
+    put_line(&words, sink)
+}

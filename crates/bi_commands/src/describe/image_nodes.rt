@@ -1,0 +1,133 @@
+//! The entries of image nodes, and of the tree that has them.
+
+ghost use Rattle.std.specs.Prelude.{◌≡◌, ◌∷◌, ◌++◌, [], map, true, OnOk, IfOk, IfErr};
+ghost use Rattle.std.specs.Option.{option_map};
+ghost use Rattle.bi_base.specs.declared.fault.Error.TheVariants.{OutOfMemory};
+ghost use Rattle.bi_fdt.specs.Views.{node_of};
+ghost use Rattle.bi_fit.specs.Additions.{payloads_of, properties_by_name};
+ghost use Rattle.bi_fit.specs.Content.{tree_of};
+ghost use Rattle.bi_commands.specs.MadeEntries.{begin_entries, image_entries, images_entries};
+ghost use Rattle.bi_commands.specs.MadeEntries.{root_children_entries};
+ghost use Rattle.bi_commands.specs.TreeEntries.{NodeEnds, tree_entries, tree_entry};
+
+use super::digests::digest_of;
+use super::entries::Entry;
+use super::nodes::{add_children, add_node, begin_node};
+use super::properties::{add_properties, properties_of, remove_payload};
+use bi_base::Error;
+use bi_fdt::NodeRef;
+use bi_fit::{Fit, Image};
+use std::alloc::Global;
+
+/// Returns the entries of a flattened image tree: those of the properties of the root, and those of
+/// all nodes below it.
+pub(super) fn entries_of<'a>(alloc: Global, fit: &Fit<'a>) -> Result<Vec<Entry<'a>>, Error>
+    ensures entries { IfOk result (λ entries. map tree_entry entries.items
+        ≡ tree_entries (tree_of fit.now)) }
+    ensures failed { IfErr result (λ error. error ≡ OutOfMemory) }
+{
+    let mut entries = Vec::new(alloc);
+    let root = fit.blob().root();
+    let properties = properties_of(alloc, root)?;
+    add_properties(&mut entries, &properties)?;
+    add_root_children(alloc, &mut entries, root, fit.images())?;
+    Ok(entries)
+}
+
+/// Appends the entries of the children of the root, and of all nodes below them.
+fn add_root_children<'a>(
+    alloc: Global,
+    entries: &mut Vec<Entry<'a>>,
+    root: NodeRef<'a, '_>,
+    images: &[Image<'a>],
+) -> Result<(), Error>
+    ensures added { OnOk result (map tree_entry entries.new.items ≡ map tree_entry entries.old.items
+        ++ root_children_entries true (node_of root.entry).children
+        (payloads_of images.entry.now)) }
+    ensures failed { IfErr result (λ error. error ≡ OutOfMemory) }
+{
+    let mut next = root.first_child();
+    let mut is_first = true;
+    while let Some(child) = next {
+        if child.name() == b"images".as_slice() {
+            add_images(alloc, entries, child, images, is_first)?;
+            is_first = false;
+        } else {
+            add_node(alloc, entries, child)?;
+        }
+        next = child.next_sibling();
+    }
+    Ok(())
+}
+
+/// Appends the entries of a node, whose children are the nodes of these images, and of all nodes
+/// below it. `is_first` is whether the node is the first of its name: a tree that was read has one
+/// alone, and in any other the payloads stay in the properties of the others.
+fn add_images<'a>(
+    alloc: Global,
+    entries: &mut Vec<Entry<'a>>,
+    node: NodeRef<'a, '_>,
+    images: &[Image<'a>],
+    is_first: bool,
+) -> Result<(), Error>
+    ensures added { OnOk result (map tree_entry entries.new.items ≡ map tree_entry entries.old.items
+        ++ (begin_entries (node_of node.entry).name (properties_by_name (node_of node.entry).own)
+        ++ (images_entries is_first (node_of node.entry).children (payloads_of images.entry.now)
+        ++ NodeEnds ∷ []))) }
+    ensures failed { IfErr result (λ error. error ≡ OutOfMemory) }
+{
+    begin_node(alloc, entries, node)?;
+    add_image_nodes(alloc, entries, node, images, is_first)?;
+    entries.push(Entry::End)?;
+    Ok(())
+}
+
+/// Appends the entries of the children of a node, which are the nodes of these images, and of all
+/// nodes below them.
+fn add_image_nodes<'a>(
+    alloc: Global,
+    entries: &mut Vec<Entry<'a>>,
+    node: NodeRef<'a, '_>,
+    images: &[Image<'a>],
+    is_first: bool,
+) -> Result<(), Error>
+    ensures added { OnOk result (map tree_entry entries.new.items ≡ map tree_entry entries.old.items
+        ++ images_entries is_first (node_of node.entry).children
+        (payloads_of images.entry.now)) }
+    ensures failed { IfErr result (λ error. error ≡ OutOfMemory) }
+{
+    let mut next = node.first_child();
+    for image in images {
+        let Some(child) = next else {
+            return Ok(());
+        };
+        add_image(alloc, entries, child, image.payload, is_first)?;
+        next = child.next_sibling();
+    }
+    Ok(())
+}
+
+/// Appends the entries of an image node with this payload, and of all nodes below it.
+fn add_image<'a>(
+    alloc: Global,
+    entries: &mut Vec<Entry<'a>>,
+    node: NodeRef<'a, '_>,
+    payload: Option<&'a [u8]>,
+    is_first: bool,
+) -> Result<(), Error>
+    ensures added { OnOk result (map tree_entry entries.new.items ≡ map tree_entry entries.old.items
+        ++ image_entries is_first (node_of node.entry)
+        (option_map (λ payload. payload.now) payload.entry)) }
+    ensures failed { IfErr result (λ error. error ≡ OutOfMemory) }
+{
+    entries.push(Entry::Begin(node.name()))?;
+    entries.push(Entry::Payload(payload.map(|payload| digest_of(payload))))?;
+    let mut properties = properties_of(alloc, node)?;
+    if is_first {
+        remove_payload(&mut properties);
+    }
+    add_properties(entries, &properties)?;
+    add_children(alloc, entries, node)?;
+    entries.push(Entry::End)?;
+    Ok(())
+}

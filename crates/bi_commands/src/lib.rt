@@ -1,0 +1,15 @@
+//! The commands of `bootimg`, over any reader and writer: list, describe, verify, extract from,
+//! convert and build boot images. And a call that compares two boot images.
+#![tactic(auto)]
+
+pub mod build_fit;
+pub mod build_legacy;
+pub mod compare;
+pub mod convert;
+pub mod describe;
+pub mod extract;
+pub mod known_texts;
+pub mod laws;
+pub mod list;
+pub mod shown;
+pub mod verify;

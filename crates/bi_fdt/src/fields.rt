@@ -1,0 +1,79 @@
+//! The cells of the header, by their names in the Devicetree Specification (5.2). The file has the
+//! cell that is read.
+
+ghost use Rattle.std.specs.Prelude.{◌≡◌, ◌≤◌, length};
+ghost use Rattle.bi_blob.specs.Blob as header;
+
+use bi_base::cell_at;
+
+/// The length of the blob in bytes.
+pub(crate) fn totalsize(file: &[u8]) -> u32
+    requires { 8 ≤ length file.now }
+    ensures { result ≡ header.totalsize file.now }
+{
+    cell_at(file, 4)
+}
+
+/// The offset of the structure block.
+pub(crate) fn off_dt_struct(file: &[u8]) -> u32
+    requires { 12 ≤ length file.now }
+    ensures { result ≡ header.off_dt_struct file.now }
+{
+    cell_at(file, 8)
+}
+
+/// The offset of the strings block.
+pub(crate) fn off_dt_strings(file: &[u8]) -> u32
+    requires { 16 ≤ length file.now }
+    ensures { result ≡ header.off_dt_strings file.now }
+{
+    cell_at(file, 12)
+}
+
+/// The offset of the memory reservation block.
+pub(crate) fn off_mem_rsvmap(file: &[u8]) -> u32
+    requires { 20 ≤ length file.now }
+    ensures { result ≡ header.off_mem_rsvmap file.now }
+{
+    cell_at(file, 16)
+}
+
+/// The version of the blob.
+pub(crate) fn version(file: &[u8]) -> u32
+    requires { 24 ≤ length file.now }
+    ensures { result ≡ header.version file.now }
+{
+    cell_at(file, 20)
+}
+
+/// The least version whose readers can read the blob.
+pub(crate) fn last_comp_version(file: &[u8]) -> u32
+    requires { 28 ≤ length file.now }
+    ensures { result ≡ header.last_comp_version file.now }
+{
+    cell_at(file, 24)
+}
+
+/// The physical number of the boot processor.
+pub(crate) fn boot_cpuid_phys(file: &[u8]) -> u32
+    requires { 32 ≤ length file.now }
+    ensures { result ≡ header.boot_cpuid_phys file.now }
+{
+    cell_at(file, 28)
+}
+
+/// The size of the strings block in bytes.
+pub(crate) fn size_dt_strings(file: &[u8]) -> u32
+    requires { 36 ≤ length file.now }
+    ensures { result ≡ header.size_dt_strings file.now }
+{
+    cell_at(file, 32)
+}
+
+/// The size of the structure block in bytes. Version 16 has no such cell.
+pub(crate) fn size_dt_struct(file: &[u8]) -> u32
+    requires { 40 ≤ length file.now }
+    ensures { result ≡ header.size_dt_struct file.now }
+{
+    cell_at(file, 36)
+}

@@ -1,0 +1,56 @@
+use Rattle.std.proofs.Common.{ℕ, ◌≢◌, refl, inl, inr, lit≤, lit<, replicate, zero, suc}
+use Rattle.std.proofs.lemmas.Bool.{eqb-false}
+use Rattle.std.specs.List.{AllByRecursion}
+use Rattle.bi_base.specs.Cells.{cell}
+use Rattle.bi_legacy.specs.Meaning.{IsImageName}
+use Rattle.bi_legacy.specs.File.{header}
+use Rattle.bi_legacy.specs.Text.{legacy_text}
+use Rattle.bi_legacy.specs.KnownImages.{kernel_image}
+use Rattle.bi_legacy.specs.KnownFaults.{long_name, name_with_zero, EmitFaultsAreKnown, EmitChecksHaveOrder}
+use Rattle.bi_legacy.proofs.LegacyFaultFacts.{past}
+
+-- The faults of small images that are to be written.
+
+-- A name of 33 bytes is too long.
+is_long : ¬ (IsImageName long_name)
+is_long is = past 33 32 refl is.short
+
+-- A zero byte is no byte of a name.
+has_zero : ¬ (IsImageName name_with_zero)
+has_zero is = is.no_zero.1.0 refl
+
+-- The names `k` and `kk..k`.
+k_is_name : IsImageName kernel_image.name
+k_is_name = record { short = lit≤ tt; no_zero = (eqb-false _ _ refl, tt) }
+
+-- No byte of it is zero, however long it is.
+all_nonzero : (n : ℕ) → AllByRecursion {X = ℕ} (λ byte. byte ≢ 0) (replicate n 0x6b)
+all_nonzero zero = tt
+all_nonzero (suc n) = (eqb-false _ _ refl, all_nonzero n)
+
+pub emit_faults_are_known : EmitFaultsAreKnown
+unfolding legacy_text header cell
+emit_faults_are_known = record {
+  long = inl (is_long, refl);
+  zero = inl (has_zero, refl);
+  whole_field = (record { short = lit≤ tt; no_zero = all_nonzero 32 }, (refl, (lit≤ tt, tt)));
+  two_parts = inr (k_is_name, inl (eqb-false _ _ refl, refl));
+  no_part = inr (k_is_name, inl (eqb-false _ _ refl, refl));
+  no_table_parts = (k_is_name, (tt, (lit≤ tt, tt)));
+  past_limit = inr (k_is_name, inr (tt, inl (past _ _ refl, refl)));
+  at_limit = (k_is_name, (tt, (lit≤ tt, (lit< tt, (lit< tt, tt)))));
+  empty_part = inr (k_is_name, inr (tt, inr (lit≤ tt, inr (lit≤ tt, inl (past _ _ refl, refl)))));
+  empty_part_of_script = inr (k_is_name, inr (tt, inr (lit≤ tt, inr (lit≤ tt, inl (past _ _ refl, refl)))));
+  empty_kernel = (k_is_name, (refl, (lit≤ tt, tt)));
+}
+
+pub emit_checks_have_order : EmitChecksHaveOrder
+unfolding legacy_text header cell
+emit_checks_have_order = record {
+  name_before_count = inl (is_long, refl);
+  name_before_limit = inl (has_zero, refl);
+  name_before_part = inl (is_long, refl);
+  count_before_limit = inr (k_is_name, inl (eqb-false _ _ refl, refl));
+  limit_before_part = inr (k_is_name, inr (tt, inl (past _ _ refl, refl)));
+  first_before_second_part = inr (k_is_name, inr (tt, inr (lit≤ tt, inl (past _ _ refl, refl))));
+}

@@ -1,0 +1,24 @@
+use Rattle.std.proofs.Common.{refl, subst}
+use Rattle.bi_base.specs.Sinks.{Wrote}
+use Rattle.bi_base.specs.Writing.{WroteAll, WriteStopped, WriteOrFlushStopped}
+use Rattle.bootimg.specs.Runs.{IsUsage, IsNotWritten}
+use Rattle.bootimg.proofs.RunFacts.{logged}
+use Rattle.bootimg.proofs.run.print.Goals as goal
+
+pub returns-then-is_usage : goal.returns-then-is_usage
+returns-then-is_usage g c input =
+    let trace = g.E.TracedWrite.trace in
+    IsUsage
+    (logged (trace c.args.errors.now) (trace c.write_all.new.target) c.args.text.now c.write_all.result
+    (subst
+    (λ bytes. Wrote WroteAll WriteStopped (trace c.args.errors.now) bytes c.write_all.result (trace c.write_all.new.target))
+    c.as_bytes.ensures.value c.write_all.ensures))
+    refl refl refl
+
+pub returns-in-Err : goal.returns-in-Err
+returns-in-Err g c input =
+    let trace = g.T.TracedWrite.trace in
+    IsNotWritten c.in-Err.error
+    (subst (λ bytes. WriteOrFlushStopped (trace c.args.output.now) bytes (trace c.write_and_flush.new.target) c.in-Err.error)
+    c.as_bytes-2.ensures.value c.in-Err.ensures)
+    c.report.ensures.line refl c.report.ensures.status

@@ -1,0 +1,97 @@
+//! The text of an image of `build-fit`.
+
+ghost use Rattle.std.specs.Prelude.{◌≡◌, ◌≢◌, ◌∷◌, [], IfSome, IfNone};
+ghost use Rattle.bootimg.specs.CommandLine.{list_of, parts_of, IsAddress, IsImage, IsImageText};
+ghost use Rattle.bootimg.specs.CommandLine.{NoneIs};
+ghost use Rattle.bootimg.specs.declared.command_line.image.ImageTexts.{ImageTexts};
+
+use crate::codes::{CodeField, parse_code};
+use crate::numbers::parse_number;
+use bi_norm::ImageSpec;
+
+/// The fields of the text of an image, between its colons.
+#[derive(Clone, Copy)]
+struct ImageTexts<'a> {
+    name: &'a str,
+    image_type: &'a str,
+    arch: &'a str,
+    os: &'a str,
+    compression: &'a str,
+    load: &'a str,
+    entry: &'a str,
+    length: &'a str,
+}
+
+/// Parses `NAME:TYPE:ARCH:OS:COMPRESSION:LOAD:ENTRY:LEN`: an image with an empty payload, and the
+/// length of its payload. Returns None exactly for any other text.
+pub fn parse_image(word: &str) -> Option<(ImageSpec<'_>, u32)>
+    ensures some { IfSome result (IsImageText word.now) }
+    ensures none { IfNone result (NoneIs (IsImageText word.now)) }
+{
+    parse_fields(split_image(word)?)
+}
+
+/// Splits the text of an image at its colons. Returns None exactly if it has not eight fields.
+fn split_image(word: &str) -> Option<ImageTexts<'_>>
+    ensures some { IfSome result (λ texts. parts_of word.now ≡ list_of texts) }
+    ensures none { IfNone result ((texts : ImageTexts) → parts_of word.now ≢ list_of texts) }
+{
+    let (name, rest) = split_field(word)?;
+    let (image_type, rest) = split_field(rest)?;
+    let (arch, rest) = split_field(rest)?;
+    let (os, rest) = split_field(rest)?;
+    let (compression, rest) = split_field(rest)?;
+    let (load, rest) = split_field(rest)?;
+    let (entry, length) = split_field(rest)?;
+    match split_field(length) {
+        None => Some(ImageTexts {
+            name,
+            image_type,
+            arch,
+            os,
+            compression,
+            load,
+            entry,
+            length,
+        }),
+        Some(_) => None,
+    }
+}
+
+/// Splits a text at its first colon. Returns None exactly if it has none.
+fn split_field(word: &str) -> Option<(&str, &str)>
+    ensures some { IfSome result (λ split. parts_of word.now
+        ≡ split.0.now ∷ parts_of split.1.now) }
+    ensures none { IfNone result (parts_of word.now ≡ word.now ∷ []) }
+{
+    word.split_once(':')
+}
+
+/// Parses the fields of the text of an image. Returns None exactly if one of them is malformed.
+fn parse_fields(texts: ImageTexts<'_>) -> Option<(ImageSpec<'_>, u32)>
+    ensures some { IfSome result (IsImage texts.entry) }
+    ensures none { IfNone result (NoneIs (IsImage texts.entry)) }
+{
+    let image = ImageSpec {
+        name: texts.name.as_bytes(),
+        image_type: parse_code(CodeField::ImageType, texts.image_type)?,
+        arch: parse_code(CodeField::Arch, texts.arch)?,
+        os: parse_code(CodeField::Os, texts.os)?,
+        compression: parse_code(CodeField::Compression, texts.compression)?,
+        load: parse_address(texts.load)?,
+        entry: parse_address(texts.entry)?,
+        payload: &[],
+    };
+    Some((image, parse_number(texts.length)?))
+}
+
+/// Parses an address, or `-` for none. Returns None exactly for any other text.
+fn parse_address(word: &str) -> Option<Option<u32>>
+    ensures some { IfSome result (IsAddress word.now) }
+    ensures none { IfNone result (NoneIs (IsAddress word.now)) }
+{
+    if word == "-" {
+        return Some(None);
+    }
+    Some(Some(parse_number(word)?))
+}
