@@ -1,8 +1,8 @@
 #!/bin/sh
 # Compares checksums and digests with those of python3's zlib and hashlib. The program accepts images whose checksums are
 # zlib's, and writes the same checksums itself; it refuses them with one bit changed. The digests of hash nodes are compared
-# by tests that are added to a copy of tests/library/algo.rt.source. The data have all lengths around the steps and buffers,
-# and some megabytes. The script needs python3, and installs Debian's if it is missing and the script runs as root.
+# by tests that the script writes, beside those of tests/library/algo.rt.source. The data have all lengths around the steps and
+# buffers, and some megabytes. The script needs python3, and installs Debian's if it is missing and the script runs as root.
 set -u
 
 root=$(cd "$(dirname "$0")/.." && pwd)
@@ -67,7 +67,7 @@ for length in 4095 4096 4097 65471 65472 65473 65535 65536 65537; do
 done
 compare 5000003
 
-# digest_tests: for each length, a test that compares the digest by each algorithm with that of zlib or hashlib. The test
+# digest_tests: a module with a test for each length, which compares the digest by each algorithm with that of zlib or hashlib. The test
 # makes the same bytes as python3 does.
 digest_tests() {
     python3 -c 'import hashlib, zlib
@@ -76,7 +76,11 @@ state, data = 1, bytearray()
 for _ in range(longest):
     state = (state * 1664525 + 1013904223) % 2**32
     data.append(state >> 24)
-print("""
+print("""use crate::algo::hex_digest;
+use bi_hash::Algo;
+use std::alloc::Global;
+use std::test::Fail;
+
 /// The first bytes of a linear congruential generator.
 fn generated(alloc: Global, length: usize) -> Result<Vec<u8>, Fail> {
     let mut bytes = Vec::with_capacity(alloc, length)?;
@@ -100,12 +104,14 @@ for length in 0, 1, 4095, 4096, 4097, 8191, 8192, 8193, 65537, longest:
     print("    Ok(())\n}")'
 }
 
-library_workspace digests algo
-digest_tests >> digests/crates/library_tests/src/algo.rt
-(cd digests/crates/library_tests && rt try --test --seconds 300) > log 2>&1
+test_crate digest_tests "bi_hash bi_base md5 sha1 sha2"
+link_tests library algo
+digest_tests > "$crate/src/digests.rt"
+test_modules algo digests
+(cd "$crate" && rt try --test --seconds 300) > log 2>&1
 for length in 0 1 4095 4096 4097 8191 8192 8193 65537 3000001; do
     check "the digests of $length bytes are those of zlib and hashlib" \
-        grep -Fqx "test algo::digests_of_${length}_bytes ... ok" log
+        grep -Fqx "test digests::digests_of_${length}_bytes ... ok" log
 done
 [ "$failed" = 0 ] || cat log
 

@@ -102,6 +102,16 @@ judge("a tree with two properties has 136 bytes", len(tight) == 136)
 for form in ["normalise"], ["normalise", "--external"]:
     gives("order, FDT_NOP, shared names and free space are left out", loose, tight, *form)
 
+# The same with the strings before the structure.
+structure = b"".join(cell(4) + token({b"filename": 0, b"name": 4})
+                     for token in node(b"", [(b"name", b"\2"), (b"filename", b"\1")], [node(b"images")]) + [lambda offsets: cell(9)])
+judge("the structure has 92 bytes", len(structure) == 92)
+header = struct.pack(">10I", 0xD00DFEED, 176, 68, 56, 40, 17, 16, 0, 9, 92)
+strings_first = header + bytes(16) + b"filename\0\0\0\0" + structure + b"\xff" * 16
+judge("the file has 176 bytes", len(strings_first) == 176)
+for form in ["normalise"], ["normalise", "--external"]:
+    gives("strings before the structure", strings_first, tight, *form)
+
 # Children stay in their order.
 order = blob(images(node(b"b"), node(b"a")), [])
 gives("children are not sorted", order, order, "normalise")
@@ -126,6 +136,23 @@ position = blob(images(node(b"a", both)), [b"data", b"data-position", b"data-siz
 judge("the blob has 180 bytes", len(position) == 180)
 new = blob(images(node(b"a", [(b"data", b"new")])), [b"data"])
 gives("data-position is read before data", position + b"new", new, "normalise")
+gives("its listing", position + b"new", b"kind fit\nboot-cpu 0\ntotal-size 180\nimage a size 3 data-position at 180\n", "list")
+
+# So does `data-offset`, which comes after `data-position`.
+both = [(b"data", b"old"), (b"data-offset", cell(0)), (b"data-size", cell(3))]
+offset_first = blob(images(node(b"a", both)), [b"data", b"data-offset", b"data-size"])
+judge("the blob has 176 bytes", len(offset_first) == 176)
+new_external = blob(images(node(b"a", [(b"data-offset", cell(0)), (b"data-size", cell(3))])), offset_names) + b"new"
+gives("data-offset is read before data", offset_first + b"new", new, "normalise")
+gives("and in the external form", offset_first + b"new", new_external, "normalise", "--external")
+gives("its listing", offset_first + b"new", b"kind fit\nboot-cpu 0\ntotal-size 176\nimage a size 3 data-offset at 176\n", "list")
+gives("its payload", offset_first + b"new", b"new", "extract", "--image", "a")
+refused_by_all("and data does not help where it ends after the file", offset_first + b"ne", "OutsideFile at 100")
+all_four = [(b"data", b"old"), (b"data-offset", cell(0)), (b"data-position", cell(215)), (b"data-size", cell(3))]
+all_four = blob(images(node(b"a", all_four)), [b"data", b"data-offset", b"data-position", b"data-size"])
+judge("the blob has 208 bytes", len(all_four) == 208)
+gives("data-position is read before both", all_four + b"was, ..new", new, "normalise")
+refused_by_all("and data-offset does not help either", all_four + b"was, ..ne", "OutsideFile at 116")
 
 # No payload, and an empty one.
 none, empty = blob(images(node(b"a")), []), blob(images(node(b"a", [(b"data", b"")])), [b"data"])
@@ -175,6 +202,20 @@ gives("the listing of the external form", outside, b"kind fit\nboot-cpu 0\ntotal
 for size in range(244, 253):
     at = 84 if size < 249 else 128 if size < 252 else 172
     refused_by_all(f"cut to {size} bytes", outside[:size], f"OutsideFile at {at}")
+
+# 64 nodes may be open: the root, `images`, an image and 61 nodes in it.
+def nested(count):
+    """The tokens of this many nodes `n`, one in the other."""
+    return node(b"n", (), [nested(count - 1)] if count > 1 else [])
+
+
+deepest = blob(images(nested(62)), [])
+for form in ["normalise"], ["normalise", "--external"]:
+    gives("64 open nodes are accepted", deepest, deepest, *form)
+gives("their listing", deepest, b"kind fit\nboot-cpu 0\ntotal-size %d\nimage n none\n" % len(deepest), "list")
+refused_by_all("65 open nodes", blob(images(nested(63)), []), "TooDeep at 572")
+refused_by_all("64 open nodes without images", blob(node(b"", (), [nested(63)]), []), "NoImages at 56")
+refused_by_all("65 open nodes without images", blob(node(b"", (), [nested(64)]), []), "TooDeep at 568")
 
 # Damaged files.
 for size in range(0, 88):

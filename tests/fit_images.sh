@@ -263,4 +263,23 @@ check "verify of the signed image prints what the tools do" verdicts signed.itb
 check "verify of its normal form prints the same" verdicts signed-normal.itb
 check "no note after list" sh -c "'$root/bootimg' list < signed.itb 2>&1 > listing | cmp - empty"
 
+# An image with external payloads that mkimage -F writes again: with -E they stay after the tree, and without it they are values of
+# data, and data-offset is left.
+cp external.itb rewritten.itb
+check "mkimage -F writes the external image again" mkimage -F rewritten.itb
+check "it has data" fdtget rewritten.itb /images/kernel-1 data
+check "and data-offset" fdtget rewritten.itb /images/kernel-1 data-offset
+for command in list verify normalise; do
+    check "$command refuses it" sh -c "'$root/bootimg' $command < rewritten.itb 2>&1 | grep -qx 'bootimg: OutsideFile at [0-9]*'"
+done
+cp external.itb rewritten-external.itb
+check "mkimage -E -F writes the external image again" mkimage -E -F rewritten-external.itb
+check "its normal form is the same" normalise embedded rewritten-external.itb output.itb
+check "its normal form is the same, compared" cmp normal.itb output.itb
+
+# An image whose name is not UTF-8, as many bytes as before.
+LC_ALL=C sed 's/ramdisk-1/ram\xffisk-1/g' normal.itb > name.itb
+check "an image whose name is not UTF-8 is listed" sh -c "'$root/bootimg' list < name.itb | grep -q '^image ram%FFisk-1 size 200003 data at '"
+check "its name is no argument" prints name.itb 2 "bootimg: out of memory" extract --image "$(printf 'ram\377isk-1')"
+
 finish

@@ -1,7 +1,7 @@
 #!/bin/sh
 # Tries ./bootimg, which builds the program if it is missing or old, on a checkout without sources and with an rt that is a
 # script: without rt, in an unwritable checkout, interrupted, with a source that is edited while it builds, with a build that
-# fails, and twice at the same time. No build takes more than two seconds.
+# fails, twice at the same time, with files that editors leave, copied and linked. No build takes more than two seconds.
 set -u
 
 root=$(cd "$(dirname "$0")/.." && pwd)
@@ -74,7 +74,7 @@ fails() {
 new_checkout
 check "the first call builds and runs the program" launch list 'a b'
 check "the program gets the arguments" prints "one list a b"
-check "the first call says that it builds" tells "proving and building the program: once, in about 20 minutes of processor time"
+check "the first call says that it builds" tells "proving and building the program: once, in about 50 minutes of processor time"
 check "rt's lines go to the log" grep -Fqx "fn bootimg::main: proved" checkout/crates/bootimg/out/build.log
 check "rt's lines are not printed" fails 1 grep -Fq "fn bootimg" errors
 check "the second call runs the program" launch
@@ -95,7 +95,7 @@ check "a removed file is noticed" builds 4
 
 new_checkout
 mkdir empty
-for tool in dirname readlink find head grep sed tail sleep mkdir touch rm flock cat; do
+for tool in cat date find flock grep mkdir mv readlink rm sed sleep sort tail touch; do
     ln -s "$(command -v "$tool")" "empty/$tool"
 done
 without_rt() {
@@ -206,5 +206,69 @@ check "the second runs the program" prints "one second"
 check "the first runs the program" grep -Fqx "one first" first
 check "the second says that it waits" tells "waiting for another build"
 check "there was one build" builds 1
+
+# Files that are no code.
+new_checkout
+check "a call before the editor builds" launch
+for file in .main.rt.swp main.rt~ .#main.rt '#main.rt#' 4913; do
+    touch "checkout/crates/bootimg/src/$file"
+done
+check "a call with files that editors leave runs the program" launch
+rm checkout/crates/bootimg/src/4913 checkout/crates/bootimg/src/*~
+check "a call after some of them were removed does, too" launch
+mkdir -p checkout/crates/lower/specs checkout/crates/lower/proofs
+echo definition > checkout/crates/lower/specs/Lower.antt
+echo proof > checkout/crates/lower/proofs/lower.antt
+check "a call after a new definition and a new proof does, too" launch
+check "none of them builds" builds 1
+echo edited > checkout/crates/bootimg/src/main.rt
+check "a call directly after a later edit runs the program" launch
+check "that call builds" prints edited
+echo lower2 > checkout/crates/lower/src/lib.rt
+check "a call after an edit in another crate runs the program" launch
+check "that call builds, too" builds 3
+mv checkout/crates/lower/src/lib.rt checkout/crates/lower/src/renamed.rt
+check "a call after a file was renamed runs the program" launch
+check "that call builds again" builds 4
+echo "bootimg: lower " > checkout/crates.txt
+check "a call after an edit of crates.txt runs the program" launch
+check "it builds" builds 5
+
+# A call that need not build starts no process but the program.
+mkdir nothing
+alone() {
+    PATH=$work/nothing checkout/bootimg alone > output 2> errors
+}
+touch checkout/crates/bootimg/out/sources
+check "a call without any command in PATH runs the program" alone
+check "it prints what the program prints, and nothing else" test "$(cat output errors)" = "edited alone"
+
+# Links and copies.
+mkdir elsewhere
+ln -s ../checkout/bootimg elsewhere/relative
+ln -s "$work/checkout/bootimg" elsewhere/absolute
+ln -s absolute elsewhere/twice
+for link in relative absolute twice; do
+    check "a launcher that is linked ($link) runs the program" "elsewhere/$link"
+    check "a linked launcher in PATH ($link) runs the program" env PATH="$work/elsewhere:$PATH" "$link"
+done
+rm elsewhere/*
+cp checkout/bootimg elsewhere
+copied() {
+    PATH="$work/bin:$PATH" "$@" > output 2> errors
+}
+check "a copied launcher ends with status 2" fails 2 copied elsewhere/bootimg list
+check "it says what to do" tells "bootimg: $work/elsewhere is no checkout of bootimg: call the launcher in a checkout"
+check "that is one line, as well" test "$(wc -l < errors)" = 1
+check "it makes nothing" test "$(ls -A elsewhere)" = bootimg
+mkdir -p elsewhere/crates/other/src
+check "a copied launcher beside other crates ends with status 2" fails 2 copied sh elsewhere/bootimg
+check "it makes nothing there" test "$(find elsewhere | sort | paste -sd ' ')" = \
+    "elsewhere elsewhere/bootimg elsewhere/crates elsewhere/crates/other elsewhere/crates/other/src"
+mkdir -p path/checkout
+touch checkout/crates/bootimg/src
+check "a launcher is not found by CDPATH" env CDPATH="$work/path" checkout/bootimg
+check "a launcher that sh is given by its name runs the program" \
+    sh -c 'cd checkout && [ "$(sh bootimg here)" = "edited here" ]'
 
 finish

@@ -84,6 +84,9 @@ unprove() {
 boundary bi_base checksum::crc32 bi_legacy header::check_header returns-clause-ok
 edit src/checksum.rt '{ result ≡ crc32_of bytes.now }' '{ result ≡ result }'
 
+boundary bi_blob names::is_child_name bi_lay document::Doc::may_begin returns-then-is_child_name
+edit src/names.rt '{ IsTrue result ↔ IsChildName name.now }' '{ IsTrue result ↔ IsTrue result }'
+
 boundary bi_hash payload_digests::PayloadDigests::verdict bi_fit hashes::check_hash returns-clause-same
 edit src/payload_digests.rt '            self.old }
         ensures same { self.new ≡ self.old }' '            self.old }
@@ -107,7 +110,7 @@ boundary bi_fit fit::Fit::to_doc bi_norm normal_form::emit_fit emit-requires-cla
 edit src/document.rt '{ IfOk result (IsDocument limits form (tree_of self.now)) }' '{ result ≡ result }'
 unprove fit/Fit/to_doc returns-clause-document
 
-boundary bi_norm cutting::cut bootimg building::legacy::split returns-clause-parts
+boundary bi_norm cutting::cut bi_commands build_legacy::split returns-clause-parts
 edit src/cutting.rt '{ IfOk result (λ pieces. IsCut input.entry.now lengths.now
         (map (λ piece. piece.now) pieces.items)) }' '{ length input.entry.now ≤ longest_text }'
 

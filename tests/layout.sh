@@ -2,7 +2,7 @@
 # Blobs that Debian's dtc makes, laid out again: tests/layout/events.py has fdtget and fdtdump print what each blob has, a
 # program builds documents from that and writes their texts, and dtc and fdtdump print of each text what they print of the
 # blob that it comes from, except for the order of properties and nodes. It needs Debian's device-tree-compiler and python3, and
-# installs them if one is missing and it runs as root. The program, tests/layout/main.rt.source, is built in a copy of the sources.
+# installs them if one is missing and it runs as root. The program is tests/layout/main.rt.source.
 set -u
 
 root=$(cd "$(dirname "$0")/.." && pwd)
@@ -11,11 +11,7 @@ root=$(cd "$(dirname "$0")/.." && pwd)
 need device-tree-compiler dtc fdtget fdtdump
 need python3 python3
 
-work=$(mktemp -d)
-trap 'rm -rf "$work"' EXIT
-trap 'exit 1' HUP INT TERM
-mkdir "$work/blobs" "$work/copy"
-cd "$work/blobs" || exit 2
+work_in_new_directory
 
 # compile NAME [OPTION..]: a blob, whose source is on standard input.
 compile() {
@@ -122,14 +118,9 @@ check "fdtget and fdtdump say what the blobs have" sh -c \
     "python3 '$root/tests/layout/events.py' $(for name in $names; do printf '%s.dtb ' "$name"; done) > events"
 [ "$failed" = 0 ] || finish
 
-# The program, in a copy of the sources.
-(cd "$root" && tar cf - --exclude=out crates.txt HANDLES crates/bi_base crates/bi_blob crates/bi_lay) \
-    | (cd "$work/copy" && tar xf -)
-sed -i '/^bi_lay:\|^bi_blob:\|^bi_base:/!d' "$work/copy/crates.txt"
-echo "layout_of_events: bi_lay bi_base" >> "$work/copy/crates.txt"
-mkdir -p "$work/copy/crates/layout_of_events/src"
-cp "$root/tests/layout/main.rt.source" "$work/copy/crates/layout_of_events/src/main.rt"
-(cd "$work/copy/crates/layout_of_events" && rt try < "$work/blobs/events" > "$work/blobs/texts" 2> "$work/blobs/errors")
+test_crate layout_of_events "bi_lay bi_base"
+link_tests layout main
+(cd "$crate" && rt try) < events > texts 2> errors
 check "the program writes texts" test -s texts
 [ "$failed" = 0 ] || { tail -n 20 errors; finish; }
 

@@ -2,69 +2,103 @@
 # Has one allocation fail in each run of a call, the first, the second and so on, until a run has none left to fail. If an
 # allocation fails, the call has to return OutOfMemory with nothing written, or to succeed as if none had failed. A call on a
 # document that ran out of memory is made again. The calls, and how their results are checked, are in
-# tests/program/refused_growths.rt.source, tests/library/layout_growths.rt.source and tests/library/blob_growths.rt.source. The
-# script adds a test for each allocation to copies of these files. The tests of the program run beside the others.
+# tests/program/refused_growths.rt.source, tests/program/refused_calls.rt.source, tests/library/layout_growths.rt.source and
+# tests/library/blob_growths.rt.source. The script writes a test for each allocation.
 set -u
 
 root=$(cd "$(dirname "$0")/.." && pwd)
 . "$root/tests/common"
 
-# tests_of CALL MOST: writes a test for each allocation of a call, which makes at least one and at most MOST.
+# tests_of MODULE CALL MOST [FIRST]: writes a test for each allocation of a call, which makes at most MOST, from the allocation FIRST on,
+# or from the first one. The call makes that one.
 tests_of() {
-    echo "#[test] fn $1_first(rt: HostRuntime) -> Result<(), Fail> { assert!(rt; $1(&rt, 1)?); Ok(()) }"
-    number=2
-    while [ "$number" -le "$2" ]; do
-        echo "#[test] fn $1_$number(rt: HostRuntime) -> Result<(), Fail> { $1(&rt, $number)?; Ok(()) }"
+    name=$1_$2
+    call=crate::$1::$2
+    number=${4:-1}
+    echo "#[test] fn ${name}_first(rt: HostRuntime) -> Result<(), Fail> { assert!(rt; $call(&rt, $number)?); Ok(()) }"
+    while [ "$number" -lt "$3" ]; do
         number=$((number + 1))
+        echo "#[test] fn ${name}_$number(rt: HostRuntime) -> Result<(), Fail> { $call(&rt, $number)?; Ok(()) }"
     done
-    echo "#[test] fn $1_none(rt: HostRuntime) -> Result<(), Fail> { assert!(rt; !$1(&rt, $number)?); Ok(()) }"
+    echo "#[test] fn ${name}_none(rt: HostRuntime) -> Result<(), Fail> { assert!(rt; !$call(&rt, $((number + 1)))?); Ok(()) }"
 }
 
+# In a run, the first 72 allocations are those of clap, which the runs of the same command on a legacy image have fail.
+clap=72
+
 work_in_new_directory
-
-library_workspace library layout_growths blob_growths
-source=library/crates/library_tests/src
-tests_of builds 35 >> "$source/layout_growths.rt"
-tests_of reads 10 >> "$source/blob_growths.rt"
-echo "cd '$work/library/crates/library_tests' && rt try --test --fail-alloc 1000 > '$work/library/log' 2>&1" > library/run.sh
-grep -h '^#\[test\]' "$source"/*.rt > library/tests
-
-program_workspace bootimg images refused_growths
-source=bootimg/crates/bootimg/src
+program_crate bi_fdt bi_hash bi_lay
+link_tests program refused_growths refused_calls
+link_tests library layout_growths blob_growths
+link_tests commands images
 {
-    tests_of reads 10
-    tests_of appends 3
-    tests_of normalises 8
-    tests_of normalises_into 8
-    tests_of normalises_to 4
-    tests_of lists_to 12
-    tests_of extracts_to 3
-    tests_of extracts_listed_to 16
-    tests_of normalises_embedded 30
-    tests_of normalises_external 30
-    tests_of lists_tree 30
-    tests_of verifies_to 30
-    tests_of converts_to 35
-    tests_of builds_legacy_to 4
-    tests_of builds_embedded 30
-    tests_of builds_external 30
-    tests_of compares 50
-    tests_of runs_normalise 100
-    tests_of runs_list 100
-    tests_of runs_extract 100
-    tests_of runs_convert 120
-    tests_of runs_build_legacy 150
-    tests_of runs_build_fit 140
-    tests_of runs_bad_image 100
-    tests_of runs_help 120
-    tests_of runs_version 100
-    tests_of runs_unknown_argument 100
-    tests_of runs_no_selection 100
-} >> "$source/refused_growths.rt"
-echo "cd '$work/bootimg/crates/bootimg' && rt try --test --fail-alloc 1000 > '$work/bootimg/log' 2>&1" > bootimg/run.sh
-grep -rh '^#\[test\]' "$source" > bootimg/tests
-
-printf '%s\n' bootimg/run.sh library/run.sh | xargs -n 1 -P 2 sh
-count_tests library_tests "$(wc -l < library/tests)" library/log
-count_tests bootimg "$(wc -l < bootimg/tests)" bootimg/log
+    echo "use std::test::Fail;"
+    tests_of layout_growths builds 35
+    tests_of blob_growths reads 10
+    tests_of refused_growths reads 10
+    tests_of refused_growths appends 3
+    tests_of refused_growths normalises 8
+    tests_of refused_growths normalises_into 8
+    tests_of refused_growths normalises_to 4
+    tests_of refused_growths lists_to 12
+    tests_of refused_growths extracts_to 3
+    tests_of refused_growths extracts_listed_to 16
+    tests_of refused_growths normalises_embedded 24
+    tests_of refused_growths normalises_external 24
+    tests_of refused_growths lists_tree 24
+    tests_of refused_growths verifies_to 24
+    tests_of refused_growths describes_legacy_to 12
+    tests_of refused_growths describes_tree_to 48
+    tests_of refused_growths converts_to 32
+    tests_of refused_growths builds_legacy_to 4
+    tests_of refused_growths builds_embedded 32
+    tests_of refused_growths builds_external 32
+    tests_of refused_growths compares 48
+    tests_of refused_growths runs_normalise 112
+    tests_of refused_growths runs_list 112
+    tests_of refused_growths runs_extract 120
+    tests_of refused_growths runs_convert 128
+    tests_of refused_growths runs_build_legacy 160
+    tests_of refused_growths runs_build_fit 144
+    tests_of refused_growths runs_bad_image 130
+    tests_of refused_growths runs_help 128
+    tests_of refused_growths runs_version 104
+    tests_of refused_growths runs_unknown_argument 130
+    tests_of refused_growths runs_no_selection 112
+    tests_of refused_calls shows_name 8
+    tests_of refused_calls cuts 8
+    tests_of refused_calls builds_legacy 8
+    tests_of refused_calls converts 40
+    tests_of refused_calls converts_into 32
+    tests_of refused_calls builds_fit 40
+    tests_of refused_calls builds_fit_into 32
+    tests_of refused_calls normalises_fit 32
+    tests_of refused_calls normalises_fit_into 24
+    tests_of refused_calls reads_fit 16
+    tests_of refused_calls judges_hashes 16
+    tests_of refused_calls lists_payloads 16
+    tests_of refused_calls lists_loadables 16
+    tests_of refused_calls compares_fits 48
+    tests_of refused_calls makes_document 32
+    tests_of refused_calls maps_properties 16
+    tests_of refused_calls lists 8
+    tests_of refused_calls lists_fit 24
+    tests_of refused_calls verifies 8
+    tests_of refused_calls verifies_fit 24
+    tests_of refused_calls extracts_image 16
+    tests_of refused_calls extracts_listed 16
+    tests_of refused_calls verifies_legacy_to 8
+    tests_of refused_calls extracts_image_to 16
+    tests_of refused_calls runs_normalise 128 $clap
+    tests_of refused_calls runs_external 128 $clap
+    tests_of refused_calls runs_list 120 $clap
+    tests_of refused_calls runs_verify 120
+    tests_of refused_calls runs_verify_legacy 104 $clap
+    tests_of refused_calls runs_image 128 $clap
+    tests_of refused_calls runs_config 128 $clap
+    tests_of refused_calls runs_convert 128 $clap
+    tests_of refused_calls runs_build_fit 168 $clap
+} > "$crate/src/refusals.rt"
+test_modules blob_growths images layout_growths refused_calls refused_growths refusals
+run_tests --fail-alloc 1000
 finish

@@ -111,9 +111,11 @@ def verdict(output, crate, edit, texts):
     if goals:
         return True, goals[1]
     answers = re.escape("./proofs/" + edit.function.replace("::", "/")) + r"/Answers\.antt:\d+:\d+: error: (.*)"
-    # These errors name what the edit took away. They say nothing about the contract.
+    # These errors name what the edit took away. They say nothing about the contract. rattle may break a message: the lines that
+    # continue it begin with two spaces.
     names = r": record `|has no |is no name|is not in scope|w(as|ere) not admitted|have not been loaded|cannot be unfolded"
-    wrong = [it for it in re.findall(answers, output) if not re.search(names, it)]
+    joined = re.sub(r"\n  (?=\S)", " ", output)
+    wrong = [it for it in re.findall(answers, joined) if not re.search(names, it)]
     wrong += open_goals(output, *lines_of(edit, texts))
     if found[1].startswith("not proved") and wrong:
         return True, wrong[0]

@@ -24,7 +24,7 @@ need_libraries
 work_in_new_directory
 
 # Without arguments, the crates that take longest are the first.
-[ $# != 0 ] || set -- bootimg bi_norm bi_fit bi_legacy bi_base $(ls "$root/tests/wrong_bodies")
+[ $# != 0 ] || set -- bootimg bi_commands bi_norm bi_fit bi_legacy bi_base $(ls "$root/tests/wrong_bodies")
 try='python3 "$1/tests/wrong_bodies.py" "$1/crates/$2" "$1/tests/wrong_bodies/$2" "$1/tests/wrong_bodies.sh" check "$2" > "$2.log" 2>&1'
 printf '%s\n' "$@" | awk '!seen[$0]++' | xargs -n 1 -P "$(nproc)" sh -c "$try" sh "$root"
 for log in *.log; do

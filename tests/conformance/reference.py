@@ -1,0 +1,657 @@
+"""The commands of bootimg once more: written from the description of the formats, without the source of bootimg, and plainly.
+
+It is slow, and nothing of it is proved. No value in the vectors comes from the program that is tried: each was worked out from the
+formats, or by this program. `run --reference` compares what this program does with the vectors.
+"""
+
+import hashlib
+import re
+import struct
+import sys
+import zlib
+
+CODES = {
+    "os": {2: "netbsd", 5: "linux", 14: "vxworks", 17: "u-boot"},
+    "arch": {2: "arm", 3: "x86", 5: "mips", 7: "ppc", 22: "arm64", 24: "x86_64", 26: "riscv"},
+    "type": {1: "standalone", 2: "kernel", 3: "ramdisk", 4: "multi", 5: "firmware", 6: "script", 8: "flat_dt"},
+    "compression": {0: "none", 1: "gzip", 2: "bzip2", 3: "lzma", 4: "lzo", 5: "lz4", 6: "zstd"},
+}
+FIELDS = ("os", "arch", "type", "compression")
+KEYS = ("kernel", "fdt", "ramdisk", "firmware", "loadables", "script")
+KEY_OF_TYPE = {2: "kernel", 8: "fdt", 3: "ramdisk", 5: "firmware", 1: "loadables", 6: "script"}
+PLACES = (b"data", b"data-offset", b"data-position", b"data-size")
+DIGESTS = {
+    b"crc32": lambda data: cell(zlib.crc32(data)),
+    **{name: lambda data, n=name: hashlib.new(n.decode(), data).digest() for name in (b"md5", b"sha1", b"sha256", b"sha384", b"sha512")},
+}
+VERDICTS = ("good", "bad", "unknown-algorithm", "no-payload", "malformed")
+
+
+class Refused(Exception):
+    """A refusal, with the line that is printed."""
+
+
+class Unusable(Exception):
+    """Arguments that the parser of arguments refuses, with a text of its own."""
+
+
+def refuse(cause, offset):
+    raise Refused(f"{cause} at {offset}")
+
+
+def cell(number):
+    return struct.pack(">I", number)
+
+
+def up4(number):
+    return number + -number % 4
+
+
+def padded(data):
+    return data + bytes(-len(data) % 4)
+
+
+def cell_at(data, at):
+    return struct.unpack_from(">I", data, at)[0]
+
+
+def shown(name):
+    text = "".join(chr(byte) if 0x21 <= byte <= 0x7E and byte != 0x25 else f"%{byte:02X}" for byte in name)
+    return {"": "-", "-": "%2D"}.get(text, text)
+
+
+# Legacy images.
+
+
+class Legacy:
+    def __init__(self, file):
+        if len(file) < 4:
+            refuse("Truncated", 0)
+        if file[:4] != b"\x27\x05\x19\x56":
+            refuse("BadMagic", 0)
+        if len(file) < 64:
+            refuse("Truncated", 0)
+        header = file[:64]
+        if zlib.crc32(header[:4] + bytes(4) + header[8:]) != cell_at(header, 4):
+            refuse("BadHeaderCrc", 4)
+        self.time, size, self.load, self.entry, checksum = struct.unpack_from(">5I", header, 8)
+        if 64 + size > len(file):
+            refuse("Truncated", 12)
+        data = file[64:64 + size]
+        if zlib.crc32(data) != checksum:
+            refuse("BadDataCrc", 24)
+        self.codes = dict(zip(FIELDS, header[28:32]))
+        self.name = header[32:].split(b"\0")[0]
+        self.parts = [(64, data)]
+        if self.codes["type"] in (4, 6):
+            self.parts = [(64 + at, data[at:end]) for at, end in self.ranges(data)]
+            if not self.parts:
+                self.parts_end = 68
+        if self.parts:
+            self.parts_end = self.parts[-1][0] + len(self.parts[-1][1])
+        self.unused = len(file) - self.parts_end
+
+    @staticmethod
+    def ranges(data):
+        cells = [cell_at(data, at) for at in range(0, len(data) - 3, 4)]
+        if 0 not in cells:
+            refuse("BadPartTable", 64)
+        sizes = cells[:cells.index(0)]
+        at, ranges = 4 * len(sizes) + 4, []
+        for k, size in enumerate(sizes):
+            at = up4(at)
+            if at + size > len(data):
+                refuse("BadPart", 64 + 4 * k)
+            ranges.append((at, at + size))
+            at += size
+        return ranges
+
+    def payloads(self):
+        return [part for _, part in self.parts]
+
+
+def legacy_text(time, load, entry, codes, name, parts, limit):
+    if len(name) > 32 or 0 in name:
+        refuse("BadField", 32)
+    data = b"".join(parts)
+    if codes["type"] in (4, 6):
+        data = b"".join(cell(len(part)) for part in parts) + cell(0) + b"".join(map(padded, parts[:-1])) + b"".join(parts[-1:])
+    elif len(parts) != 1:
+        refuse("BadField", 30)
+    if 64 + len(data) > limit:
+        refuse("TooLarge", limit)
+    if codes["type"] in (4, 6) and b"" in parts:
+        refuse("EmptyPart", 64 + 4 * parts.index(b""))
+
+    def header(checksum):
+        numbers = (0x27051956, checksum, time, len(data), load, entry, zlib.crc32(data), *(codes[field] for field in FIELDS), name)
+        return struct.pack(">7I4B32s", *numbers)
+    return header(zlib.crc32(header(0))) + data
+
+
+# Blobs.
+
+
+class Node:
+    def __init__(self, name, place=None):
+        self.name, self.place = name, place
+        self.properties, self.places, self.children = {}, {}, []
+
+    def child(self, name):
+        return next((child for child in self.children if child.name == name), None)
+
+
+class Blob:
+    def __init__(self, file):
+        if len(file) < 4:
+            refuse("Truncated", 0)
+        if file[:4] != b"\xd0\x0d\xfe\xed":
+            refuse("BadMagic", 0)
+        if len(file) < 36 or len(file) < 40 and cell_at(file, 20) != 16:
+            refuse("Truncated", 0)
+        _, total, structure, strings, reservations, version, compatible, self.cpu, strings_size = struct.unpack_from(">9I", file)
+        length = 36 if version == 16 else 40
+        if version < 16:
+            refuse("BadVersion", 20)
+        if compatible > 17:
+            refuse("BadVersion", 24)
+        if total < length:
+            refuse("BadTotalSize", 4)
+        if total > len(file):
+            refuse("Truncated", 4)
+        if reservations < length or reservations % 8 or reservations > total:
+            refuse("BadOffset", 16)
+        end = max(total, structure) if version == 16 else structure + cell_at(file, 36)
+        if structure < length or structure % 4 or end > total:
+            refuse("BadOffset", 8)
+        if strings < length or strings + strings_size > total:
+            refuse("BadOffset", 12)
+        self.file, self.total, self.end = file, total, end
+        self.names = file[strings:strings + strings_size]
+        self.reservations = self.read_reservations(reservations)
+        self.root = self.read_root(structure)
+
+    def read_reservations(self, at):
+        found = []
+        while True:
+            if at + 16 > self.total:
+                refuse("Truncated", at)
+            pair = struct.unpack_from(">2Q", self.file, at)
+            if pair == (0, 0):
+                return found
+            found.append(pair)
+            at += 16
+
+    def read_root(self, at):
+        root, nodes = None, []
+        while True:
+            if at + 4 > self.end:
+                refuse("Truncated", at)
+            token = cell_at(self.file, at)
+            allowed = (2, 1, 3, 4) if nodes else (4, 9) if root else (1, 4)
+            if token not in allowed:
+                refuse("BadToken", at)
+            if token == 9:
+                return root
+            following = at + 4
+            if token == 1:
+                node, following = self.read_begin(at, nodes)
+                if nodes:
+                    nodes[-1].children.append(node)
+                else:
+                    root = node
+                nodes.append(node)
+            elif token == 2:
+                nodes.pop()
+            elif token == 3:
+                following = self.read_property(at, nodes[-1])
+            at = up4(following)
+
+    def read_begin(self, at, nodes):
+        if len(nodes) == 64:
+            refuse("TooDeep", at)
+        zero = self.file.find(b"\0", at + 4, self.end)
+        if zero < 0:
+            refuse("Truncated", at)
+        name = self.file[at + 4:zero]
+        if (not name or b"/" in name) if nodes else name:
+            refuse("BadName", at)
+        if nodes and nodes[-1].child(name):
+            refuse("DuplicateNode", at)
+        return Node(name, at), zero + 1
+
+    def read_property(self, at, node):
+        if node.children:
+            refuse("PropertyAfterChild", at)
+        if at + 12 > self.end or at + 12 + cell_at(self.file, at + 4) > self.end:
+            refuse("Truncated", at)
+        size, offset = cell_at(self.file, at + 4), cell_at(self.file, at + 8)
+        zero = self.names.find(b"\0", offset) if offset < len(self.names) else -1
+        if zero < 0:
+            refuse("BadNameOffset", at)
+        name = self.names[offset:zero]
+        if not name:
+            refuse("BadName", at)
+        if name in node.properties:
+            refuse("DuplicateProperty", at)
+        node.properties[name] = self.file[at + 12:at + 12 + size]
+        node.places[name] = at
+        return at + 12 + size
+
+
+def blob_text(cpu, reservations, root):
+    """The normal text of a blob."""
+    offsets, strings = {}, bytearray()
+
+    def tokens(node):
+        text = cell(1) + padded(node.name + b"\0")
+        for name, value in sorted(node.properties.items()):
+            if name not in offsets:
+                offsets[name] = len(strings)
+                strings.extend(name + b"\0")
+            text += cell(3) + cell(len(value)) + cell(offsets[name]) + padded(value)
+        return text + b"".join(map(tokens, node.children)) + cell(2)
+
+    memory = b"".join(struct.pack(">2Q", *pair) for pair in [*reservations, (0, 0)])
+    structure = tokens(root) + cell(9)
+    at = 40 + len(memory)
+    total = up4(at + len(structure) + len(strings))
+    header = struct.pack(">10I", 0xD00DFEED, total, at, at + len(structure), 40, 17, 16, cpu, len(strings), len(structure))
+    return (header + memory + structure + strings).ljust(total, b"\0")
+
+
+# Flattened image trees.
+
+
+class Fit:
+    def __init__(self, file):
+        self.blob = Blob(file)
+        root = self.blob.root
+        if not root.child(b"images"):
+            refuse("NoImages", root.place)
+        self.images = [(node, *self.payload(file, node)) for node in root.child(b"images").children]
+        self.configurations = root.child(b"configurations") or Node(b"")
+
+    def payload(self, file, node):
+        """The payload of an image node, the property that gives it, and its place."""
+        given = next((name for name in (b"data-position", b"data-offset", b"data") if name in node.properties), None)
+        if given in (None, b"data"):
+            return node.properties.get(b"data"), given, node.places.get(b"data", 0) + 12
+        place = node.places[given]
+        if len(node.properties[given]) != 4:
+            refuse("BadCell", place)
+        if b"data-size" not in node.properties:
+            refuse("NoSize", place)
+        if len(node.properties[b"data-size"]) != 4:
+            refuse("BadCell", node.places[b"data-size"])
+        start = cell_at(node.properties[given], 0) + (up4(self.blob.total) if given == b"data-offset" else 0)
+        size = cell_at(node.properties[b"data-size"], 0)
+        if start + size > len(file):
+            refuse("OutsideFile", place)
+        return file[start:start + size], given, start
+
+    def listed(self, configuration, key):
+        """The names that a configuration lists under a key, or a reason why it lists none."""
+        value = configuration.properties[key.encode()]
+        if not value.endswith(b"\0"):
+            return None, "bad list"
+        names = value[:-1].split(b"\0")
+        images = [node.name for node, _, _, _ in self.images]
+        for i, name in enumerate(names):
+            if name not in images:
+                return None, f"missing image {i}"
+        return names, None
+
+    def default(self):
+        value = self.configurations.properties.get(b"default", b"")
+        return value.split(b"\0")[0] if b"\0" in value else None
+
+    def signatures(self):
+        nodes = [node for node, _, _, _ in self.images] + self.configurations.children
+        return sum(child.name.startswith(b"signature") for node in nodes for child in node.children)
+
+
+def fit_text(cpu, reservations, root, payloads, external, limit):
+    """The normal text of a tree whose image nodes have no property that holds or places a payload, but these payloads."""
+    images, after = root.child(b"images").children, b""
+    for node, payload in zip(images, payloads):
+        if payload is None:
+            continue
+        if external:
+            after = padded(after)
+            node.properties |= {b"data-offset": cell(len(after)), b"data-size": cell(len(payload))}
+            after += payload
+        else:
+            node.properties[b"data"] = payload
+    text = blob_text(cpu, reservations, root) + after
+    if len(text) > limit:
+        refuse("TooLarge", limit)
+    return text
+
+
+def built_fit(description, time, images, external, limit):
+    """The FIT of these images, each a name, codes, a load address, an entry point and a payload."""
+    text = description + b"\0"
+    root, images_node, configurations, configuration = map(Node, (b"", b"images", b"configurations", b"conf-1"))
+    root.properties = {b"#address-cells": cell(1), b"description": text, b"timestamp": cell(time)}
+    root.children = [images_node, configurations]
+    configurations.properties, configurations.children = {b"default": b"conf-1\0"}, [configuration]
+    configuration.properties = {b"description": text}
+    for name, codes, load, entry, payload in images:
+        node, hash_node = Node(name), Node(b"hash-1")
+        node.properties = {field.encode(): CODES[field][codes[field]].encode() + b"\0" for field in FIELDS}
+        node.properties |= {key: cell(value) for key, value in ((b"load", load), (b"entry", entry)) if value is not None}
+        node.properties[b"description"] = text
+        hash_node.properties = {b"algo": b"sha256\0", b"value": hashlib.sha256(payload).digest()}
+        node.children = [hash_node]
+        images_node.children.append(node)
+        key = KEY_OF_TYPE[codes["type"]].encode()
+        configuration.properties[key] = configuration.properties.get(key, b"") + name + b"\0"
+    return fit_text(0, [], root, [payload for *_, payload in images], external, limit)
+
+
+# The commands.
+
+
+def read(file, limit):
+    if len(file) > limit:
+        refuse("TooLarge", limit)
+    if file[:4] == b"\xd0\x0d\xfe\xed":
+        return Fit(file)
+    return Legacy(file)
+
+
+def word_of(field, code):
+    return CODES[field].get(code, str(code))
+
+
+def list_image(file, options):
+    image = read(file, options["limit"])
+    lines = list_legacy(image) if isinstance(image, Legacy) else list_fit(image)
+    return "".join(line + "\n" for line in lines).encode()
+
+
+def list_legacy(image):
+    yield from ["kind legacy", f"name {shown(image.name)}", f"time {image.time}"]
+    yield from [f"load 0x{image.load:08x}", f"entry 0x{image.entry:08x}"]
+    yield from [f"{field} {word_of(field, image.codes[field])}" for field in FIELDS]
+    yield f"parts {len(image.parts)}"
+    yield from [f"part {i} size {len(part)} at {at}" for i, (at, part) in enumerate(image.parts)]
+    yield f"unused {image.unused}"
+
+
+def list_fit(fit):
+    yield from ["kind fit", f"boot-cpu {fit.blob.cpu}", f"total-size {fit.blob.total}"]
+    yield from [f"reservation 0x{address:016x} 0x{size:016x}" for address, size in fit.blob.reservations]
+    for node, payload, given, place in fit.images:
+        what = "none" if payload is None else f"size {len(payload)} {given.decode()} at {place}"
+        yield f"image {shown(node.name)} {what}"
+    for node in fit.configurations.children:
+        yield f"config {shown(node.name)}"
+        for key in KEYS:
+            if key.encode() in node.properties:
+                names, reason = fit.listed(node, key)
+                reason = (reason or "ok").replace("missing image", "missing").replace("bad list", "bad-list")
+                yield " ".join([f"key {shown(node.name)} {key} {reason}", *map(shown, names or [])])
+    if fit.default() is not None:
+        yield f"default {shown(fit.default())}"
+
+
+def verify(file, options):
+    image = read(file, options["limit"])
+    if isinstance(image, Legacy):
+        return b"header crc32 good\ndata crc32 good\n"
+    lines, counts = [], dict.fromkeys(VERDICTS, 0)
+    for node, payload, _, _ in image.images:
+        for child in node.children:
+            if child.name.startswith(b"hash"):
+                algo, value = child.properties.get(b"algo"), child.properties.get(b"value")
+                name = algo.split(b"\0")[0] if algo is not None and b"\0" in algo else None
+                found = judged(name, value, payload)
+                counts[found] += 1
+                lines.append(f"{shown(node.name)} {shown(child.name)} {shown(name or b'')} {found} {(value or b'').hex() or '-'}")
+    lines.append("summary " + " ".join(f"{verdict} {counts[verdict]}" for verdict in VERDICTS))
+    return int(counts["good"] != sum(counts.values())), "".join(line + "\n" for line in lines).encode(), b""
+
+
+def judged(name, value, payload):
+    if name is None or value is None:
+        return "malformed"
+    if name not in DIGESTS:
+        return "unknown-algorithm"
+    if payload is None:
+        return "no-payload"
+    return "good" if DIGESTS[name](payload) == value else "bad"
+
+
+def extract(file, options):
+    image = read(file, options["limit"])
+    if isinstance(image, Legacy) != ("part" in options):
+        raise Refused("the selection does not fit this kind of image")
+    if "part" in options:
+        if options["part"] >= len(image.parts):
+            raise Refused("no such part")
+        return image.payloads()[options["part"]]
+    name = options["image"].encode() if "image" in options else configured(image, options)
+    found = [payload for node, payload, _, _ in image.images if node.name == name]
+    if not found:
+        raise Refused("no such image")
+    if found[0] is None:
+        raise Refused("no payload")
+    return found[0]
+
+
+def configured(fit, options):
+    configuration = fit.configurations.child(options["config"].encode())
+    if configuration is None:
+        raise Refused("no such configuration")
+    if options["key"].encode() not in configuration.properties:
+        raise Refused("no such key")
+    names, reason = fit.listed(configuration, options["key"])
+    if reason:
+        raise Refused(reason)
+    if options["index"] >= len(names):
+        raise Refused("no such entry")
+    return names[options["index"]]
+
+
+def normalise(file, options):
+    image = read(file, options["limit"])
+    if isinstance(image, Legacy):
+        parts = image.payloads()
+        return legacy_text(image.time, image.load, image.entry, image.codes, image.name, parts, options["limit"])
+    blob = image.blob
+    for node, _, _, _ in image.images:
+        node.properties = {name: value for name, value in node.properties.items() if name not in PLACES}
+    payloads = [payload for _, payload, _, _ in image.images]
+    text = fit_text(blob.cpu, blob.reservations, blob.root, payloads, options["external"], options["limit"])
+    if image.signatures():
+        return 0, text, f"bootimg: note: {image.signatures()} signature nodes carried, not checked\n".encode()
+    return text
+
+
+def convert(file, options):
+    if len(file) > options["limit"]:
+        refuse("TooLarge", options["limit"])
+    image = Legacy(file)
+    for at, field in enumerate(FIELDS, 28):
+        if image.codes[field] not in CODES[field]:
+            refuse("NoCodeName", at)
+    if not image.parts:
+        refuse("EmptyPart", 64)
+    kind = image.codes["type"]
+    types = {4: [2, 3, 8]}.get(kind, [kind])
+    if len(image.parts) > len(types):
+        refuse("TooManyParts", 64)
+    images = []
+    for i, (code, payload) in enumerate(zip(types, image.payloads())):
+        codes = image.codes | {"type": code}
+        addresses = (image.load, image.entry) if i == 0 and code in (1, 2, 5) else (None, None)
+        if i > 0:
+            codes["compression"] = 0
+        name = "fdt" if code == 8 else CODES["type"][code]
+        images.append((f"{name}-1".encode(), codes, *addresses, payload))
+    return built_fit(image.name, image.time, images, False, options["limit"])
+
+
+def cut(data, lengths):
+    pieces, at = [], 0
+    for length in lengths:
+        if at + length > len(data):
+            refuse("BadPart", at)
+        pieces.append(data[at:at + length])
+        at += length
+    if at != len(data):
+        refuse("BadPart", at)
+    return pieces
+
+
+def build_legacy(data, options):
+    if len(data) > options["limit"]:
+        refuse("TooLarge", options["limit"])
+    parts = cut(data, options["words"]) if options["words"] else [data]
+    codes = {field: options[field] for field in FIELDS}
+    return legacy_text(options["time"], options["load"], options["entry"], codes, options["name"].encode(), parts, options["limit"])
+
+
+def build_fit(data, options):
+    limit, images = options["limit"], options["words"]
+    if len(data) > limit:
+        refuse("TooLarge", limit)
+    payloads = cut(data, [length for *_, length in images])
+    if len(images) > limit:
+        refuse("TooLarge", limit)
+    names = []
+    for i, (name, codes, _, _, _) in enumerate(images):
+        if not name or b"/" in name or codes["type"] == 4:
+            refuse("BadField", i)
+        if any(codes[field] not in CODES[field] for field in FIELDS):
+            refuse("NoCodeName", i)
+        if name in names:
+            refuse("DuplicateNode", i)
+        names.append(name)
+    whole = [(*image[:4], payload) for image, payload in zip(images, payloads)]
+    return built_fit(options["description"].encode(), options["time"], whole, options["external"], limit)
+
+
+# The command line.
+
+
+def number(text, most=0xFFFFFFFF, least=0):
+    if not re.fullmatch("[0-9]+|0x[0-9A-Fa-f]+", text, re.ASCII):
+        raise Refused("usage: bad value")
+    value = int(text, 16) if text.startswith("0x") else int(text)
+    if not least <= value <= most:
+        raise Refused("usage: bad value")
+    return value
+
+
+def code(field, text):
+    known = {word: value for value, word in CODES[field].items()}
+    return known[text] if text in known else number(text, 255)
+
+
+def key(text):
+    if text not in KEYS:
+        raise Refused("usage: bad value")
+    return text
+
+
+def image_word(i, text):
+    fields = text.split(":")
+    try:
+        if len(fields) != 8:
+            raise Refused("usage")
+        name, kind, arch, system, compression, load, entry, length = fields
+        codes = {"type": code("type", kind), "arch": code("arch", arch), "os": code("os", system)}
+        codes["compression"] = code("compression", compression)
+        addresses = [None if it == "-" else number(it) for it in (load, entry)]
+        return (name.encode(), codes, *addresses, number(length))
+    except Refused:
+        raise Refused(f"usage: bad image {i}") from None
+
+
+def limit_of(text):
+    return number(text, 0x7FFFFFFF, 64)
+
+
+# For each command, its options with how each is parsed and its default. A flag has None; an option without a default has `...` if it
+# is required.
+FLAG = None
+COMMANDS = {
+    "list": (list_image, {}),
+    "verify": (verify, {}),
+    "extract": (extract, {"part": (number, ()), "image": (str, ()), "config": (str, ()), "key": (key, "kernel"), "index": (number, "0")}),
+    "normalise": (normalise, {"external": FLAG}),
+    "convert": (convert, {}),
+    "build-legacy": (build_legacy, {
+        "os": (lambda text: code("os", text), ...), "arch": (lambda text: code("arch", text), ...),
+        "type": (lambda text: code("type", text), ...), "compression": (lambda text: code("compression", text), "none"),
+        "name": (str, ""), "time": (number, "0"), "load": (number, "0"), "entry": (number, "0")}),
+    "build-fit": (build_fit, {"external": FLAG, "description": (str, ""), "time": (number, "0")}),
+}
+
+
+def split_arguments(name, options, arguments):
+    """The texts of the options that are given, and the other words."""
+    given, words, arguments = {}, [], list(arguments)
+    while arguments:
+        word = arguments.pop(0)
+        if not word.startswith("-"):
+            words.append(word)
+            continue
+        option, equals, text = word[2:].partition("=")
+        if not word.startswith("--") or option not in options or option in given or options[option] is FLAG and equals:
+            raise Unusable(f"unexpected argument {word}")
+        if options[option] is not FLAG and not equals:
+            if not arguments or arguments[0].startswith("-"):
+                raise Unusable(f"no value for {word}")
+            text = arguments.pop(0)
+        given[option] = text
+    if words and not name.startswith("build-"):
+        raise Unusable(f"unexpected argument {words[0]}")
+    return given, words
+
+
+def parse(arguments):
+    if not arguments or arguments[0] not in COMMANDS:
+        raise Unusable("give a command: " + ", ".join(COMMANDS))
+    name = arguments[0]
+    command, options = COMMANDS[name]
+    options = options | {"limit": (limit_of, "2147483647")}
+    given, words = split_arguments(name, options, arguments[1:])
+    missing = [option for option, how in options.items() if how and how[1] is ... and option not in given]
+    if missing:
+        raise Unusable(f"--{missing[0]} is missing")
+    if name == "extract" and len({"part", "image", "config"} & set(given)) != 1:
+        raise Refused("usage: give one of --part, --image, --config")
+    values = {}
+    for option, how in options.items():
+        if how is FLAG:
+            values[option] = option in given
+        elif option in given or how[1] != ():
+            values[option] = how[0](given.get(option, how[1]))
+    if name == "build-legacy":
+        values["words"] = [number(word) for word in words]
+    if name == "build-fit":
+        values["words"] = [image_word(i, word) for i, word in enumerate(words)]
+    return command, values
+
+
+def main(arguments, file):
+    """The exit status, the output and the text on standard error."""
+    try:
+        command, options = parse(arguments)
+        result = command(file, options)
+    except Refused as line:
+        return 2, b"", f"bootimg: {line}\n".encode()
+    except Unusable as text:
+        return 2, b"", f"error: {text}\n".encode()
+    return result if isinstance(result, tuple) else (0, result, b"")
+
+
+if __name__ == "__main__":
+    status, output, errors = main(sys.argv[1:], sys.stdin.buffer.read())
+    sys.stdout.buffer.write(output)
+    sys.stderr.buffer.write(errors)
+    sys.exit(status)
