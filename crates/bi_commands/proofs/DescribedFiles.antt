@@ -1,4 +1,4 @@
-use Rattle.std.proofs.Common.{ℕ, List, Result, Ok, Err, IfErr, inl, inr}
+use Rattle.std.proofs.Common.{◌≡◌, ℕ, List, Result, Ok, Err, IfOk, OnOk, IfErr, inl, inr}
 use Rattle.bi_base.specs.Commands.{Appended, CommandFailed, AppendFailed, WasRefused, SinkFailed}
 use Rattle.bi_base.specs.declared.fault.Error.{Error}
 use Rattle.bi_base.specs.declared.fault.Error.TheVariants.{Refused, OutOfMemory, ReadFailed, WriteFailed}
@@ -8,7 +8,8 @@ use Rattle.bi_norm.specs.NormalForm.{IsOpenError}
 use Rattle.bi_norm.specs.OpenedMeaning.{meaning_of}
 use Rattle.bi_norm.specs.Opening.{IsOpened}
 use Rattle.bi_norm.proofs.NormalForms.{needs_memory}
-use Rattle.bi_commands.specs.Describing.{IsDescription, IsDescribeError, IsImageError}
+use Rattle.bi_commands.specs.Descriptions.{description}
+use Rattle.bi_commands.specs.Describing.{CanBeDescribed, IsDescription, IsDescribeError, IsImageError}
 use Rattle.bi_commands.specs.ReadDescription.{IsDescriptionOf}
 use Rattle.bi_commands.proofs.Compared.{opened_means}
 
@@ -22,6 +23,14 @@ description_of_file limits file image text opened is = record {
   within = is.within;
   is_text = is.is_text;
 }
+
+-- The same of a call that returns the description.
+pub described_of_result : {T : Type 0} (bytes_of : T → List ℕ) (limits : Bounds) (file : List ℕ) (image : BootImage) (result : Result T Error)
+    → IsOpened limits file image → OnOk result (CanBeDescribed limits (meaning_of image))
+    → IfOk result (λ text. bytes_of text ≡ description (meaning_of image)) → IfOk result (λ text. IsDescription limits file (bytes_of text))
+described_of_result bytes_of limits file image (Ok text) opened within is =
+    description_of_file limits file image (bytes_of text) opened (record { within = within; is_text = is; })
+described_of_result bytes_of limits file image (Err error) opened within is = tt
 
 -- An error of describing what was read from a file is one of describing the file.
 pub error_of_file : (limits : Bounds) (file : List ℕ) (image : BootImage) (error : Error) → IsOpened limits file image

@@ -1,7 +1,7 @@
 use Rattle.std.proofs.Common.{refl}
 use Rattle.std.proofs.lemmas.Result.{err_from_is_err_and}
 use Rattle.bi_base.specs.Commands.{WasRefused}
-use Rattle.bi_commands.proofs.DescribedFiles.{error_of_reading, failed_of_file}
+use Rattle.bi_commands.proofs.DescribedFiles.{appended_of_file, error_of_reading, failed_of_file}
 use Rattle.bi_commands.proofs.describe.DescriberCommand.run.Goals as goal
 
 pub returns-in_err-image-clause-failed : goal.returns-in_err-image-clause-failed
@@ -15,3 +15,8 @@ returns-in_err-describe_into-clause-failed g c =
     rw (p.1, p.2)
     (failed_of_file g.S.Sink.fails c.args.limits c.args.input.now c.in_ok-image.image c.args.sink.now c.describe_into.new.sink c.in_err-describe_into.field-0.0 c.in_ok-image.ensures.opened
     c.in_err-describe_into.ensures.failed)
+
+pub returns-clause-appended : goal.returns-clause-appended
+returns-clause-appended g c =
+    appended_of_file g.S.Sink.appends c.args.limits c.args.input.now c.in_ok-image.image c.args.sink.now c.describe_into.new.sink c.in_ok-image.ensures.opened
+    c.in_ok-describe_into.ensures.appended
