@@ -29,7 +29,7 @@ pub described_of_result : {T : Type 0} (bytes_of : T → List ℕ) (limits : Bou
     → IsOpened limits file image → OnOk result (CanBeDescribed limits (meaning_of image))
     → IfOk result (λ text. bytes_of text ≡ description (meaning_of image)) → IfOk result (λ text. IsDescription limits file (bytes_of text))
 described_of_result bytes_of limits file image (Ok text) opened within is =
-    description_of_file limits file image (bytes_of text) opened (record { within = within; is_text = is; })
+    description_of_file limits file image (bytes_of text) opened (record { within = within; is_text = is })
 described_of_result bytes_of limits file image (Err error) opened within is = tt
 
 -- An error of describing what was read from a file is one of describing the file.
