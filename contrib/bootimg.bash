@@ -1,14 +1,22 @@
-# Completion of bootimg for bash: commands, the options of each, and the values that have names.
+# Completion of bootimg for bash: commands, the options of each, the values and causes that have names, and files with images, parts or
+# payloads.
 
 _bootimg() {
-    local word=${COMP_WORDS[COMP_CWORD]} before=${COMP_WORDS[COMP_CWORD - 1]} words=
+    local word=${COMP_WORDS[COMP_CWORD]} before=${COMP_WORDS[COMP_CWORD - 1]} words= files= prefix=
     # In --os=arm, bash takes the sign for a word.
     if [[ $word == '=' ]]; then
         word=
     elif [[ $before == '=' ]]; then
         before=${COMP_WORDS[COMP_CWORD - 2]}
     fi
-    local commands="normalise list describe verify extract convert build-legacy build-fit help"
+    # So it may in @FILE, where a part or a payload is in a file.
+    if [[ ${COMP_WORDS[1]} == build-* && $word == *@* ]]; then
+        [[ $COMP_WORDBREAKS == *@* ]] || prefix=${word%"${word##*@}"}
+        word=${word##*@} before=@FILE
+    elif [[ ${COMP_WORDS[1]} == build-* && $before == *@ ]]; then
+        before=@FILE
+    fi
+    local commands="normalise list describe compare verify check update extract convert build-legacy build-fit explain help"
     if ((COMP_CWORD == 1)); then
         words="$commands --help --version -h -V"
     else
@@ -18,21 +26,42 @@ _bootimg() {
         --type) words="standalone kernel ramdisk multi firmware script flat_dt" ;;
         --compression) words="none gzip bzip2 lzma lzo lz4 zstd" ;;
         --key) words="kernel fdt ramdisk firmware loadables script" ;;
+        --allow)
+            words="bad-hash unhashed weak-hash bad-list missing bad-default trailing"
+            # After a comma another kind follows.
+            [[ $word != *,* || $word == *[^a-z,-]* ]] || words="${word%,*},${words// / "${word%,*}",}"
+            ;;
+        -o | --output | @FILE) files=yes ;;
         --limit | --part | --image | --config | --index | --name | --time | --load | --entry | --description) ;;
         *)
+            files=yes
             case ${COMP_WORDS[1]} in
-            normalise) words="--external --limit" ;;
-            list | describe | verify | convert) words="--limit" ;;
-            extract) words="--part --image --config --key --index --limit" ;;
-            build-legacy) words="--os --arch --type --compression --name --time --load --entry --limit" ;;
-            build-fit) words="--external --description --time --limit" ;;
-            help) words=$commands ;;
+            normalise) words="--external --limit -o --output" ;;
+            list | describe | verify | convert) words="--limit -o --output" ;;
+            compare) words="--quiet --limit -o --output" ;;
+            check) words="--allow --limit -o --output" ;;
+            update) words="--time --hashes --external --limit -o --output" ;;
+            extract) words="--part --image --config --default --key --index --escaped --limit -o --output" ;;
+            build-legacy) files= words="--os --arch --type --compression --name --time --load --entry --limit -o --output" ;;
+            build-fit) files= words="--external --description --time --limit -o --output" ;;
+            explain)
+                files= words="Truncated BadMagic BadHeaderCrc BadDataCrc BadPartTable BadPart BadTotalSize BadVersion BadOffset BadToken BadName"
+                words+=" BadNameOffset PropertyAfterChild DuplicateProperty DuplicateNode TooDeep NoImages BadCell NoSize OutsideFile TooLarge"
+                words+=" NoCodeName TooManyParts EmptyPart BadField Unsupported -o --output"
+                ;;
+            help) files= words=$commands ;;
+            *) files= ;;
             esac
             [[ ${COMP_WORDS[1]} == help ]] || words+=" --help -h"
             ;;
         esac
     fi
     COMPREPLY=($(compgen -W "$words" -- "$word"))
+    if [[ $files ]]; then
+        # So bash adds a slash after the name of a directory, and quotes names. It fails in a test, where nothing is completed.
+        compopt -o filenames 2> /dev/null
+        mapfile -t -O "${#COMPREPLY[@]}" COMPREPLY < <(compgen -P "$prefix" -f -- "$word")
+    fi
 }
 
 complete -F _bootimg bootimg

@@ -34,17 +34,30 @@ long=12345678901234567890123456789012
 
 # Legacy images, beside those of mkimage.
 
-# legacy IMAGE TYPE ARCH OS COMPRESSION LOAD ENTRY TIME NAME FILE..: mkimage makes the image of these files, the program builds the
-# same bytes from them, and the image is its own normal form.
+# named FILE..: each file as a part of build-legacy.
+named() {
+    for file in "$@"; do
+        echo "@$file"
+    done
+}
+
+# legacy IMAGE TYPE ARCH OS COMPRESSION LOAD ENTRY TIME NAME FILE..: mkimage makes the image of these files. The program builds the
+# same bytes from the files together, from each file by its name, and from the first file and the names of the others. The image is
+# its own normal form.
 legacy() {
     image=$1 type=$2 arch=$3 os=$4 compression=$5 load=$6 entry=$7 time=$8 title=$9
     shift 9
     SOURCE_DATE_EPOCH=$time mkimage -T "$type" -A "$arch" -O "$os" -C "$compression" -a "$load" -e "$entry" -n "$title" \
         -d "$(echo "$*" | tr ' ' ':')" "$image" > /dev/null || return 1
     cat "$@" > parts
-    # shellcheck disable=SC2046
-    gives "$image" parts build-legacy --type "$type" --arch "$arch" --os "$os" --compression "$compression" \
-        --load "$load" --entry "$entry" --time "$time" --name "$title" $(sizes "$@") && gives "$image" "$image" normalise
+    first=$1 all=$(sizes "$@") names=$(named "$@")
+    shift
+    mixed="$(sizes "$first") $(named "$@")"
+    set -- build-legacy --type "$type" --arch "$arch" --os "$os" --compression "$compression" \
+        --load "$load" --entry "$entry" --time "$time" --name "$title"
+    # shellcheck disable=SC2086
+    gives "$image" parts "$@" $all && gives "$image" script "$@" $names && gives "$image" "$first" "$@" $mixed &&
+        gives "$image" "$image" normalise
 }
 
 check "a kernel image" legacy kernel.image kernel arm linux none 0x8000 0x8040 1000000000 "Linux 6.1" kernel
@@ -364,6 +377,19 @@ builds() {
     "$root/bootimg" build-fit "$@" < "$input" > "$fit" 2> errors && [ ! -s errors ]
 }
 
+# builds_of_files FORM FIT DESCRIPTION TIME WORD..: build-fit writes this FIT of these images, each payload by the name of its file,
+# and after an image no standard input.
+builds_of_files() {
+    form=$1 fit=$2 description=$3 time=$4
+    shift 4
+    input=script
+    [ $# != 0 ] || input=empty
+    # shellcheck disable=SC2046
+    set -- build-fit --description "$description" --time "$time" $(for word in "$@"; do echo "${word%:*}:@${word##*:}"; done)
+    [ "$form" = embedded ] || set -- "$@" --external
+    gives "$fit" "$input" "$@"
+}
+
 # building LABEL DESCRIPTION TIME WORD..: tries the FIT of these images in both forms.
 building() {
     label=$1 description=$2 time=$3
@@ -372,6 +398,7 @@ building() {
     cat $(files "$@") /dev/null > payloads
     for form in embedded external; do
         check "$label, $form: build-fit" builds "$form" "$form.itb" payloads "$description" "$time" "$@"
+        check "$label, $form: build-fit of files" builds_of_files "$form" "$form.itb" "$description" "$time" "$@"
         tree "$label" "$form" "$form.itb" "$description" "$time" "$@"
     done
     check "$label: external from embedded" normalises external embedded.itb external.itb
@@ -479,6 +506,55 @@ printf 'kind fit\nboot-cpu 0\ntotal-size 872\nimage kernel-1 size 5 data-offset 
 printf 'image ramdisk-1 size 3 data-offset at 880\nconfig conf-1\nkey conf-1 kernel ok kernel-1\n' >> wanted.list
 printf 'key conf-1 ramdisk ok ramdisk-1\ndefault conf-1\n' >> wanted.list
 check "the known external FIT is listed" gives wanted.list known-external.itb list
+
+# Parts and payloads in files.
+printf hello > hello
+printf abc > abc
+printf abc+ > more
+legacy_words="build-legacy --os linux --arch arm --type multi --name k --load 0x8000 --entry 0x8000"
+kernel_file="${kernel%5}@hello"
+ramdisk_file="${ramdisk%3}@abc"
+# shellcheck disable=SC2086
+{
+    check "the known legacy image, of two files" gives known.image input $legacy_words @hello @abc
+    check "of a file and standard input" gives known.image abc $legacy_words @hello 3
+    check "of standard input and a file" gives known.image hello $legacy_words 5 @abc
+    check "a file in a directory that is not there" refuses "none/hello: cannot be opened" abc $legacy_words @none/hello 3
+    check "a file that cannot be opened, and no length" refuses "none: cannot be opened" abc $legacy_words @none @abc
+    check "the rest of standard input" refuses "BadPart at 3" more $legacy_words @hello 3
+    check "a file over the limit" refuses "known.image: TooLarge at 86" abc $legacy_words --limit 86 @known.image 3
+}
+mkdir -p tree
+check "a directory" refuses "tree: read failed" abc build-legacy --os 5 --arch 2 --type 4 @hello @tree
+check "the known FIT, of two files" gives known.itb input build-fit --description k "$kernel_file" "$ramdisk_file"
+check "of a file and standard input" gives known.itb abc build-fit --description k "$kernel_file" "$ramdisk"
+check "of standard input and a file" gives known.itb hello build-fit --description k "$kernel" "$ramdisk_file"
+check "a file with a colon" refuses "usage: bad image 0" abc build-fit "$kernel_file:" "$ramdisk"
+check "standard input without images" refuses "BadPart at 0" abc build-fit
+check "standard input that is closed" sh -c '"$@" <&- | cmp - known.itb' sh "$root/bootimg" build-fit --description k "$kernel_file" \
+    "$ramdisk_file"
+
+# into FILE ARGUMENT..: the program writes nothing to standard output, and the known legacy image to this file.
+into() {
+    output=$1
+    shift
+    # shellcheck disable=SC2086
+    "$root/bootimg" $legacy_words -o "$output" "$@" < /dev/null > written 2>&1 && [ ! -s written ] && cmp known.image "$output"
+}
+check "an output file" into built @hello @abc
+cp hello part
+check "an output file that is a part" into part @part @abc
+printf old > kept
+check "an output file stays after a failure" sh -c '! "$@" -o kept 2> /dev/null && [ "$(cat kept)" = old ]' sh "$root/bootimg" \
+    build-legacy --os 5 --arch 2 --type 4 @hello @none
+
+# many: the program builds an image of 10,000 parts, each of the same file, and its parts are the file.
+many() {
+    # shellcheck disable=SC2046
+    "$root/bootimg" build-legacy --os 5 --arch 2 --type 4 $(yes @hello | head -n 10000) > many.image && [ "$(sizes many.image)" = 120065 ] &&
+        "$root/bootimg" extract --part 9999 many.image | cmp - hello
+}
+check "10,000 parts" many
 
 # Refusals.
 

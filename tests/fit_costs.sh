@@ -1,8 +1,9 @@
 #!/bin/sh
 # Measures what the program takes on large flattened image trees: time beside sha256sum of the same file, and memory beside the
 # length of the file. It fails if memory is more than the file and 8 MiB for a large payload, if 10,000 images take more than ten
-# times what sha256sum takes, or if ten times as many take more than twelve times as long. Each time is the least of ten rounds. How
-# many times as long a file takes as another is the median of the rounds. The script needs python3 and coreutils.
+# times what sha256sum takes, if ten times as many take more than twelve times as long, or if describe or check of a large payload takes
+# more than 1.15 times as long as verify, which computes the same digest. Each time is the least of ten rounds. How many times as long a
+# file or a command takes as another is the median of the rounds. The script needs python3 and coreutils.
 set -u
 
 root=$(cd "$(dirname "$0")/.." && pwd)
@@ -92,24 +93,26 @@ def make(path, payloads, configurations=0):
         file.write(tree.blob())
 
 
-def run(path, command):
-    """Returns the seconds and the bytes of memory of a command that reads this file."""
+def run(path, command, wanted=0):
+    """Returns the seconds and the bytes of memory of a command that reads this file and ends with this status. In the command, FILE
+    is the path of the file."""
+    command = [word.replace("FILE", path) for word in command]
     with open(path, "rb") as source, open("output", "wb") as target:
         begin = time.perf_counter()
         process = subprocess.Popen(command, stdin=source, stdout=target)
         _, status, usage = os.wait4(process.pid, 0)
         seconds = time.perf_counter() - begin
-    process.returncode = status
-    if status != 0:
-        sys.exit(f"{command}: status {status}")
+    process.returncode = os.waitstatus_to_exitcode(status)
+    if process.returncode != wanted:
+        sys.exit(f"{command}: status {process.returncode}")
     return seconds, usage.ru_maxrss * 1024
 
 
-def measure(command):
+def measure(command, files, wanted=0):
     """Returns for each file the seconds and the bytes of memory of ten runs of a command that reads it. The files are read in turn,
     since a machine may be slow for some seconds."""
-    rounds = [[run(path, command) for path in FILES] for _ in range(10)]
-    return dict(zip(FILES, zip(*rounds)))
+    rounds = [[run(path, command, wanted) for path in files] for _ in range(10)]
+    return dict(zip(files, zip(*rounds)))
 
 
 def least(runs):
@@ -125,9 +128,17 @@ def ratio(runs, others):
 FILES = ["large", "many", "more", "configured"]
 COMMANDS = {
     "list": ["list"],
+    "describe": ["describe"],
     "verify": ["verify"],
+    # The images have no default configuration, and each hash is good.
+    "check": ["check", "--allow", "bad-default"],
     "normalise": ["normalise"],
     "normalise --external": ["normalise", "--external"],
+}
+# With the status of each: an image is compared with itself, and with one in which each payload has other bytes.
+COMPARISONS = {
+    "compare of the same image": (["compare", "-", "FILE"], 0),
+    "compare of images that differ": (["compare", "-", "FILE.other"], 1),
 }
 
 failures = 0
@@ -143,11 +154,13 @@ if sys.argv[1] == "make":
     make("large", [os.urandom(64 * MIB)])
     make("many", [b"%d" % index for index in range(10_000)])
     make("more", [b"%d" % index for index in range(100_000)])
+    make("many.other", [b"%d" % (index + 1) for index in range(10_000)])
+    make("more.other", [b"%d" % (index + 1) for index in range(100_000)])
     make("configured", [b"%d" % index for index in range(10_000)], 10_000)
     sys.exit()
-cat = measure(["cat"])
-sha256sum = measure(["sha256sum"])
-measured = {name: measure([PROGRAM, *arguments]) for name, arguments in COMMANDS.items()}
+cat = measure(["cat"], FILES)
+sha256sum = measure(["sha256sum"], FILES)
+measured = {name: measure([PROGRAM, *arguments], FILES) for name, arguments in COMMANDS.items()}
 for path in FILES:
     size = os.path.getsize(path)
     base, _ = least(sha256sum[path])
@@ -159,9 +172,16 @@ for path in FILES:
             judge(f"{path}, {name}", memory <= size + 8 * MIB, text)
         else:
             judge(f"{path}, {name}", path == "more" or seconds <= 10 * base, text)
-for name in COMMANDS:
+for name, (arguments, status) in COMPARISONS.items():
+    measured[name] = measure([PROGRAM, *arguments], ["many", "more"], status)
+for name in measured:
+    seconds, _ = least(measured[name]["more"])
     times = ratio(measured[name]["more"], measured[name]["many"])
-    judge(f"{name} of ten times as many images", times <= 12, f"{times:.1f} times as long")
+    judge(f"{name}, ten times as many images", times <= 12, f"{seconds:.3f} s, {times:.1f} times as long")
+for command in ("describe", "check"):
+    runs, verified = zip(*([run("large", [PROGRAM, each]) for each in (command, "verify")] for _ in range(10)))
+    times = ratio(runs, verified)
+    judge(f"large, {command} beside verify", times <= 1.15, f"{times:.2f} times as long")
 sys.exit(failures != 0)
 END
 # The trees are made by another process: what a process has used counts for the memory of those that it starts.
@@ -170,5 +190,5 @@ python3 costs.py make
 python3 costs.py "$program" | tee costs
 passed=$((passed + $(grep -c '^ok: ' costs)))
 failed=$((failed + $(grep -c '^FAILED: ' costs)))
-[ "$(grep -c '^ok: \|^FAILED: ' costs)" = 20 ] || failed=$((failed + 1))
+[ "$(grep -c '^ok: \|^FAILED: ' costs)" = 34 ] || failed=$((failed + 1))
 finish

@@ -14,11 +14,14 @@ cd "$work" || exit 2
 chmod 755 .
 
 # The rt of these tests takes as many seconds as the file `seconds` has, fails if there is a file `broken`, and builds a
-# program that prints its arguments and the source as it was at the start. Each run adds a line to the file `builds`.
+# program that prints its arguments and the source as it was at the start. Each such run adds a line to the file `builds`. Each
+# call adds its arguments to the file `calls`, after the name of the crate.
 mkdir bin
 cat > bin/rt << 'END'
 #!/bin/sh
 checkout=$(cd ../.. && pwd)
+echo "$(basename "$PWD") $*" >> "$checkout/../calls"
+[ "$1" = run ] || exit 0
 echo build >> "$checkout/../builds"
 source=$(cat src/main.rt)
 echo "fn bootimg::main: proved"
@@ -31,10 +34,10 @@ chmod +x bin/rt
 
 # new_checkout: a checkout of the launcher, with two crates of one file each, and no build yet.
 new_checkout() {
-    rm -rf checkout builds broken
+    rm -rf checkout builds broken calls
     mkdir -p checkout/crates/bootimg/src checkout/crates/lower/src
     cp "$root/bootimg" checkout/bootimg
-    echo "bootimg: lower" > checkout/crates.txt
+    printf "lower:\nbootimg: lower\n" > checkout/crates.txt
     echo one > checkout/crates/bootimg/src/main.rt
     echo lower > checkout/crates/lower/src/lib.rt
     echo 0 > seconds
@@ -74,7 +77,8 @@ fails() {
 new_checkout
 check "the first call builds and runs the program" launch list 'a b'
 check "the program gets the arguments" prints "one list a b"
-check "the first call says that it builds" tells "proving and building the program: once, in about 50 minutes of processor time"
+check "the first call says that it builds" tells "proving and building the program: once, in about an hour of processor time"
+check "the libraries are proved first" test "$(paste -sd, calls)" = "lower lib --jobs 2,bootimg run --jobs 2 -- --version"
 check "rt's lines go to the log" grep -Fqx "fn bootimg::main: proved" checkout/crates/bootimg/out/build.log
 check "rt's lines are not printed" fails 1 grep -Fq "fn bootimg" errors
 check "the second call runs the program" launch
@@ -230,9 +234,36 @@ check "that call builds, too" builds 3
 mv checkout/crates/lower/src/lib.rt checkout/crates/lower/src/renamed.rt
 check "a call after a file was renamed runs the program" launch
 check "that call builds again" builds 4
-echo "bootimg: lower " > checkout/crates.txt
+printf "lower:\nbootimg:  lower\n" > checkout/crates.txt
 check "a call after an edit of crates.txt runs the program" launch
 check "it builds" builds 5
+
+# The crates of the program, and one that it does not use.
+new_checkout
+for crate in second third top unused; do
+    mkdir -p checkout/crates/$crate/src
+done
+printf '%s\n' lower: "second: lower" unused: "third: thiserror lower" "top: third lower" "bootimg: second top clap" \
+    > checkout/crates.txt
+check "a call in a checkout of more crates builds" launch
+check "crates of one level are proved by one job each" test "$(sort calls | paste -sd,)" = \
+    "bootimg run --jobs 2 -- --version,lower lib --jobs 2,second lib --jobs 1,third lib --jobs 1,top lib --jobs 2"
+check "a crate is proved after those that it uses" test "$(grep -v ' 1$' calls | paste -sd,)" = \
+    "lower lib --jobs 2,top lib --jobs 2,bootimg run --jobs 2 -- --version"
+new_checkout
+check "a call in a checkout of two crates builds" launch
+
+# A static library, which the program cannot use.
+new_checkout
+mkdir -p checkout/crates/static_one/src
+printf 'lower:\nstatic_one staticlib: lower\nbootimg: lower\n' > checkout/crates.txt
+echo static > checkout/crates/static_one/src/lib.rt
+check "a call in a checkout with a static library builds" launch
+check "the static library is not built" test "$(sort calls | paste -sd,)" = "bootimg run --jobs 2 -- --version,lower lib --jobs 2"
+sleep 1
+echo edited > checkout/crates/static_one/src/lib.rt
+check "a call after an edit of the static library runs the program" launch
+check "it does not build" builds 1
 
 # A call that need not build starts no process but the program.
 mkdir nothing
@@ -241,7 +272,7 @@ alone() {
 }
 touch checkout/crates/bootimg/out/sources
 check "a call without any command in PATH runs the program" alone
-check "it prints what the program prints, and nothing else" test "$(cat output errors)" = "edited alone"
+check "it prints what the program prints, and nothing else" test "$(cat output errors)" = "one alone"
 
 # Links and copies.
 mkdir elsewhere
@@ -269,6 +300,6 @@ mkdir -p path/checkout
 touch checkout/crates/bootimg/src
 check "a launcher is not found by CDPATH" env CDPATH="$work/path" checkout/bootimg
 check "a launcher that sh is given by its name runs the program" \
-    sh -c 'cd checkout && [ "$(sh bootimg here)" = "edited here" ]'
+    sh -c 'cd checkout && [ "$(sh bootimg here)" = "one here" ]'
 
 finish

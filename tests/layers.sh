@@ -106,13 +106,14 @@ boundary bi_legacy legacy::Legacy::read bi_norm image::BootImage::read returns-i
 edit src/legacy.rt '{ IfOk result (IsParsedImage limits file.entry.now) }' '{ result ≡ result }'
 unprove legacy/Legacy/read returns-clause-parsed
 
-boundary bi_fit fit::Fit::to_doc bi_norm normal_form::emit_fit emit-requires-clause-closed
+boundary bi_fit fit::Fit::to_doc bi_norm normal_form::emit_fit append_document-requires-clause-closed
 edit src/document.rt '{ IfOk result (IsDocument limits form (tree_of self.now)) }' '{ result ≡ result }'
-unprove fit/Fit/to_doc returns-clause-document
 
-boundary bi_norm cutting::cut bi_commands build_legacy::split returns-clause-parts
-edit src/cutting.rt '{ IfOk result (λ pieces. IsCut input.entry.now lengths.now
-        (map (λ piece. piece.now) pieces.items)) }' '{ length input.entry.now ≤ longest_text }'
+boundary bi_norm converting::convert_into bi_commands convert::ConverterCommand::run returns-clause-appended
+edit src/converting.rt '{ OnOk result (Appended S.appends (IsConvertedFile limits file.now)
+        sink.old sink.new) }' '{ OnOk result (S.appends sink.old file.now sink.new
+        → S.appends sink.old file.now sink.new) }'
+unprove converting/convert_into returns-clause-converted
 
 # is_proved LOWER: the function whose clause was taken away is proved.
 is_proved() {

@@ -1,14 +1,15 @@
 #!/bin/sh
-# Runs every command in a ```console block of README.md and examples/README.md, from the top of the checkout, and compares
-# what it prints with what the block shows. The commands of a file share one shell. At the end nothing is untracked in the
-# checkout that was not so before. It needs python3 and, for the examples, Debian's u-boot-tools, and installs them if one
-# is missing and it runs as root.
+# Runs every command in a ```console block of README.md, of examples/README.md and of the pages in docs/ but CONFORMANCE.md, whose
+# commands conformance.sh runs, from the top of the checkout, and compares what it prints with what the block shows. The commands
+# of a file share one shell. At the end nothing is untracked in the checkout that was not so before. It needs python3 and, for the
+# examples, Debian's u-boot-tools and device-tree-compiler, and installs them if one is missing and it runs as root.
 set -u
 
 root=$(cd "$(dirname "$0")/.." && pwd)
 . "$root/tests/common"
 
 install_missing u-boot-tools mkimage
+install_missing device-tree-compiler fdtget fdtput
 install_missing python3 python3
 "$root/bootimg" --version > /dev/null || exit 1
 
@@ -16,7 +17,8 @@ work=$(mktemp -d)
 trap 'rm -rf "$work"' EXIT
 trap 'exit 1' HUP INT TERM
 
-TMPDIR=$work python3 - "$root" README.md examples/README.md << 'END'
+pages=$(cd "$root" && ls docs/*.md | grep -v /CONFORMANCE)
+TMPDIR=$work python3 - "$root" README.md examples/README.md $pages << 'END'
 import re
 import subprocess
 import sys

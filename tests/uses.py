@@ -18,7 +18,7 @@ PROOF_OF_FUNCTION = {"Answers", "Invariants", "Proof"}
 def crates_of(root):
     """The names of the crates, in the order of crates.txt."""
     with open(os.path.join(root, "crates.txt"), encoding="utf-8") as file:
-        return [line.split(":")[0].strip() for line in file if ":" in line and not line.startswith("#")]
+        return [line.split(":")[0].split()[0] for line in file if ":" in line and not line.startswith("#")]
 
 
 def files_of(crate):

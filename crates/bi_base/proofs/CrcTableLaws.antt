@@ -1,7 +1,8 @@
-use Rattle.std.proofs.Common.{◌≡◌, ℕ, zero, suc, ◌+◌, ◌*◌, ◌/◌, ◌%◌, ◌^◌, ◌<◌, ◌==◌, Bool, true, false, cond, if◌then◌else◌, List, [], ◌∷◌, length, get_or, replicate, take, drop, take-add, fold, refl, sym, ap, subst, ◌∙◌, arith, append-nil, bit_xor}
-use native.Mathlib.Nat.{pow-suc}
+use Rattle.std.proofs.Common.{◌≡◌, ℕ, zero, suc, ◌+◌, ◌-◌, ◌*◌, ◌/◌, ◌%◌, ◌^◌, ◌<◌, ◌==◌, Bool, true, false, cond, if◌then◌else◌, List, [], ◌∷◌, length, get_or, replicate, take, drop, take-add, fold, slice_index, refl, sym, ap, ◌∙◌, arith, append-nil, bit_xor}
+use native.Mathlib.Nat.{pow-suc, div-one, div-div-eq-div-mul}
 use lib.Bits.{xor_assoc, xor_comm, xor_zero_r, xor_shr, xor_mod, xor_shifted, shifted_half, shifted_even}
-use Rattle.std.proofs.lemmas.Nat.{xor_of_32}
+use Rattle.std.specs.Int.{w128, from_le_bytes, byte_at, bytes_low_first}
+use Rattle.std.proofs.lemmas.Nat.{pow-add}
 use Rattle.std.proofs.lemmas.List.Sums.{fold-append}
 use Rattle.std.proofs.lemmas.List.{replicate-append-replicate, take-append-drop}
 use Rattle.std.specs.Simd.{first_chunks}
@@ -132,123 +133,109 @@ zeros-add m n register =
     sym (fold-append crc_bit register (replicate m 0) (replicate n 0))
     ∙ ap (fold crc_bit register) (replicate-append-replicate m n 0)
 
--- Entry `i` of table `k` is the register `i` after `8 * (k + 1)` message bits 0.
-table_entry-next : (k i : ℕ) → table_entry (suc k) i ≡ after_zeros 8 (table_entry k i)
-unfolding table_entry
-table_entry-next k i = sym (zeros-byte (table_entry k i))
+-- Entry `i` of table `k` is the register `i` after eight message bits 0, and `8 * k` more.
+table_entry-zeros : (k i : ℕ) → table_entry k i ≡ after_zeros (8 * k) (after_zeros 8 i)
+unfolding table_entry after_zeros
+table_entry-zeros zero i = refl
+table_entry-zeros (suc k) i =
+    sym (zeros-byte (table_entry k i))
+    ∙ ap (after_zeros 8) (table_entry-zeros k i)
+    ∙ zeros-add (8 * k) 8 (after_zeros 8 i)
+    ∙ (let steps : 8 * k + 8 ≡ 8 * suc k = omega arith in ap (λ (n : ℕ). after_zeros n (after_zeros 8 i)) steps)
 
-table_entry-first : (i : ℕ) → table_entry 0 i ≡ after_zeros 8 i
-unfolding table_entry
-table_entry-first i = refl
+-- The steps of `8 * (k + 1)` message bits 0: the lowest byte selects an entry of table `k`, and `8 * k` are left for the others.
+zeros-entry : (k register : ℕ)
+    → after_zeros (8 * suc k) register ≡ bit_xor (table_entry k (register % 256)) (after_zeros (8 * k) (register / 256))
+zeros-entry k register =
+    let high = register / 256 in
+    let low = register % 256 in
+    ap (λ (n : ℕ). after_zeros n register) (omega arith)
+    ∙ sym (zeros-add 8 (8 * k) register)
+    ∙ ap (after_zeros (8 * k)) (zeros-byte register)
+    ∙ zeros-xor (8 * k) high (after_zeros 8 low)
+    ∙ ap (bit_xor (after_zeros (8 * k) high)) (sym (table_entry-zeros k low))
+    ∙ xor_comm (after_zeros (8 * k) high) (table_entry k low)
 
-table_entry-second : (i : ℕ) → table_entry 1 i ≡ after_zeros 16 i
-table_entry-second i = table_entry-next 0 i ∙ ap (after_zeros 8) (table_entry-first i) ∙ zeros-add 8 8 i
+-- Byte `i` of a number, and of its bytes in order.
+byte_at-quotient : (i number : ℕ) → byte_at i number ≡ number / 256 ^ i % 256
+byte_at-quotient zero number = ap (λ (n : ℕ). n % 256) (sym (div-one number))
+byte_at-quotient (suc i) number = refl
 
-table_entry-third : (i : ℕ) → table_entry 2 i ≡ after_zeros 24 i
-table_entry-third i = table_entry-next 1 i ∙ ap (after_zeros 8) (table_entry-second i) ∙ zeros-add 16 8 i
+pub get_or-bytes : (first count number i place : ℕ) → i < count → place ≡ first + i
+    → get_or (bytes_low_first first count number) i 0 ≡ number / 256 ^ place % 256
+get_or-bytes first zero number i place small at = let no : ⊥ = omega arith in absurd no
+get_or-bytes first (suc count) number zero place small at =
+    let same : first ≡ place = omega arith in byte_at-quotient first number ∙ ap (λ (n : ℕ). number / 256 ^ n % 256) same
+get_or-bytes first (suc count) number (suc i) place small at = get_or-bytes (suc first) count number i place (omega arith) (omega arith)
 
-table_entry-fourth : (i : ℕ) → table_entry 3 i ≡ after_zeros 32 i
-table_entry-fourth i = table_entry-next 2 i ∙ ap (after_zeros 8) (table_entry-third i) ∙ zeros-add 24 8 i
+-- The xor of the entries of `i` bytes of a number, with the register that the other bytes give.
+abbrev pub with_rest : ℕ → ℕ → ℕ → ℕ
+with_rest number i entries = bit_xor entries (after_zeros (8 * (16 - i)) (number / 256 ^ i))
+
+-- With no entries it is the register after all 128 message bits 0.
+pub with_rest-first : (number : ℕ) → with_rest number 0 0 ≡ after_zeros 128 number
+with_rest-first number = xor_comm 0 (after_zeros 128 (number / 1)) ∙ xor_zero_r (after_zeros 128 (number / 1)) ∙ ap (after_zeros 128) (div-one number)
+
+-- It stays the same when the entry of the next byte is added.
+pub with_rest-next : (number i entries : ℕ) → i < 16
+    → with_rest number (i + 1) (bit_xor entries (table_entry (15 - i) (number / 256 ^ i % 256))) ≡ with_rest number i entries
+with_rest-next number i entries small =
+    let high = number / 256 ^ i in
+    let entry = table_entry (15 - i) (high % 256) in
+    let rest : number / 256 ^ (i + 1) ≡ high / 256 =
+    ap (λ (n : ℕ). number / n) (pow-add 256 i 1) ∙ sym (div-div-eq-div-mul number (256 ^ i) 256) in
+    let fewer : 8 * (16 - (i + 1)) ≡ 8 * (15 - i) = omega arith in
+    let more : 8 * suc (15 - i) ≡ 8 * (16 - i) = omega arith in
+    xor_assoc entries entry (after_zeros (8 * (16 - (i + 1))) (number / 256 ^ (i + 1)))
+    ∙ ap (bit_xor entries) ((λ j. bit_xor entry (after_zeros (fewer j) (rest j))) ∙ sym (zeros-entry (15 - i) high) ∙ ap (λ (n : ℕ). after_zeros n high) more)
+
+-- With the entries of all bytes, no register is left.
+pub with_rest-last : (number entries : ℕ) → number < 2 ^ 128 → with_rest number 16 entries ≡ entries
+unfolding after_zeros
+with_rest-last number entries small =
+    let none : number / 256 ^ 16 ≡ 0 = omega arith in ap (bit_xor entries) none ∙ xor_zero_r entries
 
 -- A number that is xored into the register after `n` steps can be xored in before them, shifted left.
 zeros-added : (n register number : ℕ) → bit_xor (after_zeros n register) number ≡ after_zeros n (bit_xor register (number * 2 ^ n))
 zeros-added n register number =
     ap (bit_xor (after_zeros n register)) (sym (zeros-shift number n)) ∙ sym (zeros-xor n register (number * 2 ^ n))
 
--- Four bytes as a little-endian number.
-abbrev number_of : ℕ → ℕ → ℕ → ℕ → ℕ
-number_of a b c d = bit_xor (d * 2 ^ 24) (bit_xor (c * 2 ^ 16) (bit_xor (b * 2 ^ 8) a))
+-- The number of `n` bytes, the lowest first.
+abbrev number_of : ℕ → (ℕ → ℕ) → ℕ
+number_of zero byte = 0
+number_of (suc n) byte = number_of n (λ i. byte (suc i)) * 2 ^ 8 + byte 0
 
-xor_last : (r n m : ℕ) → bit_xor (bit_xor r n) m ≡ bit_xor r (bit_xor m n)
-xor_last r n m = xor_assoc r n m ∙ ap (bit_xor r) (xor_comm n m)
+-- The register after bytes: their number is xored into the register, and eight message bits 0 follow for each byte.
+crc_after-zeros : (register : ℕ) (bytes : List ℕ) → ((i : ℕ) → get_or bytes i 0 < 2 ^ 8)
+    → crc_after register bytes ≡ after_zeros (8 * length bytes) (bit_xor register (number_of (length bytes) (slice_index bytes)))
+unfolding crc_after after_zeros
+crc_after-zeros register [] small = sym (xor_zero_r register)
+crc_after-zeros register (byte ∷ bytes) small =
+    let high = number_of (length bytes) (slice_index bytes) in
+    let count = 8 * length bytes in
+    let first = bit_xor register byte in
+    let steps : 8 + count ≡ 8 * suc (length bytes) = omega arith in
+    let sum : bit_xor first (high * 2 ^ 8) ≡ bit_xor register (high * 2 ^ 8 + byte) =
+    xor_assoc register byte (high * 2 ^ 8) ∙ ap (bit_xor register) (xor_comm byte (high * 2 ^ 8) ∙ xor_shifted high 8 byte (small 0)) in
+    crc_after-cons register byte bytes (small 0)
+    ∙ crc_after-zeros (after_zeros 8 first) bytes (λ i. small (suc i))
+    ∙ ap (after_zeros count) (zeros-added 8 first high)
+    ∙ zeros-add 8 count (bit_xor first (high * 2 ^ 8))
+    ∙ (λ i. after_zeros (steps i) (sum i))
 
--- The register after four bytes: they are xored into the register, and 32 message bits 0 follow.
-crc_after-four : (register a b c d : ℕ) → a < 2 ^ 8 → b < 2 ^ 8 → c < 2 ^ 8 → d < 2 ^ 8
-    → crc_after register (a ∷ b ∷ c ∷ d ∷ []) ≡ after_zeros 32 (bit_xor register (number_of a b c d))
-crc_after-four register a b c d ga gb gc gd =
-    let r1 = bit_xor register a in
-    let r2 = bit_xor r1 (b * 2 ^ 8) in
-    let r3 = bit_xor r2 (c * 2 ^ 16) in
-    let two : after_zeros 8 (bit_xor (after_zeros 8 r1) b) ≡ after_zeros 16 r2 =
-    ap (after_zeros 8) (zeros-added 8 r1 b) ∙ zeros-add 8 8 r2 in
-    let three : after_zeros 8 (bit_xor (after_zeros 16 r2) c) ≡ after_zeros 24 r3 =
-    ap (after_zeros 8) (zeros-added 16 r2 c) ∙ zeros-add 16 8 r3 in
-    let sum : bit_xor r3 (d * 2 ^ 24) ≡ bit_xor register (number_of a b c d) =
-    ap (λ (n : ℕ). bit_xor (bit_xor n (c * 2 ^ 16)) (d * 2 ^ 24)) (xor_last register a (b * 2 ^ 8))
-    ∙ ap (λ (n : ℕ). bit_xor n (d * 2 ^ 24)) (xor_last register (bit_xor (b * 2 ^ 8) a) (c * 2 ^ 16))
-    ∙ xor_last register (bit_xor (c * 2 ^ 16) (bit_xor (b * 2 ^ 8) a)) (d * 2 ^ 24) in
-    crc_after-cons register a (b ∷ c ∷ d ∷ []) ga
-    ∙ crc_after-cons (after_zeros 8 r1) b (c ∷ d ∷ []) gb
-    ∙ ap (λ (r : ℕ). crc_after r (c ∷ d ∷ [])) two
-    ∙ crc_after-cons (after_zeros 16 r2) c (d ∷ []) gc
-    ∙ ap (λ (r : ℕ). crc_after r (d ∷ [])) three
-    ∙ crc_after-byte (after_zeros 24 r3) d gd
-    ∙ ap (after_zeros 8) (zeros-added 24 r3 d) ∙ zeros-add 24 8 (bit_xor r3 (d * 2 ^ 24)) ∙ ap (after_zeros 32) sum
-
--- The register after 32 message bits 0, by the tables: each of its bytes selects an entry.
-after_zeros-tables : (a b c d : ℕ)
-    → after_zeros 32 (number_of a b c d)
-    ≡ bit_xor (bit_xor (bit_xor (table_entry 3 a) (table_entry 2 b)) (table_entry 1 c)) (table_entry 0 d)
-after_zeros-tables a b c d =
-    let first : after_zeros 32 a ≡ table_entry 3 a = sym (table_entry-fourth a) in
-    let second : after_zeros 32 (b * 2 ^ 8) ≡ table_entry 2 b =
-    sym (zeros-add 8 24 (b * 2 ^ 8)) ∙ ap (after_zeros 24) (zeros-shift b 8) ∙ sym (table_entry-third b) in
-    let third : after_zeros 32 (c * 2 ^ 16) ≡ table_entry 1 c =
-    sym (zeros-add 16 16 (c * 2 ^ 16)) ∙ ap (after_zeros 16) (zeros-shift c 16) ∙ sym (table_entry-second c) in
-    let fourth : after_zeros 32 (d * 2 ^ 24) ≡ table_entry 0 d =
-    sym (zeros-add 24 8 (d * 2 ^ 24)) ∙ ap (after_zeros 8) (zeros-shift d 24) ∙ sym (table_entry-first d) in
-    let two : after_zeros 32 (bit_xor (b * 2 ^ 8) a) ≡ bit_xor (table_entry 3 a) (table_entry 2 b) =
-    zeros-xor 32 (b * 2 ^ 8) a ∙ (λ i. bit_xor (second i) (first i)) ∙ xor_comm (table_entry 2 b) (table_entry 3 a) in
-    let three : after_zeros 32 (bit_xor (c * 2 ^ 16) (bit_xor (b * 2 ^ 8) a))
-    ≡ bit_xor (bit_xor (table_entry 3 a) (table_entry 2 b)) (table_entry 1 c) =
-    zeros-xor 32 (c * 2 ^ 16) (bit_xor (b * 2 ^ 8) a) ∙ (λ i. bit_xor (third i) (two i))
-    ∙ xor_comm (table_entry 1 c) (bit_xor (table_entry 3 a) (table_entry 2 b)) in
-    zeros-xor 32 (d * 2 ^ 24) (bit_xor (c * 2 ^ 16) (bit_xor (b * 2 ^ 8) a)) ∙ (λ i. bit_xor (fourth i) (three i))
-    ∙ xor_comm (table_entry 0 d) (bit_xor (bit_xor (table_entry 3 a) (table_entry 2 b)) (table_entry 1 c))
-
--- A little-endian number is the sum of its shifted bytes.
-number_of-sum : (a b c d : ℕ) → a < 2 ^ 8 → b < 2 ^ 8 → c < 2 ^ 8
-    → number_of a b c d ≡ a + b * 2 ^ 8 + c * 2 ^ 16 + d * 2 ^ 24
-number_of-sum a b c d ga gb gc =
-    let two : bit_xor (b * 2 ^ 8) a ≡ b * 2 ^ 8 + a = xor_shifted b 8 a ga in
-    let three : bit_xor (c * 2 ^ 16) (b * 2 ^ 8 + a) ≡ c * 2 ^ 16 + (b * 2 ^ 8 + a) =
-    xor_shifted c 16 (b * 2 ^ 8 + a) (omega arith) in
-    let four : bit_xor (d * 2 ^ 24) (c * 2 ^ 16 + (b * 2 ^ 8 + a)) ≡ d * 2 ^ 24 + (c * 2 ^ 16 + (b * 2 ^ 8 + a)) =
-    xor_shifted d 24 (c * 2 ^ 16 + (b * 2 ^ 8 + a)) (omega arith) in
-    ap (λ (n : ℕ). bit_xor (d * 2 ^ 24) (bit_xor (c * 2 ^ 16) n)) two ∙ ap (bit_xor (d * 2 ^ 24)) three ∙ four ∙ omega arith
-
--- A number of 32 bits has these four bytes.
-number_of-bytes : (x : ℕ) → x < 2 ^ 32
-    → x ≡ number_of (x % 256) (x / 256 % 256) (x / 65536 % 256) (x / 16777216 % 256)
-number_of-bytes x small =
-    omega (arith, number_of-sum (x % 256) (x / 256 % 256) (x / 65536 % 256) (x / 16777216 % 256) (omega arith) (omega arith) (omega arith))
-
--- The register after four bytes, by the four tables. `x` is the register xored with the bytes as a number.
-pub four_by_tables : (register a b c d x : ℕ) → register < 2 ^ 32 → a < 2 ^ 8 → b < 2 ^ 8 → c < 2 ^ 8 → d < 2 ^ 8
-    → x ≡ bit_xor register (a + b * 256 + c * 65536 + d * 16777216)
-    → bit_xor (bit_xor (bit_xor (table_entry 3 (x % 256)) (table_entry 2 (x / 256 % 256))) (table_entry 1 (x / 65536 % 256)))
-    (table_entry 0 (x / 16777216 % 256))
-    ≡ crc_after register (a ∷ b ∷ c ∷ d ∷ [])
-four_by_tables register a b c d x gr ga gb gc gd is =
-    let n = a + b * 256 + c * 65536 + d * 16777216 in
-    let fits : x < 2 ^ 32 = subst (λ (y : ℕ). y < 2 ^ 32) (sym is) (xor_of_32 register n gr (omega arith)) in
-    sym (after_zeros-tables (x % 256) (x / 256 % 256) (x / 65536 % 256) (x / 16777216 % 256))
-    ∙ ap (after_zeros 32) (sym (number_of-bytes x fits) ∙ is ∙ ap (bit_xor register) (sym (number_of-sum a b c d ga gb gc)))
-    ∙ sym (crc_after-four register a b c d ga gb gc gd)
-
--- A list of four is its elements.
-pub list_of_four : (bytes : List ℕ) → length bytes ≡ 4
-    → bytes ≡ get_or bytes 0 0 ∷ get_or bytes 1 0 ∷ get_or bytes 2 0 ∷ get_or bytes 3 0 ∷ []
-list_of_four (a ∷ b ∷ c ∷ d ∷ []) e = refl
-list_of_four [] e = let no : ⊥ = omega arith in absurd no
-list_of_four (a ∷ []) e = let no : ⊥ = omega arith in absurd no
-list_of_four (a ∷ b ∷ []) e = let no : ⊥ = omega arith in absurd no
-list_of_four (a ∷ b ∷ c ∷ []) e = let no : ⊥ = omega arith in absurd no
-list_of_four (a ∷ b ∷ c ∷ d ∷ f ∷ rest) e = let no : ⊥ = omega arith in absurd no
+-- The register after sixteen bytes, by their number.
+pub crc_after-sixteen : (register : ℕ) (bytes : List ℕ) → length bytes ≡ 16 → ((i : ℕ) → get_or bytes i 0 < 2 ^ 8)
+    → crc_after register bytes ≡ after_zeros 128 (bit_xor register (from_le_bytes w128 bytes))
+crc_after-sixteen register bytes sixteen small =
+    let number : number_of 16 (slice_index bytes) ≡ from_le_bytes w128 bytes = omega arith in
+    crc_after-zeros register bytes small
+    ∙ ap (λ (n : ℕ). after_zeros (8 * n) (bit_xor register (number_of n (slice_index bytes)))) sixteen
+    ∙ ap (λ (n : ℕ). after_zeros 128 (bit_xor register n)) number
 
 -- The register after one byte, by the first table.
 pub byte_by_table : (register byte : ℕ) → byte < 2 ^ 8
     → bit_xor (register / 256) (table_entry 0 (bit_xor (register % 256) byte)) ≡ crc_after register (byte ∷ [])
+unfolding after_zeros
 byte_by_table register byte small =
     let none : byte / 256 ≡ 0 = omega arith in
     let all : byte % 256 ≡ byte = omega arith in
@@ -256,24 +243,24 @@ byte_by_table register byte small =
     xor_shr register byte 8 ∙ ap (bit_xor (register / 256)) none ∙ xor_zero_r (register / 256) in
     let low : bit_xor register byte % 256 ≡ bit_xor (register % 256) byte =
     xor_mod register byte 8 ∙ ap (bit_xor (register % 256)) all in
-    ap (bit_xor (register / 256)) (table_entry-first (bit_xor (register % 256) byte))
+    ap (bit_xor (register / 256)) (table_entry-zeros 0 (bit_xor (register % 256) byte))
     ∙ (λ i. bit_xor (sym high i) (after_zeros 8 (sym low i)))
     ∙ sym (crc_after-byte register byte small ∙ zeros-byte (bit_xor register byte))
 
--- The register after groups of four bytes is the register after their bytes.
+-- The register after groups of sixteen bytes is the register after their bytes.
 crc_after-chunks : (k register : ℕ) (bytes : List ℕ)
-    → fold crc_after register (first_chunks 4 k bytes) ≡ crc_after register (take (k * 4) bytes)
+    → fold crc_after register (first_chunks 16 k bytes) ≡ crc_after register (take (k * 16) bytes)
 unfolding crc_after
 crc_after-chunks zero register bytes = refl
 crc_after-chunks (suc k) register bytes =
-    crc_after-chunks k (crc_after register (take 4 bytes)) (drop 4 bytes)
-    ∙ sym (crc_after-append register (take 4 bytes) (take (k * 4) (drop 4 bytes)))
-    ∙ ap (crc_after register) (sym (take-add 4 (k * 4) bytes) ∙ ap (λ (n : ℕ). take n bytes) (omega arith))
+    crc_after-chunks k (crc_after register (take 16 bytes)) (drop 16 bytes)
+    ∙ sym (crc_after-append register (take 16 bytes) (take (k * 16) (drop 16 bytes)))
+    ∙ ap (crc_after register) (sym (take-add 16 (k * 16) bytes) ∙ ap (λ (n : ℕ). take n bytes) (omega arith))
 
--- The register after groups of four bytes and then the rest is the register after all bytes.
+-- The register after groups of sixteen bytes and then the rest is the register after all bytes.
 pub crc_after-groups : (k register : ℕ) (bytes : List ℕ)
-    → crc_after (fold crc_after register (first_chunks 4 k bytes)) (drop (k * 4) bytes) ≡ crc_after register bytes
+    → crc_after (fold crc_after register (first_chunks 16 k bytes)) (drop (k * 16) bytes) ≡ crc_after register bytes
 crc_after-groups k register bytes =
-    ap (λ (r : ℕ). crc_after r (drop (k * 4) bytes)) (crc_after-chunks k register bytes)
-    ∙ sym (crc_after-append register (take (k * 4) bytes) (drop (k * 4) bytes))
-    ∙ ap (crc_after register) (take-append-drop (k * 4) bytes)
+    ap (λ (r : ℕ). crc_after r (drop (k * 16) bytes)) (crc_after-chunks k register bytes)
+    ∙ sym (crc_after-append register (take (k * 16) bytes) (drop (k * 16) bytes))
+    ∙ ap (crc_after register) (take-append-drop (k * 16) bytes)

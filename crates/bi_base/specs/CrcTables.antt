@@ -3,9 +3,9 @@ use Rattle.std.specs.Prelude.{List, [], length, get_or, slice_index, replicate, 
 use Rattle.std.specs.Int.Bits.{bit_xor}
 use Rattle.bi_base.specs.Crc.{crc_bit}
 
--- The four tables by which a CRC-32 takes four bytes in one step (slicing by four: M. E. Kounavis
--- and F. L. Berry, "A Systematic Approach to Building High Performance Software-based CRC
--- Generators", 2005).
+-- The sixteen tables by which a CRC-32 takes sixteen bytes in one step. M. E. Kounavis and
+-- F. L. Berry describe this for four and eight ("A Systematic Approach to Building High Performance
+-- Software-based CRC Generators", 2005).
 
 -- The register after `n` message bits of zero.
 unfoldable pub after_zeros : ℕ → ℕ → ℕ
@@ -19,8 +19,8 @@ table_entry zero i = after_zeros 8 i
 table_entry (suc k) i =
     bit_xor (table_entry k i / 256) (after_zeros 8 (table_entry k i % 256))
 
--- The law that these are the four tables: every entry is the one of its table and index.
+-- The law that these are the sixteen tables: every entry is the one of its table and index.
 pub record AreCrcTables (tables : List (List ℕ)) : Type 0 where
-  pub four : length tables ≡ 4
-  pub sizes : (k : ℕ) → k < 4 → length (get_or tables k []) ≡ 256
-  pub entries : (k i : ℕ) → k < 4 → i < 256 → slice_index (get_or tables k []) i ≡ table_entry k i
+  pub sixteen : length tables ≡ 16
+  pub sizes : (k : ℕ) → k < 16 → length (get_or tables k []) ≡ 256
+  pub entries : (k i : ℕ) → k < 16 → i < 256 → slice_index (get_or tables k []) i ≡ table_entry k i

@@ -17,8 +17,9 @@ pub fn crc_has_its_check_value()
     ensures { crc32 (codes "123456789") ≡ 0xcbf43926 }
 {}
 
-/// Every entry of the four tables is the defined one: entry `i` of the first table is the register
-/// `i` after eight message bits of zero, and each later table has the entries after eight more.
+/// Every entry of the sixteen tables is the defined one: entry `i` of the first table is the
+/// register `i` after eight message bits of zero, and each later table has the entries after eight
+/// more.
 pub fn crc_tables_are_their_definition()
     ensures { AreCrcTables TABLES }
 {}

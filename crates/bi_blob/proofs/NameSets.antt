@@ -40,7 +40,7 @@ HoldsNames-insert old new name held holds updates = record {
   joined false false = refl
 
 -- A name that is not among others is new.
-new_by_test : (name : List ℕ) (held : List (List ℕ)) → list_any (λ other. bytes_eq other name) held ≡ false → IsNew name held
+pub new_by_test : (name : List ℕ) (held : List (List ℕ)) → list_any (λ other. bytes_eq other name) held ≡ false → IsNew name held
 new_by_test name [] e = tt
 new_by_test name (other ∷ held) e = by_first (bytes_eq other name) refl e (new_by_test name held) where
   by_first : (b : Bool) → bytes_eq other name ≡ b → (b || list_any (λ o. bytes_eq o name) held) ≡ false
@@ -49,7 +49,7 @@ new_by_test name (other ∷ held) e = by_first (bytes_eq other name) refl e (new
   by_first false is fails later = (λ same. false≢true (sym is ∙ (bytes_decides other name).1 same), later fails)
 
 -- A name that is among others is not new.
-held_by_test : (name : List ℕ) (held : List (List ℕ)) → list_any (λ other. bytes_eq other name) held ≡ true → IsNew name held → ⊥
+pub held_by_test : (name : List ℕ) (held : List (List ℕ)) → list_any (λ other. bytes_eq other name) held ≡ true → IsNew name held → ⊥
 held_by_test name [] e is_new = false≢true e
 held_by_test name (other ∷ held) e is_new = elim (or_cases (bytes_eq other name) (list_any (λ o. bytes_eq o name) held) e) [
   | inl same ↦ is_new.0 ((bytes_decides other name).0 same)

@@ -1,4 +1,4 @@
-use Rattle.std.proofs.Common.{◌≡◌, ℕ, ◌+◌, codes, ◌<◌, ◌≤◌, ◌-◌, true, false, get_or, take, drop, take_all, List, [], ◌∷◌, ◌++◌, flat_map, length, map, refl, sym, ap, ◌∙◌, arith, append-nil, append_assoc, Result, Ok, Err, OnOk}
+use Rattle.std.proofs.Common.{◌≡◌, ℕ, ◌+◌, codes, ◌<◌, ◌≤◌, ◌-◌, false, get_or, take, drop, take_all, List, [], ◌∷◌, ◌++◌, flat_map, length, map, sym, ap, ◌∙◌, arith, append-nil, append_assoc, Result, Ok, Err, OnOk}
 use Rattle.std.specs.Result.{is_err}
 use Rattle.std.specs.Borrow.{Bor}
 use Rattle.std.specs.List.{join_with_byte}

@@ -1,10 +1,9 @@
-use Rattle.std.proofs.Common.{◌≡◌, ℕ, ◌+◌, ◌-◌, ◌<◌, ◌≤◌, max, List, [], ◌∷◌, ◌++◌, flat_map, get_or, drop, take, length, map, refl, sym, ap, subst, ◌∙◌, arith, append_assoc}
+use Rattle.std.proofs.Common.{◌≡◌, ℕ, ◌+◌, ◌-◌, ◌<◌, ◌≤◌, max, List, [], ◌∷◌, ◌++◌, flat_map, get_or, drop, take, length, map, sym, ap, ◌∙◌, arith, append_assoc}
 use Rattle.std.proofs.lemmas.Grind.{flat_map-append}
 use Rattle.std.specs.Borrow.{Bor}
 use Rattle.std.proofs.lemmas.List.{drop_more, length-map, length-take-le, take-map, take-take}
 use Rattle.bi_commands.specs.declared.describe.entries.Entry.{Entry}
 use Rattle.bi_commands.specs.declared.describe.entries.Entry.TheVariants.{Begin}
-use Rattle.bi_commands.specs.Descriptions.{Words}
 use Rattle.bi_commands.specs.Shown.{line}
 use Rattle.bi_commands.specs.TreeEntries.{NodeBegins, NodeEnds, PayloadEntry, PropertyEntry}
 use Rattle.bi_commands.specs.WrittenWords.{name_bytes}

@@ -1,4 +1,4 @@
-use Rattle.std.proofs.Common.{◌≡◌, ◌⊎◌, ℕ, List, [], ◌∷◌, ◌++◌, Option, Some, None, map, codes, refl, sym, ap, ap₂, subst, ◌∙◌, append_assoc, inl, inr, arith}
+use Rattle.std.proofs.Common.{◌≡◌, ◌⊎◌, ℕ, List, [], ◌∷◌, ◌++◌, Option, Some, None, map, codes, refl, sym, ap, ap₂, subst, ◌∙◌, inl, inr, arith}
 use Rattle.std.specs.Fmt.{decimal}
 use Rattle.std.specs.List.{AllZip, flat_map}
 use Rattle.bi_base.specs.declared.fault.Fault.{Fault}
@@ -84,26 +84,3 @@ memory_for_tree limits file content is = ForTree other (by (fault_before_tree_co
   by : HasNoFaultBeforeTree limits file ⊎ ((fault : Fault) × IsFaultBeforeTree limits file fault) → HasNoFaultBeforeTree limits file
   by (inl fine) = fine
   by (inr faulty) = absurd (is.no_fault faulty.0 (InBlob ((fault_before_tree_comes_first limits file).first faulty.0 faulty.1)))
-
--- Seven pieces that were appended one after the other.
-seven_appended : (a b c d e f g one two three four five six seven : List ℕ) → one ≡ a → two ≡ one ++ b → three ≡ two ++ c →
-    four ≡ three ++ d → five ≡ four ++ e → six ≡ five ++ f → seven ≡ six ++ g → seven ≡ a ++ (b ++ (c ++ (d ++ (e ++ (f ++ g)))))
-seven_appended a b c d e f g one two three four five six seven first second third fourth fifth sixth seventh =
-    rw (seventh, sixth, fifth, fourth, third, second, first) (simp append_assoc refl)
-
--- The lines of what was read, appended one after the other.
-pub lines_of_content : (content : FitContent) (one two three four five six seven : List ℕ) →
-    one ≡ line (codes "kind" ∷ codes "fit" ∷ []) → two ≡ one ++ line (codes "boot-cpu" ∷ decimal content.blob.cpu ∷ []) →
-    three ≡ two ++ line (codes "total-size" ∷ decimal content.blob.total_size ∷ []) →
-    four ≡ three ++ flat_map reservation_line content.blob.reservations → five ≡ four ++ flat_map read_image_line content.images →
-    six ≡ five ++ configurations_lines content → seven ≡ six ++ default_line (default_of (tree_of content)) → seven ≡ read_listing content
-lines_of_content content one two three four five six seven first second third fourth fifth sixth seventh =
-    seven_appended
-    (line (codes "kind" ∷ codes "fit" ∷ []))
-    (line (codes "boot-cpu" ∷ decimal content.blob.cpu ∷ []))
-    (line (codes "total-size" ∷ decimal content.blob.total_size ∷ []))
-    (flat_map reservation_line content.blob.reservations)
-    (flat_map read_image_line content.images)
-    (configurations_lines content)
-    (default_line (default_of (tree_of content)))
-    one two three four five six seven first second third fourth fifth sixth seventh

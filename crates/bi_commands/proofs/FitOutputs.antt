@@ -11,16 +11,18 @@ use Rattle.bi_norm.specs.declared.building.ImageSpec.{ImageSpec}
 use Rattle.bi_norm.specs.Building.{IsBuilt, IsBuildError}
 use Rattle.bi_norm.specs.Cutting.{IsCut, IsCutError}
 use Rattle.bi_base.specs.Commands.{Appended, AppendFailed, WasRefused, SinkFailed}
+use Rattle.bi_commands.specs.Parts.{IsFilled, lengths_of, pieces_among}
+use Rattle.bi_commands.specs.declared.parts.Part.{Part}
 use Rattle.bi_commands.specs.Building.{HavePayloads, IsFitOutput, IsFitOutputError, NotCut, NotBuilt}
 
--- Flattened image trees that are built from an input.
+-- Flattened image trees that are built of payloads, with an input.
 
 -- An error of cutting the input is one of building from it.
-pub cut_error : (limits : Bounds) (form : Form) (head : Head) (given : List ImageSpec) (lengths input : List ℕ) (error : Error) → length input ≤ limits.file → IsCutError input lengths error → IsFitOutputError limits form head given lengths input error
-cut_error limits form head given lengths input (Refused fault) short is = NotCut short is
-cut_error limits form head given lengths input OutOfMemory short is = is
-cut_error limits form head given lengths input ReadFailed short is = is
-cut_error limits form head given lengths input WriteFailed short is = is
+pub cut_error : (limits : Bounds) (form : Form) (head : Head) (given : List ImageSpec) (parts : List Part) (input : List ℕ) (error : Error) → length input ≤ limits.file → IsCutError input (lengths_of parts) error → IsFitOutputError limits form head given parts input error
+cut_error limits form head given parts input (Refused fault) short is = NotCut short is
+cut_error limits form head given parts input OutOfMemory short is = is
+cut_error limits form head given parts input ReadFailed short is = is
+cut_error limits form head given parts input WriteFailed short is = is
 
 -- The lengths of the pieces of an input are together its length.
 length_concat : (pieces : List (List ℕ)) → sum (map length pieces) ≡ length (concat pieces)
@@ -29,39 +31,39 @@ length_concat pieces = sum-map length pieces ∙ sym (ap length (concat_is piece
 pub sum_of_cut : (input lengths : List ℕ) (pieces : List (List ℕ)) → IsCut input lengths pieces → sum lengths ≡ length input
 sum_of_cut input lengths pieces cut = ap sum (sym cut.have_lengths) ∙ length_concat pieces ∙ ap length cut.are_whole
 
--- An input within the limits, its pieces, and the images with these pieces as their payloads.
-pub record Completed (limits : Bounds) (given : List ImageSpec) (lengths input : List ℕ) (payloads : List (List ℕ)) (images : List ImageSpec) : Type 0 where
+-- An input within the limits, payloads with their contents, and the images with these.
+pub record Completed (limits : Bounds) (given : List ImageSpec) (parts : List Part) (input : List ℕ) (contents : List (List ℕ)) (images : List ImageSpec) : Type 0 where
   pub short : length input ≤ limits.file
-  pub cut : IsCut input lengths payloads
-  pub have : HavePayloads given payloads images
+  pub filled : IsFilled parts input contents
+  pub have : HavePayloads given contents images
 
 -- An error of building the images is one of building from the input.
-build_error : (limits : Bounds) (form : Form) (head : Head) (given : List ImageSpec) (lengths input : List ℕ) (payloads : List (List ℕ)) (images : List ImageSpec) (error : Error) → Completed limits given lengths input payloads images → IsBuildError limits form head images error → IsFitOutputError limits form head given lengths input error
-build_error limits form head given lengths input payloads images (Refused fault) completed is = NotBuilt completed.short payloads completed.cut images completed.have is
-build_error limits form head given lengths input payloads images OutOfMemory completed is = sum_of_cut input lengths payloads completed.cut
-build_error limits form head given lengths input payloads images ReadFailed completed is = is
-build_error limits form head given lengths input payloads images WriteFailed completed is = is
+build_error : (limits : Bounds) (form : Form) (head : Head) (given : List ImageSpec) (parts : List Part) (input : List ℕ) (contents : List (List ℕ)) (images : List ImageSpec) (error : Error) → Completed limits given parts input contents images → IsBuildError limits form head images error → IsFitOutputError limits form head given parts input error
+build_error limits form head given parts input contents images (Refused fault) completed is = NotBuilt completed.short contents completed.filled images completed.have is
+build_error limits form head given parts input contents images OutOfMemory completed is = sum_of_cut input (lengths_of parts) (pieces_among parts contents) completed.filled.cut
+build_error limits form head given parts input contents images ReadFailed completed is = is
+build_error limits form head given parts input contents images WriteFailed completed is = is
 
 -- A text that was built is the output.
-is_output : (limits : Bounds) (form : Form) (head : Head) (given : List ImageSpec) (lengths input : List ℕ) (payloads : List (List ℕ)) (images : List ImageSpec) (text : List ℕ) → Completed limits given lengths input payloads images → IsBuilt limits form head images text → IsFitOutput limits form head given lengths input text
-is_output limits form head given lengths input payloads images text completed built = record {
-  payloads = payloads;
-  cut = completed.cut;
+is_output : (limits : Bounds) (form : Form) (head : Head) (given : List ImageSpec) (parts : List Part) (input : List ℕ) (contents : List (List ℕ)) (images : List ImageSpec) (text : List ℕ) → Completed limits given parts input contents images → IsBuilt limits form head images text → IsFitOutput limits form head given parts input text
+is_output limits form head given parts input contents images text completed built = record {
+  contents = contents;
+  filled = completed.filled;
   images = images;
   have = completed.have;
   built = built;
 }
 
 -- Images that were built are the output.
-pub appended : {S : Type 0} (appends : S → List ℕ → S → Type 0) (limits : Bounds) (form : Form) (head : Head) (given : List ImageSpec) (lengths input : List ℕ) (payloads : List (List ℕ)) (images : List ImageSpec) (old new : S) → Completed limits given lengths input payloads images → Appended appends (IsBuilt limits form head images) old new → Appended appends (IsFitOutput limits form head given lengths input) old new
-appended appends limits form head given lengths input payloads images old new completed built = record {
+pub appended : {S : Type 0} (appends : S → List ℕ → S → Type 0) (limits : Bounds) (form : Form) (head : Head) (given : List ImageSpec) (parts : List Part) (input : List ℕ) (contents : List (List ℕ)) (images : List ImageSpec) (old new : S) → Completed limits given parts input contents images → Appended appends (IsBuilt limits form head images) old new → Appended appends (IsFitOutput limits form head given parts input) old new
+appended appends limits form head given parts input contents images old new completed built = record {
   text = built.text;
-  is_text = is_output limits form head given lengths input payloads images built.text completed built.is_text;
+  is_text = is_output limits form head given parts input contents images built.text completed built.is_text;
   appended = built.appended;
 }
 
 -- Images that were not built were refused, or the sink failed.
-pub not_appended : {S : Type 0} (fails : S → List ℕ → S → Error → Type 0) (limits : Bounds) (form : Form) (head : Head) (given : List ImageSpec) (lengths input : List ℕ) (payloads : List (List ℕ)) (images : List ImageSpec) (old new : S) (error : Error) → Completed limits given lengths input payloads images → AppendFailed fails (IsBuilt limits form head images) (IsBuildError limits form head images) old new error → AppendFailed fails (IsFitOutput limits form head given lengths input) (IsFitOutputError limits form head given lengths input) old new error
-not_appended fails limits form head given lengths input payloads images old new error completed (WasRefused is same) = WasRefused (build_error limits form head given lengths input payloads images error completed is) same
-not_appended fails limits form head given lengths input payloads images old new error completed (SinkFailed text cause is failed same) =
-    SinkFailed text cause (is_output limits form head given lengths input payloads images text completed is) failed same
+pub not_appended : {S : Type 0} (fails : S → List ℕ → S → Error → Type 0) (limits : Bounds) (form : Form) (head : Head) (given : List ImageSpec) (parts : List Part) (input : List ℕ) (contents : List (List ℕ)) (images : List ImageSpec) (old new : S) (error : Error) → Completed limits given parts input contents images → AppendFailed fails (IsBuilt limits form head images) (IsBuildError limits form head images) old new error → AppendFailed fails (IsFitOutput limits form head given parts input) (IsFitOutputError limits form head given parts input) old new error
+not_appended fails limits form head given parts input contents images old new error completed (WasRefused is same) = WasRefused (build_error limits form head given parts input contents images error completed is) same
+not_appended fails limits form head given parts input contents images old new error completed (SinkFailed text cause is failed same) =
+    SinkFailed text cause (is_output limits form head given parts input contents images text completed is) failed same

@@ -1,10 +1,9 @@
-use Rattle.std.proofs.Common.{◌≡◌, ◌≢◌, ◌^◌, ◌<◌, ◌≤◌, ℕ, List, [], ◌∷◌, Result, Ok, Err, IfErr, length, refl, subst, sym, inl, inr}
-use Rattle.std.specs.List.{AllByRecursion, concat}
+use Rattle.std.proofs.Common.{◌≡◌, ◌≢◌, ◌^◌, ◌<◌, ◌≤◌, ℕ, List, [], Result, Ok, Err, IfErr, length, refl, subst, sym, inl, inr}
+use Rattle.std.specs.List.{AllByRecursion}
 use Rattle.bi_base.specs.Cells.{AreBytes}
 use Rattle.bi_base.specs.Limits.{Bounds}
 use Rattle.bi_base.specs.declared.fault.Error.{Error}
 use Rattle.bi_base.specs.declared.fault.Error.TheVariants.{Refused, OutOfMemory, ReadFailed, WriteFailed}
-use Rattle.bi_base.proofs.ByteLists.{AreBytes-left, AreBytes-right}
 use Rattle.bi_legacy.specs.declared.fields.Fields.{Fields}
 use Rattle.bi_legacy.specs.Emitting.{WroteImage, HasNoEmitFault}
 use Rattle.bi_legacy.specs.Meaning.{FitsFields, image_of}
@@ -13,79 +12,72 @@ use Rattle.bi_legacy.proofs.NoEmitFault.{no_emit_fault_image}
 use Rattle.bi_legacy.proofs.TextMeans.{text_means}
 use Rattle.bi_norm.specs.Cutting.{IsCutError}
 use Rattle.bi_base.specs.Commands.{Appended, AppendFailed, WasRefused, SinkFailed}
-use Rattle.bi_commands.specs.Building.{IsSplit, IsWhole, IsInPieces, IsSplitError, IsLegacyOutput, IsLegacyOutputError, NotSplit, NotBuilt}
+use Rattle.bi_commands.specs.Building.{ArePartsOf, IsPartsError, IsLegacyOutput, IsLegacyOutputError, NotFilled, NotBuilt}
+use Rattle.bi_commands.specs.Parts.{lengths_of}
+use Rattle.bi_commands.specs.declared.parts.Part.{Part}
 
--- Legacy images that are built from an input.
+-- Legacy images that are built of parts, with an input.
 
--- An error of cutting an input is one of splitting it.
-pub cut_error : {V : Type 0} (input lengths : List ℕ) (result : Result V Error) → lengths ≢ [] → IfErr result (IsCutError input lengths) → IfErr result (IsSplitError input lengths)
-cut_error input lengths (Ok value) has is = tt
-cut_error input lengths (Err (Refused fault)) has is = record { has_lengths = has; is_cut_fault = is }
-cut_error input lengths (Err OutOfMemory) has is = λ some. is
-cut_error input lengths (Err ReadFailed) has is = is
-cut_error input lengths (Err WriteFailed) has is = is
+-- An error of cutting an input is one of getting the contents of the parts.
+pub cut_error : {V : Type 0} (input : List ℕ) (parts : List Part) (result : Result V Error) → parts ≢ []
+    → IfErr result (IsCutError input (lengths_of parts)) → IfErr result (IsPartsError parts input)
+cut_error input parts (Ok value) has is = tt
+cut_error input parts (Err (Refused fault)) has is = record { has_parts = has; is_cut_fault = is }
+cut_error input parts (Err OutOfMemory) has is = λ some. is
+cut_error input parts (Err ReadFailed) has is = is
+cut_error input parts (Err WriteFailed) has is = is
 
--- Pieces of bytes are bytes.
-concat_bytes : (pieces : List (List ℕ)) → AreBytes (concat pieces) → AllByRecursion AreBytes pieces
-concat_bytes [] bytes = tt
-concat_bytes (piece ∷ later) bytes = (AreBytes-left piece (concat later) bytes, concat_bytes later (AreBytes-right piece (concat later) bytes))
-
--- The parts of bytes are bytes.
-split_bytes : (input lengths : List ℕ) (parts : List (List ℕ)) → AreBytes input → IsSplit input lengths parts → AllByRecursion AreBytes parts
-split_bytes input lengths parts bytes (IsWhole none is) = subst (AllByRecursion AreBytes) (sym is) (bytes, tt)
-split_bytes input lengths parts bytes (IsInPieces some cut) = concat_bytes parts (subst AreBytes (sym cut.are_whole) bytes)
-
--- An input of bytes within the limits, its parts, and fields to build a legacy image from them.
-pub record Building (limits : Bounds) (fields : Fields) (lengths input : List ℕ) (parts : List (List ℕ)) : Type 0 where
-  pub split : IsSplit input lengths parts
-  pub input_bytes : AreBytes input
+-- Parts with their contents, an input within the limits, and fields to build a legacy image from them.
+pub record Building (limits : Bounds) (fields : Fields) (parts : List Part) (input : List ℕ) (contents : List (List ℕ)) : Type 0 where
+  pub are_parts : ArePartsOf parts input contents
+  pub are_bytes : AllByRecursion AreBytes contents
   pub name_bytes : AreBytes fields.name.now
-  pub ranges : FitsFields (image_of fields parts)
+  pub ranges : FitsFields (image_of fields contents)
   pub short : length input ≤ limits.file
   pub small : limits.file < 2 ^ 32
 
 -- The text of an image without a fault is the output.
-is_output : (limits : Bounds) (fields : Fields) (lengths input : List ℕ) (parts : List (List ℕ)) → Building limits fields lengths input parts → HasNoEmitFault limits (image_of fields parts) → IsLegacyOutput limits fields lengths input (legacy_text (image_of fields parts))
-is_output limits fields lengths input parts building none =
-    let image = image_of fields parts in
+is_output : (limits : Bounds) (fields : Fields) (parts : List Part) (input : List ℕ) (contents : List (List ℕ)) → Building limits fields parts input contents → HasNoEmitFault limits (image_of fields contents) → IsLegacyOutput limits fields parts input (legacy_text (image_of fields contents))
+is_output limits fields parts input contents building none =
+    let image = image_of fields contents in
     record {
-      parts = parts;
-      split = building.split;
+      contents = contents;
+      are_parts = building.are_parts;
       built = record {
         no_fault = none;
         is_text = refl;
         accepted = record {
-          is_file = text_means image (no_emit_fault_image image limits building.ranges building.name_bytes (split_bytes input lengths parts building.input_bytes building.split) building.small none);
+          is_file = text_means image (no_emit_fault_image image limits building.ranges building.name_bytes building.are_bytes building.small none);
           short = none.1.1.0;
         };
       };
     }
 
 -- An image that was written is the output.
-pub emitted : {S : Type 0} (appends : S → List ℕ → S → Type 0) (fails : S → List ℕ → S → Error → Type 0) (limits : Bounds) (fields : Fields) (lengths input : List ℕ) (parts : List (List ℕ)) (old new : S) → Building limits fields lengths input parts → WroteImage appends fails limits (image_of fields parts) old (Ok tt) new → Appended appends (IsLegacyOutput limits fields lengths input) old new
-emitted appends fails limits fields lengths input parts old new building wrote = elim wrote.refused_or_written [
+pub emitted : {S : Type 0} (appends : S → List ℕ → S → Type 0) (fails : S → List ℕ → S → Error → Type 0) (limits : Bounds) (fields : Fields) (parts : List Part) (input : List ℕ) (contents : List (List ℕ)) (old new : S) → Building limits fields parts input contents → WroteImage appends fails limits (image_of fields contents) old (Ok tt) new → Appended appends (IsLegacyOutput limits fields parts input) old new
+emitted appends fails limits fields parts input contents old new building wrote = elim wrote.refused_or_written [
   | inl none ↦ record {
-    text = legacy_text (image_of fields parts);
-    is_text = is_output limits fields lengths input parts building none;
+    text = legacy_text (image_of fields contents);
+    is_text = is_output limits fields parts input contents building none;
     appended = wrote.written none;
   }
   | inr some ↦ absurd (let e = (wrote.refused some.0 some.1).0 in cc)
 ]
 
 -- An image that was not written was refused, or the sink failed.
-pub not_emitted : {S : Type 0} (appends : S → List ℕ → S → Type 0) (fails : S → List ℕ → S → Error → Type 0) (limits : Bounds) (fields : Fields) (lengths input : List ℕ) (parts : List (List ℕ)) (old new : S) (error : Error) → Building limits fields lengths input parts → WroteImage appends fails limits (image_of fields parts) old (Err error) new → AppendFailed fails (IsLegacyOutput limits fields lengths input) (IsLegacyOutputError limits fields lengths input) old new error
-not_emitted appends fails limits fields lengths input parts old new error building wrote = elim wrote.refused_or_written [
-  | inl none ↦ SinkFailed (legacy_text (image_of fields parts)) error (is_output limits fields lengths input parts building none) (wrote.written none) refl
+pub not_emitted : {S : Type 0} (appends : S → List ℕ → S → Type 0) (fails : S → List ℕ → S → Error → Type 0) (limits : Bounds) (fields : Fields) (parts : List Part) (input : List ℕ) (contents : List (List ℕ)) (old new : S) (error : Error) → Building limits fields parts input contents → WroteImage appends fails limits (image_of fields contents) old (Err error) new → AppendFailed fails (IsLegacyOutput limits fields parts input) (IsLegacyOutputError limits fields parts input) old new error
+not_emitted appends fails limits fields parts input contents old new error building wrote = elim wrote.refused_or_written [
+  | inl none ↦ SinkFailed (legacy_text (image_of fields contents)) error (is_output limits fields parts input contents building none) (wrote.written none) refl
   | inr some ↦
       let refused = wrote.refused some.0 some.1 in
       let e = refused.0 in
       let same : error ≡ Refused some.0 = cc in
-      WasRefused (subst (IsLegacyOutputError limits fields lengths input) (sym same) (NotBuilt building.short parts building.split some.1)) refused.1
+      WasRefused (subst (IsLegacyOutputError limits fields parts input) (sym same) (NotBuilt building.short contents building.are_parts some.1)) refused.1
 ]
 
--- An error of splitting the input is one of building from it.
-pub split_error : (limits : Bounds) (fields : Fields) (lengths input : List ℕ) (error : Error) → length input ≤ limits.file → IsSplitError input lengths error → IsLegacyOutputError limits fields lengths input error
-split_error limits fields lengths input (Refused fault) short is = NotSplit short is
-split_error limits fields lengths input OutOfMemory short is = is
-split_error limits fields lengths input ReadFailed short is = is
-split_error limits fields lengths input WriteFailed short is = is
+-- An error of getting the contents of the parts is one of building.
+pub parts_error : (limits : Bounds) (fields : Fields) (parts : List Part) (input : List ℕ) (error : Error) → length input ≤ limits.file → IsPartsError parts input error → IsLegacyOutputError limits fields parts input error
+parts_error limits fields parts input (Refused fault) short is = NotFilled short is
+parts_error limits fields parts input OutOfMemory short is = is
+parts_error limits fields parts input ReadFailed short is = is
+parts_error limits fields parts input WriteFailed short is = is

@@ -1,19 +1,18 @@
-use Rattle.std.proofs.Common.{◌≡◌, ◌≢◌, ℕ, zero, suc, ◌+◌, ◌/◌, ◌%◌, ◌≤◌, ◌&&◌, ◌||◌, ◌==◌, not, Bool, true, false, cond, eqb, List, [], ◌∷◌, ◌++◌, flat_map, map, codes, nat_le, bytes_eq, refl, sym, ap, subst, ◌∙◌, arith, Option, Some, None}
+use Rattle.std.proofs.Common.{◌≡◌, ◌≢◌, ℕ, zero, suc, ◌+◌, ◌/◌, ◌%◌, ◌≤◌, ◌&&◌, ◌||◌, ◌==◌, not, Bool, true, false, cond, eqb, List, [], ◌∷◌, ◌++◌, flat_map, map, codes, nat_le, bytes_eq, refl, arith, Some, None}
 use Rattle.std.specs.Fmt.{decimal, digits, digits_onto, digit_glyph}
 use Rattle.std.specs.FinMap.{entries}
 use Rattle.std.specs.List.{AllByRecursion, join_with_byte, list_all}
-use Rattle.std.specs.Option.{option_map}
 use Rattle.std.proofs.lemmas.Bool.{and_parts, leb-true}
 use Rattle.bi_base.specs.Cells.{cell, cell8}
-use Rattle.bi_base.proofs.ListMembers.{each-append, each-map, each-weaker}
+use Rattle.bi_base.proofs.ListMembers.{each-append, each-weaker}
 use Rattle.bi_blob.specs.Blob.{Reservation}
 use Rattle.bi_blob.specs.Tree.{Nodes, none, node, Property}
 use Rattle.bi_fit.specs.ImageTree.{ImageTree}
 use Rattle.bi_fit.specs.Judgement.{listed_names}
-use Rattle.bi_legacy.specs.Codes.{CodeName, name_of_code, os_names, arch_names, type_names, compression_names}
+use Rattle.bi_legacy.specs.Codes.{CodeName, os_names, arch_names, type_names, compression_names}
 use Rattle.bi_legacy.specs.Meaning.{LegacyImage}
 use Rattle.bi_norm.specs.Meaning.{Meaning, OfLegacy, OfFit}
-use Rattle.bi_commands.specs.Descriptions.{Words, PayloadDigest, NodePayload, NotAnImage, OfImage, DescribedNode, digest_of_payload, digest_words, field_words, code_words, part_words, legacy_lines, path, described_nodes, plain_node, property_words, payload_words, own_lines, node_lines, reservation_words, tree_lines, fit_lines, description_lines, description_texts}
+use Rattle.bi_commands.specs.Descriptions.{Words, PayloadDigest, NodePayload, NotAnImage, OfImage, DescribedNode, digest_of_payload, digest_words, part_words, legacy_lines, path, described_nodes, plain_node, property_words, payload_words, own_lines, node_lines, reservation_words, tree_lines, fit_lines, description_lines, description_texts}
 use Rattle.bi_commands.specs.FitListing.{hexadecimal_64}
 use Rattle.bi_commands.specs.Listing.{code_word}
 use Rattle.bi_commands.specs.Shown.{digits_of_byte, hexadecimal, is_plain, shown, shown_byte}

@@ -34,7 +34,7 @@ hex_of_bytes (byte ∷ later) are_bytes =
     ap₂ (λ a bs. a ∷ bs) high (ap₂ (λ a bs. a ∷ bs) low (hex_of_bytes later (λ k. are_bytes (suc k))))
 
 -- Good is a verdict that passes the test for it, and the only one.
-good_passes : (verdict : Verdict) → is_verdict Good verdict ≡ true → verdict ≡ Good
+pub good_passes : (verdict : Verdict) → is_verdict Good verdict ≡ true → verdict ≡ Good
 good_passes Good passes = refl
 good_passes Bad passes = absurd cc
 good_passes UnknownAlgo passes = absurd cc

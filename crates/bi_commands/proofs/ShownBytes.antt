@@ -5,7 +5,7 @@ use Rattle.std.proofs.lemmas.Fmt.{hex_byte}
 use Rattle.bi_commands.specs.Shown.{digits_of_byte, is_plain, shown_byte}
 
 -- What a placeholder for hexadecimal digits without `#` writes, by how the digits are padded.
-pub styled_hex : (d : _) (s : _) (upper : Bool) (n width : ℕ) (out : List ℕ) → digits_output d ≡ Some (digits 16 upper n) →
+styled_hex : (d : _) (s : _) (upper : Bool) (n width : ℕ) (out : List ℕ) → digits_output d ≡ Some (digits 16 upper n) →
     s ≡ format_spec 32 0 4 width (2 ^ 64 - 1) →
     padded_integral (format_spec 32 0 4 width (2 ^ 64 - 1)) false [] (digits 16 upper n) ≡ out →
     styled_digits_output d s ≡ Some out

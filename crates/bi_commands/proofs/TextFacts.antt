@@ -20,7 +20,8 @@ use Rattle.bi_fit.specs.KnownJudgements.{configuration_lists, other_lists, defau
 use Rattle.bi_fit.proofs.JudgementFacts.{lists_are_read}
 use Rattle.bi_commands.specs.Extracting.{choice_of_listed}
 use Rattle.bi_commands.specs.Reports.{hash_line, summary_line}
-use Rattle.bi_commands.specs.KnownTexts.{NamesAreShown, ChoicesAreKnown, ReportsAreKnown, LegacyListingsAreKnown, FitListingIsKnown, ConfigurationLinesAreKnown}
+use Rattle.bi_commands.specs.KnownConcerns.{ConcernsAreKnown}
+use Rattle.bi_commands.specs.KnownTexts.{second_default, second_kernel, NamesAreShown, ChoicesAreKnown, ReportsAreKnown, LegacyListingsAreKnown, FitListingIsKnown, ConfigurationLinesAreKnown}
 
 -- What the definitions compute for small boot images.
 
@@ -39,7 +40,12 @@ names_are_shown = record {
   minus_inside = refl;
 }
 
+-- A property of a list by its name.
+found : (properties : List Property) (name : List ℕ) → get (from_entries {R = slice_cmp nat_cmp} properties) name ≡ find (slice_cmp nat_cmp) name properties
+found properties name = get-from_entries nat_list_cmp_total properties name
+
 pub choices_are_known : ChoicesAreKnown
+unfolding text_before_nul
 choices_are_known = record {
   first_part = refl;
   second_part = refl;
@@ -56,11 +62,13 @@ choices_are_known = record {
   bad_list = ap (λ listed. choice_of_listed listed 0) lists_are_read.no_zero;
   no_key = ap (λ listed. choice_of_listed listed 0) lists_are_read.no_key;
   no_configuration = refl;
+  default_of_legacy = refl;
+  default_entry = rw (found second_default default_name, found second_kernel (key_name Kernel)) refl;
+  no_default_entry = rw (found second_default default_name, found second_kernel (key_name Kernel)) refl;
+  no_default_key = rw (found second_default default_name, found second_kernel (key_name Fdt)) refl;
+  default_is_elsewhere = rw (found default_list default_name) refl;
+  no_default = refl;
 }
-
--- A property of a list by its name.
-found : (properties : List Property) (name : List ℕ) → get (from_entries {R = slice_cmp nat_cmp} properties) name ≡ find (slice_cmp nat_cmp) name properties
-found properties name = get-from_entries nat_list_cmp_total properties name
 
 -- The hash nodes of the tree with one of each verdict.
 abbrev crc32_of_abc : List ℕ
@@ -112,3 +120,14 @@ unfolding digits text_before_nul
 configuration_lines_are_known =
     rw (found configuration_lists (key_name Kernel), found configuration_lists (key_name Fdt), found configuration_lists (key_name Ramdisk), found configuration_lists (key_name Firmware), found configuration_lists (key_name Loadables), found configuration_lists (key_name Script), found other_lists (key_name Kernel), found other_lists (key_name Fdt), found other_lists (key_name Ramdisk), found other_lists (key_name Firmware), found other_lists (key_name Loadables), found other_lists (key_name Script), found default_list default_name)
     refl
+
+pub concerns_are_known : ConcernsAreKnown
+unfolding digits text_before_nul verdict_of find_algorithm digest_of text_of_events text_of_blocks cell cell8 u32_at crc32 crc_after low_bits
+concerns_are_known = record {
+  hashes = rw (found good_crc algo_name, found good_crc value_name, found short_crc algo_name, found short_crc value_name, found other_crc algo_name, found other_crc value_name, found no_value algo_name, found no_value value_name) refl;
+  configurations = rw (found configuration_lists (key_name Kernel), found configuration_lists (key_name Fdt), found configuration_lists (key_name Ramdisk), found configuration_lists (key_name Firmware), found configuration_lists (key_name Loadables), found configuration_lists (key_name Script), found other_lists (key_name Kernel), found other_lists (key_name Fdt), found other_lists (key_name Ramdisk), found other_lists (key_name Firmware), found other_lists (key_name Loadables), found other_lists (key_name Script), found default_list default_name) refl;
+  lists_allowed = rw (found configuration_lists (key_name Kernel), found configuration_lists (key_name Fdt), found configuration_lists (key_name Ramdisk), found configuration_lists (key_name Firmware), found configuration_lists (key_name Loadables), found configuration_lists (key_name Script), found other_lists (key_name Kernel), found other_lists (key_name Fdt), found other_lists (key_name Ramdisk), found other_lists (key_name Firmware), found other_lists (key_name Loadables), found other_lists (key_name Script), found default_list default_name) refl;
+  last_payload_ends = refl;
+  zeros = refl;
+  end = refl;
+}

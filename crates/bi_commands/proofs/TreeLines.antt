@@ -17,7 +17,7 @@ use Rattle.bi_commands.specs.Descriptions.{Words, DescribedNode, NodePayload, No
 use Rattle.bi_commands.specs.PayloadBounds.{IsOverPayloadBound, payloads_length}
 use Rattle.bi_commands.specs.ReadDescription.{head_lines, read_lines, root_lines}
 use Rattle.bi_commands.specs.Shown.{line}
-use Rattle.bi_commands.specs.TreeEntries.{TreeEntry, NodeBegins, NodeEnds, PropertyEntry, entry_lines, node_entries, own_entries, payload_entries, tree_entries, tree_entry}
+use Rattle.bi_commands.specs.TreeEntries.{TreeEntry, NodeEnds, PropertyEntry, entry_lines, node_entries, own_entries, payload_entries, tree_entries, tree_entry}
 use Rattle.bi_commands.proofs.FitLines.{numbers_of, reservation_at, reservation_of}
 
 -- The lines of a flattened image tree by its entries.

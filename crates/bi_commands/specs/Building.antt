@@ -15,59 +15,61 @@ use Rattle.bi_norm.specs.declared.building.Head.{Head}
 use Rattle.bi_norm.specs.declared.building.ImageSpec.{ImageSpec}
 use Rattle.bi_norm.specs.Building.{IsBuilt, IsBuildFault}
 use Rattle.bi_norm.specs.Converting.{IsConvertedFile, IsConvertError}
-use Rattle.bi_norm.specs.Cutting.{IsCut, IsCutFault}
+use Rattle.bi_norm.specs.Cutting.{IsCutFault}
 use Rattle.bi_norm.specs.LegacyBuilding.{IsBuiltLegacy}
+use Rattle.bi_commands.specs.Parts.{IsFilled, lengths_of}
+use Rattle.bi_commands.specs.declared.parts.Part.{Part}
 
--- Building an image from an input that holds its parts or payloads, one after another (profile of
--- this project).
+-- Building an image of parts or payloads, which are given or are in an input, one after another
+-- (profile of this project).
 
--- The parts of an input: without lengths the whole input as one part, or else consecutive pieces of
--- these lengths.
-pub data IsSplit (input lengths : List ℕ) (parts : List (List ℕ)) : Type 0 where
-  IsWhole : lengths ≡ [] → parts ≡ input ∷ [] → IsSplit input lengths parts
-  IsInPieces : lengths ≢ [] → IsCut input lengths parts → IsSplit input lengths parts
+-- The contents of the parts of a legacy image: without parts the whole input is the only one.
+pub data ArePartsOf (parts : List Part) (input : List ℕ) (contents : List (List ℕ)) : Type 0 where
+  IsWhole : parts ≡ [] → contents ≡ input ∷ [] → ArePartsOf parts input contents
+  AreFilled : parts ≢ [] → IsFilled parts input contents → ArePartsOf parts input contents
 
--- The fault of an input without such parts. An input that is not to be cut has none.
-pub record IsSplitFault (input lengths : List ℕ) (fault : Fault) : Type 0 where
-  pub has_lengths : lengths ≢ []
-  pub is_cut_fault : IsCutFault input lengths fault
+-- The fault of an input that is not cut into these parts. Without parts there is none.
+pub record IsPartsFault (parts : List Part) (input : List ℕ) (fault : Fault) : Type 0 where
+  pub has_parts : parts ≢ []
+  pub is_cut_fault : IsCutFault input (lengths_of parts) fault
 
--- An input has such parts: it is not to be cut, or the lengths are together its length.
-abbrev pub CanBeSplit : List ℕ → List ℕ → Type 0
-CanBeSplit input lengths = lengths ≢ [] → sum lengths ≡ length input
+-- The input can be cut into these parts: there are none, or their lengths are together its length.
+abbrev pub CanBeFilled : List Part → List ℕ → Type 0
+CanBeFilled parts input = parts ≢ [] → sum (lengths_of parts) ≡ length input
 
--- The error that splitting an input can have. Memory is needed only for an input that can be split.
-abbrev pub IsSplitError : List ℕ → List ℕ → Error → Type 0
-IsSplitError input lengths (Refused fault) = IsSplitFault input lengths fault
-IsSplitError input lengths OutOfMemory = CanBeSplit input lengths
-IsSplitError input lengths ReadFailed = ⊥
-IsSplitError input lengths WriteFailed = ⊥
+-- The error that getting the contents of the parts can have. Memory is needed only for an input
+-- that can be cut.
+abbrev pub IsPartsError : List Part → List ℕ → Error → Type 0
+IsPartsError parts input (Refused fault) = IsPartsFault parts input fault
+IsPartsError parts input OutOfMemory = CanBeFilled parts input
+IsPartsError parts input ReadFailed = ⊥
+IsPartsError parts input WriteFailed = ⊥
 
--- The output is a legacy image of these fields and of the parts of the input.
-pub record IsLegacyOutput (limits : Bounds) (fields : Fields) (lengths input output : List ℕ) :
-    Type 0 where
-  pub parts : List (List ℕ)
-  pub split : IsSplit input lengths parts
-  pub built : IsBuiltLegacy limits (image_of fields parts) output
+-- The output is a legacy image of these fields and parts.
+pub record IsLegacyOutput (limits : Bounds) (fields : Fields) (parts : List Part)
+    (input output : List ℕ) : Type 0 where
+  pub contents : List (List ℕ)
+  pub are_parts : ArePartsOf parts input contents
+  pub built : IsBuiltLegacy limits (image_of fields contents) output
 
--- The fault of a legacy image to be built from an input within the limit, in the order of the
+-- The fault of a legacy image to be built, with an input within the limit, in the order of the
 -- checks.
-pub data IsLegacyOutputFault (limits : Bounds) (fields : Fields) (lengths input : List ℕ)
-    (fault : Fault) : Type 0 where
-  NotSplit : length input ≤ limits.file → IsSplitFault input lengths fault
-      → IsLegacyOutputFault limits fields lengths input fault
-  NotBuilt : length input ≤ limits.file → (parts : List (List ℕ)) → IsSplit input lengths parts
-      → IsEmitFault limits (image_of fields parts) fault
-      → IsLegacyOutputFault limits fields lengths input fault
+pub data IsLegacyOutputFault (limits : Bounds) (fields : Fields) (parts : List Part)
+    (input : List ℕ) (fault : Fault) : Type 0 where
+  NotFilled : length input ≤ limits.file → IsPartsFault parts input fault
+      → IsLegacyOutputFault limits fields parts input fault
+  NotBuilt : length input ≤ limits.file → (contents : List (List ℕ))
+      → ArePartsOf parts input contents → IsEmitFault limits (image_of fields contents) fault
+      → IsLegacyOutputFault limits fields parts input fault
 
--- The error that building a legacy image from an input in memory can have, except those of a sink.
--- Memory is needed only for an input that can be split.
-abbrev pub IsLegacyOutputError : Bounds → Fields → List ℕ → List ℕ → Error → Type 0
-IsLegacyOutputError limits fields lengths input (Refused fault) =
-    IsLegacyOutputFault limits fields lengths input fault
-IsLegacyOutputError limits fields lengths input OutOfMemory = CanBeSplit input lengths
-IsLegacyOutputError limits fields lengths input ReadFailed = ⊥
-IsLegacyOutputError limits fields lengths input WriteFailed = ⊥
+-- The error that building a legacy image with an input in memory can have, except those of a sink.
+-- Memory is needed only for an input that can be cut.
+abbrev pub IsLegacyOutputError : Bounds → Fields → List Part → List ℕ → Error → Type 0
+IsLegacyOutputError limits fields parts input (Refused fault) =
+    IsLegacyOutputFault limits fields parts input fault
+IsLegacyOutputError limits fields parts input OutOfMemory = CanBeFilled parts input
+IsLegacyOutputError limits fields parts input ReadFailed = ⊥
+IsLegacyOutputError limits fields parts input WriteFailed = ⊥
 
 -- What an image to be built has beside its payload.
 pub record ImageFields : Type 0 where
@@ -96,62 +98,62 @@ pub record HavePayloads (given : List ImageSpec) (payloads : List (List ℕ))
   pub same_fields : map image_fields images ≡ map image_fields given
   pub have_payloads : map (λ image. image.payload.now) images ≡ payloads
 
--- The output is a flattened image tree of the given images, whose payloads are consecutive pieces
--- of the input, of these lengths.
+-- The output is a flattened image tree of the given images with these payloads.
 pub record IsFitOutput (limits : Bounds) (form : Form) (head : Head) (given : List ImageSpec)
-    (lengths input output : List ℕ) : Type 0 where
-  pub payloads : List (List ℕ)
-  pub cut : IsCut input lengths payloads
+    (payloads : List Part) (input output : List ℕ) : Type 0 where
+  pub contents : List (List ℕ)
+  pub filled : IsFilled payloads input contents
   pub images : List ImageSpec
-  pub have : HavePayloads given payloads images
+  pub have : HavePayloads given contents images
   pub built : IsBuilt limits form head images output
 
--- The fault of a flattened image tree to be built from an input within the limit, in the order of
+-- The fault of a flattened image tree to be built, with an input within the limit, in the order of
 -- the checks.
 pub data IsFitOutputFault (limits : Bounds) (form : Form) (head : Head) (given : List ImageSpec)
-    (lengths input : List ℕ) (fault : Fault) : Type 0 where
-  NotCut : length input ≤ limits.file → IsCutFault input lengths fault
-      → IsFitOutputFault limits form head given lengths input fault
-  NotBuilt : length input ≤ limits.file → (payloads : List (List ℕ))
-      → IsCut input lengths payloads → (images : List ImageSpec)
-      → HavePayloads given payloads images
+    (payloads : List Part) (input : List ℕ) (fault : Fault) : Type 0 where
+  NotCut : length input ≤ limits.file → IsCutFault input (lengths_of payloads) fault
+      → IsFitOutputFault limits form head given payloads input fault
+  NotBuilt : length input ≤ limits.file → (contents : List (List ℕ))
+      → IsFilled payloads input contents → (images : List ImageSpec)
+      → HavePayloads given contents images
       → IsBuildFault limits form head images fault
-      → IsFitOutputFault limits form head given lengths input fault
+      → IsFitOutputFault limits form head given payloads input fault
 
--- The error that building a flattened image tree from an input in memory can have, except those of
+-- The error that building a flattened image tree with an input in memory can have, except those of
 -- a sink. Memory is needed only for an input that can be cut.
-abbrev pub IsFitOutputError : Bounds → Form → Head → List ImageSpec → List ℕ → List ℕ → Error
+abbrev pub IsFitOutputError : Bounds → Form → Head → List ImageSpec → List Part → List ℕ → Error
     → Type 0
-IsFitOutputError limits form head given lengths input (Refused fault) =
-    IsFitOutputFault limits form head given lengths input fault
-IsFitOutputError limits form head given lengths input OutOfMemory = sum lengths ≡ length input
-IsFitOutputError limits form head given lengths input ReadFailed = ⊥
-IsFitOutputError limits form head given lengths input WriteFailed = ⊥
+IsFitOutputError limits form head given payloads input (Refused fault) =
+    IsFitOutputFault limits form head given payloads input fault
+IsFitOutputError limits form head given payloads input OutOfMemory =
+    sum (lengths_of payloads) ≡ length input
+IsFitOutputError limits form head given payloads input ReadFailed = ⊥
+IsFitOutputError limits form head given payloads input WriteFailed = ⊥
 
--- What building a legacy image promises as a command.
-abbrev pub build_legacy_promise : Fields → (lengths : List ℕ) → Bounds
+-- What building a legacy image of these parts promises as a command.
+abbrev pub build_legacy_promise : Fields → (parts : List Part) → Bounds
     → CommandPromise (Unit {0}) Error
-build_legacy_promise fields lengths limits =
-    unit_promise (IsLegacyOutput limits fields lengths) (IsLegacyOutputError limits fields lengths)
+build_legacy_promise fields parts limits =
+    unit_promise (IsLegacyOutput limits fields parts) (IsLegacyOutputError limits fields parts)
 
-pub build_legacy_laws : (fields : Fields) (lengths : List ℕ) (limits : Bounds)
-    → PromiseLaws (build_legacy_promise fields lengths limits)
-build_legacy_laws fields lengths limits =
-    unit_laws (IsLegacyOutput limits fields lengths) (IsLegacyOutputError limits fields lengths)
+pub build_legacy_laws : (fields : Fields) (parts : List Part) (limits : Bounds)
+    → PromiseLaws (build_legacy_promise fields parts limits)
+build_legacy_laws fields parts limits =
+    unit_laws (IsLegacyOutput limits fields parts) (IsLegacyOutputError limits fields parts)
     (λ input is. is) (λ input is. is)
 
--- What building a flattened image tree promises as a command.
-abbrev pub build_fit_promise : Form → Head → (images : List ImageSpec) → (lengths : List ℕ)
+-- What building a flattened image tree of images with these payloads promises as a command.
+abbrev pub build_fit_promise : Form → Head → (images : List ImageSpec) → (payloads : List Part)
     → Bounds → CommandPromise (Unit {0}) Error
-build_fit_promise form head images lengths limits =
-    unit_promise (IsFitOutput limits form head images lengths)
-    (IsFitOutputError limits form head images lengths)
+build_fit_promise form head images payloads limits =
+    unit_promise (IsFitOutput limits form head images payloads)
+    (IsFitOutputError limits form head images payloads)
 
-pub build_fit_laws : (form : Form) (head : Head) (images : List ImageSpec) (lengths : List ℕ)
-    (limits : Bounds) → PromiseLaws (build_fit_promise form head images lengths limits)
-build_fit_laws form head images lengths limits =
-    unit_laws (IsFitOutput limits form head images lengths)
-    (IsFitOutputError limits form head images lengths)
+pub build_fit_laws : (form : Form) (head : Head) (images : List ImageSpec) (payloads : List Part)
+    (limits : Bounds) → PromiseLaws (build_fit_promise form head images payloads limits)
+build_fit_laws form head images payloads limits =
+    unit_laws (IsFitOutput limits form head images payloads)
+    (IsFitOutputError limits form head images payloads)
     (λ input is. is) (λ input is. is)
 
 -- What converting promises as a command.

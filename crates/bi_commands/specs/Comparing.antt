@@ -1,7 +1,6 @@
-use Rattle.std.specs.Prelude.{ℕ, ◌≡◌, ◌↔◌, ◌⊎◌, Bool, true, false, IsTrue, List, [], ◌++◌, codes}
+use Rattle.std.specs.Prelude.{ℕ, ◌≡◌, ◌↔◌, ◌⊎◌, Bool, true, false, IsTrue, List, [], codes}
 use Rattle.std.specs.Prelude.{bytes_eq, if◌then◌else◌}
-use Rattle.bi_base.specs.declared.fault.Error.TheVariants.{Refused, OutOfMemory as NoMemory}
-use Rattle.bi_base.specs.declared.fault.Fault.{Fault}
+use Rattle.bi_base.specs.declared.fault.Error.TheVariants.{Refused}
 use Rattle.bi_base.specs.Limits.{Bounds}
 use Rattle.bi_base.specs.Reading.{too_large}
 use Rattle.bi_norm.specs.Comparing.{AreCompared, IsErrorOfSecond}

@@ -4,7 +4,7 @@ use Rattle.std.specs.Fmt.{decimal}
 use Rattle.std.specs.FinMap.{entries}
 use Rattle.std.specs.List.{join_with_byte}
 use Rattle.bi_blob.specs.Blob.{Reservation}
-use Rattle.bi_blob.specs.Tree.{Nodes, none, node, Root, Property, PropertyMap, with_each}
+use Rattle.bi_blob.specs.Tree.{Nodes, none, node, Property, PropertyMap, with_each}
 use Rattle.bi_fit.specs.ImageTree.{ImageTree}
 use Rattle.bi_fit.specs.Names.{images_name}
 use Rattle.bi_hash.specs.declared.algo.Algo.TheVariants.{Sha256}

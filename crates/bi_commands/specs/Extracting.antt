@@ -10,11 +10,11 @@ use Rattle.bi_fit.specs.declared.key.Key.{Key}
 use Rattle.bi_fit.specs.ImageTree.{ImageTree}
 use Rattle.bi_fit.specs.Judgement.{Image as TreeImage, Listed, NoConfiguration, NoKey, BadList}
 use Rattle.bi_fit.specs.Judgement.{MissingImage, ListedImages, ListedImage}
-use Rattle.bi_fit.specs.Judgement.{images_of, image_named, listed_of}
+use Rattle.bi_fit.specs.Judgement.{images_of, image_named, listed_of, default_of}
 use Rattle.bi_norm.specs.Meaning.{Meaning, OfLegacy, OfFit, Means}
 use Rattle.bi_norm.specs.NormalForm.{IsOpenError}
 use Rattle.bi_commands.specs.declared.extract.Select.{Select}
-use Rattle.bi_commands.specs.declared.extract.Select.TheVariants.{Part, Image, Config}
+use Rattle.bi_commands.specs.declared.extract.Select.TheVariants.{Part, Image, Config, Default}
 use Rattle.bi_commands.specs.declared.extract.ExtractError.{ExtractError}
 use Rattle.bi_commands.specs.declared.extract.ExtractError.TheVariants as error
 
@@ -70,6 +70,16 @@ abbrev pub choice_by_configuration : ImageTree → (configuration : List ℕ) �
 choice_by_configuration tree configuration key index =
     choice_of_listed (listed_of tree configuration key) index
 
+-- The same of the configuration of this name, if there is a name.
+abbrev pub choice_by_name_if_any : ImageTree → (configuration : Option (List ℕ)) → Key → ℕ → Choice
+choice_by_name_if_any tree None key index = NoSuchConfiguration
+choice_by_name_if_any tree (Some configuration) key index =
+    choice_by_configuration tree configuration key index
+
+-- The same of the default configuration.
+abbrev pub choice_by_default : ImageTree → Key → ℕ → Choice
+choice_by_default tree key index = choice_by_name_if_any tree (default_of tree) key index
+
 -- What a selection chooses of a boot image: a part of a legacy image, a payload of a flattened
 -- image tree.
 abbrev pub choice_of : Select → Meaning → Choice
@@ -80,6 +90,8 @@ choice_of (Image name) (OfFit tree) = choice_by_name tree name.now
 choice_of (Config configuration key index) (OfLegacy image) = OfOtherKind
 choice_of (Config configuration key index) (OfFit tree) =
     choice_by_configuration tree configuration.now key index
+choice_of (Default key index) (OfLegacy image) = OfOtherKind
+choice_of (Default key index) (OfFit tree) = choice_by_default tree key index
 
 -- The file means something of which this holds.
 pub record MeansSuch (limits : Bounds) (file : List ℕ) (Holds : Meaning → Type 0) : Type 0 where

@@ -1,19 +1,21 @@
 use Rattle.std.specs.Prelude.{◌≡◌, ℕ, List, [], ◌∷◌, ◌++◌, Some, codes}
 use Rattle.std.specs.Option.{option_map}
 use Rattle.std.specs.Borrow.{Bor}
+use Rattle.std.specs.FinMap.{empty, from_entries}
 use Rattle.bi_blob.specs.Layout.{tree_with_places}
-use Rattle.bi_blob.specs.Tree.{none, node, Root, FileNode}
+use Rattle.bi_blob.specs.Tree.{none, node, Root, FileNode, Property}
 use Rattle.bi_fit.specs.declared.key.Key.{Key}
 use Rattle.bi_fit.specs.declared.key.Key.TheVariants.{Kernel, Fdt, Ramdisk, Script}
 use Rattle.bi_fit.specs.KnownFiles.{plain_tree, tree_of_images, region_of}
 use Rattle.bi_fit.specs.KnownFiles.{three_external, three_tree}
-use Rattle.bi_fit.specs.ImageTree.{image_nodes}
+use Rattle.bi_fit.specs.ImageTree.{ImageTree, image_nodes}
 use Rattle.bi_fit.specs.Judgement.{default_of}
 use Rattle.bi_fit.specs.KnownJudgements.{configured_tree, hashed_tree}
+use Rattle.bi_fit.specs.Names.{images_name, configurations_name, default_name}
 use Rattle.bi_legacy.specs.KnownImages.{kernel_image, multi_image}
 use Rattle.bi_norm.specs.Meaning.{OfLegacy, OfFit}
 use Rattle.bi_commands.specs.declared.extract.Select.{Select}
-use Rattle.bi_commands.specs.declared.extract.Select.TheVariants.{Part, Image, Config}
+use Rattle.bi_commands.specs.declared.extract.Select.TheVariants.{Part, Image, Config, Default}
 use Rattle.bi_commands.specs.Extracting.{Choice, OfOtherKind, NoSuchPart, NoSuchImage}
 use Rattle.bi_commands.specs.Extracting.{NoSuchConfiguration, NoSuchKey, HasBadList}
 use Rattle.bi_commands.specs.Extracting.{HasMissingImage, NoSuchEntry, HasNoPayload, Chosen}
@@ -64,6 +66,38 @@ choice_of_configured select = choice_of select (OfFit configured_tree)
 abbrev pub choice_of_hashed : Select → Choice
 choice_of_hashed select = choice_of select (OfFit hashed_tree)
 
+-- The properties of two configurations, and the second one as the default.
+abbrev pub first_kernel : List Property
+first_kernel = (codes "kernel", codes "a" ++ 0 ∷ []) ∷ []
+
+abbrev pub second_kernel : List Property
+second_kernel = (codes "kernel", codes "b" ++ 0 ∷ []) ∷ []
+
+abbrev pub second_default : List Property
+second_default = (default_name, codes "conf-2" ++ 0 ∷ []) ∷ []
+
+-- A tree with the images `a` and `b`, whose payloads are their names: the second of two
+-- configurations is the default, and lists `b` as its kernel. The first one lists `a`.
+abbrev pub second_tree : ImageTree
+second_tree = record {
+  cpu = 0;
+  reservations = [];
+  root = record {
+    own = empty;
+    children = node images_name empty
+        (node (codes "a") empty none (node (codes "b") empty none none))
+        (node configurations_name (from_entries second_default)
+        (node (codes "conf-1") (from_entries first_kernel) none
+        (node (codes "conf-2") (from_entries second_kernel) none none))
+        none);
+  };
+  payloads = Some (codes "a") ∷ Some (codes "b") ∷ [];
+}
+
+-- What is chosen of this tree.
+abbrev pub choice_of_second : Select → Choice
+choice_of_second select = choice_of select (OfFit second_tree)
+
 -- Each choice, and each reason why there is none.
 pub record ChoicesAreKnown : Type 0 where
   pub first_part : choice_of_multi (Part 0) ≡ Chosen (codes "hello")
@@ -84,6 +118,12 @@ pub record ChoicesAreKnown : Type 0 where
   pub no_key : choice_of_configured (entry_selection (codes "conf-1") Script 0) ≡ NoSuchKey
   pub no_configuration : choice_of_configured (entry_selection (codes "conf-3") Kernel 0)
       ≡ NoSuchConfiguration
+  pub default_of_legacy : choice_of_multi (Default Kernel 0) ≡ OfOtherKind
+  pub default_entry : choice_of_second (Default Kernel 0) ≡ Chosen (codes "b")
+  pub no_default_entry : choice_of_second (Default Kernel 1) ≡ NoSuchEntry
+  pub no_default_key : choice_of_second (Default Fdt 0) ≡ NoSuchKey
+  pub default_is_elsewhere : choice_of_configured (Default Kernel 0) ≡ NoSuchConfiguration
+  pub no_default : choice_of_hashed (Default Kernel 0) ≡ NoSuchConfiguration
 
 -- Lines of a text, each with its newline.
 abbrev pub lines : List (List ℕ) → List ℕ

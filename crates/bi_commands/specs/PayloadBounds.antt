@@ -1,4 +1,4 @@
-use Rattle.std.specs.Prelude.{ℕ, ◌<◌, List, [], ◌∷◌, Option, Some, None, length, sum, map}
+use Rattle.std.specs.Prelude.{ℕ, ◌<◌, List, Option, Some, None, length, sum, map}
 use Rattle.bi_base.specs.Limits.{Bounds}
 use Rattle.bi_norm.specs.Meaning.{Meaning, OfLegacy, OfFit}
 

@@ -1,4 +1,4 @@
-use Rattle.std.specs.Prelude.{ℕ, ◌+◌, ◌-◌, List, [], ◌∷◌, ◌++◌, Option, Some, None, length, map}
+use Rattle.std.specs.Prelude.{ℕ, ◌+◌, ◌-◌, List, [], ◌∷◌, ◌++◌, Option, length, map}
 use Rattle.std.specs.Prelude.{max}
 use Rattle.std.specs.Prelude.{take, codes, option_map}
 use Rattle.std.specs.FinMap.{entries}

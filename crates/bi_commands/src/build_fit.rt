@@ -1,4 +1,4 @@
-//! Building a flattened image tree from an input that holds its payloads.
+//! Building a flattened image tree of payloads that are given or are in an input.
 
 ghost use Rattle.std.specs.Prelude.{◌≡◌, length, IfOk, IfErr};
 ghost use Rattle.bi_base.specs.declared.fault.Error.TheVariants.{OutOfMemory};
@@ -6,22 +6,24 @@ ghost use Rattle.bi_base.specs.Pipes.{IsPiped};
 ghost use Rattle.bi_legacy.specs.Emitting.{bytes_of};
 ghost use Rattle.bi_commands.specs.Building.{HavePayloads};
 ghost use Rattle.bi_commands.specs.Building.{build_fit_promise, build_fit_laws};
+ghost use Rattle.bi_commands.specs.Parts.{parts_of_lengths};
 
+use crate::parts::{Part, fill, pieces};
 use bi_base::{Command, Error, Limits, Sink, pipe_to};
-use bi_norm::{Form, Head, ImageSpec, build_fit_into, cut};
+use bi_norm::{Form, Head, ImageSpec, build_fit_into};
 use std::alloc::Global;
 use std::io::{Read, Write};
 
 /// Building a flattened image tree, as a command: `build_fit_into` with these images. The payloads
-/// are consecutive pieces of the input, one of each length for each image.
+/// are given, or are consecutive pieces of the input.
 #[derive(Clone, Copy, Debug, PartialEq, Eq)]
 pub struct FitBuilder<'a> {
     /// The description and the time.
     pub head: Head<'a>,
-    /// The images. Their payloads are replaced by the pieces of the input.
+    /// The images. Their payloads are replaced by `payloads`.
     pub images: &'a [ImageSpec<'a>],
-    /// The length of the payload of each image, in bytes.
-    pub lengths: &'a [u32],
+    /// The payload of each image.
+    pub payloads: &'a [Part<'a>],
     /// Where the payloads are.
     pub form: Form,
 }
@@ -31,16 +33,16 @@ impl<'a> Command for FitBuilder<'a> {
 
     type Failure = Error;
 
-    ghost can_run = { λ builder. length builder.lengths.now ≡ length builder.images.now };
+    ghost can_run = { λ builder. length builder.payloads.now ≡ length builder.images.now };
 
     ghost promise = { λ builder.
-        build_fit_promise builder.form builder.head builder.images.now builder.lengths.now };
+        build_fit_promise builder.form builder.head builder.images.now builder.payloads.now };
 
     /// Appends the flattened image tree.
     ///
-    /// Errors, the first that applies: BadPart at the beginning of the first payload that does not
-    /// fit, or at the end of the payloads, if bytes are left; those of `build_fit`. OutOfMemory
-    /// comes only for an input that can be cut, and then in place of any other error.
+    /// Errors, the first that applies: BadPart at the beginning of the first piece of the input
+    /// that does not fit, or at the end of the pieces, if bytes are left; those of `build_fit`.
+    /// OutOfMemory comes only for an input that can be cut, and then in place of any other error.
     fn run<S: Sink>(
         &self,
         alloc: Global,
@@ -48,8 +50,8 @@ impl<'a> Command for FitBuilder<'a> {
         limits: Limits,
         sink: &mut S,
     ) -> Result<(), Error> {
-        let payloads = cut(alloc, input, self.lengths)?;
-        let complete = with_payloads(alloc, self.images, &payloads)?;
+        let contents = fill(alloc, input, self.payloads)?;
+        let complete = with_payloads(alloc, self.images, &contents)?;
         build_fit_into(alloc, self.head, &complete, self.form, limits, sink)?;
         Ok(())
     }
@@ -57,7 +59,7 @@ impl<'a> Command for FitBuilder<'a> {
     ghost wraps_from = { λ _ _ _ _ same. same };
 
     ghost laws = { λ builder.
-        build_fit_laws builder.form builder.head builder.images.now builder.lengths.now };
+        build_fit_laws builder.form builder.head builder.images.now builder.payloads.now };
 }
 
 /// Reads the payloads of a flattened image tree to the end of the input, writes the flattened image
@@ -76,14 +78,16 @@ pub fn build_fit_to<R: Read, W: Write>(
     limits: Limits,
 ) -> Result<(), Error>
     requires one_each { length lengths.now ≡ length images.now }
-    ensures { IsPiped (build_fit_promise form head.entry images.now lengths.now limits) limits
+    ensures { let payloads = parts_of_lengths lengths.now in
+        IsPiped (build_fit_promise form head.entry images.now payloads limits) limits
         (R.remaining reader.old) (R.remaining reader.new)
         (W.contents writer.old) (W.contents writer.new) result }
 {
+    let payloads = pieces(alloc, lengths)?;
     let builder = FitBuilder {
         head,
         images,
-        lengths,
+        payloads: &payloads,
         form,
     };
     pipe_to(alloc, &builder, reader, writer, limits)

@@ -24,10 +24,14 @@ mod words;
 
 use bi_base::{Command, Error, Limits, Sink, VecSink, pipe_to};
 use bi_norm::BootImage;
+pub(crate) use digests::{check_payloads, length_of};
 use fit::describe_fit;
+pub(crate) use fit::put_reservations;
 use legacy::describe_legacy;
+pub(crate) use legacy::{put_codes, put_kind_and_fields};
 use std::alloc::Global;
 use std::io::{Read, Write};
+pub(crate) use words::{Word, put_decimal, put_later_word, put_line, put_lines, put_words};
 
 /// Returns the description of what a boot image means.
 ///

@@ -7,7 +7,8 @@ ghost use Rattle.bi_fit.specs.Content.{IsHeld, tree_of};
 ghost use Rattle.bi_norm.specs.Meaning.{OfLegacy, OfFit};
 ghost use Rattle.bi_commands.specs.declared.extract.ExtractError.TheVariants.{Failed};
 ghost use Rattle.bi_commands.specs.Extracting.{Chosen, IsReason, choice_of, choice_by_name};
-ghost use Rattle.bi_commands.specs.Extracting.{choice_by_configuration, error_of_listing};
+ghost use Rattle.bi_commands.specs.Extracting.{choice_by_configuration, choice_by_default};
+ghost use Rattle.bi_commands.specs.Extracting.{error_of_listing};
 ghost use Rattle.bi_commands.specs.Extracting.{IsChosen, IsExtractError};
 ghost use Rattle.bi_commands.specs.Extracting.{extract_promise, extract_laws};
 
@@ -28,6 +29,8 @@ pub enum Select<'a> {
     /// A payload that a configuration of a flattened image tree lists: by the name of the
     /// configuration, the key, and the index, from 0, in what it lists under the key.
     Config(&'a [u8], Key, u32),
+    /// The same of the default configuration.
+    Default(Key, u32),
 }
 
 /// Why nothing, or not all, was extracted.
@@ -81,9 +84,10 @@ impl From<ConfigError> for ExtractError {
 ///
 /// Errors, the first that applies: Failed with the error of `BootImage::read`; WrongKind, if a part
 /// is selected of a flattened image tree, or anything else of a legacy image; NoPart; NoImage;
-/// Config with NoConfig, NoKey, BadList or Missing; NoIndex; NoPayload. Failed with OutOfMemory
-/// comes only for a legacy image, or for a file whose header and reservation block, as those of a
-/// blob, have no fault.
+/// Config with NoConfig, NoKey, BadList or Missing; NoIndex; NoPayload. NoConfig comes too if the
+/// default configuration is selected and there is no default. Failed with OutOfMemory comes only
+/// for a legacy image, or for a file whose header and reservation block, as those of a blob, have
+/// no fault.
 pub fn extract<'a>(
     alloc: Global,
     file: &'a [u8],
@@ -108,7 +112,7 @@ fn select_part<'a>(image: &Legacy<'a>, select: Select) -> Result<&'a [u8], Extra
 {
     match select {
         Select::Part(index) => image.part(index as usize).ok_or(ExtractError::NoPart),
-        Select::Image(_) | Select::Config(..) => Err(ExtractError::WrongKind),
+        Select::Image(_) | Select::Config(..) | Select::Default(..) => Err(ExtractError::WrongKind),
     }
 }
 
@@ -129,6 +133,7 @@ fn select_payload<'a>(
         Select::Part(_) => Err(ExtractError::WrongKind),
         Select::Image(name) => payload_by_name(fit, name),
         Select::Config(name, key, index) => payload_by_configuration(alloc, fit, name, key, index),
+        Select::Default(key, index) => payload_by_default(alloc, fit, key, index),
     }
 }
 
@@ -163,6 +168,25 @@ fn payload_by_configuration<'a>(
     let listed = fit.config_payloads(alloc, name, key)?;
     let named = listed.get(index as usize).ok_or(ExtractError::NoIndex)?;
     named.payload.ok_or(ExtractError::NoPayload)
+}
+
+/// Returns the payload at this index of what the default configuration lists under a key.
+fn payload_by_default<'a>(
+    alloc: Global,
+    fit: &Fit<'a>,
+    key: Key,
+    index: u32,
+) -> Result<&'a [u8], ExtractError>
+    ensures chosen { IfOk result (λ bytes. choice_by_default (tree_of fit.now) key index
+        ≡ Chosen bytes.now) }
+    ensures failed { IfErr result (λ error.
+        IsReason error (choice_by_default (tree_of fit.now) key index)
+        ⊎ (error ≡ Failed OutOfMemory)) }
+{
+    let Some(name) = fit.default_config() else {
+        return Err(ExtractError::Config(ConfigError::NoConfig));
+    };
+    payload_by_configuration(alloc, fit, name, key, index)
 }
 
 /// Extracting, as a command: `extract` with this selection.

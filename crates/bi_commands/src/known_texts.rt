@@ -1,6 +1,7 @@
 //! Small boot images with what the commands write of them. Each function does nothing: what it
 //! ensures is a fact about the definitions.
 
+ghost use Rattle.bi_commands.specs.KnownConcerns.{ConcernsAreKnown};
 ghost use Rattle.bi_commands.specs.KnownTexts.{NamesAreShown, ChoicesAreKnown, ReportsAreKnown};
 ghost use Rattle.bi_commands.specs.KnownTexts.{LegacyListingsAreKnown, FitListingIsKnown};
 ghost use Rattle.bi_commands.specs.KnownTexts.{ConfigurationLinesAreKnown};
@@ -36,4 +37,10 @@ pub fn fit_listing_is_known()
 /// line for each way in which a key lists images or none.
 pub fn configuration_lines_are_known()
     ensures { ConfigurationLinesAreKnown }
+{}
+
+/// The concerns about small trees have known lines: about hash nodes of each verdict, lists of each
+/// kind, a default that names no configuration, and bytes after an image.
+pub fn concerns_are_known()
+    ensures { ConcernsAreKnown }
 {}

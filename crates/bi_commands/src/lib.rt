@@ -1,9 +1,10 @@
-//! The commands of `bootimg`, over any reader and writer: list, describe, verify, extract from,
-//! convert and build boot images. And a call that compares two boot images.
+//! The commands of `bootimg`, over any reader and writer: list, describe, verify, check, update,
+//! extract from, convert and build boot images. And a call that compares two boot images.
 #![tactic(auto)]
 
 pub mod build_fit;
 pub mod build_legacy;
+pub mod check;
 pub mod compare;
 pub mod convert;
 pub mod describe;
@@ -11,5 +12,8 @@ pub mod extract;
 pub mod known_texts;
 pub mod laws;
 pub mod list;
+pub mod parts;
 pub mod shown;
+pub mod unshown;
+pub mod update;
 pub mod verify;

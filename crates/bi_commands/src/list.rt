@@ -1,17 +1,20 @@
 //! The listing of a boot image: a text with what the image is and where its parts are.
 
+mod configurations;
 mod fit;
 mod legacy;
-mod lines;
+mod names;
 
-ghost use Rattle.std.specs.Prelude.{⊤, IfOk, IfErr, string_bytes};
+ghost use Rattle.std.specs.Prelude.{⊤, IfOk, OnOk, IfErr, string_bytes};
+ghost use Rattle.bi_base.specs.Commands.{Appended, AppendFailed};
 ghost use Rattle.bi_base.specs.Pipes.{IsPiped};
 ghost use Rattle.bi_norm.specs.NormalForm.{IsOpenError};
 ghost use Rattle.bi_commands.specs.Listing.{IsListing, list_promise, list_laws};
 
-use bi_base::{Command, Error, Limits, Sink, pipe_to};
+use bi_base::{Command, Error, Limits, Sink, VecSink, pipe_to};
 use bi_norm::BootImage;
 use fit::list_fit;
+pub(crate) use fit::{KEYS, key_word};
 use legacy::list_legacy;
 use std::alloc::Global;
 use std::io::{Read, Write};
@@ -24,9 +27,26 @@ pub fn listing(alloc: Global, file: &[u8], limits: Limits) -> Result<String, Err
     ensures lists { IfOk result (λ text. IsListing limits file.now (string_bytes text)) }
     ensures failed { IfErr result (IsOpenError limits file.now) }
 {
+    let mut sink = VecSink::new(alloc);
+    list_into(alloc, file, limits, &mut sink)?;
+    match String::from_utf8(sink.into_vec()) {
+        Ok(text) => Ok(text),
+        // Each byte of a listing is ASCII, so this does not happen.
+        Err(_) => Err(Error::OutOfMemory),
+    }
+}
+
+/// Appends the listing of a boot image. Each refusal and each allocation comes before the first
+/// byte.
+fn list_into<S: Sink>(alloc: Global, file: &[u8], limits: Limits, sink: &mut S) -> Result<(), Error>
+    ensures appended { OnOk result (Appended S.appends (IsListing limits file.now)
+        sink.old sink.new) }
+    ensures failed { IfErr result (AppendFailed S.fails (IsListing limits file.now)
+        (IsOpenError limits file.now) sink.old sink.new) }
+{
     match BootImage::read(alloc, file, limits)? {
-        BootImage::Legacy(image) => list_legacy(alloc, &image),
-        BootImage::Fit(image) => list_fit(alloc, &image),
+        BootImage::Legacy(image) => list_legacy(&image, sink),
+        BootImage::Fit(image) => list_fit(&image, sink),
     }
 }
 
@@ -43,6 +63,8 @@ impl Command for Lister {
 
     ghost promise = { λ _. list_promise };
 
+    /// Appends the listing line by line. Each refusal and each allocation comes before the first
+    /// byte.
     fn run<S: Sink>(
         &self,
         alloc: Global,
@@ -50,8 +72,7 @@ impl Command for Lister {
         limits: Limits,
         sink: &mut S,
     ) -> Result<(), Error> {
-        let text = listing(alloc, input, limits)?;
-        sink.put(text.as_bytes())?;
+        list_into(alloc, input, limits, sink)?;
         Ok(())
     }
 

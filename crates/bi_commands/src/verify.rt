@@ -217,14 +217,14 @@ fn count_of(hashes: &[Checked], wanted: Verdict) -> usize
 }
 
 /// Returns whether a verdict is the wanted one.
-fn is_verdict(wanted: Verdict, verdict: Verdict) -> bool
+pub(crate) fn is_verdict(wanted: Verdict, verdict: Verdict) -> bool
     ensures { result ≡ has_verdict wanted verdict }
 {
     wanted == verdict
 }
 
 /// Returns the word for a verdict.
-fn verdict_word(verdict: Verdict) -> &'static str
+pub(crate) fn verdict_word(verdict: Verdict) -> &'static str
     ensures { result.now ≡ word_of verdict }
 {
     match verdict {

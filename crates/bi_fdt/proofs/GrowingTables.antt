@@ -1,12 +1,11 @@
-use Rattle.std.proofs.Common.{◌≡◌, ℕ, zero, suc, ◌+◌, ◌-◌, ◌<◌, true, Some, slice_get, List, [], ◌∷◌, ◌++◌, length, map, drop, reverse, refl, sym, ap, subst, ◌∙◌, arith}
+use Rattle.std.proofs.Common.{◌≡◌, ℕ, zero, suc, ◌+◌, ◌-◌, ◌<◌, Some, slice_get, List, [], ◌∷◌, ◌++◌, length, map, drop, reverse, refl, sym, ap, subst, ◌∙◌, arith}
 use Rattle.std.proofs.Math.ListN.{set}
 use Rattle.std.proofs.Math.Seq.{drop-append_seam}
 use Rattle.std.proofs.lemmas.List.{length-append, length-map, map-append, drop-map, append-nil, reverse-append, map_push}
-use Rattle.std.specs.BTreeSet.{Updates}
 use Rattle.bi_blob.specs.Tree.{FileProperty, names}
 use Rattle.bi_blob.specs.Events.{FileNodeProperty, FileNodeEnd}
 use Rattle.bi_blob.specs.NameSets.{HoldsNames}
-use Rattle.bi_blob.proofs.NameSets.{name_cmp, HoldsNames-insert}
+use Rattle.bi_fdt.specs.PropertySets.{HoldsProperties}
 use Rattle.bi_blob.specs.OpenNodes.{OpenFileNode, new_node, events_of_open_nodes, events_of_open_node, with_one_property, with_one_child, own_of}
 use Rattle.bi_blob.proofs.Blobs.OpenNodes.{events_of_open_nodes-property, events_of_open_nodes-child, names-with_last}
 use Rattle.bi_fdt.specs.declared.growing.Growing.{Growing}
@@ -93,7 +92,7 @@ pub growing_begun : (growing grown : Growing) (o : OpenFileNode) (outer : List O
     → grown.innermost.entry ≡ length growing.entries.items → HoldsNames grown.innermost.children []
     → grown.outer.items ≡ growing.outer.items ++ parent ∷ [] → parent.entry ≡ growing.innermost.entry
     → HoldsNames parent.children (names o.children ++ name ∷ [])
-    → HoldsNames grown.properties []
+    → HoldsProperties grown.properties []
     → IsGrowing grown (new_node name place) (o ∷ outer)
 growing_begun growing grown o outer name place new parent is entries item deep none at fresh outers same holds properties = record {
   items = ap (map item_of) entries ∙ map-append item_of growing.entries.items (entry.Node new ∷ [])
@@ -117,9 +116,9 @@ pub growing_property : (growing grown : Growing) (o : OpenFileNode) (outer : Lis
     → ((n : NodeEntry) → slice_get (growing.entries.items ++ entry.Property p ∷ []) growing.innermost.entry ≡ Some (entry.Node n)
     → grown.entries.items ≡ set (growing.entries.items ++ entry.Property p ∷ []) growing.innermost.entry (entry.Node (record n { property_count = length (growing.entries.items ++ entry.Property p ∷ []) - growing.innermost.entry - 1 })))
     → grown.innermost ≡ growing.innermost → grown.outer ≡ growing.outer
-    → Updates name_cmp growing.properties grown.properties p.name true
+    → HoldsProperties grown.properties (map (λ (q : FileProperty). q.name) o.properties ++ p.name.now ∷ [])
     → IsGrowing grown (with_one_property o (file_property_of p)) outer
-growing_property growing grown o outer p is childless entries same same_outer updates =
+growing_property growing grown o outer p is childless entries same same_outer holds =
     let found : IsNodeEntry growing.entries.items growing.innermost.entry (NodeItem (length outer) o.place o.name) (open_rest o outer) = innermost_entry growing o outer is in
     let pushed : drop growing.innermost.entry (growing.entries.items ++ entry.Property p ∷ []) ≡ entry.Node found.n ∷ (found.later ++ entry.Property p ∷ []) =
     drop-push growing.entries.items found.later growing.innermost.entry found.n (entry.Property p) found.is_at in
@@ -143,8 +142,7 @@ growing_property growing grown o outer p is childless entries same same_outer up
           (subst AreProperties (sym rest) (properties_alone o.properties)) refl refl (omega arith) is.linked);
       opened = subst (λ a. AreOpen (a ∷ reverse grown.outer.items) (names o.children) o.name outer) (sym same)
           (subst (λ l. AreOpen (growing.innermost ∷ reverse l.items) (names o.children) o.name outer) (sym same_outer) is.opened);
-      properties = λ _. subst (HoldsNames grown.properties) (sym (map_push (λ (q : FileProperty). q.name) o.properties (file_property_of p)))
-          (HoldsNames-insert growing.properties grown.properties p.name (map (λ (q : FileProperty). q.name) o.properties) (is.properties childless) updates);
+      properties = λ _. subst (HoldsProperties grown.properties) (sym (map_push (λ (q : FileProperty). q.name) o.properties (file_property_of p))) holds;
     } where
       item_depth : {a b : ℕ} {x y : ℕ} {k l : List ℕ} → NodeItem a x k ≡ NodeItem b y l → a ≡ b
       item_depth e = cc

@@ -1,4 +1,7 @@
 pub mod FirstZero
+pub mod NameEnds
+pub mod NameDigests
+pub mod PropertySets
 pub mod Items
 pub mod Links
 pub mod OpenEntries

@@ -7,6 +7,7 @@ use Rattle.bi_fdt.specs.declared.growing.Ending.{Ending}
 use Rattle.bi_fdt.specs.declared.growing.Ending.TheVariants as ending
 use Rattle.bi_fdt.specs.declared.growing.Growing.{Growing}
 use Rattle.bi_fdt.specs.declared.growing.OpenNode.{OpenNode}
+use Rattle.bi_fdt.specs.PropertySets.{HoldsProperties}
 use Rattle.bi_fdt.specs.Table.{item_of, items_of, AreLinked}
 
 -- A tree while its tokens are read.
@@ -31,7 +32,7 @@ pub record IsGrowing (growing : Growing) (innermost : OpenFileNode) (outer : Lis
   pub opened : AreOpen (growing.innermost ∷ reverse growing.outer.items)
       (names innermost.children) innermost.name outer
   pub properties : names innermost.children ≡ []
-      → HoldsNames growing.properties (map (λ property. property.name) innermost.properties)
+      → HoldsProperties growing.properties (map (λ property. property.name) innermost.properties)
 
 -- A growing table is that of some open nodes.
 pub record IsGrown (growing : Growing) : Type 0 where

@@ -8,3 +8,6 @@ pub mod Content
 pub mod Fields
 pub mod Refused
 pub mod Views
+pub mod Digests
+pub mod Strings
+pub mod PropertySets

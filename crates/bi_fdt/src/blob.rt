@@ -24,6 +24,7 @@ use crate::fields::{
 use crate::header::{check_header, structure_end};
 use crate::node::NodeRef;
 use crate::reservations::{PAIR_SIZE, count_reservations};
+use crate::strings::Strings;
 use crate::structure::read_tree;
 use crate::table::Entry;
 use bi_base::{Error, Fault, Limits, two_cells_at};
@@ -98,7 +99,9 @@ impl<'a> Blob<'a> {
         ensures refused { IfErr result (IsRefused limits file.entry.now) }
     {
         let reservation_count = check_before_tree(file, limits)?;
-        let entries = read_tree(alloc, tree_blocks(file), usize::from(limits.depth()))?;
+        let strings = Strings::new(alloc, strings_block(file))?;
+        let blocks = tree_blocks(file, &strings);
+        let entries = read_tree(alloc, blocks, usize::from(limits.depth()))?;
         Ok(Blob {
             file,
             reservation_count,
@@ -175,16 +178,25 @@ fn check_before_tree(file: &[u8], limits: Limits) -> Result<usize, Fault>
     )
 }
 
-/// The blocks that hold the tree of a file whose header was checked.
-fn tree_blocks<'a>(file: &'a [u8]) -> Blocks<'a>
+/// The bytes of the strings block of a file whose header was checked.
+fn strings_block(file: &[u8]) -> &[u8]
     requires { Header file.now }
-    ensures { blocks_of result ≡ tree_blocks_of file.entry.now }
+    ensures { result.now ≡ (tree_blocks_of file.entry.now).strings }
 {
     let strings = off_dt_strings(file) as usize;
+    &file[strings..strings + size_dt_strings(file) as usize]
+}
+
+/// The blocks that hold the tree of a file whose header was checked.
+fn tree_blocks<'a, 's>(file: &'a [u8], strings: &'s Strings<'a>) -> Blocks<'a, 's>
+    requires header { Header file.now }
+    requires strings { strings.now ≡ (tree_blocks_of file.now).strings }
+    ensures { blocks_of result ≡ tree_blocks_of file.entry.now }
+{
     Blocks {
         file,
         begin: off_dt_struct(file) as usize,
         end: structure_end(file),
-        strings: &file[strings..strings + size_dt_strings(file) as usize],
+        strings,
     }
 }

@@ -10,8 +10,10 @@ ghost use Rattle.bi_blob.specs.BlobFaults.{TokenPasses, token_fault, HasTokenNum
 ghost use Rattle.bi_blob.specs.BlobFaults.{property_checks};
 ghost use Rattle.bi_fdt.specs.Blocks.{blocks_of, AreBlocks, node_name_checks};
 ghost use Rattle.bi_fdt.specs.Blocks.{property_token_checks};
+ghost use Rattle.bi_fdt.specs.Digests.{digest_of};
 
 use crate::names::name_at;
+use crate::strings::Strings;
 use crate::table::Property;
 use bi_base::{Cause, Fault, cell_at, refuse};
 use bi_blob::is_child_name;
@@ -19,11 +21,11 @@ use bi_blob::is_child_name;
 /// Where a file has its tree: the structure block, from `begin` to `end`, and the strings block
 /// (Devicetree Specification, 5.4, 5.5).
 #[derive(Clone, Copy)]
-pub(crate) struct Blocks<'a> {
+pub(crate) struct Blocks<'a, 's> {
     pub(crate) file: &'a [u8],
     pub(crate) begin: usize,
     pub(crate) end: usize,
-    pub(crate) strings: &'a [u8],
+    pub(crate) strings: &'s Strings<'a>,
 }
 
 /// The number of the token at `place`. Truncated if the structure block ends before the number
@@ -44,7 +46,7 @@ pub(crate) fn number_at(blocks: Blocks, place: usize) -> Result<u32, Fault>
 
 /// The name of the root, whose token is at `place`.
 pub(crate) fn root_name<'a>(
-    blocks: Blocks<'a>,
+    blocks: Blocks<'a, '_>,
     place: usize,
     depth_limit: usize,
 ) -> Result<&'a [u8], Fault>
@@ -69,7 +71,7 @@ pub(crate) fn root_name<'a>(
 
 /// The name of a child, whose token is at `place`, while `depth` nodes are open.
 pub(crate) fn child_name<'a>(
-    blocks: Blocks<'a>,
+    blocks: Blocks<'a, '_>,
     place: usize,
     depth: usize,
     depth_limit: usize,
@@ -100,7 +102,7 @@ pub(crate) fn child_name<'a>(
 
 /// The property whose token is at `place`.
 pub(crate) fn property_at<'a>(
-    blocks: Blocks<'a>,
+    blocks: Blocks<'a, '_>,
     place: usize,
     is_childless: bool,
 ) -> Result<Property<'a>, Fault>
@@ -111,6 +113,7 @@ pub(crate) fn property_at<'a>(
     ensures value { IfOk result (λ property. property.value.now
         ≡ slice blocks.entry.file.now (place + 12) (u32_at blocks.entry.file.now (place + 4))) }
     ensures place { IfOk result (λ property. property.place ≡ place) }
+    ensures within { OnOk result (place + 12 ≤ blocks.entry.end) }
     ensures ok { OnOk result ((innermost : OpenNode) (outer : List OpenNode)
         → (IsTrue is_childless ↔ (innermost.children ≡ []))
         → HasNoFault (TokenPasses (blocks_of blocks.entry) 0 place
@@ -131,7 +134,7 @@ pub(crate) fn property_at<'a>(
         return refuse(Cause::Truncated, place as u32);
     }
     let name_offset = cell_at(blocks.file, place + 8) as usize;
-    let Some(name) = name_at(blocks.strings, name_offset, blocks.strings.len()) else {
+    let Some(name) = blocks.strings.name_at(name_offset) else {
         return refuse(Cause::BadNameOffset, place as u32);
     };
     if name.is_empty() {
@@ -142,4 +145,15 @@ pub(crate) fn property_at<'a>(
         value: &blocks.file[place + 12..place + 12 + length],
         place: place as u32,
     })
+}
+
+/// The digest of the name of the property whose token is at `place`.
+pub(crate) fn name_digest(blocks: Blocks, place: usize, name: &[u8]) -> [u8; 32]
+    requires blocks { AreBlocks (blocks_of blocks) }
+    requires within { place + 12 ≤ blocks.end }
+    requires name { name.now ≡ name_from blocks.strings.now (u32_at blocks.file.now (place + 8)) }
+    ensures { result ≡ digest_of name.now }
+{
+    let offset = cell_at(blocks.file, place + 8) as usize;
+    blocks.strings.digest_at(offset, name)
 }

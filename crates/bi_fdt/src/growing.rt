@@ -6,9 +6,11 @@ ghost use Rattle.bi_base.specs.Errors.{IsRefusal};
 ghost use Rattle.bi_blob.specs.Tree.{names, IsNew};
 ghost use Rattle.bi_blob.specs.BlobFaults.{token_fault, IsNewNode, IsNewProperty};
 ghost use Rattle.bi_blob.specs.OpenNodes.{OpenFileNode, new_node, with_one_property};
+ghost use Rattle.bi_fdt.specs.Digests.{digest_of};
 ghost use Rattle.bi_fdt.specs.Properties.{file_property_of};
 ghost use Rattle.bi_fdt.specs.Growth.{IsGrowing, IsGrown, IsEnding};
 
+use crate::property_names::PropertyNames;
 use crate::table::{Entry, NodeEntry, Property, set_after, set_property_count};
 use bi_base::{Cause, Error, refuse};
 use std::alloc::Global;
@@ -31,7 +33,7 @@ pub(crate) struct Growing<'a> {
     /// The nodes that contain the innermost open node, the root first.
     outer: Vec<OpenNode<'a>>,
     /// The names of the properties of the innermost open node, while it has no child.
-    properties: BTreeSet<&'a [u8]>,
+    properties: PropertyNames<'a>,
 }
 
 /// What remains of a growing tree after a node has ended: the tree itself, or the table of the
@@ -63,7 +65,7 @@ impl<'a> Growing<'a> {
                 children: BTreeSet::new(alloc),
             },
             outer: Vec::new(alloc),
-            properties: BTreeSet::new(alloc),
+            properties: PropertyNames::new(alloc),
         })
     }
 
@@ -135,10 +137,15 @@ impl<'a> Growing<'a> {
         })
     }
 
-    /// The tree after a property of the innermost open node, which has no child yet.
-    /// DuplicateProperty if a property has the name already.
-    pub(crate) fn add_property(self, property: Property<'a>) -> Result<Growing<'a>, Error>
-        requires { IsGrown self }
+    /// The tree after a property of the innermost open node, which has no child yet, with the
+    /// digest of its name. DuplicateProperty if a property has the name already.
+    pub(crate) fn add_property(
+        self,
+        property: Property<'a>,
+        digest: [u8; 32],
+    ) -> Result<Growing<'a>, Error>
+        requires grown { IsGrown self }
+        requires digest { digest ≡ digest_of property.name.now }
         ensures new { OnOk result ((innermost : OpenFileNode) (outer : List OpenFileNode)
             → IsGrowing self.entry innermost outer
             → names innermost.children ≡ []
@@ -163,7 +170,7 @@ impl<'a> Growing<'a> {
             outer,
             mut properties,
         } = self;
-        if !properties.insert(property.name)? {
+        if !properties.insert(property.name, digest)? {
             return refuse(Cause::DuplicateProperty, property.place).map_err(Error::from);
         }
         entries.push(Entry::Property(property))?;

@@ -3,13 +3,16 @@
 
 mod blob;
 mod blocks;
+mod digests;
 mod fields;
 mod growing;
 mod header;
 mod names;
 mod node;
 mod properties;
+mod property_names;
 mod reservations;
+mod strings;
 mod structure;
 mod table;
 mod tokens;

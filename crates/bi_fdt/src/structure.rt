@@ -22,7 +22,7 @@ use std::alloc::Global;
 /// fails.
 pub(crate) fn read_tree<'a>(
     alloc: Global,
-    blocks: Blocks<'a>,
+    blocks: Blocks<'a, '_>,
     depth_limit: usize,
 ) -> Result<Vec<Entry<'a>>, Error>
     requires blocks { AreBlocks (blocks_of blocks) }
@@ -67,7 +67,7 @@ fn skip_to_root(blocks: Blocks) -> Result<usize, Fault>
 /// Reads the token of the root, which is at `place`.
 fn begin_root<'a>(
     alloc: Global,
-    blocks: Blocks<'a>,
+    blocks: Blocks<'a, '_>,
     depth_limit: usize,
     place: usize,
 ) -> Result<Reading<'a>, Error>
@@ -90,7 +90,7 @@ fn begin_root<'a>(
 /// Reads the tokens inside the root. Returns the offset after them, and the table.
 fn read_root<'a>(
     alloc: Global,
-    blocks: Blocks<'a>,
+    blocks: Blocks<'a, '_>,
     depth_limit: usize,
     begun: Reading<'a>,
 ) -> Result<(usize, Vec<Entry<'a>>), Error>

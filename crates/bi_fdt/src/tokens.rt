@@ -7,7 +7,7 @@ ghost use Rattle.bi_blob.specs.Tokens.{begin_node_number, prop_number};
 ghost use Rattle.bi_fdt.specs.Blocks.{blocks_of, AreBlocks, IsNumberAt};
 ghost use Rattle.bi_fdt.specs.Reading.{IsReading, IsAhead};
 
-use crate::blocks::{Blocks, child_name, number_at, property_at};
+use crate::blocks::{Blocks, child_name, name_digest, number_at, property_at};
 use crate::growing::{Ending, Growing};
 use crate::table::Entry;
 use bi_base::{Cause, Error, refuse, up4};
@@ -34,7 +34,7 @@ pub(crate) enum Next<'a> {
 /// or runs out of memory.
 pub(crate) fn step<'a>(
     alloc: Global,
-    blocks: Blocks<'a>,
+    blocks: Blocks<'a, '_>,
     depth_limit: usize,
     reading: Reading<'a>,
 ) -> Result<Next<'a>, Error>
@@ -71,7 +71,7 @@ pub(crate) fn step<'a>(
 /// Reads the token FDT_BEGIN_NODE at `reading.place`, with the same errors.
 fn begin_node<'a>(
     alloc: Global,
-    blocks: Blocks<'a>,
+    blocks: Blocks<'a, '_>,
     depth_limit: usize,
     reading: Reading<'a>,
 ) -> Result<Next<'a>, Error>
@@ -94,7 +94,7 @@ fn begin_node<'a>(
 
 /// Reads the token FDT_PROP at `reading.place`, with the same errors.
 fn add_property<'a>(
-    blocks: Blocks<'a>,
+    blocks: Blocks<'a, '_>,
     depth_limit: usize,
     reading: Reading<'a>,
 ) -> Result<Next<'a>, Error>
@@ -107,10 +107,11 @@ fn add_property<'a>(
 {
     let Reading { place, growing } = reading;
     let property = property_at(blocks, place, growing.is_childless())?;
+    let digest = name_digest(blocks, place, property.name);
     // Besides the value, the token has its number and two cells.
     let width = up4(property.value.len() + 12);
     Ok(Next::Inside(Reading {
         place: place + width,
-        growing: growing.add_property(property)?,
+        growing: growing.add_property(property, digest)?,
     }))
 }

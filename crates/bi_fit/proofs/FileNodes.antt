@@ -103,7 +103,7 @@ named-other {Own = Own} changed wanted change differ (node name own children lat
     where_changed false is rest = rw is (where_wanted (bytes_eq name wanted) refl rest)
 
 -- The image nodes of the tree.
-image_nodes_named : (nodes : Nodes FileNode) → nodes_or_none (children_of images_name (with_children_of images_name without_payloads (nodes_by_name nodes))) ≡ without_payloads (nodes_by_name (nodes_or_none (children_of images_name nodes)))
+pub image_nodes_named : (nodes : Nodes FileNode) → nodes_or_none (children_of images_name (with_children_of images_name without_payloads (nodes_by_name nodes))) ≡ without_payloads (nodes_by_name (nodes_or_none (children_of images_name nodes)))
 image_nodes_named none = refl
 image_nodes_named (node name own children later) = where_first (bytes_eq name images_name) refl (image_nodes_named later)
   where

@@ -1,30 +1,39 @@
-use Rattle.std.proofs.Common.{◌≡◌, ℕ, ◌+◌, ◌≤◌, List, [], ◌∷◌, length, Option, Some, None, refl, ap, ◌∙◌, arith}
+use Rattle.std.proofs.Common.{◌≡◌, ℕ, ◌+◌, ◌≤◌, Bool, List, [], ◌∷◌, length, Option, Some, None, refl, ap, ◌∙◌, arith}
 use Rattle.std.specs.FinMap.{insert, entries}
 use Rattle.bi_base.specs.Cells.{up4}
 use Rattle.bi_blob.specs.Tree.{Nodes, none, node, PropertyMap, FileNode, with_each}
 use Rattle.bi_blob.specs.Lookups.{Sibling}
 use Rattle.bi_blob.specs.Events.{Event}
 use Rattle.bi_blob.specs.Layout.{longest_text}
+use Rattle.bi_hash.specs.declared.algo.Algo.{Algo}
 use Rattle.bi_fit.specs.declared.form.Form.{Form}
 use Rattle.bi_fit.specs.declared.form.Form.TheVariants.{Embedded, External}
 use Rattle.bi_fit.specs.Names.{data_name}
-use Rattle.bi_fit.specs.ImageTree.{without_payload, without_payloads}
-use Rattle.bi_fit.specs.Text.{with_payload, with_payloads, end_after, payloads_end}
-use Rattle.bi_fit.specs.Additions.{HasCellSize, AreWithin, properties_by_name, nodes_by_name, begin_events, image_properties, sorted_images}
+use Rattle.bi_fit.specs.ImageTree.{without_payloads}
+use Rattle.bi_fit.specs.Text.{with_payloads, end_after, payloads_end}
+use Rattle.bi_fit.specs.TakenDigests.{algorithm_if_hashed, with_first_digest, images_with_digests_from}
+use Rattle.bi_fit.specs.Additions.{HasCellSize, AreWithin, properties_by_name, nodes_by_name, begin_events, sorted_images}
 use Rattle.bi_fit.proofs.Areas.{payloads_end-le}
 use Rattle.bi_fit.proofs.Adding.{begin_events-same}
 
 -- Image nodes that are added to a document.
 
--- The events with which an image node begins.
-abbrev pub image_begin : Form → (begin : ℕ) → Option (List ℕ) → Sibling FileNode → List Event
-image_begin form begin payload s = begin_events s.name (image_properties form begin payload s.own)
+-- The properties of a child of an image node, with the first of these digests if it gets one.
+abbrev pub child_properties : (hashed : Bool) → (digests : List ℕ) → Sibling FileNode → PropertyMap
+child_properties hashed digests s =
+    with_first_digest (algorithm_if_hashed hashed s.name (properties_by_name s.own)) digests (properties_by_name s.own)
 
--- It begins with its name and its properties, in which the payload was set.
-pub image_begins : (form : Form) (begin : ℕ) (payload : Option (List ℕ)) (s : Sibling FileNode) (name : List ℕ) (read set : PropertyMap) → name ≡ s.name → read ≡ properties_by_name s.own → set ≡ with_payload form begin payload (without_payload read) → begin_events name set ≡ image_begin form begin payload s
-image_begins form begin payload s name read set same_name is_read is_set =
-    begin_events-same name s.name set (image_properties form begin payload s.own) same_name
-    (is_set ∙ ap (λ properties. with_payload form begin payload (without_payload properties)) is_read)
+-- The events with which it begins.
+abbrev pub child_begin : (hashed : Bool) → (digests : List ℕ) → Sibling FileNode → List Event
+child_begin hashed digests s = begin_events s.name (child_properties hashed digests s)
+
+-- It begins with its name and its properties, in which the digest was set.
+pub child_begins : (hashed : Bool) (digests : List ℕ) (s : Sibling FileNode) (algo : Option Algo) (name : List ℕ) (read set : PropertyMap) → algo ≡ algorithm_if_hashed hashed s.name (properties_by_name s.own) → name ≡ s.name → read ≡ properties_by_name s.own → set ≡ with_first_digest algo digests read → begin_events name set ≡ child_begin hashed digests s
+child_begins hashed digests s algo name read set same_algo same_name is_read is_set =
+    begin_events-same name s.name set (child_properties hashed digests s) same_name
+    (is_set
+    ∙ ap (λ algo. with_first_digest algo digests read) same_algo
+    ∙ ap (with_first_digest (algorithm_if_hashed hashed s.name (properties_by_name s.own)) digests) is_read)
 
 -- Embedded payloads have no offsets.
 embedded_anywhere : (one other : ℕ) (payloads : List (Option (List ℕ))) (nodes : Nodes PropertyMap) → with_payloads Embedded one payloads nodes ≡ with_payloads Embedded other payloads nodes
@@ -41,10 +50,11 @@ next_end Embedded end payload = end
 next_end External end payload = end_after end payload
 
 -- The image nodes after the first.
-pub images-later : (form : Form) (end : ℕ) (payload : Option (List ℕ)) (payloads : List (Option (List ℕ))) (nodes : Nodes FileNode) → sorted_images form (end_after end payload) payloads nodes ≡ sorted_images form (next_end form end payload) payloads nodes
-images-later Embedded end payload payloads nodes =
-    ap (with_each entries) (embedded_anywhere (end_after end payload) end payloads (without_payloads (nodes_by_name nodes)))
-images-later External end payload payloads nodes = refl
+pub images-later : (hashes : Bool) (form : Form) (end : ℕ) (payload : Option (List ℕ)) (payloads : List (Option (List ℕ))) (digests : List ℕ) (nodes : Nodes FileNode) → sorted_images hashes form (end_after end payload) payloads digests nodes ≡ sorted_images hashes form (next_end form end payload) payloads digests nodes
+images-later hashes Embedded end payload payloads digests nodes =
+    ap (with_each entries)
+    (embedded_anywhere (end_after end payload) end payloads (images_with_digests_from hashes payloads digests (without_payloads (nodes_by_name nodes))))
+images-later hashes External end payload payloads digests nodes = refl
 
 -- Where payloads are within the longest text, the size of the first fits a cell,
 pub within_sized : (form : Form) (end : ℕ) (payload : Option (List ℕ)) (payloads : List (Option (List ℕ))) → AreWithin form end (payload ∷ payloads) → HasCellSize form payload

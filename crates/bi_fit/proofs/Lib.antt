@@ -36,6 +36,10 @@ pub mod NodeEvents
 pub mod PayloadEnds
 pub mod ImageNodes
 pub mod Reservations
+pub mod UpdatedTrees
+pub mod NewDigests
+pub mod TakenDigests
 pub mod NormalTrees
 pub mod NormalDocuments
 pub mod SameMeanings
+pub mod UpdatedVerdicts

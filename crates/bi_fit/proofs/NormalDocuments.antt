@@ -1,5 +1,4 @@
 use Rattle.std.proofs.Common.{◌≡◌, ℕ, ◌+◌, ◌<◌, List, map, length, Option, Result, sym, ap, subst, ◌∙◌, arith}
-use Rattle.std.proofs.lemmas.List.{length-map}
 use Rattle.std.specs.Result.{IfErr, IsErrAnd}
 use Rattle.bi_base.specs.declared.fault.Error.{Error}
 use Rattle.bi_base.specs.declared.fault.Error.TheVariants.{Refused}
@@ -14,30 +13,34 @@ use Rattle.bi_blob.specs.Stages.{AfterRoot}
 use Rattle.bi_blob.specs.Following.{stage_of_events}
 use Rattle.bi_fdt.specs.Content.{BlobContent, root_of}
 use Rattle.bi_lay.specs.Contents.{Content, empty_content, text_of}
+use Rattle.bi_fit.specs.declared.changes.Changes.{Changes}
 use Rattle.bi_fit.specs.declared.form.Form.{Form}
 use Rattle.bi_fit.specs.declared.form.Form.TheVariants.{External}
 use Rattle.bi_fit.specs.declared.image.Image.{Image}
 use Rattle.bi_fit.specs.ImageTree.{ImageTree}
 use Rattle.bi_fit.specs.Text.{normal_tree, payloads_end, blob_of, fit_text}
 use Rattle.bi_fit.specs.Content.{FitContent, read_image, tree_of, IsHeld}
+use Rattle.bi_fit.specs.Updating.{updated}
+use Rattle.bi_fit.specs.NewDigests.{new_digests}
 use Rattle.bi_fit.specs.Documents.{document_of, length_after_blob, IsDocumentError}
-use Rattle.bi_fit.specs.Additions.{MayAdd, with_events, with_reservations, HasDistinctNames, HaveImages, alone, payloads_of, sorted_root}
-use Rattle.bi_fit.proofs.NormalTrees.{held_distinct, held_count, held_events, held_closed, length-fit_text}
+use Rattle.bi_fit.specs.Additions.{MayAdd, with_events, with_reservations, HasDistinctNames, HaveImageNodes, AreImageNodes, alone, payloads_of, sorted_root}
+use Rattle.bi_fit.proofs.NormalTrees.{held_distinct, held_images, held_events, held_closed, length-fit_text}
 
 -- The document of a normal text, as it is built of a blob, its root and its images.
 
-module _ (content : FitContent) (held : IsHeld content) (form : Form)
+module _ (content : FitContent) (held : IsHeld content) (changes : Changes) (form : Form)
+    (digests : List ℕ) (is_digests : digests ≡ new_digests changes (tree_of content))
     (blob : BlobContent) (is_blob : blob ≡ content.blob)
     (images : List Image) (is_images : map read_image images ≡ content.images)
     (root : Sibling FileNode) (is_root : root ≡ root_node (root_of blob)) where
   same_root : root ≡ root_node (root_of content.blob)
   same_root = is_root ∙ ap (λ blob. root_node (root_of blob)) is_blob
 
-  -- There are as many images as image nodes.
-  pub images_count : HaveImages (length images) root.children
-  images_count =
-      subst (λ root. HaveImages (length images) root.children) (sym same_root)
-      (subst (λ n. HaveImages n (root_of content.blob).children) (sym (ap length is_images) ∙ length-map images read_image) (held_count content held))
+  -- The image nodes are those of the images, and the bytes hold their digests.
+  pub images_there : HaveImageNodes (AreImageNodes changes.hashes images digests) root.children
+  images_there =
+      subst (λ root. HaveImageNodes (AreImageNodes changes.hashes images digests) root.children) (sym same_root)
+      (held_images content held changes digests is_digests images is_images)
 
   -- The names of each node's properties are distinct.
   pub names_distinct : EachOwn HasDistinctNames (alone root)
@@ -45,13 +48,13 @@ module _ (content : FitContent) (held : IsHeld content) (form : Form)
 
   -- The events of the tree.
   abbrev pub tree_events : List Event
-  tree_events = events (sorted_root form (payloads_of images) root)
+  tree_events = events (sorted_root changes form (payloads_of images) digests root)
 
-  same_events : tree_events ≡ events_of (normal_tree form (tree_of content))
+  same_events : tree_events ≡ events_of (normal_tree form (updated changes (tree_of content)))
   same_events =
-      ap (λ payloads. events (sorted_root form payloads root)) (ap (map (λ image. image.payload)) is_images)
-      ∙ ap (λ root. events (sorted_root form (tree_of content).payloads root)) same_root
-      ∙ held_events content held form
+      ap (λ payloads. events (sorted_root changes form payloads digests root)) (ap (map (λ image. image.payload)) is_images)
+      ∙ ap (λ root. events (sorted_root changes form (tree_of content).payloads digests root)) same_root
+      ∙ held_events content held changes digests is_digests form
 
   module _ (cpu : ℕ) (is_cpu : cpu ≡ blob.cpu)
       (started reserved : Content) (is_started : started ≡ empty_content cpu) (is_reserved : reserved ≡ with_reservations started blob.reservations) where
@@ -62,21 +65,22 @@ module _ (content : FitContent) (held : IsHeld content) (form : Form)
     pub may_add_tree : MayAdd reserved tree_events
     may_add_tree =
         subst (MayAdd reserved) (sym same_events)
-        (subst (λ document. MayAdd document (events_of (normal_tree form (tree_of content)))) (sym same_reserved) (held_closed content held form).follow)
+        (subst (λ document. MayAdd document (events_of (normal_tree form (updated changes (tree_of content))))) (sym same_reserved)
+        (held_closed content held changes digests is_digests form).follow)
 
     -- Then the document is the one of the normal text.
-    pub is_document_of : (filled : Content) → filled ≡ with_events reserved tree_events → filled ≡ document_of form (tree_of content)
+    pub is_document_of : (filled : Content) → filled ≡ with_events reserved tree_events → filled ≡ document_of form (updated changes (tree_of content))
     is_document_of filled is_filled =
         is_filled
         ∙ ap (λ document. with_events document tree_events) same_reserved
         ∙ ap (with_events (with_reservations (empty_content cpu) blob.reservations)) same_events
-        ∙ ap (λ cpu. record { boot_cpu = cpu; reservations = blob.reservations; events = events_of (normal_tree form (tree_of content)) }) (is_cpu ∙ ap (λ blob. blob.cpu) is_blob)
-        ∙ ap (λ reservations. record { boot_cpu = content.blob.cpu; reservations = reservations; events = events_of (normal_tree form (tree_of content)) }) (ap (λ blob. blob.reservations) is_blob)
+        ∙ ap (λ cpu. record { boot_cpu = cpu; reservations = blob.reservations; events = events_of (normal_tree form (updated changes (tree_of content))) }) (is_cpu ∙ ap (λ blob. blob.cpu) is_blob)
+        ∙ ap (λ reservations. record { boot_cpu = content.blob.cpu; reservations = reservations; events = events_of (normal_tree form (updated changes (tree_of content))) }) (ap (λ blob. blob.reservations) is_blob)
 
 -- The root of the document has ended.
-pub document_closed : (content : FitContent) → IsHeld content → (form : Form) (filled : Content) → filled ≡ document_of form (tree_of content) → stage_of_events filled.events ≡ AfterRoot
-document_closed content held form filled is =
-    subst (λ document. stage_of_events document.events ≡ AfterRoot) (sym is) (held_closed content held form).closed
+pub document_closed : (content : FitContent) → IsHeld content → (changes : Changes) (form : Form) (digests : List ℕ) → digests ≡ new_digests changes (tree_of content) → (filled : Content) → filled ≡ document_of form (updated changes (tree_of content)) → stage_of_events filled.events ≡ AfterRoot
+document_closed content held changes form digests is_digests filled is =
+    subst (λ document. stage_of_events document.events ≡ AfterRoot) (sym is) (held_closed content held changes digests is_digests form).closed
 
 -- Its text and the payloads after it are the normal text.
 pub length-document : (form : Form) (tree : ImageTree) (filled : Content) (after : ℕ) → filled ≡ document_of form tree → after ≡ length_after_blob form tree.payloads → length (text_of filled) + after ≡ length (fit_text form tree)

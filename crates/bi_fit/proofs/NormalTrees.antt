@@ -1,10 +1,11 @@
-use Rattle.std.proofs.Common.{◌≡◌, ℕ, ◌+◌, ◌≤◌, Bool, true, false, List, [], length, bytes_eq, Option, Some, None, refl, sym, ap, subst, ◌∙◌, true≢false, arith, length-append}
+use Rattle.std.proofs.Common.{◌≡◌, ℕ, ◌+◌, ◌≤◌, Bool, true, false, List, [], map, length, bytes_eq, Option, Some, None, refl, sym, ap, ap₂, subst, ◌∙◌, true≢false, arith, length-append}
+use Rattle.std.proofs.lemmas.List.{length-map}
 use Rattle.std.specs.Prelude.{IsSome}
 use Rattle.std.specs.List.{AllByRecursion}
 use Rattle.std.specs.FinMap.{entries}
 use Rattle.std.proofs.lemmas.Slice.Eq.{bytes_eq-Decides}
 use Rattle.std.proofs.lemmas.Slice.Zip.{AllZip-long}
-use Rattle.bi_blob.specs.Tree.{Nodes, none, node, Property, FileNode, names, with_each, properties_of, IsNew, AreProperties, AreNodes, EachOwn}
+use Rattle.bi_blob.specs.Tree.{Nodes, none, node, Property, PropertyMap, FileNode, names, with_each, properties_of, IsNew, AreProperties, AreNodes, EachOwn}
 use Rattle.bi_blob.specs.Lookups.{siblings, root_node}
 use Rattle.bi_blob.specs.Events.{events, events_of}
 use Rattle.bi_blob.specs.Following.{most_open_nodes, AreClosedEvents, MayFollowInText}
@@ -14,18 +15,27 @@ use Rattle.bi_blob.proofs.Blobs.EventTrees.{same_events}
 use Rattle.bi_blob.proofs.Texts.NormalEvents.{normal_events_have_one_tree}
 use Rattle.bi_blob.proofs.Texts.Normal.{has_one_order}
 use Rattle.bi_fdt.specs.Content.{root_of}
+use Rattle.bi_fit.specs.declared.changes.Changes.{Changes}
 use Rattle.bi_fit.specs.declared.form.Form.{Form}
 use Rattle.bi_fit.specs.declared.form.Form.TheVariants.{Embedded, External}
+use Rattle.bi_fit.specs.declared.image.Image.{Image}
 use Rattle.bi_fit.specs.Names.{images_name}
 use Rattle.bi_fit.specs.ImageTree.{ImageTree, children_of, image_nodes, nodes_or_none, with_children_of, with_image_nodes, without_payloads}
 use Rattle.bi_fit.specs.File.{IsFitFile}
 use Rattle.bi_fit.specs.Documents.{length_after_blob}
 use Rattle.bi_fit.specs.Text.{with_payloads, normal_tree, blob_of, after_blob, fit_text}
-use Rattle.bi_fit.specs.Content.{FitContent, tree_of, IsReadImage, IsHeld}
-use Rattle.bi_fit.specs.Additions.{HasDistinctNames, HaveImages, alone, properties_by_name, nodes_by_name, sorted_nodes, sorted_images, sorted_root_children, sorted_root}
+use Rattle.bi_fit.specs.Content.{FitContent, read_image, tree_of, IsReadImage, IsHeld}
+use Rattle.bi_fit.specs.Updating.{with_time, with_new_digests, updated}
+use Rattle.bi_fit.specs.NewDigests.{digests_if_changed, new_digests}
+use Rattle.bi_fit.specs.TakenDigests.{HaveImageDigests, images_with_digests_from}
+use Rattle.bi_fit.specs.Nodes.{file_images}
+use Rattle.bi_fit.specs.Additions.{HasDistinctNames, HaveImageNodes, AreImageNodes, alone, properties_by_name, nodes_by_name, sorted_nodes, sorted_root_children, sorted_root}
 use Rattle.bi_fit.proofs.Meanings.{same_in_some}
 use Rattle.bi_fit.proofs.Areas.{length-payload_area}
 use Rattle.bi_fit.proofs.FileTrees.{is_image_tree, depth-image_tree}
+use Rattle.bi_fit.proofs.FileNodes.{image_nodes_named}
+use Rattle.bi_fit.proofs.UpdatedTrees.{new_images, updated_is_image_tree, depth-updated}
+use Rattle.bi_fit.proofs.TakenDigests.{are_taken, digests_bare}
 use Rattle.bi_fit.proofs.Contents.{content-normal_tree}
 use Rattle.bi_blob.proofs.Blobs.Lookups.{names-with_each}
 use Rattle.bi_fit.proofs.Texts.{depth-normal_tree}
@@ -42,26 +52,54 @@ other_name name differs = where_same (bytes_eq name images_name) refl
     where_same false is = is
 
 -- Nodes none of which has the name `images`.
-others_sorted : (form : Form) (payloads : List (Option (List ℕ))) (nodes : Nodes FileNode) → IsNew images_name (names nodes) → sorted_root_children form payloads nodes ≡ sorted_nodes nodes
-others_sorted form payloads none new = refl
-others_sorted form payloads (node name own children later) new =
-    rw (other_name name new.0) (ap (node name (entries (properties_by_name own)) (sorted_nodes children)) (others_sorted form payloads later new.1))
+others_sorted : (hashes : Bool) (form : Form) (payloads : List (Option (List ℕ))) (digests : List ℕ) (nodes : Nodes FileNode) → IsNew images_name (names nodes) → sorted_root_children hashes form payloads digests nodes ≡ sorted_nodes nodes
+others_sorted hashes form payloads digests none new = refl
+others_sorted hashes form payloads digests (node name own children later) new =
+    rw (other_name name new.0) (ap (node name (entries (properties_by_name own)) (sorted_nodes children)) (others_sorted hashes form payloads digests later new.1))
+
+-- The image nodes of the tree.
+abbrev bare_images : Nodes FileNode → Nodes PropertyMap
+bare_images nodes = nodes_or_none (children_of images_name (with_children_of images_name without_payloads (nodes_by_name nodes)))
 
 -- The children of the root of the normal tree, of which one at most has the name `images`.
-root_children : (IsOwn : FileNode → Type 0) (form : Form) (payloads : List (Option (List ℕ))) (nodes : Nodes FileNode) → AreNodes IsOwn nodes → with_each entries (with_children_of images_name (with_payloads form 0 payloads) (with_children_of images_name without_payloads (nodes_by_name nodes))) ≡ sorted_root_children form payloads nodes
-root_children IsOwn form payloads none are = refl
-root_children IsOwn form payloads (node name own children later) are =
-    where_first (bytes_eq name images_name) refl (root_children IsOwn form payloads later are.2)
-  where
-    changed : Nodes FileNode → Nodes (List Property)
-    changed nodes = with_each entries (with_children_of images_name (with_payloads form 0 payloads) (with_children_of images_name without_payloads (nodes_by_name nodes)))
+module _ (hashes : Bool) (form : Form) (payloads : List (Option (List ℕ))) (digests : List ℕ) where
+  changed : Nodes FileNode → Nodes (List Property)
+  changed nodes =
+      with_each entries
+      (with_children_of images_name (with_payloads form 0 payloads)
+      (with_children_of images_name (new_images hashes payloads) (with_children_of images_name without_payloads (nodes_by_name nodes))))
 
-    where_first : (b : Bool) → bytes_eq name images_name ≡ b → changed later ≡ sorted_root_children form payloads later → changed (node name own children later) ≡ sorted_root_children form payloads (node name own children later)
-    where_first true is rest =
-        let new : IsNew images_name (names later) = subst (λ name. IsNew name (names later)) ((bytes_eq-Decides name images_name).0 is) are.0.is_new in
-        rw (is, is) (ap (node name (entries (properties_by_name own)) (sorted_images form 0 payloads children)) (sym (others_sorted form payloads later new)))
-    where_first false is rest =
-        rw (is, is) (ap (node name (entries (properties_by_name own)) (sorted_nodes children)) rest)
+  root_children : (IsOwn : FileNode → Type 0) (nodes : Nodes FileNode) → AreNodes IsOwn nodes → digests ≡ digests_if_changed hashes payloads (bare_images nodes) → changed nodes ≡ sorted_root_children hashes form payloads digests nodes
+  unfolding changed
+  root_children IsOwn none are is_digests = refl
+  root_children IsOwn (node name own children later) are is_digests =
+      where_first (bytes_eq name images_name) refl is_digests (root_children IsOwn later are.2)
+    where
+      where_first : (b : Bool) → bytes_eq name images_name ≡ b → digests ≡ digests_if_changed hashes payloads (bare_images (node name own children later)) → (digests ≡ digests_if_changed hashes payloads (bare_images later) → changed later ≡ sorted_root_children hashes form payloads digests later) → changed (node name own children later) ≡ sorted_root_children hashes form payloads digests (node name own children later)
+      where_first true is is_digests rest =
+          let new : IsNew images_name (names later) = subst (λ name. IsNew name (names later)) ((bytes_eq-Decides name images_name).0 is) are.0.is_new in
+          let here : digests ≡ digests_if_changed hashes payloads (without_payloads (nodes_by_name children)) = rw (is, is) at is_digests in
+          let taken : images_with_digests_from hashes payloads digests (without_payloads (nodes_by_name children)) ≡ new_images hashes payloads (without_payloads (nodes_by_name children)) = (are_taken hashes payloads (without_payloads (nodes_by_name children)) digests here).same in
+          rw (is, is, is)
+          (ap₂ (node name (entries (properties_by_name own)))
+          (ap (λ images. with_each entries (with_payloads form 0 payloads images)) (sym taken))
+          (sym (others_sorted hashes form payloads digests later new)))
+      where_first false is is_digests rest =
+          rw (is, is, is) (ap (node name (entries (properties_by_name own)) (sorted_nodes children)) (rest (rw (is, is) at is_digests)))
+
+-- Other children that are the same change nothing.
+same_children : (nodes : Nodes PropertyMap) → with_children_of images_name (λ images. images) nodes ≡ nodes
+same_children none = refl
+same_children (node name own children later) = where_first (bytes_eq name images_name) refl (same_children later)
+  where
+    where_first : (b : Bool) → bytes_eq name images_name ≡ b → with_children_of images_name (λ images. images) later ≡ later → with_children_of images_name (λ images. images) (node name own children later) ≡ node name own children later
+    where_first true is rest = rw is refl
+    where_first false is rest = rw is (ap (node name own children) rest)
+
+-- New digests are new children of the node `images`.
+with_new_images : (hashes : Bool) (payloads : List (Option (List ℕ))) (nodes : Nodes PropertyMap) → with_new_digests hashes payloads nodes ≡ with_children_of images_name (new_images hashes payloads) nodes
+with_new_images false payloads nodes = sym (same_children nodes)
+with_new_images true payloads nodes = refl
 
 -- Nodes that a tree can have have what each of them has.
 each_own_from : {Own : Type 0} (P Q : Own → Type 0) → ((own : Own) → P own → Q own) → (nodes : Nodes Own) → AreNodes P nodes → EachOwn Q nodes
@@ -79,21 +117,21 @@ nodes_with_places P (node name own children later) are = (
 )
 
 -- None of these nodes has the name `images`.
-no_images : (count : ℕ) (nodes : Nodes FileNode) → IsNew images_name (names nodes) → HaveImages count nodes
-no_images count none new = tt
-no_images count (node name own children later) new = ((λ is. absurd (new.0 is)), no_images count later new.1)
+no_images : (AreImages : Nodes FileNode → Type 0) (nodes : Nodes FileNode) → IsNew images_name (names nodes) → HaveImageNodes AreImages nodes
+no_images AreImages none new = tt
+no_images AreImages (node name own children later) new = ((λ is. absurd (new.0 is)), no_images AreImages later new.1)
 
 -- The node of the name `images` has the image nodes as its children.
-images_counted : (IsOwn : FileNode → Type 0) (nodes inner : Nodes FileNode) → children_of images_name nodes ≡ Some inner → AreNodes IsOwn nodes → HaveImages (length (siblings inner)) nodes
-images_counted IsOwn none inner has are = tt
-images_counted IsOwn (node name own children later) inner has are =
-    where_first (bytes_eq name images_name) refl has (λ has. images_counted IsOwn later inner has are.2)
+images_found : (AreImages : Nodes FileNode → Type 0) (IsOwn : FileNode → Type 0) (nodes inner : Nodes FileNode) → children_of images_name nodes ≡ Some inner → AreNodes IsOwn nodes → AreImages inner → HaveImageNodes AreImages nodes
+images_found AreImages IsOwn none inner has are images = tt
+images_found AreImages IsOwn (node name own children later) inner has are images =
+    where_first (bytes_eq name images_name) refl has (λ has. images_found AreImages IsOwn later inner has are.2 images)
   where
-    where_first : (b : Bool) → bytes_eq name images_name ≡ b → children_of images_name (node name own children later) ≡ Some inner → (children_of images_name later ≡ Some inner → HaveImages (length (siblings inner)) later) → HaveImages (length (siblings inner)) (node name own children later)
+    where_first : (b : Bool) → bytes_eq name images_name ≡ b → children_of images_name (node name own children later) ≡ Some inner → (children_of images_name later ≡ Some inner → HaveImageNodes AreImages later) → HaveImageNodes AreImages (node name own children later)
     where_first true is has rest =
         let found : children ≡ inner = same_in_some children inner (rw is at has) in
         let new : IsNew images_name (names later) = subst (λ name. IsNew name (names later)) ((bytes_eq-Decides name images_name).0 is) are.0.is_new in
-        ((λ same. ap (λ nodes. length (siblings nodes)) found), no_images (length (siblings inner)) later new)
+        ((λ same. subst AreImages (sym found) images), no_images AreImages later new)
     where_first false is has rest =
         ((λ same. absurd (true≢false (sym ((bytes_eq-Decides name images_name).1 same) ∙ is))), rest (rw is at has))
 
@@ -127,36 +165,47 @@ module _ (content : FitContent) (held : IsHeld content) where
     tt,
   )
 
-  -- There are as many images as image nodes.
-  pub held_count : HaveImages (length content.images) (root_of content.blob).children
-  held_count =
-      subst (λ n. HaveImages n (root_of content.blob).children) (sym (AllZip-long (IsReadImage content.blob.file) (siblings (nodes_or_none (image_nodes (root_of content.blob)))) content.images held.images))
-      (images_counted (λ own. AreProperties (properties_of own)) (root_of content.blob).children (nodes_or_none (image_nodes (root_of content.blob))) (some_nodes (image_nodes (root_of content.blob)) held.has_images) held_nodes)
-
   -- The memory reservations are reservations.
   pub held_reservations : AllByRecursion IsReservation content.blob.reservations
   held_reservations = (is_image_tree content.blob.file (tree_of content) held_means).are_reservations
 
-  module _ (form : Form) where
-    -- The events of the normal tree are those of the nodes in their order.
-    pub held_events : events (sorted_root form (tree_of content).payloads (root_node (root_of content.blob))) ≡ events_of (normal_tree form (tree_of content))
-    held_events =
-        ap (λ children. events (node [] (entries (properties_by_name (root_of content.blob).own)) children none))
-        (sym (root_children (λ own. AreProperties (properties_of own)) form (tree_of content).payloads (root_of content.blob).children held_nodes))
+  module _ (changes : Changes) (digests : List ℕ) (is_digests : digests ≡ new_digests changes (tree_of content)) where
+    -- The image nodes are those of the images, and the bytes hold their digests.
+    pub held_images : (images : List Image) → map read_image images ≡ content.images → HaveImageNodes (AreImageNodes changes.hashes images digests) (root_of content.blob).children
+    held_images images is_images =
+        images_found (AreImageNodes changes.hashes images digests) (λ own. AreProperties (properties_of own)) (root_of content.blob).children (file_images content.blob)
+        (some_nodes (image_nodes (root_of content.blob)) held.has_images) held_nodes
+        (record {
+          same_count = sym (AllZip-long (IsReadImage content.blob.file) (siblings (file_images content.blob)) content.images held.images)
+              ∙ ap length (sym is_images) ∙ length-map images read_image;
+          has_digests = subst (λ payloads. HaveImageDigests changes.hashes payloads digests (nodes_by_name (file_images content.blob))) (ap (map (λ image. image.payload)) (sym is_images))
+              (digests_bare changes.hashes (tree_of content).payloads digests (nodes_by_name (file_images content.blob))
+              (are_taken changes.hashes (tree_of content).payloads (without_payloads (nodes_by_name (file_images content.blob))) digests
+              (is_digests ∙ ap (digests_if_changed changes.hashes (tree_of content).payloads) (image_nodes_named (root_of content.blob).children))).there);
+        })
 
-    -- They may follow one another, and they end the root.
-    pub held_closed : AreClosedEvents MayFollowInText (events_of (normal_tree form (tree_of content)))
-    unfolding held_means
-    held_closed = (normal_events_have_one_tree (events_of (normal_tree form (tree_of content)))).1 (record {
-      tree = record {
-        root = normal_tree form (tree_of content);
-        same = refl;
-        only = λ other also. same_events other (normal_tree form (tree_of content)) also;
-        is_tree = (content-normal_tree form (tree_of content) (is_image_tree content.blob.file (tree_of content) held_means)).is_tree;
-        shallow = subst (λ n. n ≤ most_open_nodes) (sym (depth-normal_tree form (tree_of content) ∙ depth-image_tree content.blob.file (tree_of content) held_means)) held.shallow;
-      };
-      is_normal = (has_one_order (with_image_nodes (with_payloads form 0 (tree_of content).payloads) (tree_of content).root)).is_normal;
-    })
+    module _ (form : Form) where
+      -- The events of the normal tree are those of the nodes in their order.
+      pub held_events : events (sorted_root changes form (tree_of content).payloads digests (root_node (root_of content.blob))) ≡ events_of (normal_tree form (updated changes (tree_of content)))
+      unfolding changed
+      held_events =
+          ap (λ children. events (node [] (entries (with_time changes.time (properties_by_name (root_of content.blob).own))) children none))
+          (sym (root_children changes.hashes form (tree_of content).payloads digests (λ own. AreProperties (properties_of own)) (root_of content.blob).children held_nodes is_digests)
+          ∙ ap (λ nodes. with_each entries (with_children_of images_name (with_payloads form 0 (tree_of content).payloads) nodes)) (sym (with_new_images changes.hashes (tree_of content).payloads (tree_of content).root.children)))
+
+      -- They may follow one another, and they end the root.
+      pub held_closed : AreClosedEvents MayFollowInText (events_of (normal_tree form (updated changes (tree_of content))))
+      unfolding held_means
+      held_closed = (normal_events_have_one_tree (events_of (normal_tree form (updated changes (tree_of content))))).1 (record {
+        tree = record {
+          root = normal_tree form (updated changes (tree_of content));
+          same = refl;
+          only = λ other also. same_events other (normal_tree form (updated changes (tree_of content))) also;
+          is_tree = (content-normal_tree form (updated changes (tree_of content)) (updated_is_image_tree changes (tree_of content) (is_image_tree content.blob.file (tree_of content) held_means))).is_tree;
+          shallow = subst (λ n. n ≤ most_open_nodes) (sym (depth-normal_tree form (updated changes (tree_of content)) ∙ depth-updated changes (tree_of content) ∙ depth-image_tree content.blob.file (tree_of content) held_means)) held.shallow;
+        };
+        is_normal = (has_one_order (with_image_nodes (with_payloads form 0 (tree_of content).payloads) (updated changes (tree_of content)).root)).is_normal;
+      })
 
 -- The length of a normal text.
 pub length-fit_text : (form : Form) (tree : ImageTree) → length (fit_text form tree) ≡ length (blob_of form tree) + length_after_blob form tree.payloads

@@ -13,7 +13,7 @@ use Rattle.bi_fit.specs.declared.key.Key.{Key}
 use Rattle.bi_fit.specs.declared.key.Key.TheVariants.{Kernel, Fdt, Ramdisk, Firmware, Loadables}
 use Rattle.bi_fit.specs.declared.key.Key.TheVariants.{Script}
 use Rattle.bi_fit.specs.Names.{images_name, configurations_name, algo_name, value_name}
-use Rattle.bi_fit.specs.Names.{default_name, key_name, all_keys}
+use Rattle.bi_fit.specs.Names.{default_name, timestamp_name, key_name, all_keys}
 use Rattle.bi_fit.specs.ImageTree.{ImageTree}
 
 -- The flattened image tree that is built from a description and a list of images (Flattened Image
@@ -62,7 +62,7 @@ abbrev pub root_properties : FitHead → List Property
 root_properties head =
     (codes "#address-cells", cell 1)
     ∷ (codes "description", text_value head.description)
-    ∷ (codes "timestamp", cell head.time)
+    ∷ (timestamp_name, cell head.time)
     ∷ []
 
 -- The properties of an image node.

@@ -5,6 +5,9 @@ pub mod File
 pub mod Faults
 pub mod Text
 pub mod Judgement
+pub mod Updating
+pub mod NewDigests
+pub mod UpdateLaws
 pub mod Building
 pub mod Content
 pub mod Fields
@@ -14,6 +17,7 @@ pub mod Documents
 pub mod Nodes
 pub mod Judging
 pub mod Siblings
+pub mod TakenDigests
 pub mod Additions
 pub mod PropertyMaps
 pub mod Laws

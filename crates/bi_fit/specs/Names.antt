@@ -43,6 +43,10 @@ algo_name = codes "algo"
 abbrev pub value_name : List ℕ
 value_name = codes "value"
 
+-- The property of the root that has the time of creation.
+abbrev pub timestamp_name : List ℕ
+timestamp_name = codes "timestamp"
+
 -- The property of `/configurations` that names the default configuration.
 abbrev pub default_name : List ℕ
 default_name = codes "default"

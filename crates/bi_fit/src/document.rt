@@ -10,6 +10,8 @@ ghost use Rattle.bi_blob.specs.Following.{stage_of_events};
 ghost use Rattle.bi_blob.specs.Layout.{longest_text};
 ghost use Rattle.bi_lay.specs.Contents.{text_of};
 ghost use Rattle.bi_fit.specs.Content.{tree_of};
+ghost use Rattle.bi_fit.specs.Updating.{updated};
+ghost use Rattle.bi_fit.specs.NewDigests.{new_digests};
 ghost use Rattle.bi_fit.specs.Documents.{document_of, IsDocument, IsDocumentError};
 ghost use Rattle.bi_fit.specs.Additions.{with_reservations, AreWithin};
 
@@ -19,6 +21,7 @@ mod payload_area;
 mod property_map;
 mod tree;
 
+use crate::changes::Changes;
 pub use crate::document::nodes::begin_with;
 pub use crate::document::payload_area::end_after;
 use crate::document::payload_area::payloads_end;
@@ -26,6 +29,7 @@ pub use crate::document::property_map::PropertyMap;
 use crate::document::tree::add_tree;
 use crate::fit::Fit;
 use crate::form::Form;
+use crate::image::Image;
 use bi_base::{Cause, Error, Fault, Limits, refuse};
 use bi_fdt::Blob;
 use bi_lay::Doc;
@@ -51,12 +55,35 @@ impl<'a> Fit<'a> {
         ensures document { IfOk result (IsDocument limits form (tree_of self.now)) }
         ensures failed { IfErr result (IsDocumentError limits form (tree_of self.now)) }
     {
+        self.to_updated_doc(alloc, Changes::default(), b"", form, limits)
+    }
+
+    /// Returns the document of the normal text in a form, as `to_doc` does, but of the tree after
+    /// an update. `digests` are those that `new_digests` returns. The document borrows them.
+    ///
+    /// The errors are those of `to_doc`, by the normal text of the updated tree.
+    pub fn to_updated_doc<'b>(
+        &self,
+        alloc: Global,
+        changes: Changes,
+        digests: &'b [u8],
+        form: Form,
+        limits: Limits,
+    ) -> Result<Doc<'b>, Error>
+    where
+        'a: 'b,
+        requires { digests.now ≡ new_digests changes (tree_of self.now) }
+        ensures document { IfOk result
+            (IsDocument limits form (updated changes (tree_of self.now))) }
+        ensures failed { IfErr result
+            (IsDocumentError limits form (updated changes (tree_of self.now))) }
+    {
         let limit = limits.file();
         let end = match form {
             Form::Embedded => 0,
             Form::External => payloads_end(self.images(), limit)?,
         };
-        let doc = self.build_doc(alloc, form)?;
+        let doc = self.build_updated_doc(alloc, changes, digests, form)?;
         check_size(&doc, end, limit)?;
         Ok(doc)
     }
@@ -68,11 +95,32 @@ impl<'a> Fit<'a> {
         ensures closed { IfOk result (λ doc. stage_of_events doc.events ≡ AfterRoot) }
         ensures failed { IfErr result (λ error. error ≡ OutOfMemory) }
     {
+        self.build_updated_doc(alloc, Changes::default(), b"", form)
+    }
+
+    /// Builds the document of the normal text of the updated tree, however long the text is.
+    fn build_updated_doc<'b>(
+        &self,
+        alloc: Global,
+        changes: Changes,
+        digests: &'b [u8],
+        form: Form,
+    ) -> Result<Doc<'b>, Error>
+    where
+        'a: 'b,
+        requires digests { digests.now ≡ new_digests changes (tree_of self.now) }
+        requires within { AreWithin form 0 (tree_of self.now).payloads }
+        ensures document { IfOk result (λ doc. doc
+            ≡ document_of form (updated changes (tree_of self.now))) }
+        ensures closed { IfOk result (λ doc. stage_of_events doc.events ≡ AfterRoot) }
+        ensures failed { IfErr result (λ error. error ≡ OutOfMemory) }
+    {
         self.held();
-        let blob = self.blob();
-        let mut doc = Doc::new(alloc, blob.boot_cpu())?;
+        let blob: &Blob<'b> = self.blob();
+        let images: &[Image<'b>] = self.images();
+        let mut doc: Doc<'b> = Doc::new(alloc, blob.boot_cpu())?;
         add_reservations(&mut doc, blob)?;
-        add_tree(alloc, &mut doc, blob.root(), form, self.images())?;
+        add_tree(alloc, &mut doc, blob.root(), changes, digests, form, images)?;
         Ok(doc)
     }
 }

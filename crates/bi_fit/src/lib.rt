@@ -2,6 +2,7 @@
 //! hashes, its configurations, and the document of its normal text.
 #![tactic(auto)]
 
+mod changes;
 mod comparing;
 mod configurations;
 mod document;
@@ -14,9 +15,12 @@ mod key;
 pub mod known_files;
 pub mod laws;
 mod lists;
+mod new_digests;
 mod nodes;
 mod signatures;
+pub mod update_laws;
 
+pub use changes::Changes;
 pub use configurations::{ConfigError, Configuration, Configurations, Named};
 pub use document::{PropertyMap, begin_with, check_size, end_after};
 pub use fit::Fit;

@@ -1,4 +1,4 @@
-use Rattle.std.specs.Prelude.{◌≡◌, ℕ, List, length}
+use Rattle.std.specs.Prelude.{◌≡◌, ℕ, List, [], Option, Some, None, length}
 use Rattle.bi_base.specs.Cells.{cell, AreBytes}
 use Rattle.bi_base.specs.Crc.{crc32}
 use Rattle.md5.specs.Md5.{md5}
@@ -17,6 +17,11 @@ digest_of Sha1 payload = sha1 payload
 digest_of Sha256 payload = sha256 payload
 digest_of Sha384 payload = sha384 payload
 digest_of Sha512 payload = sha512 payload
+
+-- The digest of a payload, or no bytes if there is no payload.
+abbrev pub digest_or_nothing : Algo → Option (List ℕ) → List ℕ
+digest_or_nothing algo None = []
+digest_or_nothing algo (Some payload) = digest_of algo payload
 
 -- The length of a digest in bytes (RFC 1321, chapter 3.5, FIPS 180-4, chapter 1).
 abbrev pub digest_size : Algo → ℕ

@@ -64,6 +64,20 @@ impl Algo {
         }
     }
 
+    /// The length of a digest in bytes: 4, 16, 20, 32, 48 or 64.
+    pub fn digest_size(self) -> usize
+        ensures { result ≡ digest_size self }
+    {
+        match self {
+            Algo::Crc32 => 4,
+            Algo::Md5 => 16,
+            Algo::Sha1 => 20,
+            Algo::Sha256 => 32,
+            Algo::Sha384 => 48,
+            Algo::Sha512 => 64,
+        }
+    }
+
     /// The index of the algorithm in the order of `Algo`.
     pub(crate) fn index(self) -> usize
         ensures { result ≡ algorithm_index self }

@@ -1,15 +1,17 @@
 //! The digests of one payload.
 #![tactic(auto, unfolding(bi_base::specs::Strings::text_before_nul))]
 
-ghost use Rattle.std.specs.Prelude.{◌≡◌, ◌<◌, ◌≤◌, Option, Some, IfSome};
+ghost use Rattle.std.specs.Prelude.{◌≡◌, ◌<◌, ◌≤◌, ◌++◌, Option, Some, IfSome, OnOk, OnErr};
 ghost use Rattle.std.specs.Option.{option_copied};
 ghost use Rattle.bi_hash.specs.Algos.{algorithm_index};
+ghost use Rattle.bi_hash.specs.Digests.{digest_or_nothing};
 ghost use Rattle.bi_hash.specs.Verdicts.{verdict_of};
 ghost use Rattle.bi_hash.specs.KeptDigests.{IsDigest};
 
 use crate::algo::Algo;
 use crate::verdicts::Verdict;
 use bi_base::text_before_nul;
+use std::alloc::AllocError;
 use std::marker::Model;
 
 /// A digest: the first bytes of a buffer.
@@ -19,7 +21,7 @@ struct Digest {
     length: usize,
 }
 
-/// The digests of a payload, each of which is made once, if a verdict needs it.
+/// The digests of a payload, each of which is made once, if it is needed.
 #[derive(Drop)]
 pub struct PayloadDigests<'a> {
     payload: Option<&'a [u8]>,
@@ -78,6 +80,21 @@ impl<'a> PayloadDigests<'a> {
         } else {
             Verdict::Bad
         }
+    }
+
+    /// Adds the digest of the payload by this algorithm to the end of `bytes`, or nothing if there
+    /// is no payload. Reads the payload if the digest was not made before. If memory runs out,
+    /// `bytes` is as it was.
+    pub fn append_digest(&mut self, algo: Algo, bytes: &mut Vec<u8>) -> Result<(), AllocError>
+        ensures added { OnOk result (bytes.new.items
+            ≡ bytes.old.items ++ digest_or_nothing algo self.old) }
+        ensures failed { OnErr result (bytes.new.items ≡ bytes.old.items) }
+        ensures same { self.new ≡ self.old }
+    {
+        if let Some(digest) = self.digest(algo) {
+            bytes.extend_from_slice(&digest.buffer[..digest.length])?;
+        }
+        Ok(())
     }
 
     /// The digest of the payload. None exactly if there is no payload.

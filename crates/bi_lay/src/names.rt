@@ -5,15 +5,18 @@ ghost use Rattle.bi_base.specs.declared.fault.Error.TheVariants.{OutOfMemory};
 ghost use Rattle.bi_blob.specs.Layout.{offset_in, strings_of};
 
 use bi_base::Error;
-use indexmap::IndexMap;
 use std::alloc::Global;
+use std::collections::BTreeMap;
 use std::marker::Model;
 
 /// The names that the strings block has, in the order of their first use (Devicetree
 /// Specification, 5.5). Contracts see the list of the names.
 #[derive(Drop)]
 pub(crate) struct Names<'a> {
-    offsets: IndexMap<&'a [u8], usize>,
+    names: Vec<&'a [u8]>,
+    /// The offset of each name. A name comes after its length, so that names of two lengths are
+    /// told apart without reading them.
+    offsets: BTreeMap<(usize, &'a [u8]), usize>,
     length: usize,
 }
 
@@ -38,7 +41,8 @@ impl<'a> Names<'a> {
         ensures { result ≡ [] }
     {
         Names {
-            offsets: IndexMap::new(alloc),
+            names: Vec::new(alloc),
+            offsets: BTreeMap::new(alloc),
             length: 0,
         }
     }
@@ -55,12 +59,12 @@ impl<'a> Names<'a> {
     pub(crate) fn as_slice(&self) -> &[&'a [u8]]
         ensures { bytes_of result.now ≡ self.now }
     {
-        self.offsets.keys().as_slice()
+        &self.names
     }
 
     /// Adds a name if it is not there yet, and returns its offset in the strings block, or the
-    /// greatest `usize` if it is greater than that. The time it takes is linear in the name's
-    /// length, whatever other names there are.
+    /// greatest `usize` if it is greater than that. It takes log n comparisons, for n names, and
+    /// only names of the same length are read.
     ///
     /// The only error is `OutOfMemory`, and the names are unchanged then.
     pub(crate) fn add(&mut self, name: &'a [u8]) -> Result<usize, Error>
@@ -69,11 +73,13 @@ impl<'a> Names<'a> {
         ensures names { OnOk result (self.new ≡ with_name self.old name.entry.now) }
         ensures refused { IfErr result (λ error. (error ≡ OutOfMemory) × (self.new ≡ self.old)) }
     {
-        if let Some(offset) = self.offsets.get(&name) {
+        if let Some(offset) = self.offsets.get(&(name.len(), name)) {
             return Ok(*offset);
         }
+        self.names.reserve(1)?;
         let offset = self.length;
-        self.offsets.insert(name, offset)?;
+        self.offsets.insert((name.len(), name), offset)?;
+        self.names.push(name).unwrap();
         self.length = offset.saturating_add(name.len()).saturating_add(1);
         Ok(offset)
     }

@@ -15,6 +15,7 @@ pub mod NoFaultMeans
 pub mod NormalBytes
 pub mod NormalLength
 pub mod NormalForms
+pub mod UpdatedImages
 pub mod NormalParts
 pub mod NthPart
 pub mod OneMeaning

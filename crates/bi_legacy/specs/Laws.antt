@@ -3,11 +3,12 @@ use Rattle.std.specs.List.{AllByRecursion}
 use Rattle.bi_base.specs.declared.fault.Fault.{Fault}
 use Rattle.bi_base.specs.Cells.{AreBytes}
 use Rattle.bi_base.specs.Limits.{Bounds}
-use Rattle.bi_legacy.specs.Meaning.{LegacyImage, FitsFields}
+use Rattle.bi_legacy.specs.Meaning.{LegacyImage, FitsFields, with_new_time}
 use Rattle.bi_legacy.specs.File.{BeginsWithMagic, IsLegacyFile, LegacyMeans}
 use Rattle.bi_legacy.specs.Text.{legacy_text, IsLegacyImage}
 use Rattle.bi_legacy.specs.Faults.{IsLegacyFault, HasNoLegacyFault}
 use Rattle.bi_legacy.specs.Emitting.{HasNoEmitFault}
+use Rattle.bi_legacy.specs.NormalForm.{HasNormalForm}
 
 -- The laws of legacy images (U-Boot, include/image.h; profile of this project). A function of
 -- `laws` proves each of them.
@@ -81,6 +82,14 @@ abbrev pub TextsDiffer : Type 0
 TextsDiffer =
     (f g : List ℕ) (a b : LegacyImage) → IsLegacyFile f a → IsLegacyFile g b →
     (legacy_text a ≡ legacy_text b) ↔ (a ≡ b)
+
+-- An image that a file means within the limits, with another time, has a normal form within them:
+-- it can be written, and its normal text is accepted and means it.
+abbrev pub UpdatedHasNormalForm : Type 0
+UpdatedHasNormalForm =
+    (file : List ℕ) (image : LegacyImage) (limits : Bounds) (time : ℕ) →
+    LegacyMeans limits file image → time < 2 ^ 32 →
+    HasNormalForm limits (with_new_time time image)
 
 -- An image that a file means within the limits can be written within them.
 abbrev pub MeaningCanBeWritten : Type 0

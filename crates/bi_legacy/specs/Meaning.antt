@@ -30,6 +30,10 @@ image_of fields parts =
       parts = parts;
     }
 
+-- The image with another time of creation.
+abbrev pub with_new_time : (time : ℕ) → LegacyImage → LegacyImage
+with_new_time time image = record image { time = time }
+
 -- Whether the data of this type begins with a part table, the list of the part sizes: 4 is multi, 6
 -- is script (U-Boot, include/image.h: IH_TYPE_MULTI, IH_TYPE_SCRIPT).
 abbrev pub has_part_table : ℕ → Bool

@@ -4,7 +4,7 @@ ghost use Rattle.std.specs.Prelude.{◌≡◌, ◌↔◌, ◌+◌, ◌*◌, ◌^
 ghost use Rattle.std.specs.Prelude.{OnOk, IfOk, IfErr, IfSome, MatchOption, MatchBool, ⊤};
 ghost use Rattle.bi_base.specs.Crc.{crc32};
 ghost use Rattle.bi_base.specs.Checks.{IsFirstFault, HasNoFault};
-ghost use Rattle.bi_legacy.specs.Meaning.{IsImageName, has_part_table};
+ghost use Rattle.bi_legacy.specs.Meaning.{IsImageName, has_part_table, with_new_time};
 ghost use Rattle.bi_legacy.specs.Parts.{parts_end_from, parts_start};
 ghost use Rattle.bi_legacy.specs.Text.{normal_body};
 ghost use Rattle.bi_legacy.specs.Emitting.{EmitPartPasses, emit_part_fault, emit_part_checks};
@@ -62,13 +62,27 @@ pub fn emit_image<S: Sink>(
     requires { bytes_of parts.now ≡ image.now.image.parts }
     ensures { WroteImage S.appends S.fails limits image.now.image sink.old result sink.new }
 {
-    emit_with(
-        image.fields(),
-        parts,
-        image.normal_data_checksum(),
-        limits,
-        sink,
-    )
+    emit_updated_image(image, image.fields().time, parts, limits, sink)
+}
+
+/// Appends the normal text of an image that was read, with this time of creation, as `emit_image`
+/// does for the image as it is.
+pub fn emit_updated_image<S: Sink>(
+    image: &Legacy<'_>,
+    time: u32,
+    parts: &[&[u8]],
+    limits: Limits,
+    sink: &mut S,
+) -> Result<(), Error>
+    requires { bytes_of parts.now ≡ image.now.image.parts }
+    ensures { let updated = with_new_time time image.now.image in
+        WroteImage S.appends S.fails limits updated sink.old result sink.new }
+{
+    let fields = Fields {
+        time,
+        ..image.fields()
+    };
+    emit_with(fields, parts, image.normal_data_checksum(), limits, sink)
 }
 
 /// Appends the normal text of an image with these fields and parts, whose normal data may have a

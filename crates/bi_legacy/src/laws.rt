@@ -7,7 +7,7 @@ ghost use Rattle.bi_legacy.specs.Laws.{NoMeaningWithFault};
 ghost use Rattle.bi_legacy.specs.Laws.{OneLegacyFault, ImagesOfFiles, TextMeansImage};
 ghost use Rattle.bi_legacy.specs.Laws.{TextIsNoLonger};
 ghost use Rattle.bi_legacy.specs.Laws.{TextIsItsOwnNormalForm, TextsDiffer, MeaningCanBeWritten};
-ghost use Rattle.bi_legacy.specs.Laws.{WrittenTextMeansImage};
+ghost use Rattle.bi_legacy.specs.Laws.{WrittenTextMeansImage, UpdatedHasNormalForm};
 ghost use Rattle.bi_legacy.specs.KnownImages.{HasKernelText, HasMultiText, HasFirmwareText};
 
 /// A file means at most one image.
@@ -69,6 +69,12 @@ pub fn text_is_its_own_normal_form()
 /// Two files have the same normal text exactly if they mean the same image.
 pub fn texts_differ()
     ensures { TextsDiffer }
+{}
+
+/// An image that a file means within the limits, with another time, can be written within them, and
+/// its normal text means it.
+pub fn updated_has_normal_form()
+    ensures { UpdatedHasNormalForm }
 {}
 
 /// An image that a file means within the limits can be written within them.

@@ -15,7 +15,7 @@ mod part_table;
 mod parts;
 mod text;
 
-pub use emitting::{emit, emit_image};
+pub use emitting::{emit, emit_image, emit_updated_image};
 pub use fields::Fields;
 pub use header::MAGIC;
 pub use legacy::Legacy;

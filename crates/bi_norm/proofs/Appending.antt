@@ -1,7 +1,8 @@
-use Rattle.std.proofs.Common.{◌≡◌, ℕ, List, Result, Ok, Err, OnOk, IfErr, subst, sym}
+use Rattle.std.proofs.Common.{◌≡◌, ℕ, List, Result, Ok, Err, OnOk, IfErr, refl, subst, sym}
 use Rattle.bi_base.specs.declared.fault.Error.{Error}
 use Rattle.bi_base.specs.declared.fault.Error.TheVariants.{OutOfMemory}
 use Rattle.bi_base.specs.Commands.{Appended, AppendFailed, WasRefused, SinkFailed}
+use Rattle.bi_base.specs.Sinks.{Wrote}
 
 -- Calls that append a text to a sink.
 
@@ -33,3 +34,13 @@ pub error_in_memory : {S : Type 0} (fails : S → List ℕ → S → Error → T
 error_in_memory fails IsText HasError old new error full needs (WasRefused is same) = is
 error_in_memory fails IsText HasError old new error full needs (SinkFailed text cause is failed same) =
     subst HasError (sym (full text (subst (fails old text new) (sym same) failed))) (needs text is)
+
+-- What a call that appends a text to a sink did, if it succeeded,
+pub wrote_text : {S V : Type 0} (appends : S → List ℕ → S → Type 0) (fails : S → List ℕ → S → Error → Type 0) (old : S) (text : List ℕ) (result : Result V Error) (new : S) → Wrote appends fails old text result new → OnOk result (appends old text new)
+wrote_text appends fails old text (Ok value) new wrote = wrote
+wrote_text appends fails old text (Err error) new wrote = tt
+
+-- and if it failed.
+pub wrote_no_text : {S V : Type 0} (appends : S → List ℕ → S → Type 0) (fails : S → List ℕ → S → Error → Type 0) (HasError : Error → Type 0) (old : S) (text : List ℕ) (result : Result V Error) (new : S) → Wrote appends fails old text result new → IfErr result (AppendFailed fails (λ other. other ≡ text) HasError old new)
+wrote_no_text appends fails HasError old text (Ok value) new wrote = tt
+wrote_no_text appends fails HasError old text (Err error) new wrote = SinkFailed text error refl wrote refl

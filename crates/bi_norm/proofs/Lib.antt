@@ -1,6 +1,7 @@
 pub mod Opening
 pub mod PayloadAreas
 pub mod NormalForms
+pub mod Documents
 pub mod KindLaws
 pub mod ConvertedImages
 pub mod Pieces

@@ -1,5 +1,6 @@
-use Rattle.std.proofs.Common.{◌≡◌, ◌≤◌, ◌⊎◌, ◌↔◌, ℕ, List, ◌∷◌, length, refl, sym, ap, ◌∙◌, inl, inr, arith}
+use Rattle.std.proofs.Common.{◌≡◌, ◌≤◌, ◌⊎◌, ◌↔◌, ℕ, List, ◌∷◌, length, refl, sym, ap, subst, ◌∙◌, inl, inr, arith}
 use Rattle.bi_base.specs.Cells.{cell, u32_at}
+use Rattle.bi_base.specs.Commands.{AppendFailed, WasRefused, SinkFailed}
 use Rattle.bi_base.specs.Limits.{Bounds}
 use Rattle.bi_base.specs.declared.fault.Error.{Error}
 use Rattle.bi_base.specs.declared.fault.Error.TheVariants.{Refused, OutOfMemory, ReadFailed, WriteFailed}
@@ -151,3 +152,10 @@ open_error limits form file (Refused fault) is = inl is
 open_error limits form file OutOfMemory is = is
 open_error limits form file ReadFailed is = is
 open_error limits form file WriteFailed is = is
+
+-- A legacy image whose normal text was not written: memory ran out, or the sink failed.
+pub legacy_not_written : {S : Type 0} {fails : S → List ℕ → S → Error → Type 0} (limits : Bounds) (form : Form) (file : List ℕ) (parsed : ParsedImage) (written : List ℕ) (old new : S) (error : Error) → IsParsedImage limits file parsed → written ≡ legacy_text parsed.image → AppendFailed fails (λ text. text ≡ written) (λ error. error ≡ OutOfMemory) old new error → AppendFailed fails (IsNormalForm limits form file) (IsNormaliseError limits form file) old new error
+legacy_not_written limits form file parsed written old new error opened is_written (WasRefused is same) =
+    WasRefused (subst (IsNormaliseError limits form file) (sym is) (ForLegacyImage parsed.image opened.means)) same
+legacy_not_written limits form file parsed written old new error opened is_written (SinkFailed text cause is failed same) =
+    SinkFailed text cause (subst (IsNormalForm limits form file) (sym (is ∙ is_written)) (legacy_normal_form limits form file parsed opened)) failed same

@@ -4,6 +4,7 @@ pub mod OpenedMeaning
 pub mod Meaning
 pub mod Faults
 pub mod NormalForm
+pub mod Texts
 pub mod Converting
 pub mod Cutting
 pub mod LegacyBuilding

@@ -13,6 +13,7 @@ pub mod laws;
 mod legacy;
 mod normal_form;
 mod payloads;
+mod texts;
 
 pub use bi_fit::Form;
 pub use building::{Head, ImageSpec, build_fit, build_fit_into};
@@ -23,3 +24,4 @@ pub use image::BootImage;
 pub use kind::{Kind, kind_of};
 pub use legacy::build_legacy;
 pub use normal_form::{Normaliser, normalise, normalise_into, normalise_to};
+pub use texts::{append_document, append_legacy};

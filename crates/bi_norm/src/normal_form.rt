@@ -1,6 +1,6 @@
 //! The normal form of a boot image.
 
-ghost use Rattle.std.specs.Prelude.{◌≡◌, ℕ, List, ⊤, map, IfOk, IfErr};
+ghost use Rattle.std.specs.Prelude.{ℕ, List, ⊤, IfOk, IfErr};
 ghost use Rattle.bi_base.specs.Commands.{Appended, AppendFailed};
 ghost use Rattle.bi_base.specs.Pipes.{IsPiped};
 ghost use Rattle.bi_fit.specs.declared.form.Form.{Form};
@@ -10,10 +10,10 @@ ghost use Rattle.bi_norm.specs.NormalForm.{IsNormalForm, IsNormaliseError, Norma
 ghost use Rattle.bi_norm.specs.NormalForm.{normalise_promise, normalise_laws};
 
 use crate::image::BootImage;
-use crate::payloads::put_payloads;
+use crate::texts::{append_document, append_legacy};
 use bi_base::{Command, Error, Limits, Sink, VecSink, pipe_to};
 use bi_fit::{Fit, Form};
-use bi_legacy::{Legacy, emit_image};
+use bi_legacy::Legacy;
 use std::alloc::Global;
 use std::io::{Read, Write};
 
@@ -75,8 +75,7 @@ fn emit_legacy<S: Sink>(
         IfErr result (AppendFailed S.fails (IsNormalForm limits form file)
         (IsNormaliseError limits form file) sink.old sink.new) }
 {
-    let parts = parts_of(alloc, image)?;
-    emit_image(image, &parts, limits, sink)?;
+    append_legacy(alloc, image, image.fields().time, limits, sink)?;
     Ok(0)
 }
 
@@ -97,24 +96,8 @@ fn emit_fit<S: Sink>(
         (IsNormaliseError limits form file) sink.old sink.new) }
 {
     let document = fit.to_doc(alloc, form, limits)?;
-    document.emit(sink)?;
-    if form == Form::External {
-        put_payloads(fit.images(), sink)?;
-    }
+    append_document(&document, fit.images(), form, sink)?;
     Ok(fit.signature_count())
-}
-
-/// Returns the parts of a legacy image, in their order.
-fn parts_of<'a>(alloc: Global, image: &Legacy<'a>) -> Result<Vec<&'a [u8]>, Error>
-    ensures parts { IfOk result (λ parts. map (λ part. part.now) parts.items
-        ≡ image.now.image.parts) }
-    ensures error { IfErr result (λ error. error ≡ Error.OutOfMemory) }
-{
-    let mut parts = Vec::with_capacity(alloc, image.part_count())?;
-    for part in image.parts() {
-        parts.push(part.bytes)?;
-    }
-    Ok(parts)
 }
 
 /// Normalising, as a command: `normalise_into` with this form.

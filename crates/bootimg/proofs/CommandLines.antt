@@ -11,16 +11,18 @@ use Rattle.bi_norm.specs.declared.building.ImageSpec.{ImageSpec}
 use Rattle.bootimg.specs.CodeWords.{IsCode}
 use Rattle.clap.specs.Matches.{raw_values}
 use Rattle.clap.specs.declared.parser.matches.MatchedArg.{MatchedArg}
-use Rattle.bootimg.specs.CommandLine.{list_of, option_of, parts_of, texts_of, AreGiven, AreImages, AreNumbers, FailsWith, IsEntry, IsFirstBad, IsSelection, IsSelectionFailure, IsTaskFailure, IsTaskOutcome, IsAddress, IsBadValue, IsImage, IsImageText, NoneIs}
+use Rattle.bootimg.specs.CommandLine.{given_count, list_of, option_of, parts_of, texts_of, AreEscaped, AreGiven, AreImages, ArePartSources, FailsWith, IsEntry, IsFirstBad, IsSelection, IsSelectionFailure, IsTaskFailure, IsTaskOutcome, IsAddress, IsBadValue, IsImage, IsImageText, IsNameOf, IsPartSource, NoneIs, SelectsDefault}
 use Rattle.bootimg.specs.Numbers.{IsNumber}
 use Rattle.bootimg.specs.declared.codes.CodeField.TheVariants.{Os, Arch, ImageType, Compression}
 use Rattle.bootimg.specs.declared.command_line.image.ImageTexts.{ImageTexts}
+use Rattle.bootimg.specs.declared.command_line.part.PartSource.{PartSource}
+use Rattle.bootimg.specs.declared.command_line.part.PartSource.TheVariants as source
 use Rattle.bootimg.specs.declared.command_line.Outcome.{Outcome}
 use Rattle.bootimg.specs.declared.command_line.Outcome.TheVariants as outcome
-use Rattle.bi_commands.specs.declared.extract.Select.TheVariants.{Part, Image, Config}
+use Rattle.bootimg.specs.declared.command_line.extract.Selected.TheVariants.{Part, Image, Config, Default}
 use Rattle.clap.specs.declared.parser.matches.ArgMatches.{ArgMatches}
 use Rattle.bootimg.specs.declared.failure.Failure.{Failure}
-use Rattle.bootimg.specs.declared.failure.Failure.TheVariants.{BadValue}
+use Rattle.bootimg.specs.declared.failure.Failure.TheVariants.{BadValue, NoSelection}
 
 -- The arguments of the program.
 
@@ -40,10 +42,20 @@ bad_value Is (Some value) result same exactly = subst (λ r. IfErr r (IsBadValue
 bad_value Is None result same exactly =
     subst (λ r. IfErr r (IsBadValue Is)) (sym same) (refl, λ value is. absurd (let e = exactly value is in cc))
 
+-- The failure of a text that was not parsed.
+pub not_parsed : {T : Type 0} (Is : T → Type 0) (option : Option T) (result : Result T Failure) → result ≡ ok_or option BadValue → IfNone option (NoneIs Is) → IfErr result (IsBadValue Is)
+not_parsed Is (Some value) result same none = subst (λ r. IfErr r (IsBadValue Is)) (sym same) tt
+not_parsed Is None result same none = subst (λ r. IfErr r (IsBadValue Is)) (sym same) (refl, none)
+
 -- A word that is neither `-` nor a number is no address.
 pub no_address : (word : List ℕ) → (IsAddress word None → ⊥) → ((number : ℕ) → IsNumber word number → ⊥) → NoneIs (IsAddress word)
 no_address word differs none None is = differs is
 no_address word differs none (Some number) is = none number is
+
+-- A word that is neither a number nor begins with `@` is no part.
+pub no_source : (word : List ℕ) → ((rest : List ℕ) → word ≡ 64 ∷ rest → ⊥) → ((number : ℕ) → IsNumber word number → ⊥) → NoneIs (IsPartSource word)
+no_source word no_name none (source.Input size) is = none size is
+no_source word no_name none (source.File name) is = no_name name.now is
 
 -- A text that is split at its first colon.
 pub field_split : (word : List ℕ) (result : Option (Bor (List ℕ) × Bor (List ℕ))) → MatchOption result (position_or_len (λ b. b == 58) word ≡ length word) (λ x. (x.0.now ≡ before_first (λ b. b == 58) word) × (x.1.now ≡ after_first (λ b. b == 58) word) × (position_or_len (λ b. b == 58) word < length word)) → IfSome result (λ split. parts_of word ≡ split.0.now ∷ parts_of split.1.now)
@@ -66,7 +78,7 @@ parts_not_empty word empty =
     omega arith
 
 -- The image of the same fields.
-pub same_image : (texts others : ImageTexts) (image : ImageSpec × ℕ) → list_of texts ≡ list_of others → IsImage others image → IsImage texts image
+pub same_image : (texts others : ImageTexts) (image : ImageSpec × PartSource) → list_of texts ≡ list_of others → IsImage others image → IsImage texts image
 same_image texts others image same is =
     let name : others.name.now ≡ texts.name.now = cc in
     let image_type : others.image_type.now ≡ texts.image_type.now = cc in
@@ -85,7 +97,7 @@ same_image texts others image same is =
       load = subst (λ text. IsAddress text image.0.load) load is.load;
       entry = subst (λ text. IsAddress text image.0.entry) entry is.entry;
       payload = is.payload;
-      length_is = subst (λ text. IsNumber text image.1) last is.length_is;
+      source = subst (λ text. IsPartSource text image.1) last is.source;
     }
 
 -- A text is no image if its fields are none.
@@ -123,40 +135,40 @@ pub texts_push : (words : List (Bor (List ℕ))) (index : ℕ) (d : Bor (List �
 texts_push words index d within =
     ap texts_of (take_more words index d within) ∙ map-append (λ (word : Bor (List ℕ)). word.now) (take index words) (get_or words index d ∷ [])
 
--- A word that is no number is in no list of numbers.
-pub no_numbers : (words : List (Bor (List ℕ))) (index : ℕ) (d : Bor (List ℕ)) → index < length words → NoneIs (IsNumber (get_or words index d).now) → NoneIs (AreNumbers (texts_of words))
-no_numbers [] index d within none numbers are = absurd (omega (arith, within))
-no_numbers (word ∷ words) index d within none [] are = absurd are
-no_numbers (word ∷ words) zero d within none (number ∷ numbers) are = none number are.0
-no_numbers (word ∷ words) (suc index) d within none (number ∷ numbers) are =
-    no_numbers words index d (omega (arith, within)) none numbers are.1
+-- A word that is no part is in no list of parts.
+pub no_parts : (words : List (Bor (List ℕ))) (index : ℕ) (d : Bor (List ℕ)) → index < length words → NoneIs (IsPartSource (get_or words index d).now) → NoneIs (ArePartSources (texts_of words))
+no_parts [] index d within none parts are = absurd (omega (arith, within))
+no_parts (word ∷ words) index d within none [] are = absurd are
+no_parts (word ∷ words) zero d within none (part ∷ parts) are = none part are.0
+no_parts (word ∷ words) (suc index) d within none (part ∷ parts) are =
+    no_parts words index d (omega (arith, within)) none parts are.1
 
 -- One more image.
-pub images_push : (words : List (List ℕ)) (images : List ImageSpec) (sizes : List ℕ) (word : List ℕ) (image : ImageSpec) (size : ℕ) → AreImages words images sizes → IsImageText word (image, size) → AreImages (words ++ word ∷ []) (images ++ image ∷ []) (sizes ++ size ∷ [])
-images_push [] [] [] word image size are is = (is, tt)
-images_push [] [] (s ∷ sizes) word image size are is = absurd are
-images_push [] (i ∷ images) sizes word image size are is = absurd are
-images_push (w ∷ words) [] sizes word image size are is = absurd are
-images_push (w ∷ words) (i ∷ images) [] word image size are is = absurd are
-images_push (w ∷ words) (i ∷ images) (s ∷ sizes) word image size are is = (are.0, images_push words images sizes word image size are.1 is)
+pub images_push : (words : List (List ℕ)) (images : List ImageSpec) (payloads : List PartSource) (word : List ℕ) (image : ImageSpec) (payload : PartSource) → AreImages words images payloads → IsImageText word (image, payload) → AreImages (words ++ word ∷ []) (images ++ image ∷ []) (payloads ++ payload ∷ [])
+images_push [] [] [] word image payload are is = (is, tt)
+images_push [] [] (s ∷ payloads) word image payload are is = absurd are
+images_push [] (i ∷ images) payloads word image payload are is = absurd are
+images_push (w ∷ words) [] payloads word image payload are is = absurd are
+images_push (w ∷ words) (i ∷ images) [] word image payload are is = absurd are
+images_push (w ∷ words) (i ∷ images) (s ∷ payloads) word image payload are is = (are.0, images_push words images payloads word image payload are.1 is)
 
 -- Each of words that are images is one.
-pub image_at : (words : List (List ℕ)) (images : List ImageSpec) (sizes : List ℕ) (index : ℕ) (word : List ℕ) → AreImages words images sizes → slice_get words index ≡ Some word → (image : ImageSpec × ℕ) × IsImageText word image
-image_at [] images sizes index word are is = absurd cc
-image_at (w ∷ words) [] sizes index word are is = absurd are
+pub image_at : (words : List (List ℕ)) (images : List ImageSpec) (payloads : List PartSource) (index : ℕ) (word : List ℕ) → AreImages words images payloads → slice_get words index ≡ Some word → (image : ImageSpec × PartSource) × IsImageText word image
+image_at [] images payloads index word are is = absurd cc
+image_at (w ∷ words) [] payloads index word are is = absurd are
 image_at (w ∷ words) (i ∷ images) [] index word are is = absurd are
-image_at (w ∷ words) (i ∷ images) (s ∷ sizes) zero word are is =
+image_at (w ∷ words) (i ∷ images) (s ∷ payloads) zero word are is =
     let same : w ≡ word = cc in ((i, s), subst (λ text. IsImageText text (i, s)) same are.0)
-image_at (w ∷ words) (i ∷ images) (s ∷ sizes) (suc index) word are is = image_at words images sizes index word are.1 is
+image_at (w ∷ words) (i ∷ images) (s ∷ payloads) (suc index) word are is = image_at words images payloads index word are.1 is
 
--- As many images as lengths.
-pub images_long : (words : List (List ℕ)) (images : List ImageSpec) (sizes : List ℕ) → AreImages words images sizes → length sizes ≡ length images
+-- As many images as payloads.
+pub images_long : (words : List (List ℕ)) (images : List ImageSpec) (payloads : List PartSource) → AreImages words images payloads → length payloads ≡ length images
 images_long [] [] [] are = refl
-images_long [] [] (s ∷ sizes) are = absurd are
-images_long [] (i ∷ images) sizes are = absurd are
-images_long (w ∷ words) [] sizes are = absurd are
+images_long [] [] (s ∷ payloads) are = absurd are
+images_long [] (i ∷ images) payloads are = absurd are
+images_long (w ∷ words) [] payloads are = absurd are
 images_long (w ∷ words) (i ∷ images) [] are = absurd are
-images_long (w ∷ words) (i ∷ images) (s ∷ sizes) are = let e = images_long words images sizes are.1 in cc
+images_long (w ∷ words) (i ∷ images) (s ∷ payloads) are = let e = images_long words images payloads are.1 in cc
 
 -- What is known of the value that was taken out of an option.
 pub ok_or_is : {T E : Type 0} (P : T → Type 0) (option : Option T) (error : E) (result : Result T E) (value : T) → result ≡ ok_or option error → result ≡ Ok value → IfSome option P → P value
@@ -207,17 +219,17 @@ task_outcome name options P (Err given) (outcome.Failure failure) is fails task 
       | inr memory ↦ inr memory
     ])
 
--- The numbers so far, and one more.
-pub numbers_next : (words : List (Bor (List ℕ))) (index : ℕ) (d : Bor (List ℕ)) (numbers next : List ℕ) (number : ℕ) → index < length words → AreNumbers (texts_of (take index words)) numbers → next ≡ numbers ++ number ∷ [] → IsNumber (get_or words index d).now number → AreNumbers (texts_of (take (index + 1) words)) next
-numbers_next words index d numbers next number within are is one =
+-- The parts so far, and one more.
+pub parts_next : (words : List (Bor (List ℕ))) (index : ℕ) (d : Bor (List ℕ)) (parts next : List PartSource) (part : PartSource) → index < length words → ArePartSources (texts_of (take index words)) parts → next ≡ parts ++ part ∷ [] → IsPartSource (get_or words index d).now part → ArePartSources (texts_of (take (index + 1) words)) next
+parts_next words index d parts next part within are is one =
     rw (texts_push words index d within, is)
-    (zip_push IsNumber (texts_of (take index words)) numbers (get_or words index d).now number are one)
+    (zip_push IsPartSource (texts_of (take index words)) parts (get_or words index d).now part are one)
 
 -- The images so far, and one more.
-pub images_next : (words : List (Bor (List ℕ))) (index : ℕ) (d : Bor (List ℕ)) (images more : List ImageSpec) (sizes longer : List ℕ) (image : ImageSpec) (size : ℕ) → index < length words → AreImages (texts_of (take index words)) images sizes → more ≡ images ++ image ∷ [] → longer ≡ sizes ++ size ∷ [] → IsImageText (get_or words index d).now (image, size) → AreImages (texts_of (take (index + 1) words)) more longer
-images_next words index d images more sizes longer image size within are is lengths one =
+pub images_next : (words : List (Bor (List ℕ))) (index : ℕ) (d : Bor (List ℕ)) (images more : List ImageSpec) (payloads longer : List PartSource) (image : ImageSpec) (payload : PartSource) → index < length words → AreImages (texts_of (take index words)) images payloads → more ≡ images ++ image ∷ [] → longer ≡ payloads ++ payload ∷ [] → IsImageText (get_or words index d).now (image, payload) → AreImages (texts_of (take (index + 1) words)) more longer
+images_next words index d images more payloads longer image payload within are is lengths one =
     rw (texts_push words index d within, is, lengths)
-    (images_push (texts_of (take index words)) images sizes (get_or words index d).now image size are one)
+    (images_push (texts_of (take index words)) images payloads (get_or words index d).now image payload are one)
 
 -- The text of a word.
 text_at : (words : List (Bor (List ℕ))) (index : ℕ) (d : Bor (List ℕ)) → index < length words → slice_get (texts_of words) index ≡ Some (get_or words index d).now
@@ -234,55 +246,126 @@ before_taken (word ∷ words) (suc index) (suc other) text before is =
     before_taken words index other text (omega (arith, before)) is
 
 -- The first word that is no image.
-pub first_bad : (words : List (Bor (List ℕ))) (index : ℕ) (d : Bor (List ℕ)) (images : List ImageSpec) (sizes : List ℕ) → index < length words → AreImages (texts_of (take index words)) images sizes → NoneIs (IsImageText (get_or words index d).now) → IsFirstBad (texts_of words) index
-first_bad words index d images sizes within are none = record {
+pub first_bad : (words : List (Bor (List ℕ))) (index : ℕ) (d : Bor (List ℕ)) (images : List ImageSpec) (payloads : List PartSource) → index < length words → AreImages (texts_of (take index words)) images payloads → NoneIs (IsImageText (get_or words index d).now) → IsFirstBad (texts_of words) index
+first_bad words index d images payloads within are none = record {
   word = (get_or words index d).now;
   is = text_at words index d within;
   bad = none;
-  before = λ other text before is. image_at (texts_of (take index words)) images sizes other text are (before_taken words index other text before is);
+  before = λ other text before is. image_at (texts_of (take index words)) images payloads other text are (before_taken words index other text before is);
 }
 
 -- The selections that are given, from the results of the calls.
-pub given_by : (options : ArgMatches) (part image config p i c : Option (Bor (List ℕ))) → option_map (λ s. s.now) part ≡ option_of options (codes "part") → option_map (λ s. s.now) image ≡ option_of options (codes "image") → option_map (λ s. s.now) config ≡ option_of options (codes "config") → part ≡ p → image ≡ i → config ≡ c → AreGiven options (option_map (λ s. s.now) p) (option_map (λ s. s.now) i) (option_map (λ s. s.now) c)
-given_by options part image config p i c parts images configs is_part is_image is_config = record {
+pub given_by : (options : ArgMatches) (part image config p i c : Option (Bor (List ℕ))) (default : Bool) → option_map (λ s. s.now) part ≡ option_of options (codes "part") → option_map (λ s. s.now) image ≡ option_of options (codes "image") → option_map (λ s. s.now) config ≡ option_of options (codes "config") → SelectsDefault options default → part ≡ p → image ≡ i → config ≡ c → AreGiven options (option_map (λ s. s.now) p) (option_map (λ s. s.now) i) (option_map (λ s. s.now) c) default
+given_by options part image config p i c default parts images configs flag is_part is_image is_config = record {
   part_is = sym parts ∙ ap (option_map (λ s. s.now)) is_part;
   image_is = sym images ∙ ap (option_map (λ s. s.now)) is_image;
   config_is = sym configs ∙ ap (option_map (λ s. s.now)) is_config;
+  default_is = flag;
 }
 
+-- How many of these are given.
+abbrev pub count_of : (part image config : Option (List ℕ)) → Bool → ℕ
+count_of part image config default = count_by (λ given. given) (is_some part ∷ is_some image ∷ is_some config ∷ default ∷ [])
+
 -- How many are given.
-count_same : (a b c part image config : Option (List ℕ)) → a ≡ part → b ≡ image → c ≡ config → count_by is_some (a ∷ b ∷ c ∷ []) ≡ count_by is_some (part ∷ image ∷ config ∷ [])
-count_same a b c part image config p i s = cc
+pub count_given : (options : ArgMatches) (part image config : Option (List ℕ)) (default : Bool) → AreGiven options part image config default → given_count options default ≡ count_of part image config default
+count_given options part image config default given =
+    ap (λ p. count_of p (option_of options (codes "image")) (option_of options (codes "config")) default) given.part_is
+    ∙ ap (λ i. count_of part i (option_of options (codes "config")) default) given.image_is
+    ∙ ap (λ c. count_of part image c default) given.config_is
+
+-- More or fewer than one is given.
+pub no_one : (options : ArgMatches) (part image config : Option (List ℕ)) (default : Bool) → AreGiven options part image config default → count_of part image config default ≢ 1 → IsSelectionFailure options NoSelection
+no_one options part image config default given other =
+    (default, given.default_is, λ one. other (sym (count_given options part image config default given) ∙ one))
+
+-- Two names that are given as one option.
+same_word : {A : Type 0} {one other : A} (option : Option A) → option ≡ Some one → option ≡ Some other → one ≡ other
+same_word option is also = let e = sym is ∙ also in cc
+
+-- An option that is given and is not given.
+not_both : {A : Type 0} {one : A} {P : Type 0} (option : Option A) → option ≡ None → option ≡ Some one → P
+not_both option is also = absurd (let e = sym is ∙ also in cc)
 
 -- The index of a part is no number.
-pub no_part : (options : ArgMatches) (word : List ℕ) → AreGiven options (Some word) None None → NoneIs (IsNumber word) → IsSelectionFailure options BadValue
-no_part options word given none =
-    (count_same _ _ _ (Some word) None None given.part_is given.image_is given.config_is, no_select)
+pub no_part : (options : ArgMatches) (escaped : Bool) (word : List ℕ) → AreGiven options (Some word) None None false → AreEscaped options escaped → NoneIs (IsNumber word) → IsSelectionFailure options BadValue
+no_part options escaped word given flag none = record {
+  default = false;
+  default_is = given.default_is;
+  escaped = escaped;
+  escaped_is = flag;
+  one = count_given options (Some word) None None false given;
+  none = no_select;
+}
   where
-    no_select : NoneIs (IsSelection options)
+    no_select : NoneIs (IsSelection options escaped)
     no_select (Part index) is =
         let other = is.1 in
-        let e : Some is.0 ≡ Some word = sym other.part_is ∙ given.part_is in
-        let same : is.0 ≡ word = cc in
-        none index (subst (λ text. IsNumber text index) same is.3)
+        none index (subst (λ text. IsNumber text index) (same_word (option_of options (codes "part")) other.part_is given.part_is) is.3)
+    no_select (Image name) is = let other = is.1 in not_both (option_of options (codes "part")) other.part_is given.part_is
+    no_select (Config name key index) is = let other = is.1 in not_both (option_of options (codes "part")) other.part_is given.part_is
+    no_select (Default key index) is = let other = is.0 in not_both (option_of options (codes "part")) other.part_is given.part_is
+
+-- The name of an image is not the one of any bytes.
+pub no_image_name : (options : ArgMatches) (escaped : Bool) (word : List ℕ) → AreGiven options None (Some word) None false → AreEscaped options escaped → NoneIs (IsNameOf escaped word) → IsSelectionFailure options BadValue
+no_image_name options escaped word given flag none = record {
+  default = false;
+  default_is = given.default_is;
+  escaped = escaped;
+  escaped_is = flag;
+  one = count_given options None (Some word) None false given;
+  none = no_select;
+}
+  where
+    no_select : NoneIs (IsSelection options escaped)
+    no_select (Part index) is = let other = is.1 in not_both (option_of options (codes "image")) other.image_is given.image_is
     no_select (Image name) is =
-        absurd (let other = is.0 in let e : None ≡ Some word = sym other.part_is ∙ given.part_is in cc)
+        let other = is.1 in
+        none name.items (subst (λ text. IsNameOf escaped text name.items) (same_word (option_of options (codes "image")) other.image_is given.image_is) is.3)
+    no_select (Config name key index) is = let other = is.1 in not_both (option_of options (codes "image")) other.image_is given.image_is
+    no_select (Default key index) is = let other = is.0 in not_both (option_of options (codes "image")) other.image_is given.image_is
+
+-- So is the name of a configuration.
+pub no_config_name : (options : ArgMatches) (escaped : Bool) (word : List ℕ) → AreGiven options None None (Some word) false → AreEscaped options escaped → NoneIs (IsNameOf escaped word) → IsSelectionFailure options BadValue
+no_config_name options escaped word given flag none = record {
+  default = false;
+  default_is = given.default_is;
+  escaped = escaped;
+  escaped_is = flag;
+  one = count_given options None None (Some word) false given;
+  none = no_select;
+}
+  where
+    no_select : NoneIs (IsSelection options escaped)
+    no_select (Part index) is = let other = is.1 in not_both (option_of options (codes "config")) other.config_is given.config_is
+    no_select (Image name) is = let other = is.1 in not_both (option_of options (codes "config")) other.config_is given.config_is
     no_select (Config name key index) is =
-        absurd (let other = is.0 in let e : None ≡ Some word = sym other.part_is ∙ given.part_is in cc)
+        let other = is.1 in
+        none name.items (subst (λ text. IsNameOf escaped text name.items) (same_word (option_of options (codes "config")) other.config_is given.config_is) is.3)
+    no_select (Default key index) is = let other = is.0 in not_both (option_of options (codes "config")) other.config_is given.config_is
 
 -- The key or the index is bad.
-pub no_entry : (options : ArgMatches) (name : List ℕ) → AreGiven options None None (Some name) → NoneIs (IsEntry options) → IsSelectionFailure options BadValue
-no_entry options name given none =
-    (count_same _ _ _ None None (Some name) given.part_is given.image_is given.config_is, no_select)
+pub no_entry : (options : ArgMatches) (escaped : Bool) (part image config : Option (List ℕ)) (default : Bool) → AreGiven options part image config default → AreEscaped options escaped → count_of part image config default ≡ 1 → NoneIs (IsEntry options) → IsSelectionFailure options BadValue
+no_entry options escaped part image config default given flag one none = record {
+  default = default;
+  default_is = given.default_is;
+  escaped = escaped;
+  escaped_is = flag;
+  one = count_given options part image config default given ∙ one;
+  none = no_select;
+}
   where
-    no_select : NoneIs (IsSelection options)
-    no_select (Part index) is =
-        absurd (let other = is.1 in let e : None ≡ Some name = sym other.config_is ∙ given.config_is in cc)
-    no_select (Image other_name) is =
-        absurd (let other = is.0 in let e : None ≡ Some name = sym other.config_is ∙ given.config_is in cc)
-    no_select (Config other_name key index) is = none (key, index) is.1
+    no_select : NoneIs (IsSelection options escaped)
+    no_select (Part index) is = let entry = is.2 in none entry.0 entry.1
+    no_select (Image name) is = let entry = is.2 in none entry.0 entry.1
+    no_select (Config name key index) is = none (key, index) is.2
+    no_select (Default key index) is = none (key, index) is.1
 
 -- What is known of a failure.
 pub err_if : {T E : Type 0} (P : E → Type 0) (result : Result T E) {Q : E → Type 0} → IsErrAnd result Q → ((error : E) → Q error → P error) → IfErr result P
 err_if P (Ok value) is gives = tt
 err_if P (Err error) is gives = gives error is
+
+-- An option that was found has this text.
+pub text_given : (options : ArgMatches) (id : List ℕ) (found : Option (Bor (List ℕ))) (text : Bor (List ℕ)) → option_map (λ s. s.now) found ≡ option_of options id → found ≡ Some text → option_of options id ≡ Some text.now
+text_given options id found text is was = sym is ∙ ap (option_map (λ s. s.now)) was

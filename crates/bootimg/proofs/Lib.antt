@@ -1,4 +1,14 @@
+pub mod AllowedKinds
 pub mod CodeWords
 pub mod TaskFailures
 pub mod CommandLines
 pub mod RunFacts
+pub mod ImageRuns
+pub mod BuildRuns
+pub mod FailureTexts
+pub mod SameStreams
+pub mod Selected
+pub mod BesideNames
+pub mod NewFiles
+pub mod NoRequests
+pub mod CauseLines

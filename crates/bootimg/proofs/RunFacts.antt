@@ -1,5 +1,5 @@
-use Rattle.std.proofs.Common.{◌≡◌, ◌++◌, ℕ, List, Option, Result, Ok, Err, refl, subst, sym}
-use Rattle.bi_base.specs.BufferedSinks.{wrote_in_turn, stopped_after, stopped_before}
+use Rattle.std.proofs.Common.{◌≡◌, ◌++◌, ℕ, List, Option, Result, Ok, Err, refl, subst}
+use Rattle.bi_base.specs.BufferedSinks.{wrote_in_turn, stopped_after}
 use Rattle.bi_base.specs.Sinks.{Wrote}
 use Rattle.bi_base.specs.Traces.{ReadsWell, WriteTrace, WritesWell}
 use Rattle.bi_base.specs.Writing.{WroteAll, WriteStopped}
@@ -7,9 +7,11 @@ use Rattle.bi_base.specs.declared.fault.Error.{Error}
 use Rattle.bi_base.specs.Limits.{Bounds}
 use Rattle.bi_base.specs.Pipes.{IsTracedPipe}
 use Rattle.bootimg.specs.declared.command_line.Task.{Task}
+use Rattle.bootimg.specs.declared.command_line.source.ImageSource.{ImageSource}
 use Rattle.bootimg.specs.declared.failure.Failure.{Failure}
+use Rattle.bootimg.specs.Files.{FileStep, FilePromise}
 use Rattle.bootimg.specs.declared.tasks.Done.{Done}
-use Rattle.bootimg.specs.Runs.{IsPlainRun, IsRun, IsTaskRun, Logs, IsLogged, HasStopped, Notes, Reports, Run, Succeeded, HasFailed}
+use Rattle.bootimg.specs.Runs.{IsPlainRun, IsRun, IsTaskWork, Logs, IsLogged, HasStopped, IsRejection, Reports, Run, Work, Succeeded, HasFailed, problem}
 use Rattle.bootimg.specs.Tasks.{task_promise}
 
 -- What the program did to its streams, from what its calls did.
@@ -27,19 +29,22 @@ logged old new bytes (Ok done) wrote = IsLogged wrote
 logged old new bytes (Err error) wrote = HasStopped error wrote
 
 -- A run over traced streams is one over plain streams with what the traces say.
-pub plain_run : (run : Run) (remaining new_remaining contents new_contents errors new_errors : Option (List ℕ)) → IsRun run
-    → ReadsWell run.input → run.input.taken ≡ 0 → WritesWell run.output
+pub plain_run : (files : FilePromise) (steps new_steps : Option (List FileStep)) (run : Run)
+    (remaining new_remaining contents new_contents errors new_errors : Option (List ℕ)) → IsRun files run
+    → ReadsWell run.input → run.input.taken ≡ 0 → WritesWell run.output → run.steps ≡ steps → run.new_steps ≡ new_steps
     → run.input.remaining ≡ remaining → run.new_input.remaining ≡ new_remaining
     → run.output.contents ≡ contents → run.new_output.contents ≡ new_contents
     → run.errors.contents ≡ errors → run.new_errors.contents ≡ new_errors
-    → IsPlainRun remaining new_remaining contents new_contents errors new_errors run.status
-plain_run run remaining new_remaining contents new_contents errors new_errors is reads taken writes r nr c nc e ne = record {
+    → IsPlainRun files steps new_steps remaining new_remaining contents new_contents errors new_errors run.status
+plain_run files steps new_steps run remaining new_remaining contents new_contents errors new_errors is reads taken writes ch nch r nr c nc e ne = record {
   run = run;
   is_run = is;
   is_status = refl;
   reads_well = reads;
   none_taken = taken;
   writes_well = writes;
+  steps_before = ch;
+  steps_after = nch;
   remaining_before = r;
   remaining_after = nr;
   contents_before = c;
@@ -48,23 +53,37 @@ plain_run run remaining new_remaining contents new_contents errors new_errors is
   errors_after = ne;
 }
 
--- A task that was done, or that failed, is a run of it.
-pub succeeded : (task : Task) (limits : Bounds) (run : Run) (result : Result Done Failure) (done : Done) → result ≡ Ok done
-    → IsTracedPipe (task_promise task limits) limits run.input run.new_input run.output run.new_output result
-    → Notes done.signatures run.errors run.new_errors → run.status ≡ done.status → IsTaskRun task limits run
-succeeded task limits run result done same piped notes status =
+-- A failure was reported, and nothing else was done.
+pub rejected : (source : ImageSource) (failure : Failure) (run : Run) → run.new_input ≡ run.input → run.new_output ≡ run.output
+    → run.new_steps ≡ run.steps → Reports source failure run.errors run.new_errors → run.status ≡ 2
+    → IsRejection source failure run
+rejected source failure run read written changed reports status = record {
+  nothing_read = read;
+  nothing_written = written;
+  nothing_changed = changed;
+  reports = reports;
+  status = status;
+}
+
+-- A task that was done, or that failed, is work on it.
+pub succeeded : (task : Task) (limits : Bounds) (source : ImageSource) (work : Work) (result : Result Done Failure) (done : Done)
+    → result ≡ Ok done
+    → IsTracedPipe (task_promise task limits) limits work.input work.new_input work.output work.new_output result
+    → work.outcome ≡ Ok done → IsTaskWork task limits source work
+succeeded task limits source work result done same piped outcome =
     Succeeded done
     (subst
-    (λ (r : Result Done Failure). IsTracedPipe (task_promise task limits) limits run.input run.new_input run.output run.new_output r)
+    (λ (r : Result Done Failure). IsTracedPipe (task_promise task limits) limits work.input work.new_input work.output work.new_output r)
     same piped)
-    notes status
+    outcome
 
-pub has_failed : (task : Task) (limits : Bounds) (run : Run) (result : Result Done Failure) (failure : Failure) → result ≡ Err failure
-    → IsTracedPipe (task_promise task limits) limits run.input run.new_input run.output run.new_output result
-    → Reports failure run.errors run.new_errors → run.status ≡ 2 → IsTaskRun task limits run
-has_failed task limits run result failure same piped reports status =
+pub has_failed : (task : Task) (limits : Bounds) (source : ImageSource) (work : Work) (result : Result Done Failure) (failure : Failure)
+    → result ≡ Err failure
+    → IsTracedPipe (task_promise task limits) limits work.input work.new_input work.output work.new_output result
+    → work.outcome ≡ Err (problem source failure) → IsTaskWork task limits source work
+has_failed task limits source work result failure same piped outcome =
     HasFailed failure
     (subst
-    (λ (r : Result Done Failure). IsTracedPipe (task_promise task limits) limits run.input run.new_input run.output run.new_output r)
+    (λ (r : Result Done Failure). IsTracedPipe (task_promise task limits) limits work.input work.new_input work.output work.new_output r)
     same piped)
-    reports status
+    outcome

@@ -1,4 +1,4 @@
-use Rattle.std.proofs.Common.{◌≡◌, ◌∙◌, ℕ, List, refl, ap}
+use Rattle.std.proofs.Common.{◌≡◌, ◌∙◌, ℕ, List, ap}
 use Rattle.bi_base.specs.Commands.{CommandFailed, WasRefused, SinkFailed}
 use Rattle.bi_base.specs.declared.fault.Error.{Error}
 use Rattle.bi_commands.specs.declared.extract.ExtractError.{ExtractError}

@@ -1,12 +1,16 @@
-use Rattle.std.specs.Prelude.{◌≡◌, ◌≢◌, ◌<◌, ◌≤◌, ◌==◌, ◌⊎◌, ⊤, ℕ, List, [], ◌∷◌, length}
-use Rattle.std.specs.Prelude.{Option, Some, None, is_some, slice_get, unwrap_or, count_by, codes}
-use Rattle.std.specs.Prelude.{map}
+use Rattle.std.specs.Prelude.{◌≡◌, ◌≢◌, ◌<◌, ◌≤◌, ◌==◌, ◌⊎◌, ◌↔◌, ⊤, ℕ, List, [], ◌∷◌, length}
+use Rattle.std.specs.Prelude.{Option, Some, None, option_map, is_some, slice_get, unwrap_or}
+use Rattle.std.specs.Prelude.{count_by, codes}
+use Rattle.std.specs.Prelude.{map, ◌++◌, Bool, true, false, IsTrue, IsFalse}
 use Rattle.std.specs.Borrow.{Bor}
-use Rattle.std.specs.List.{AllZip, Contains, slice_split}
+use Rattle.std.specs.List.{AllByRecursion, AllZip, Contains, list_any, slice_split}
 use Rattle.std.specs.Option.{option_map_or}
 use Rattle.bi_base.specs.Limits.{Bounds}
+use Rattle.bi_base.specs.Causes.{name_of}
+use Rattle.bi_base.specs.declared.fault.Cause.{Cause}
 use Rattle.bi_base.specs.declared.fault.Error.TheVariants.{OutOfMemory}
 use Rattle.bi_fit.specs.Names.{key_name}
+use Rattle.bi_fit.specs.declared.changes.Changes.{Changes}
 use Rattle.bi_fit.specs.declared.form.Form.{Form}
 use Rattle.bi_fit.specs.declared.form.Form.TheVariants.{Embedded, External}
 use Rattle.bi_fit.specs.declared.key.Key.{Key}
@@ -17,26 +21,52 @@ use Rattle.bootimg.specs.Numbers.{IsNumber}
 use Rattle.bootimg.specs.declared.codes.CodeField.TheVariants.{Os, Arch, ImageType, Compression}
 use Rattle.bootimg.specs.declared.command_line.Outcome.{Outcome}
 use Rattle.bootimg.specs.declared.command_line.Outcome.TheVariants as outcome
+use Rattle.bootimg.specs.declared.command_line.Job.{Job}
+use Rattle.bootimg.specs.declared.command_line.Job.TheVariants.{Run, Compare, Build, Explain}
 use Rattle.bootimg.specs.declared.command_line.Request.{Request}
 use Rattle.bootimg.specs.declared.command_line.Task.{Task}
 use Rattle.bootimg.specs.declared.command_line.Task.TheVariants as task
+use Rattle.bootimg.specs.declared.command_line.build.BuildPlan.{BuildPlan}
+use Rattle.bootimg.specs.declared.command_line.build.BuildPlan.TheVariants.{Legacy, Fit}
 use Rattle.bootimg.specs.declared.command_line.build.FitPlan.{FitPlan}
 use Rattle.bootimg.specs.declared.command_line.build.LegacyPlan.{LegacyPlan}
 use Rattle.bootimg.specs.declared.command_line.image.ImageTexts.{ImageTexts}
-use Rattle.bi_commands.specs.declared.extract.Select.{Select}
-use Rattle.bi_commands.specs.declared.extract.Select.TheVariants.{Part, Image, Config}
+use Rattle.bootimg.specs.declared.command_line.part.PartSource.{PartSource}
+use Rattle.bootimg.specs.declared.command_line.part.PartSource.TheVariants as part
+use Rattle.bootimg.specs.declared.command_line.source.ComparePlan.{ComparePlan}
+use Rattle.bootimg.specs.declared.command_line.source.ImageSource.{ImageSource}
+use Rattle.bootimg.specs.declared.command_line.source.ImageSource.TheVariants.{Standard, File}
+use Rattle.bi_commands.specs.Checking.{kind_word, allows as allows_kind}
+use Rattle.bi_commands.specs.declared.check.Allowed.{Allowed}
+use Rattle.bi_commands.specs.declared.check.ConcernKind.{ConcernKind}
+use Rattle.bi_commands.specs.Unshown.{IsNameShownAs}
+use Rattle.bootimg.specs.declared.command_line.extract.Selected.{Selected}
+use Rattle.bootimg.specs.declared.command_line.extract.Selected.TheVariants.{Part, Image, Config}
+use Rattle.bootimg.specs.declared.command_line.extract.Selected.TheVariants.{Default}
 use Rattle.bootimg.specs.declared.failure.Failure.{Failure}
-use Rattle.bootimg.specs.declared.failure.Failure.TheVariants.{Call, NoSelection, BadValue}
-use Rattle.bootimg.specs.declared.failure.Failure.TheVariants.{BadImage}
+use Rattle.bootimg.specs.declared.failure.Failure.TheVariants.{Call, NoSelection, NoChange}
+use Rattle.bootimg.specs.declared.failure.Failure.TheVariants.{BadValue, BadImage}
 use Rattle.clap.specs.Matches.{found_of, matched_of, first_value, one_text, raw_values}
 use Rattle.clap.specs.declared.parser.matches.ArgMatches.{ArgMatches}
 
 -- What the arguments of the program request (profile of this project).
 
--- If the task is `build-fit`, there are as many lengths as images.
-abbrev pub HasLengths : Task → Type 0
-HasLengths (task.BuildFit plan) = length plan.lengths.items ≡ length plan.images.items
-HasLengths task = ⊤
+-- If `build-fit` is to build this, there are as many lengths or files as images.
+abbrev pub HasLengths : BuildPlan → Type 0
+HasLengths (Legacy plan) = ⊤
+HasLengths (Fit plan) = length plan.payloads.items ≡ length plan.images.items
+
+-- The same of what a job builds.
+abbrev pub HasJobLengths : Job → Type 0
+HasJobLengths (Run task source) = ⊤
+HasJobLengths (Compare plan) = ⊤
+HasJobLengths (Explain cause) = ⊤
+HasJobLengths (Build plan) = HasLengths plan
+
+-- The parts of the image to be built.
+abbrev pub sources_of : BuildPlan → List PartSource
+sources_of (Legacy plan) = plan.parts.items
+sources_of (Fit plan) = plan.payloads.items
 
 -- ---- options
 
@@ -92,19 +122,136 @@ pub record IsForm (options : ArgMatches) (form : Form) : Type 0 where
   pub not_given : external_flag options ≡ Some (codes "false") → form ≡ Embedded
   pub unknown : external_flag options ≡ None → form ≡ Embedded
 
+-- ---- images
+
+-- The argument names this image. Without an argument it is standard input, as with `-`.
+abbrev pub IsImageSource : Option (List ℕ) → ImageSource → Type 0
+IsImageSource None Standard = ⊤
+IsImageSource None (File name) = ⊥
+IsImageSource (Some word) Standard = word ≡ codes "-"
+IsImageSource (Some word) (File name) = (name.now ≡ word) × (word ≢ codes "-")
+
+-- ---- compare
+
+-- The text of the flag `--quiet`: `true` or `false`.
+abbrev pub quiet_flag : ArgMatches → Option (List ℕ)
+quiet_flag options = one_text (found_of options) (codes "quiet")
+
+-- The differences are left out with `--quiet`, and else written.
+pub record IsQuiet (options : ArgMatches) (quiet : Bool) : Type 0 where
+  pub given : quiet_flag options ≡ Some (codes "true") → quiet ≡ true
+  pub not_given : quiet_flag options ≡ Some (codes "false") → quiet ≡ false
+  pub unknown : quiet_flag options ≡ None → quiet ≡ false
+
+-- One of two images is a file.
+abbrev pub NamesAFile : (one other : ImageSource) → Type 0
+NamesAFile Standard Standard = ⊥
+NamesAFile one other = ⊤
+
+-- The options of `compare` are this plan.
+pub record IsComparePlan (options : ArgMatches) (plan : ComparePlan) : Type 0 where
+  pub one : IsImageSource (option_of options (codes "one")) plan.one
+  pub other : IsImageSource (option_of options (codes "other")) plan.other
+  pub quiet : IsQuiet options plan.quiet
+  pub names_a_file : NamesAFile plan.one plan.other
+
+-- ---- check
+
+-- The words of a text, with a comma between each two.
+abbrev pub listed_words : List ℕ → List (List ℕ)
+listed_words text = slice_split (λ byte. byte == 44) text
+
+-- The word is that for a kind of concerns.
+abbrev pub IsKindWord : List ℕ → Type 0
+IsKindWord word = (kind : ConcernKind) × (word ≡ kind_word kind)
+
+-- The words allow these kinds of concerns: each word is that for a kind, and the kinds whose words
+-- are there are allowed.
+pub record IsAllowed (words : List (List ℕ)) (allowed : Allowed) : Type 0 where
+  pub known : AllByRecursion IsKindWord words
+  pub allows : (kind : ConcernKind)
+      → IsTrue (allows_kind allowed kind) ↔ Contains words (kind_word kind)
+
+-- The value of `--allow` allows these kinds of concerns. Without the option no kind is allowed.
+abbrev pub IsAllowedBy : Option (List ℕ) → Allowed → Type 0
+IsAllowedBy None allowed = (kind : ConcernKind) → IsFalse (allows_kind allowed kind)
+IsAllowedBy (Some text) allowed = IsAllowed (listed_words text) allowed
+
+-- The value of `--allow`, if it is given.
+abbrev pub allow_option : ArgMatches → Option (List ℕ)
+allow_option options = option_of options (codes "allow")
+
+-- ---- update
+
+-- The text of the flag `--hashes`: `true` or `false`.
+abbrev pub hashes_flag : ArgMatches → Option (List ℕ)
+hashes_flag options = one_text (found_of options) (codes "hashes")
+
+-- The digests change with `--hashes`, and else stay.
+pub record ChangesHashes (options : ArgMatches) (hashes : Bool) : Type 0 where
+  pub given : hashes_flag options ≡ Some (codes "true") → hashes ≡ true
+  pub not_given : hashes_flag options ≡ Some (codes "false") → hashes ≡ false
+  pub unknown : hashes_flag options ≡ None → hashes ≡ false
+
+-- The new time is the value of `--time`, if that is given.
+abbrev pub IsNewTime : Option (List ℕ) → Option ℕ → Type 0
+IsNewTime None None = ⊤
+IsNewTime (Some word) (Some time) = IsNumber word time
+IsNewTime word time = ⊥
+
+-- The options request these changes, of which there is one at least.
+pub record IsChanges (options : ArgMatches) (changes : Changes) : Type 0 where
+  pub time : IsNewTime (option_of options (codes "time")) changes.time
+  pub hashes : ChangesHashes options changes.hashes
+  pub some : ¬ ((changes.time ≡ None) × (changes.hashes ≡ false))
+
+-- The failure of options that request no changes: that nothing is to change, or else that the time
+-- is no number.
+abbrev pub IsChangesFailure : ArgMatches → Failure → Type 0
+IsChangesFailure options NoChange =
+    (option_of options (codes "time") ≡ None) × ChangesHashes options false
+IsChangesFailure options BadValue = (word : List ℕ)
+    × (option_of options (codes "time") ≡ Some word) × NoneIs (IsNumber word)
+IsChangesFailure options failure = ⊥
+
+-- ---- explain
+
+-- The word is the name of this cause.
+abbrev pub IsCauseName : List ℕ → Cause → Type 0
+IsCauseName word cause = word ≡ name_of cause
+
+-- The argument is the name of this cause. Without an argument there is no cause.
+abbrev pub IsExplained : Option (List ℕ) → Option Cause → Type 0
+IsExplained None None = ⊤
+IsExplained (Some word) (Some cause) = IsCauseName word cause
+IsExplained word cause = ⊥
+
 -- ---- extract
 
--- `--part`, `--image` and `--config` have these values.
-pub record AreGiven (options : ArgMatches) (part image config : Option (List ℕ)) : Type 0 where
+-- The text of the flag `--default`: `true` or `false`.
+abbrev pub default_flag : ArgMatches → Option (List ℕ)
+default_flag options = one_text (found_of options) (codes "default")
+
+-- The default configuration is selected with `--default`, and else not.
+pub record SelectsDefault (options : ArgMatches) (default : Bool) : Type 0 where
+  pub given : default_flag options ≡ Some (codes "true") → default ≡ true
+  pub not_given : default_flag options ≡ Some (codes "false") → default ≡ false
+  pub unknown : default_flag options ≡ None → default ≡ false
+
+-- `--part`, `--image` and `--config` have these values, and `--default` is given or not.
+pub record AreGiven (options : ArgMatches) (part image config : Option (List ℕ)) (default : Bool)
+    : Type 0 where
   pub part_is : option_of options (codes "part") ≡ part
   pub image_is : option_of options (codes "image") ≡ image
   pub config_is : option_of options (codes "config") ≡ config
+  pub default_is : SelectsDefault options default
 
--- How many of `--part`, `--image` and `--config` are given.
-abbrev pub given_count : ArgMatches → ℕ
-given_count options =
-    count_by is_some (option_of options (codes "part") ∷ option_of options (codes "image")
-    ∷ option_of options (codes "config") ∷ [])
+-- How many of `--part`, `--image`, `--config` and `--default` are given.
+abbrev pub given_count : ArgMatches → (default : Bool) → ℕ
+given_count options default =
+    count_by (λ given. given)
+    (is_some (option_of options (codes "part")) ∷ is_some (option_of options (codes "image"))
+    ∷ is_some (option_of options (codes "config")) ∷ default ∷ [])
 
 -- The values of `--key` and `--index`.
 pub record IsEntry (options : ArgMatches) (entry : Key × ℕ) : Type 0 where
@@ -115,21 +262,76 @@ pub record IsEntry (options : ArgMatches) (entry : Key × ℕ) : Type 0 where
 abbrev pub HasEntry : ArgMatches → Type 0
 HasEntry options = (entry : Key × ℕ) × IsEntry options entry
 
+-- The text of the flag `--escaped`: `true` or `false`.
+abbrev pub escaped_flag : ArgMatches → Option (List ℕ)
+escaped_flag options = one_text (found_of options) (codes "escaped")
+
+-- Names are escaped with `--escaped`, and else not.
+pub record AreEscaped (options : ArgMatches) (escaped : Bool) : Type 0 where
+  pub given : escaped_flag options ≡ Some (codes "true") → escaped ≡ true
+  pub not_given : escaped_flag options ≡ Some (codes "false") → escaped ≡ false
+  pub unknown : escaped_flag options ≡ None → escaped ≡ false
+
+-- The word is this name, or how the name is printed if it is escaped.
+abbrev pub IsNameOf : (escaped : Bool) → List ℕ → List ℕ → Type 0
+IsNameOf true word name = IsNameShownAs word name
+IsNameOf false word name = name ≡ word
+
 -- The options select this, and nothing else. The key and the index have to be good even if they
 -- have no effect.
-abbrev pub IsSelection : ArgMatches → Select → Type 0
-IsSelection options (Part index) = (word : List ℕ)
-    × AreGiven options (Some word) None None × HasEntry options × IsNumber word index
-IsSelection options (Image name) =
-    AreGiven options None (Some name.now) None × HasEntry options
-IsSelection options (Config name key index) =
-    AreGiven options None None (Some name.now) × IsEntry options (key, index)
+abbrev pub IsSelection : ArgMatches → (escaped : Bool) → Selected → Type 0
+IsSelection options escaped (Part index) = (word : List ℕ)
+    × AreGiven options (Some word) None None false × HasEntry options × IsNumber word index
+IsSelection options escaped (Image name) = (word : List ℕ)
+    × AreGiven options None (Some word) None false × HasEntry options
+    × IsNameOf escaped word name.items
+IsSelection options escaped (Config name key index) = (word : List ℕ)
+    × AreGiven options None None (Some word) false × IsEntry options (key, index)
+    × IsNameOf escaped word name.items
+IsSelection options escaped (Default key index) =
+    AreGiven options None None None true × IsEntry options (key, index)
+
+-- The same with names that are escaped or not.
+abbrev pub IsSelected : ArgMatches → Selected → Type 0
+IsSelected options selection =
+    (escaped : Bool) × AreEscaped options escaped × IsSelection options escaped selection
+
+-- One selection is given, and it has a bad value.
+pub record IsBadSelection (options : ArgMatches) : Type 0 where
+  pub default : Bool
+  pub default_is : SelectsDefault options default
+  pub escaped : Bool
+  pub escaped_is : AreEscaped options escaped
+  pub one : given_count options default ≡ 1
+  pub none : NoneIs (IsSelection options escaped)
 
 -- The failure of options that select nothing.
 abbrev pub IsSelectionFailure : ArgMatches → Failure → Type 0
-IsSelectionFailure options NoSelection = given_count options ≢ 1
-IsSelectionFailure options BadValue = (given_count options ≡ 1) × NoneIs (IsSelection options)
+IsSelectionFailure options NoSelection =
+    (default : Bool) × SelectsDefault options default × (given_count options default ≢ 1)
+IsSelectionFailure options BadValue = IsBadSelection options
 IsSelectionFailure options failure = ⊥
+
+-- ---- parts of images to be built
+
+-- The word is a part in standard input, of this length, or `@` and the name of this file.
+abbrev pub IsPartSource : List ℕ → PartSource → Type 0
+IsPartSource word (part.Input size) = IsNumber word size
+IsPartSource word (part.File name) = word ≡ codes "@" ++ name.now
+
+-- The words are these parts, in this order.
+abbrev pub ArePartSources : List (List ℕ) → List PartSource → Type 0
+ArePartSources words sources = AllZip IsPartSource words sources
+
+-- Whether a part is in standard input.
+abbrev pub is_input : PartSource → Bool
+is_input (part.Input size) = true
+is_input (part.File name) = false
+
+-- Whether standard input is read: if a part is in it, or if no part is named.
+abbrev pub reads_input : List PartSource → Bool
+reads_input [] = true
+reads_input (source ∷ later) = list_any is_input (source ∷ later)
 
 -- ---- build-legacy
 
@@ -145,14 +347,10 @@ pub record IsFields (options : ArgMatches) (fields : Fields) : Type 0 where
       (value_of options (codes "compression") (codes "none")) fields.compression
   pub name : fields.name.now ≡ value_of options (codes "name") []
 
--- The words are these numbers, in this order.
-abbrev pub AreNumbers : List (List ℕ) → List ℕ → Type 0
-AreNumbers words numbers = AllZip IsNumber words numbers
-
 -- The options of `build-legacy` are this plan.
 pub record IsLegacyPlan (options : ArgMatches) (plan : LegacyPlan) : Type 0 where
   pub fields : IsFields options plan.fields
-  pub lengths : AreNumbers (words_of options (codes "lengths")) plan.lengths.items
+  pub parts : ArePartSources (words_of options (codes "lengths")) plan.parts.items
 
 -- ---- build-fit
 
@@ -170,8 +368,8 @@ list_of texts = texts.name.now ∷ texts.image_type.now ∷ texts.arch.now ∷ t
 abbrev pub parts_of : List ℕ → List (List ℕ)
 parts_of word = slice_split (λ byte. byte == 58) word
 
--- The fields are this image, without its payload, and the length of the payload.
-pub record IsImage (texts : ImageTexts) (image : ImageSpec × ℕ) : Type 0 where
+-- The fields are this image, without its payload, and the payload.
+pub record IsImage (texts : ImageTexts) (image : ImageSpec × PartSource) : Type 0 where
   pub name : image.0.name.now ≡ texts.name.now
   pub image_type : IsCode ImageType texts.image_type.now image.0.image_type
   pub arch : IsCode Arch texts.arch.now image.0.arch
@@ -180,25 +378,26 @@ pub record IsImage (texts : ImageTexts) (image : ImageSpec × ℕ) : Type 0 wher
   pub load : IsAddress texts.load.now image.0.load
   pub entry : IsAddress texts.entry.now image.0.entry
   pub payload : image.0.payload.now ≡ []
-  pub length_is : IsNumber texts.length.now image.1
+  pub source : IsPartSource texts.length.now image.1
 
--- The word is this image, and the length of its payload: eight fields between colons.
-abbrev pub IsImageText : List ℕ → ImageSpec × ℕ → Type 0
+-- The word is this image, and its payload: eight fields between colons.
+abbrev pub IsImageText : List ℕ → ImageSpec × PartSource → Type 0
 IsImageText word image =
     (texts : ImageTexts) × (parts_of word ≡ list_of texts) × IsImage texts image
 
--- The words are these images, and the lengths of their payloads.
-abbrev pub AreImages : List (List ℕ) → List ImageSpec → List ℕ → Type 0
+-- The words are these images, and their payloads.
+abbrev pub AreImages : List (List ℕ) → List ImageSpec → List PartSource → Type 0
 AreImages [] [] [] = ⊤
-AreImages (word ∷ words) (image ∷ images) (size ∷ sizes) =
-    IsImageText word (image, size) × AreImages words images sizes
-AreImages words images sizes = ⊥
+AreImages (word ∷ words) (image ∷ images) (payload ∷ payloads) =
+    IsImageText word (image, payload) × AreImages words images payloads
+AreImages words images payloads = ⊥
 
 -- The options of `build-fit` are this plan.
 pub record IsFitPlan (options : ArgMatches) (plan : FitPlan) : Type 0 where
   pub description : plan.head.description.now ≡ value_of options (codes "description") []
   pub time : IsNumber (value_of options (codes "time") (codes "0")) plan.head.time
-  pub images : AreImages (words_of options (codes "images")) plan.images.items plan.lengths.items
+  pub images : AreImages (words_of options (codes "images")) plan.images.items
+      plan.payloads.items
   pub form : IsForm options plan.form
 
 -- The first word that is no image has this index.
@@ -207,7 +406,7 @@ pub record IsFirstBad (words : List (List ℕ)) (index : ℕ) : Type 0 where
   pub is : slice_get words index ≡ Some word
   pub bad : NoneIs (IsImageText word)
   pub before : (other : ℕ) (text : List ℕ) → other < index → slice_get words other ≡ Some text
-      → (image : ImageSpec × ℕ) × IsImageText text image
+      → (image : ImageSpec × PartSource) × IsImageText text image
 
 -- The failure is that of the first word that is no image.
 abbrev pub IsBadImage : List (List ℕ) → Failure → Type 0
@@ -223,7 +422,7 @@ IsFitPlanFailure options (BadImage index) =
     × IsFirstBad (words_of options (codes "images")) index
 IsFitPlanFailure options failure = ⊥
 
--- ---- tasks
+-- ---- tasks and jobs
 
 -- The command of this name, with its options, is this task.
 abbrev pub IsTask : List ℕ → ArgMatches → Task → Type 0
@@ -231,14 +430,35 @@ IsTask name options (task.Normalise form) = (name ≡ codes "normalise") × IsFo
 IsTask name options task.List = name ≡ codes "list"
 IsTask name options task.Describe = name ≡ codes "describe"
 IsTask name options task.Verify = name ≡ codes "verify"
-IsTask name options (task.Extract select) = (name ≡ codes "extract") × IsSelection options select
+IsTask name options (task.Check allowed) =
+    (name ≡ codes "check") × IsAllowedBy (allow_option options) allowed
+IsTask name options (task.Update changes form) =
+    (name ≡ codes "update") × IsChanges options changes × IsForm options form
+IsTask name options (task.Extract selection) =
+    (name ≡ codes "extract") × IsSelected options selection
 IsTask name options task.Convert = name ≡ codes "convert"
-IsTask name options (task.BuildLegacy plan) =
+
+-- The command of this name, with its options, builds this.
+abbrev pub IsBuildPlan : List ℕ → ArgMatches → BuildPlan → Type 0
+IsBuildPlan name options (Legacy plan) =
     (name ≡ codes "build-legacy") × IsLegacyPlan options plan
-IsTask name options (task.BuildFit plan) = (name ≡ codes "build-fit") × IsFitPlan options plan
+IsBuildPlan name options (Fit plan) = (name ≡ codes "build-fit") × IsFitPlan options plan
+
+-- The command of this name, with its options, is this job.
+abbrev pub IsJob : List ℕ → ArgMatches → Job → Type 0
+IsJob name options (Run task source) =
+    IsTask name options task × IsImageSource (option_of options (codes "file")) source
+IsJob name options (Compare plan) = (name ≡ codes "compare") × IsComparePlan options plan
+IsJob name options (Explain cause) =
+    (name ≡ codes "explain") × IsExplained (option_of options (codes "cause")) cause
+IsJob name options (Build plan) = IsBuildPlan name options plan
 
 -- Why the options of the command of this name are no task.
 pub data IsTaskFailure (name : List ℕ) (options : ArgMatches) (failure : Failure) : Type 0 where
+  NotAllowed : name ≡ codes "check" → IsBadValue (IsAllowedBy (allow_option options)) failure
+      → IsTaskFailure name options failure
+  NotChanged : name ≡ codes "update" → IsChangesFailure options failure
+      → IsTaskFailure name options failure
   NotSelected : name ≡ codes "extract" → IsSelectionFailure options failure
       → IsTaskFailure name options failure
   NotLegacy : name ≡ codes "build-legacy" → IsBadValue (IsLegacyPlan options) failure
@@ -247,11 +467,17 @@ pub data IsTaskFailure (name : List ℕ) (options : ArgMatches) (failure : Failu
       → IsTaskFailure name options failure
   NotFit : name ≡ codes "build-fit" → (limits : Bounds) → IsLimits (limit_of options) limits
       → IsFitPlanFailure options failure → IsTaskFailure name options failure
+  NotCompared : name ≡ codes "compare" → IsBadValue (IsComparePlan options) failure
+      → IsTaskFailure name options failure
+  NotExplained : name ≡ codes "explain"
+      → IsBadValue (IsExplained (option_of options (codes "cause"))) failure
+      → IsTaskFailure name options failure
 
 -- The names of the commands.
 abbrev pub command_names : List (List ℕ)
 command_names = codes "normalise" ∷ codes "list" ∷ codes "describe" ∷ codes "verify"
-    ∷ codes "extract" ∷ codes "convert" ∷ codes "build-legacy" ∷ codes "build-fit" ∷ []
+    ∷ codes "check" ∷ codes "update" ∷ codes "extract" ∷ codes "convert"
+    ∷ codes "build-legacy" ∷ codes "build-fit" ∷ codes "compare" ∷ codes "explain" ∷ []
 
 -- The outcome of a command whose options are no task. It is a text only if no command has the name.
 abbrev pub IsTaskOutcome : List ℕ → ArgMatches → Outcome → Type 0
@@ -264,9 +490,24 @@ abbrev pub IsTextOutcome : Outcome → Type 0
 IsTextOutcome (outcome.Text text) = ⊤
 IsTextOutcome (outcome.Failure failure) = ⊥
 
+-- Why the arguments request nothing: the options of a command are no job or no limits, or memory
+-- ran out.
+pub data IsRejected (failure : Failure) : Type 0 where
+  NoJob : (name : List ℕ) (options : ArgMatches) → IsTaskFailure name options failure
+      → IsRejected failure
+  NoLimits : (name : List ℕ) (options : ArgMatches) (job : Job) → IsJob name options job
+      → IsBadValue (IsLimits (limit_of options)) failure → IsRejected failure
+  NoMemory : failure ≡ Call OutOfMemory → IsRejected failure
+
+-- The outcome is such a failure, or a text.
+abbrev pub IsNoRequest : Outcome → Type 0
+IsNoRequest (outcome.Text text) = ⊤
+IsNoRequest (outcome.Failure failure) = IsRejected failure
+
 -- The command of some name, with some options, requests this.
 pub record IsRequest (request : Request) : Type 0 where
   pub name : List ℕ
   pub options : ArgMatches
-  pub task : IsTask name options request.task
+  pub job : IsJob name options request.job
   pub limits : IsLimits (limit_of options) request.limits
+  pub output : option_map (λ name. name.now) request.output ≡ option_of options (codes "output")

@@ -1,17 +1,21 @@
-use Rattle.std.specs.Prelude.{◌++◌, ℕ, List, codes}
+use Rattle.std.specs.Prelude.{◌++◌, ℕ, Bool, true, false, List, [], codes, if◌then◌else◌}
 use Rattle.std.specs.Fmt.{decimal}
 use Rattle.bi_base.specs.declared.fault.Error.{Error}
 use Rattle.bi_base.specs.declared.fault.Error.TheVariants.{Refused, OutOfMemory, ReadFailed}
 use Rattle.bi_base.specs.declared.fault.Error.TheVariants.{WriteFailed}
 use Rattle.bi_base.specs.Causes.{name_of}
+use Rattle.bi_commands.specs.Shown.{shown}
 use Rattle.bi_fit.specs.declared.configurations.ConfigError.TheVariants as list
 use Rattle.bi_commands.specs.declared.extract.ExtractError.{ExtractError}
 use Rattle.bi_commands.specs.declared.extract.ExtractError.TheVariants as extract
+use Rattle.bootimg.specs.declared.command_line.source.ImageSource.{ImageSource}
+use Rattle.bootimg.specs.declared.command_line.source.ImageSource.TheVariants.{Standard, File}
 use Rattle.bootimg.specs.declared.failure.Failure.{Failure}
 use Rattle.bootimg.specs.declared.failure.Failure.TheVariants.{Call, WrongKind, NoPart, NoImage}
 use Rattle.bootimg.specs.declared.failure.Failure.TheVariants.{NoConfig, NoKey, BadList, Missing}
 use Rattle.bootimg.specs.declared.failure.Failure.TheVariants.{NoIndex, NoPayload, NoSelection}
-use Rattle.bootimg.specs.declared.failure.Failure.TheVariants.{BadValue, BadImage}
+use Rattle.bootimg.specs.declared.failure.Failure.TheVariants.{NoChange, BadValue, BadImage}
+use Rattle.bootimg.specs.declared.failure.Failure.TheVariants.{CannotOpen, NotWritten}
 
 -- The failures of the program, and the text of each (profile of this project).
 
@@ -49,5 +53,28 @@ failure_text (Missing index) = codes "missing image " ++ decimal index
 failure_text NoIndex = codes "no such entry"
 failure_text NoPayload = codes "no payload"
 failure_text NoSelection = codes "usage: give one of --part, --image, --config"
+failure_text NoChange = codes "usage: give --time or --hashes"
 failure_text BadValue = codes "usage: bad value"
 failure_text (BadImage index) = codes "usage: bad image " ++ decimal index
+failure_text CannotOpen = codes "cannot be opened"
+failure_text NotWritten = codes "write failed"
+
+-- Whether a failure is about the image or the output file: the image is refused, it cannot be
+-- opened or read, or it does not have what is selected; or the output file cannot be written. The
+-- other failures are those of the arguments, of memory and of writing to standard output.
+abbrev pub is_about_image : Failure → Bool
+is_about_image (Call (Refused fault)) = true
+is_about_image (Call ReadFailed) = true
+is_about_image (Call OutOfMemory) = false
+is_about_image (Call WriteFailed) = false
+is_about_image NoSelection = false
+is_about_image NoChange = false
+is_about_image BadValue = false
+is_about_image (BadImage index) = false
+is_about_image failure = true
+
+-- What the line of a failure has before the text of the failure: the name of the file that the
+-- image is read from, or of the output file, if the failure is about it.
+abbrev pub name_text : ImageSource → Failure → List ℕ
+name_text Standard failure = []
+name_text (File name) failure = if is_about_image failure then shown name.now ++ codes ": " else []

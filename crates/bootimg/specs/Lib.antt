@@ -1,6 +1,11 @@
 pub mod CodeWords
 pub mod CommandLine
+pub mod ComparedFiles
 pub mod Failures
+pub mod Files
 pub mod Numbers
+pub mod ReadParts
 pub mod Tasks
 pub mod Runs
+pub mod Selections
+pub mod Explanations

@@ -1,19 +1,46 @@
-use Rattle.std.specs.Prelude.{◌≡◌, ◌⊎◌, ◌++◌, ◌<◌, ℕ, List, [], ◌∷◌, Option, Ok, Err, codes, length}
+use Rattle.std.specs.Prelude.{◌≡◌, ◌++◌, ◌+◌, ◌<◌, ◌≤◌, ℕ, Bool, true, false, List, [], ◌∷◌}
+use Rattle.std.specs.Prelude.{Option, None, Some}
+use Rattle.std.specs.Prelude.{Result, Ok, Err, codes, length}
+use Rattle.std.specs.Borrow.{Bor}
 use Rattle.std.specs.Fmt.{decimal}
+use Rattle.bi_base.specs.declared.fault.Cause.{Cause}
+use Rattle.std.specs.List.{AllZip}
 use Rattle.bi_base.specs.declared.fault.Error.{Error}
-use Rattle.bi_base.specs.declared.fault.Error.TheVariants.{OutOfMemory}
+use Rattle.bi_base.specs.declared.fault.Error.TheVariants.{OutOfMemory, WriteFailed}
 use Rattle.bi_base.specs.Limits.{Bounds}
 use Rattle.bi_base.specs.Pipes.{IsTracedPipe}
-use Rattle.bi_base.specs.Traces.{ReadTrace, WriteTrace, ReadsWell, WritesWell}
+use Rattle.bi_base.specs.Reading.{IsReadError, ReadWhole, TracedTakesAtMost}
+use Rattle.bi_base.specs.Traces.{ReadTrace, WriteTrace, ReadsWell, WritesWell, MustStopReading}
 use Rattle.bi_base.specs.Writing.{WroteAll, WriteStopped, WroteAndFlushed, WriteOrFlushStopped}
+use Rattle.bi_base.specs.Commands.{CommandPromise}
+use Rattle.bi_commands.specs.Building.{build_legacy_promise, build_fit_promise}
+use Rattle.bi_commands.specs.declared.compare.CompareError.{CompareError}
+use Rattle.bi_commands.specs.declared.parts.Part.{Part}
+use Rattle.bi_commands.specs.declared.parts.Part.TheVariants.{Bytes, Length}
+use Rattle.bootimg.specs.declared.command_line.Job.{Job}
+use Rattle.bootimg.specs.declared.command_line.Job.TheVariants.{Run as RunTask, Compare, Build}
+use Rattle.bootimg.specs.declared.command_line.Job.TheVariants.{Explain}
 use Rattle.bootimg.specs.declared.command_line.Request.{Request}
 use Rattle.bootimg.specs.declared.command_line.Task.{Task}
+use Rattle.bootimg.specs.declared.command_line.build.BuildPlan.{BuildPlan}
+use Rattle.bootimg.specs.declared.command_line.build.BuildPlan.TheVariants.{Legacy, Fit}
+use Rattle.bootimg.specs.declared.command_line.part.PartSource.{PartSource}
+use Rattle.bootimg.specs.declared.command_line.part.PartSource.TheVariants as part
+use Rattle.bootimg.specs.declared.command_line.source.ComparePlan.{ComparePlan}
+use Rattle.bootimg.specs.declared.command_line.source.ImageSource.{ImageSource}
+use Rattle.bootimg.specs.declared.command_line.source.ImageSource.TheVariants.{Standard, File}
 use Rattle.bootimg.specs.declared.failure.Failure.{Failure}
-use Rattle.bootimg.specs.declared.failure.Failure.TheVariants.{Call}
+use Rattle.bootimg.specs.declared.failure.Failure.TheVariants.{Call, CannotOpen}
+use Rattle.bootimg.specs.declared.jobs.Problem.{Problem}
 use Rattle.bootimg.specs.declared.tasks.Done.{Done}
-use Rattle.bootimg.specs.CommandLine.{HasLengths, IsRequest}
-use Rattle.bootimg.specs.Failures.{failure_text}
-use Rattle.bootimg.specs.Tasks.{task_promise}
+use Rattle.bootimg.specs.CommandLine.{HasJobLengths, IsRejected, IsRequest, reads_input}
+use Rattle.bootimg.specs.CommandLine.{sources_of}
+use Rattle.bootimg.specs.ComparedFiles.{IsCompareOutput, IsCompareFailure, compare_status}
+use Rattle.bootimg.specs.ComparedFiles.{failure_of_comparing, refused_source}
+use Rattle.bootimg.specs.Explanations.{explained}
+use Rattle.bootimg.specs.Failures.{failure_text, name_text}
+use Rattle.bootimg.specs.Files.{FileStep, FilePromise, IsOpened, IsSaved, IsNotSaved}
+use Rattle.bootimg.specs.Tasks.{EndedWith, task_promise}
 
 -- What a run of the program does: which bytes it writes to which stream, and its exit status
 -- (profile of this project).
@@ -23,14 +50,16 @@ pub data Logs (old : WriteTrace) (bytes : List ℕ) (new : WriteTrace) : Type 0 
   IsLogged : WroteAll old bytes new → Logs old bytes new
   HasStopped : (error : Error) → WriteStopped old bytes new error → Logs old bytes new
 
--- The line of a failure.
-abbrev pub failure_line : Failure → List ℕ
-failure_line failure = codes "bootimg: " ++ (failure_text failure ++ 10 ∷ [])
+-- The line of a failure with an image from this source.
+abbrev pub failure_line : ImageSource → Failure → List ℕ
+failure_line source failure =
+    codes "bootimg: " ++ ((name_text source failure ++ failure_text failure) ++ 10 ∷ [])
 
 -- The line of a failure was written; if memory for its text ran out, the line of that.
-pub data Reports (failure : Failure) (old new : WriteTrace) : Type 0 where
-  ReportsFailure : Logs old (failure_line failure) new → Reports failure old new
-  ReportsMemory : Logs old (failure_line (Call OutOfMemory)) new → Reports failure old new
+pub data Reports (source : ImageSource) (failure : Failure) (old new : WriteTrace) : Type 0 where
+  ReportsFailure : Logs old (failure_line source failure) new → Reports source failure old new
+  ReportsMemory : Logs old (failure_line Standard (Call OutOfMemory)) new
+      → Reports source failure old new
 
 -- The line on the signature nodes of a normal form.
 abbrev pub note_line : (signatures : ℕ) → List ℕ
@@ -43,7 +72,292 @@ pub data Notes (signatures : ℕ) (old new : WriteTrace) : Type 0 where
   HasNone : signatures ≡ 0 → new ≡ old → Notes signatures old new
   HasSome : 0 < signatures → Logs old (note_line signatures) new → Notes signatures old new
 
--- The three streams before and after a call, and the exit status that it returns.
+-- The failure is about an image from this source, or about the output file of this name.
+abbrev pub problem : ImageSource → Failure → Problem
+problem source failure = record { source = source; failure = failure }
+
+-- What a job read from standard input and wrote to its output, and how it ended.
+pub record Work : Type 0 where
+  pub input : ReadTrace
+  pub new_input : ReadTrace
+  pub output : WriteTrace
+  pub new_output : WriteTrace
+  pub outcome : Result Done Problem
+
+-- Work with another input.
+abbrev pub with_input : Work → (old new : ReadTrace) → Work
+with_input work old new = record {
+  input = old;
+  new_input = new;
+  output = work.output;
+  new_output = work.new_output;
+  outcome = work.outcome;
+}
+
+-- Nothing was written, and it ended with this failure.
+pub record IsFailedWork (source : ImageSource) (failure : Failure) (work : Work) : Type 0 where
+  pub nothing_written : work.new_output ≡ work.output
+  pub outcome : work.outcome ≡ Err (problem source failure)
+
+-- ---- a task
+
+-- The task was done, from `input` to its output. The source is only for the line of a failure.
+pub data IsTaskWork (task : Task) (limits : Bounds) (source : ImageSource) (work : Work) : Type 0
+  where
+    Succeeded : (done : Done)
+        → IsTracedPipe (task_promise task limits) limits work.input work.new_input work.output
+        work.new_output (Ok done)
+        → work.outcome ≡ Ok done → IsTaskWork task limits source work
+    HasFailed : (failure : Failure)
+        → IsTracedPipe (task_promise task limits) limits work.input work.new_input work.output
+        work.new_output (Err failure)
+        → work.outcome ≡ Err (problem source failure) → IsTaskWork task limits source work
+
+-- The task was done with an image from its source: standard input, or a file that was opened.
+-- Standard input is not read beside a file.
+pub data IsImageWork (files : FilePromise) (task : Task) (limits : Bounds) (work : Work)
+    : (source : ImageSource) → Type 0
+  where
+    DoneOnInput : IsTaskWork task limits Standard work → IsImageWork files task limits work Standard
+    DoneOnFile : (name : Bor (List ℕ)) (opened end : ReadTrace) → IsOpened files name.now opened
+        → IsTaskWork task limits (File name) (with_input work opened end)
+        → work.new_input ≡ work.input → IsImageWork files task limits work (File name)
+    FileNotOpened : (name : Bor (List ℕ)) → files.has_no_file name.now
+        → IsFailedWork (File name) CannotOpen work → work.new_input ≡ work.input
+        → IsImageWork files task limits work (File name)
+
+-- ---- whole inputs and files
+
+-- A whole input of at most this many bytes was read, and no failed read was ignored.
+pub record IsRead (limits : Bounds) (old new : ReadTrace) (input : List ℕ) : Type 0 where
+  pub whole : ReadWhole old.remaining new.remaining input
+  pub within : length input ≤ limits.file
+  pub takes_at_most_one_byte_more : TracedTakesAtMost old new (limits.file + 1)
+  pub no_failure_ignored : ReadsWell old → ReadsWell new
+  pub same_reader : new.reader ≡ old.reader
+
+-- Reading a whole input failed.
+pub record IsNotRead (limits : Bounds) (old new : ReadTrace) (failure : Failure) : Type 0 where
+  pub error : Error
+  pub has_error : IsReadError old.remaining limits.file (MustStopReading new) error
+  pub is : failure ≡ Call error
+  pub takes_at_most_one_byte_more : TracedTakesAtMost old new (limits.file + 1)
+  pub same_reader : new.reader ≡ old.reader
+
+-- The whole file of this name was opened and read.
+pub record IsFileRead (files : FilePromise) (limits : Bounds) (name bytes : List ℕ) : Type 0 where
+  pub opened : ReadTrace
+  pub end : ReadTrace
+  pub is_opened : IsOpened files name opened
+  pub is_read : IsRead limits opened end bytes
+
+-- The file of this name was not read, for this reason.
+pub data IsFileNotRead (files : FilePromise) (limits : Bounds) (name : List ℕ) (failure : Failure)
+    : Type 0
+  where
+    NotOpened : files.has_no_file name → failure ≡ CannotOpen
+        → IsFileNotRead files limits name failure
+    OpenedNotRead : (opened end : ReadTrace) → IsOpened files name opened
+        → IsNotRead limits opened end failure → IsFileNotRead files limits name failure
+
+-- ---- comparing
+
+-- The image was read from its source. Standard input is as before if it is a file.
+pub data IsImageRead (files : FilePromise) (limits : Bounds) (old new : ReadTrace) (image : List ℕ)
+    : (source : ImageSource) → Type 0
+  where
+    InputRead : IsRead limits old new image → IsImageRead files limits old new image Standard
+    FileRead : (name : Bor (List ℕ)) → IsFileRead files limits name.now image → new ≡ old
+        → IsImageRead files limits old new image (File name)
+
+-- The image was not read from its source, for this reason.
+pub data IsImageNotRead (files : FilePromise) (limits : Bounds) (old new : ReadTrace)
+    (failure : Failure) : (source : ImageSource) → Type 0
+  where
+    InputNotRead : IsNotRead limits old new failure
+        → IsImageNotRead files limits old new failure Standard
+    FileNotRead : (name : Bor (List ℕ)) → IsFileNotRead files limits name.now failure → new ≡ old
+        → IsImageNotRead files limits old new failure (File name)
+
+-- Two images were compared: their differences were written, or that failed, or they could not be
+-- compared.
+pub data IsComparedWork (plan : ComparePlan) (limits : Bounds) (one other : List ℕ) (work : Work)
+    : Type 0
+  where
+    WroteDifferences : (same : Bool) (text : List ℕ)
+        → IsCompareOutput plan.quiet limits one other same text
+        → WroteAndFlushed work.output text work.new_output
+        → (done : Done) → EndedWith (compare_status same) done → work.outcome ≡ Ok done
+        → IsComparedWork plan limits one other work
+    NotAllWritten : (same : Bool) (text : List ℕ)
+        → IsCompareOutput plan.quiet limits one other same text
+        → (error : Error) → WriteOrFlushStopped work.output text work.new_output error
+        → work.outcome ≡ Err (problem Standard (Call error))
+        → IsComparedWork plan limits one other work
+    NotCompared : (error : CompareError) → IsCompareFailure plan.quiet limits one other error
+        → IsFailedWork (refused_source plan error) (failure_of_comparing error) work
+        → IsComparedWork plan limits one other work
+
+-- The first image was read, then the second one, and then both were compared.
+pub data IsCompareWork (files : FilePromise) (plan : ComparePlan) (limits : Bounds) (work : Work)
+    : Type 0
+  where
+    BothRead : (one other : List ℕ) (middle : ReadTrace)
+        → IsImageRead files limits work.input middle one plan.one
+        → IsImageRead files limits middle work.new_input other plan.other
+        → IsComparedWork plan limits one other work → IsCompareWork files plan limits work
+    OneNotRead : (failure : Failure)
+        → IsImageNotRead files limits work.input work.new_input failure plan.one
+        → IsFailedWork plan.one failure work → IsCompareWork files plan limits work
+    OtherNotRead : (one : List ℕ) (middle : ReadTrace) (failure : Failure)
+        → IsImageRead files limits work.input middle one plan.one
+        → IsImageNotRead files limits middle work.new_input failure plan.other
+        → IsFailedWork plan.other failure work → IsCompareWork files plan limits work
+
+-- ---- explaining
+
+-- What this cause means, or what each one means, was written, or that failed. Nothing was read.
+pub data IsExplainWork (cause : Option Cause) (work : Work) : Type 0 where
+  WroteExplanation : WroteAndFlushed work.output (explained cause) work.new_output
+      → (done : Done) → EndedWith 0 done → work.outcome ≡ Ok done → work.new_input ≡ work.input
+      → IsExplainWork cause work
+  ExplanationNotWritten : (error : Error)
+      → WriteOrFlushStopped work.output (explained cause) work.new_output error
+      → work.outcome ≡ Err (problem Standard (Call error)) → work.new_input ≡ work.input
+      → IsExplainWork cause work
+  NoMemoryForExplanation : IsFailedWork Standard (Call OutOfMemory) work
+      → work.new_input ≡ work.input → IsExplainWork cause work
+
+-- ---- building
+
+-- This is the part: of this length, or with the bytes of the whole file.
+abbrev pub IsPart : FilePromise → Bounds → PartSource → Part → Type 0
+IsPart files limits (part.Input size) (Length other) = other ≡ size
+IsPart files limits (part.File name) (Bytes bytes) = IsFileRead files limits name.now bytes.now
+IsPart files limits source other = ⊥
+
+-- The file of a part was not read, for this reason, and those of the parts before it were.
+pub record IsPartNotRead (files : FilePromise) (limits : Bounds) (sources : List PartSource)
+    (failed : Problem) : Type 0 where
+  pub before : List PartSource
+  pub name : Bor (List ℕ)
+  pub later : List PartSource
+  pub parts : List Part
+  pub is : sources ≡ before ++ part.File name ∷ later
+  pub are_read : AllZip (IsPart files limits) before parts
+  pub not_read : IsFileNotRead files limits name.now failed.failure
+  pub named : failed.source ≡ File name
+
+-- What building an image of these parts promises as a command.
+abbrev pub build_promise : BuildPlan → List Part → Bounds → CommandPromise (Unit {0}) Error
+build_promise (Legacy plan) parts = build_legacy_promise plan.fields parts
+build_promise (Fit plan) parts =
+    build_fit_promise plan.form plan.head plan.images.items parts
+
+-- The image of these parts was built, from `input` to its output, or that failed.
+pub data IsBuiltWork (plan : BuildPlan) (parts : List Part) (limits : Bounds) (work : Work) : Type 0
+  where
+    WasBuilt : (done : Done)
+        → IsTracedPipe (build_promise plan parts limits) limits work.input work.new_input
+        work.output work.new_output (Ok tt)
+        → EndedWith 0 done → work.outcome ≡ Ok done → IsBuiltWork plan parts limits work
+    WasNotBuilt : (error : Error)
+        → IsTracedPipe (build_promise plan parts limits) limits work.input work.new_input
+        work.output work.new_output (Err error)
+        → work.outcome ≡ Err (problem Standard (Call error)) → IsBuiltWork plan parts limits work
+
+-- A reader without bytes, before the first call.
+pub record IsNoInput (trace : ReadTrace) : Type 0 where
+  pub no_bytes : trace.remaining ≡ Some []
+  pub reads_well : ReadsWell trace
+  pub none_taken : trace.taken ≡ 0
+
+-- The files of the parts were read, in their order, and then the image was built: with standard
+-- input if it is to be read, and else with an input without bytes. Or that failed before standard
+-- input was read.
+pub data IsBuildWork (files : FilePromise) (plan : BuildPlan) (limits : Bounds) (work : Work)
+    : Type 0
+  where
+    BuiltWithInput : (parts : List Part) → AllZip (IsPart files limits) (sources_of plan) parts
+        → reads_input (sources_of plan) ≡ true → IsBuiltWork plan parts limits work
+        → IsBuildWork files plan limits work
+    BuiltOfFiles : (parts : List Part) → AllZip (IsPart files limits) (sources_of plan) parts
+        → reads_input (sources_of plan) ≡ false
+        → (nothing end : ReadTrace) → IsNoInput nothing
+        → IsBuiltWork plan parts limits (with_input work nothing end)
+        → work.new_input ≡ work.input → IsBuildWork files plan limits work
+    PartNotRead : (failed : Problem) → IsPartNotRead files limits (sources_of plan) failed
+        → IsFailedWork failed.source failed.failure work → work.new_input ≡ work.input
+        → IsBuildWork files plan limits work
+    -- Memory ran out for the list of parts.
+    NoRoom : IsFailedWork Standard (Call OutOfMemory) work → work.new_input ≡ work.input
+        → IsBuildWork files plan limits work
+
+-- ---- a job
+
+-- The job was done.
+abbrev pub IsJobWork : FilePromise → Job → Bounds → Work → Type 0
+IsJobWork files (RunTask task source) limits work = IsImageWork files task limits work source
+IsJobWork files (Compare plan) limits work = IsCompareWork files plan limits work
+IsJobWork files (Explain cause) limits work = IsExplainWork cause work
+IsJobWork files (Build plan) limits work = IsBuildWork files plan limits work
+
+-- ---- an output in a file
+
+-- A job was done with an output that is held in memory, which was empty before.
+pub record IsHeldWork (files : FilePromise) (job : Job) (limits : Bounds)
+    (input new_input : ReadTrace) (outcome : Result Done Problem) (held : Option (List ℕ)) : Type 0
+  where
+    pub memory : WriteTrace
+    pub new_memory : WriteTrace
+    pub empty : memory.contents ≡ Some []
+    pub writes_well : WritesWell memory
+    pub holds : new_memory.contents ≡ held
+    pub work : IsJobWork files job limits (record {
+      input = input;
+      new_input = new_input;
+      output = memory;
+      new_output = new_memory;
+      outcome = outcome;
+    })
+
+-- A failed write to memory means that memory ran out.
+abbrev pub failure_in_memory : Failure → Failure
+failure_in_memory (Call WriteFailed) = Call OutOfMemory
+failure_in_memory failure = failure
+
+-- A job failed with this problem, with an output that is held in memory.
+pub record IsHeldFailure (files : FilePromise) (job : Job) (limits : Bounds)
+    (input new_input : ReadTrace) (failed : Problem) : Type 0 where
+  pub cause : Problem
+  pub held : Option (List ℕ)
+  pub work : IsHeldWork files job limits input new_input (Err cause) held
+  pub source : failed.source ≡ cause.source
+  pub failure : failed.failure ≡ failure_in_memory cause.failure
+
+-- A job was done, and its whole output was saved in the file of this name; or that failed, or the
+-- job did, and the file is as it was.
+pub data IsSavedWork (files : FilePromise) (job : Job) (limits : Bounds) (name : Bor (List ℕ))
+    (input new_input : ReadTrace) (steps new_steps : Option (List FileStep))
+    (outcome : Result Done Problem) : Type 0
+  where
+    OutputSaved : (done : Done) (output : List ℕ)
+        → IsHeldWork files job limits input new_input (Ok done) (Some output)
+        → IsSaved files name.now output steps new_steps → outcome ≡ Ok done
+        → IsSavedWork files job limits name input new_input steps new_steps outcome
+    OutputNotSaved : (done : Done) (output : List ℕ)
+        → IsHeldWork files job limits input new_input (Ok done) (Some output)
+        → (failure : Failure) → IsNotSaved files name.now output failure steps new_steps
+        → outcome ≡ Err (problem (File name) failure)
+        → IsSavedWork files job limits name input new_input steps new_steps outcome
+    NoOutput : (failed : Problem) → IsHeldFailure files job limits input new_input failed
+        → new_steps ≡ steps → outcome ≡ Err failed
+        → IsSavedWork files job limits name input new_input steps new_steps outcome
+
+-- ---- a run
+
+-- The three streams and the steps with new files, before and after a call, and the exit status
+-- that it returns.
 pub record Run : Type 0 where
   pub input : ReadTrace
   pub new_input : ReadTrace
@@ -51,56 +365,92 @@ pub record Run : Type 0 where
   pub new_output : WriteTrace
   pub errors : WriteTrace
   pub new_errors : WriteTrace
+  pub steps : Option (List FileStep)
+  pub new_steps : Option (List FileStep)
   pub status : ℕ
 
--- The task was done, from standard input to standard output.
-pub data IsTaskRun (task : Task) (limits : Bounds) (run : Run) : Type 0 where
-  Succeeded : (done : Done)
-      → IsTracedPipe (task_promise task limits) limits run.input run.new_input run.output
-      run.new_output (Ok done)
-      → Notes done.signatures run.errors run.new_errors → run.status ≡ done.status
-      → IsTaskRun task limits run
-  HasFailed : (failure : Failure)
-      → IsTracedPipe (task_promise task limits) limits run.input run.new_input run.output
-      run.new_output (Err failure)
-      → Reports failure run.errors run.new_errors → run.status ≡ 2
-      → IsTaskRun task limits run
+-- What a run did with its streams before it wrote to standard error, with this outcome.
+abbrev pub work_of : Run → Result Done Problem → Work
+work_of run outcome = record {
+  input = run.input;
+  new_input = run.new_input;
+  output = run.output;
+  new_output = run.new_output;
+  outcome = outcome;
+}
 
--- Nothing was read or written to standard output, and a failure was reported.
-pub record IsRejection (failure : Failure) (run : Run) : Type 0 where
+-- Nothing was read or written, no file was changed, and a failure with an image from this source
+-- was reported.
+pub record IsRejection (source : ImageSource) (failure : Failure) (run : Run) : Type 0 where
   pub nothing_read : run.new_input ≡ run.input
   pub nothing_written : run.new_output ≡ run.output
-  pub reports : Reports failure run.errors run.new_errors
+  pub nothing_changed : run.new_steps ≡ run.steps
+  pub reports : Reports source failure run.errors run.new_errors
   pub status : run.status ≡ 2
 
+-- A job was done with this output: standard output if no file is named, or else the file of this
+-- name, and then nothing was written to standard output.
+pub data IsOutputRun (files : FilePromise) (job : Job) (limits : Bounds) (run : Run)
+    (outcome : Result Done Problem) : (output : Option (Bor (List ℕ))) → Type 0
+  where
+    ToStandardOutput : IsJobWork files job limits (work_of run outcome)
+        → run.new_steps ≡ run.steps → IsOutputRun files job limits run outcome None
+    ToFile : (name : Bor (List ℕ))
+        → IsSavedWork files job limits name run.input run.new_input run.steps run.new_steps
+        outcome
+        → run.new_output ≡ run.output → IsOutputRun files job limits run outcome (Some name)
+
+-- How a run ends: with a note on signature nodes if there are any, or with the line of a failure.
+pub data IsEnd (errors new_errors : WriteTrace) (status : ℕ) (outcome : Result Done Problem)
+    : Type 0
+  where
+    EndsWell : (done : Done) → outcome ≡ Ok done → Notes done.signatures errors new_errors
+        → status ≡ done.status → IsEnd errors new_errors status outcome
+    EndsWithFailure : (failed : Problem) → outcome ≡ Err failed
+        → Reports failed.source failed.failure errors new_errors → status ≡ 2
+        → IsEnd errors new_errors status outcome
+
+-- The job that is requested was done with the output that is requested.
+pub record IsRequestRun (files : FilePromise) (request : Request) (run : Run) : Type 0 where
+  pub outcome : Result Done Problem
+  pub done : IsOutputRun files request.job request.limits run outcome request.output
+  pub end : IsEnd run.errors run.new_errors run.status outcome
+
 -- A text that is an answer to the arguments was written: help or the version to standard output, or
--- why the arguments are wrong to standard error. Nothing was read.
+-- why the arguments are wrong to standard error. Nothing was read, and no file was changed.
 pub data IsTextRun (text : List ℕ) (run : Run) : Type 0 where
   IsWritten : WroteAndFlushed run.output text run.new_output → run.new_errors ≡ run.errors
-      → run.new_input ≡ run.input → run.status ≡ 0 → IsTextRun text run
+      → run.new_input ≡ run.input → run.new_steps ≡ run.steps → run.status ≡ 0
+      → IsTextRun text run
   IsNotWritten : (error : Error) → WriteOrFlushStopped run.output text run.new_output error
-      → Reports (Call error) run.errors run.new_errors
-      → run.new_input ≡ run.input → run.status ≡ 2 → IsTextRun text run
+      → Reports Standard (Call error) run.errors run.new_errors
+      → run.new_input ≡ run.input → run.new_steps ≡ run.steps → run.status ≡ 2
+      → IsTextRun text run
   IsUsage : Logs run.errors text run.new_errors → run.new_output ≡ run.output
-      → run.new_input ≡ run.input → run.status ≡ 2 → IsTextRun text run
+      → run.new_input ≡ run.input → run.new_steps ≡ run.steps → run.status ≡ 2
+      → IsTextRun text run
 
--- The program ran: it did the task that the arguments request, rejected the arguments, or wrote a
+-- The program ran: it did the job that the arguments request, rejected the arguments, or wrote a
 -- text of the command line.
-pub data IsRun (run : Run) : Type 0 where
-  RanTask : (request : Request) → IsRequest request → HasLengths request.task
-      → IsTaskRun request.task request.limits run → IsRun run
-  Rejected : (failure : Failure) → IsRejection failure run → IsRun run
-  WroteText : (text : List ℕ) → IsTextRun text run → IsRun run
+pub data IsRun (files : FilePromise) (run : Run) : Type 0 where
+  RanJob : (request : Request) → IsRequest request → HasJobLengths request.job
+      → IsRequestRun files request run → IsRun files run
+  Rejected : (failure : Failure) → IsRejected failure → IsRejection Standard failure run
+      → IsRun files run
+  WroteText : (text : List ℕ) → IsTextRun text run → IsRun files run
 
 -- The same over plain streams: what traces of these streams say, which begin when the run does.
-pub record IsPlainRun (remaining new_remaining contents new_contents : Option (List ℕ))
+pub record IsPlainRun (files : FilePromise) (steps new_steps : Option (List FileStep))
+    (remaining new_remaining contents new_contents : Option (List ℕ))
     (errors new_errors : Option (List ℕ)) (status : ℕ) : Type 0 where
   pub run : Run
-  pub is_run : IsRun run
+  pub is_run : IsRun files run
   pub is_status : run.status ≡ status
   pub reads_well : ReadsWell run.input
   pub none_taken : run.input.taken ≡ 0
   pub writes_well : WritesWell run.output
+  pub steps_before : run.steps ≡ steps
+  pub steps_after : run.new_steps ≡ new_steps
   pub remaining_before : run.input.remaining ≡ remaining
   pub remaining_after : run.new_input.remaining ≡ new_remaining
   pub contents_before : run.output.contents ≡ contents

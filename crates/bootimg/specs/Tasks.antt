@@ -9,28 +9,30 @@ use Rattle.bi_norm.specs.Converting.{IsConvertedFile, IsConvertError}
 use Rattle.bi_norm.specs.NormalForm.{IsNormalForm, IsNormaliseError, IsOpenError, Normalised}
 use Rattle.bi_commands.specs.declared.extract.ExtractError.{ExtractError}
 use Rattle.bi_commands.specs.declared.extract.ExtractError.TheVariants as extract
-use Rattle.bi_commands.specs.Building.{IsLegacyOutput, IsLegacyOutputError}
-use Rattle.bi_commands.specs.Building.{IsFitOutput, IsFitOutputError}
+use Rattle.bi_commands.specs.CheckedFiles.{IsChecked, IsCheckError, Checked}
 use Rattle.bi_commands.specs.Describing.{IsDescription, IsDescribeError}
 use Rattle.bi_commands.specs.Extracting.{IsChosen, IsExtractError}
 use Rattle.bi_commands.specs.Listing.{IsListing}
 use Rattle.bi_commands.specs.Reports.{IsReport, Verified}
+use Rattle.bi_commands.specs.UpdatedFiles.{IsUpdated, IsUpdateError, Updated}
 use Rattle.bi_fit.specs.declared.configurations.ConfigError.TheVariants as list
 use Rattle.bootimg.specs.declared.command_line.Task.{Task}
 use Rattle.bootimg.specs.declared.command_line.Task.TheVariants.{Normalise, List as ListImage}
-use Rattle.bootimg.specs.declared.command_line.Task.TheVariants.{Verify, Describe, Extract, Convert}
-use Rattle.bootimg.specs.declared.command_line.Task.TheVariants.{BuildLegacy, BuildFit}
+use Rattle.bootimg.specs.declared.command_line.Task.TheVariants.{Verify, Check, Describe, Extract}
+use Rattle.bootimg.specs.declared.command_line.Task.TheVariants.{Update, Convert}
 use Rattle.bootimg.specs.declared.failure.Failure.{Failure}
 use Rattle.bootimg.specs.declared.failure.Failure.TheVariants.{Call}
 use Rattle.bootimg.specs.declared.tasks.Done.{Done}
 use Rattle.bootimg.specs.Failures.{failure_of}
+use Rattle.bootimg.specs.Selections.{select_of}
 
 -- What each task of the program does (profile of this project).
 
--- The exit status after `verify`, by whether no verdict is other than Good.
-abbrev pub verify_status : Bool → ℕ
-verify_status true = 0
-verify_status false = 1
+-- The exit status after `verify`, by whether no verdict is other than Good, and after `check`, by
+-- whether it wrote no line.
+abbrev pub status_of : (good : Bool) → ℕ
+status_of true = 0
+status_of false = 1
 
 -- A task without signature nodes to note ended with this status.
 pub record EndedWith (status : ℕ) (done : Done) : Type 0 where
@@ -44,15 +46,14 @@ TaskDone (Normalise form) limits done input output =
 TaskDone ListImage limits done input output = IsListing limits input output × EndedWith 0 done
 TaskDone Describe limits done input output = IsDescription limits input output × EndedWith 0 done
 TaskDone Verify limits done input output =
-    (good : Bool) × Verified limits good input output × EndedWith (verify_status good) done
-TaskDone (Extract select) limits done input output =
-    IsChosen select limits input output × EndedWith 0 done
+    (good : Bool) × Verified limits good input output × EndedWith (status_of good) done
+TaskDone (Check allowed) limits done input output =
+    (clean : Bool) × Checked allowed limits clean input output × EndedWith (status_of clean) done
+TaskDone (Update changes form) limits done input output =
+    Updated changes limits form done.signatures input output × (done.status ≡ 0)
+TaskDone (Extract selection) limits done input output =
+    IsChosen (select_of selection) limits input output × EndedWith 0 done
 TaskDone Convert limits done input output = IsConvertedFile limits input output × EndedWith 0 done
-TaskDone (BuildLegacy plan) limits done input output =
-    IsLegacyOutput limits plan.fields plan.lengths.items input output × EndedWith 0 done
-TaskDone (BuildFit plan) limits done input output =
-    IsFitOutput limits plan.form plan.head plan.images.items plan.lengths.items input output
-    × EndedWith 0 done
 
 -- The task may begin to write this output for the input.
 abbrev pub TaskText : Task → Bounds → (input output : List ℕ) → Type 0
@@ -60,12 +61,11 @@ TaskText (Normalise form) limits input output = IsNormalForm limits form input o
 TaskText ListImage limits input output = IsListing limits input output
 TaskText Describe limits input output = IsDescription limits input output
 TaskText Verify limits input output = IsReport limits input output
-TaskText (Extract select) limits input output = IsChosen select limits input output
+TaskText (Check allowed) limits input output = IsChecked allowed limits input output
+TaskText (Update changes form) limits input output = IsUpdated changes limits form input output
+TaskText (Extract selection) limits input output =
+    IsChosen (select_of selection) limits input output
 TaskText Convert limits input output = IsConvertedFile limits input output
-TaskText (BuildLegacy plan) limits input output =
-    IsLegacyOutput limits plan.fields plan.lengths.items input output
-TaskText (BuildFit plan) limits input output =
-    IsFitOutput limits plan.form plan.head plan.images.items plan.lengths.items input output
 
 -- The failure is one of these errors of a call.
 pub record IsCallFailure (HasError : Error → Type 0) (failure : Failure) : Type 0 where
@@ -86,14 +86,12 @@ TaskFails (Normalise form) limits input failure =
 TaskFails ListImage limits input failure = IsCallFailure (IsOpenError limits input) failure
 TaskFails Describe limits input failure = IsCallFailure (IsDescribeError limits input) failure
 TaskFails Verify limits input failure = IsCallFailure (IsOpenError limits input) failure
-TaskFails (Extract select) limits input failure =
-    IsExtractFailure (IsExtractError select limits input) failure
+TaskFails (Check allowed) limits input failure = IsCallFailure (IsCheckError limits input) failure
+TaskFails (Update changes form) limits input failure =
+    IsCallFailure (IsUpdateError changes limits form input) failure
+TaskFails (Extract selection) limits input failure =
+    IsExtractFailure (IsExtractError (select_of selection) limits input) failure
 TaskFails Convert limits input failure = IsCallFailure (IsConvertError limits input) failure
-TaskFails (BuildLegacy plan) limits input failure =
-    IsCallFailure (IsLegacyOutputError limits plan.fields plan.lengths.items input) failure
-TaskFails (BuildFit plan) limits input failure =
-    IsCallFailure
-    (IsFitOutputError limits plan.form plan.head plan.images.items plan.lengths.items input) failure
 
 -- What a task promises as a command.
 abbrev pub task_promise : Task → Bounds → CommandPromise Done Failure
@@ -111,10 +109,10 @@ task_text (Normalise form) limits done input output is = is.0.normal
 task_text ListImage limits done input output is = is.0
 task_text Describe limits done input output is = is.0
 task_text Verify limits done input output is = is.1.report
-task_text (Extract select) limits done input output is = is.0
+task_text (Check allowed) limits done input output is = is.1.checked
+task_text (Update changes form) limits done input output updated = updated.0.is
+task_text (Extract selection) limits done input output is = is.0
 task_text Convert limits done input output is = is.0
-task_text (BuildLegacy plan) limits done input output is = is.0
-task_text (BuildFit plan) limits done input output is = is.0
 
 -- The error of a call that a failure has inside.
 abbrev cause_of : Failure → Error
@@ -171,17 +169,15 @@ task_in_memory Describe limits input failure is =
     call_in_memory (IsDescribeError limits input) (λ no. no) (λ no. no) failure is
 task_in_memory Verify limits input failure is =
     call_in_memory (IsOpenError limits input) (λ no. no) (λ no. no) failure is
-task_in_memory (Extract select) limits input failure is =
-    extract_in_memory (IsExtractError select limits input) (λ no. no) (λ no. no) failure is
+task_in_memory (Check allowed) limits input failure is =
+    call_in_memory (IsCheckError limits input) (λ no. no) (λ no. no) failure is
+task_in_memory (Update changes form) limits input failure is =
+    call_in_memory (IsUpdateError changes limits form input) (λ no. no) (λ no. no) failure is
+task_in_memory (Extract selection) limits input failure is =
+    extract_in_memory (IsExtractError (select_of selection) limits input)
+    (λ no. no) (λ no. no) failure is
 task_in_memory Convert limits input failure is =
     call_in_memory (IsConvertError limits input) (λ no. no) (λ no. no) failure is
-task_in_memory (BuildLegacy plan) limits input failure is =
-    call_in_memory (IsLegacyOutputError limits plan.fields plan.lengths.items input)
-    (λ no. no) (λ no. no) failure is
-task_in_memory (BuildFit plan) limits input failure is =
-    call_in_memory
-    (IsFitOutputError limits plan.form plan.head plan.images.items plan.lengths.items input)
-    (λ no. no) (λ no. no) failure is
 
 pub task_laws : (task : Task) (limits : Bounds) → PromiseLaws (task_promise task limits)
 task_laws task limits = record {

@@ -1,34 +1,48 @@
 //! The command line.
 
+mod allowed;
 mod build;
+mod explain;
 mod extract;
 mod image;
 mod options;
+mod part;
+mod source;
 mod table;
+mod update;
 
-ghost use Rattle.std.specs.Prelude.{◌≡◌, IfOk, IfErr};
+ghost use Rattle.std.specs.Prelude.{◌≡◌, ◌≢◌, IfOk, IfErr, codes};
 ghost use Rattle.bi_base.specs.declared.fault.Error.TheVariants.{OutOfMemory};
-ghost use Rattle.bootimg.specs.CommandLine.{HasLengths, IsRequest, IsTask, IsTaskOutcome};
+ghost use Rattle.bootimg.specs.CommandLine.{HasJobLengths, IsJob, IsNoRequest, IsRequest};
+ghost use Rattle.bootimg.specs.CommandLine.{IsTask, IsTaskOutcome};
 ghost use Rattle.bootimg.specs.CommandLine.{IsTextOutcome};
 ghost use Rattle.bootimg.specs.declared.command_line.Outcome.TheVariants as outcome;
 ghost use Rattle.bootimg.specs.declared.failure.Failure.TheVariants.{Call};
 
 use crate::failure::Failure;
-use bi_base::{Error, Limits};
-use bi_commands::extract::Select;
+use allowed::allowed_kinds;
+use bi_base::{Cause, Error, Limits};
+use bi_commands::check::Allowed;
+use bi_commands::update::Changes;
 use bi_norm::Form;
-pub use build::{FitPlan, LegacyPlan};
+pub use build::{BuildPlan, FitPlan, LegacyPlan};
 use build::{fit_plan, legacy_plan};
 use clap::ArgMatches;
 use clap::error::ErrorKind;
+use explain::explained_cause;
+pub use extract::Selected;
 use extract::selection;
 use options::{form, limits};
+pub use part::PartSource;
+pub use source::{ComparePlan, ImageSource};
+use source::{compare_plan, source};
 use std::alloc::{AllocError, AllocFailed, Global};
 use table::program;
+use update::changes;
 
 /// A command, and the options that only this command has.
 #[derive(Debug, Drop)]
-pub enum Task<'a> {
+pub enum Task {
     /// Write the normal form. A flattened image tree has its payloads where the form says.
     Normalise(Form),
     /// Write the listing.
@@ -37,23 +51,39 @@ pub enum Task<'a> {
     Describe,
     /// Write the report on the checksums and digests.
     Verify,
+    /// Write the concerns that are not of these kinds.
+    Check(Allowed),
+    /// Write the normal form with these changes. A flattened image tree has its payloads where the
+    /// form says.
+    Update(Changes, Form),
     /// Write what the selection chooses.
-    Extract(Select<'a>),
+    Extract(Selected),
     /// Write the flattened image tree of a legacy image.
     Convert,
-    /// Write a legacy image of the parts in the input.
-    BuildLegacy(LegacyPlan<'a>),
-    /// Write a flattened image tree of the payloads in the input.
-    BuildFit(FitPlan<'a>),
+}
+
+/// What the program does with its streams.
+#[derive(Debug, Drop)]
+pub enum Job<'a> {
+    /// Do the task with this image.
+    Run(Task, ImageSource<'a>),
+    /// Compare two images.
+    Compare(ComparePlan<'a>),
+    /// Write what this cause of a refusal means, or what each one means.
+    Explain(Option<Cause>),
+    /// Build an image.
+    Build(BuildPlan<'a>),
 }
 
 /// What the arguments request.
 #[derive(Debug, Drop)]
 pub struct Request<'a> {
-    /// The command.
-    pub task: Task<'a>,
-    /// The limits for what it reads and writes.
+    /// What to do.
+    pub job: Job<'a>,
+    /// The limits for what is read and written.
     pub limits: Limits,
+    /// The name of the output file. Without one the output goes to standard output.
+    pub output: Option<&'a str>,
 }
 
 /// The outcome of arguments that request no task.
@@ -66,6 +96,8 @@ pub enum Outcome {
 }
 
 impl From<clap::Error> for Outcome {
+    ghost from_gives = { λ _ result. IsNoRequest result };
+
     fn from(error: clap::Error) -> Outcome {
         match error.kind() {
             ErrorKind::OutOfMemory => Outcome::Failure(Failure::Call(Error::OutOfMemory)),
@@ -100,27 +132,62 @@ impl From<Failure> for Outcome {
 
 /// Parses the arguments, without the program's own name.
 ///
-/// Errors, the first that applies: what clap rejects; `extract` without exactly one selection; a
-/// number that is malformed or out of range, an unknown code or an unknown key; an image of
-/// `build-fit` that cannot be read. A call that allocates may run out of memory.
+/// Errors, the first that applies: what clap rejects; `extract` without exactly one selection, or
+/// `update` without a change; a number that is malformed or out of range, an unknown code, key or
+/// kind of concerns, or `compare` of standard input with itself; an image of `build-fit` that
+/// cannot be read. A call that allocates may run out of memory.
 pub fn parse_arguments<'a>(alloc: Global, arguments: &'a [&'a str]) -> Result<Request<'a>, Outcome>
     ensures request { IfOk result IsRequest }
-    ensures lengths { IfOk result (λ request. HasLengths request.task) }
+    ensures failure { IfErr result IsNoRequest }
+    ensures lengths { IfOk result (λ request. HasJobLengths request.job) }
     ensures depth { IfOk result (λ request. request.limits.depth ≡ 64) }
 {
     let matches = program(alloc)?.try_get_matches_from(arguments)?;
     let Some((name, options)) = matches.subcommand() else {
         return Err(no_command(alloc)?);
     };
-    let task = parse_task(alloc, name, options)?;
+    let job = parse_job(alloc, name, options)?;
     let limits = limits(options)?;
-    Ok(Request { task, limits })
+    Ok(Request {
+        job,
+        limits,
+        output: options.get_str("output"),
+    })
 }
 
-/// Returns the command of this name with the options. Fails as `parse_arguments` does.
-fn parse_task<'a>(alloc: Global, name: &str, options: &ArgMatches<'a>) -> Result<Task<'a>, Outcome>
+/// Returns what the command of this name does with the options. Fails as `parse_arguments` does.
+fn parse_job<'a>(alloc: Global, name: &str, options: &ArgMatches<'a>) -> Result<Job<'a>, Outcome>
+    ensures job { IfOk result (IsJob name.now options.now) }
+    ensures lengths { IfOk result (λ job. HasJobLengths job) }
+    ensures failure { IfErr result (IsTaskOutcome name.now options.now) }
+{
+    if name == "compare" {
+        return Ok(Job::Compare(compare_plan(options)?));
+    }
+    if name == "explain" {
+        return Ok(Job::Explain(explained_cause(options)?));
+    }
+    if name == "build-legacy" {
+        let plan = legacy_plan(alloc, options)?;
+        return Ok(Job::Build(BuildPlan::Legacy(plan)));
+    }
+    if name == "build-fit" {
+        // A bad limit comes before a bad image.
+        limits(options)?;
+        let plan = fit_plan(alloc, options)?;
+        return Ok(Job::Build(BuildPlan::Fit(plan)));
+    }
+    let task = parse_task(alloc, name, options)?;
+    Ok(Job::Run(task, source(options, "file")))
+}
+
+/// Returns the task of the command of this name with the options. Fails as `parse_arguments` does.
+fn parse_task(alloc: Global, name: &str, options: &ArgMatches<'_>) -> Result<Task, Outcome>
+    requires no_comparison { name.now ≢ codes "compare" }
+    requires no_explanation { name.now ≢ codes "explain" }
+    requires no_build_legacy { name.now ≢ codes "build-legacy" }
+    requires no_build_fit { name.now ≢ codes "build-fit" }
     ensures task { IfOk result (IsTask name.now options.now) }
-    ensures lengths { IfOk result (λ task. HasLengths task) }
     ensures failure { IfErr result (IsTaskOutcome name.now options.now) }
 {
     Ok(match name {
@@ -128,14 +195,10 @@ fn parse_task<'a>(alloc: Global, name: &str, options: &ArgMatches<'a>) -> Result
         "list" => Task::List,
         "describe" => Task::Describe,
         "verify" => Task::Verify,
-        "extract" => Task::Extract(selection(options)?),
+        "check" => Task::Check(allowed_kinds(options)?),
+        "update" => Task::Update(changes(options)?, form(options)),
+        "extract" => Task::Extract(selection(alloc, options)?),
         "convert" => Task::Convert,
-        "build-legacy" => Task::BuildLegacy(legacy_plan(alloc, options)?),
-        "build-fit" => {
-            // A bad limit comes before a bad image.
-            limits(options)?;
-            Task::BuildFit(fit_plan(alloc, options)?)
-        }
         _ => return Err(no_command(alloc)?),
     })
 }

@@ -1,12 +1,15 @@
 //! The failures of the program, and the text of each.
 
 ghost use Rattle.std.specs.Prelude.{◌≡◌, Some};
+ghost use Rattle.bi_base.specs.declared.fault.Error.TheVariants.{OutOfMemory};
 ghost use Rattle.bootimg.specs.declared.failure.Failure.TheVariants.{Call};
 ghost use Rattle.bootimg.specs.Failures.{failure_of, failure_text};
+ghost use Rattle.bootimg.specs.Failures.{is_about_image as is_about_image_of};
 
 use bi_base::{Error, Fault};
 use bi_commands::extract::ExtractError;
 use bi_fit::ConfigError;
+use std::alloc::AllocError;
 use std::fmt;
 
 /// Why the program failed. Its `Display` is the text that the program prints after `bootimg: `.
@@ -34,10 +37,31 @@ pub enum Failure {
     NoPayload,
     /// `extract` needs exactly one selection.
     NoSelection,
+    /// `update` needs a change.
+    NoChange,
     /// The value of an option, or a length, is malformed or out of range.
     BadValue,
     /// The argument at this index, from 0, of `build-fit` is no image.
     BadImage(usize),
+    /// The file cannot be opened.
+    CannotOpen,
+    /// The output file cannot be written.
+    NotWritten,
+}
+
+impl Failure {
+    /// Whether the line of the failure begins with the name of the file that the image is read
+    /// from, if it is read from a file, or of the output file.
+    pub fn is_about_image(self) -> bool
+        ensures { result ≡ is_about_image_of self }
+    {
+        match self {
+            Failure::Call(error) => matches!(error, Error::Refused(_) | Error::ReadFailed),
+            Failure::NoSelection | Failure::NoChange | Failure::BadValue | Failure::BadImage(_) =>
+                false,
+            _ => true,
+        }
+    }
 }
 
 impl From<Error> for Failure {
@@ -45,6 +69,14 @@ impl From<Error> for Failure {
 
     fn from(error: Error) -> Failure {
         Failure::Call(error)
+    }
+}
+
+impl From<AllocError> for Failure {
+    ghost from_gives = { λ _ failure. failure ≡ Call OutOfMemory };
+
+    fn from(error: AllocError) -> Failure {
+        Failure::Call(Error::from(error))
     }
 }
 
@@ -90,8 +122,11 @@ impl fmt::Display for Failure {
             Failure::NoIndex => f.write_str("no such entry"),
             Failure::NoPayload => f.write_str("no payload"),
             Failure::NoSelection => f.write_str("usage: give one of --part, --image, --config"),
+            Failure::NoChange => f.write_str("usage: give --time or --hashes"),
             Failure::BadValue => f.write_str("usage: bad value"),
             Failure::BadImage(index) => write!(f, "usage: bad image {index}"),
+            Failure::CannotOpen => f.write_str("cannot be opened"),
+            Failure::NotWritten => f.write_str("write failed"),
         }
     }
 }

@@ -1,15 +1,24 @@
-//! `bootimg` normalises, lists, describes, verifies, extracts from, converts and builds U-Boot's
-//! boot images.
+//! `bootimg` normalises, lists, describes, compares, verifies, checks, updates, extracts from,
+//! converts and builds U-Boot's boot images.
 #![tactic(auto)]
 
+mod builds;
 mod codes;
 mod command_line;
+mod explanations;
 mod failure;
+mod files;
+mod jobs;
+mod new_file;
 mod numbers;
+mod reports;
+mod requests;
 mod run;
+mod saving;
 mod tasks;
 
-use run::run;
+use files::SystemFiles;
+use run::run_with_files;
 use std::io::{self, Write};
 use std::process::ExitCode;
 
@@ -23,8 +32,8 @@ fn main(rt: HostRuntime) -> ExitCode {
     }
 }
 
-/// Runs the program over the standard streams, and returns its exit status. Fails if memory runs
-/// out, or an argument is not UTF-8.
+/// Runs the program over the standard streams and the files of the system, and returns its exit
+/// status. Fails if memory runs out, or an argument is not UTF-8.
 fn run_streams(rt: &HostRuntime) -> io::Result<u8> {
     let alloc = rt.alloc();
     let strings: Vec<String> = std::env::args(rt)?.skip(1).collect(alloc)?;
@@ -32,9 +41,10 @@ fn run_streams(rt: &HostRuntime) -> io::Result<u8> {
     for string in &strings {
         arguments.push(string.as_str())?;
     }
-    Ok(run(
+    Ok(run_with_files(
         alloc,
         &arguments,
+        &mut SystemFiles { runtime: rt },
         &mut rt.stdin(),
         &mut rt.stdout(),
         &mut rt.stderr(),

@@ -1,24 +1,25 @@
 //! What the program does for each command of the command line.
 
-ghost use Rattle.std.specs.Prelude.{◌≡◌};
-ghost use Rattle.bootimg.specs.CommandLine.{HasLengths};
-ghost use Rattle.bootimg.specs.Tasks.{EndedWith, task_promise, task_laws};
+ghost use Rattle.std.specs.Prelude.{◌≡◌, ⊤};
+ghost use Rattle.bootimg.specs.Tasks.{EndedWith, status_of, task_promise, task_laws};
 
 use crate::command_line::Task;
 use crate::failure::Failure;
 use bi_base::{Command, Limits, Sink};
+use bi_commands::check::Checker;
 use bi_commands::convert::Converter;
 use bi_commands::describe::Describer;
 use bi_commands::extract::Extractor;
 use bi_commands::list::Lister;
+use bi_commands::update::Updater;
 use bi_commands::verify::Verifier;
 use bi_norm::Normaliser;
 use std::alloc::Global;
 
 /// The exit status after success.
-const SUCCESS: u8 = 0;
+pub const SUCCESS: u8 = 0;
 
-/// The exit status after `verify` wrote a verdict that is not good.
+/// The exit status after `verify` wrote a verdict that is not good, or `check` a line.
 const NOT_GOOD: u8 = 1;
 
 /// How a task ended that did not fail.
@@ -26,13 +27,13 @@ const NOT_GOOD: u8 = 1;
 pub struct Done {
     /// The exit status.
     pub status: u8,
-    /// How many signature nodes a normal form has.
+    /// How many signature nodes a normal form or an updated one has.
     pub signatures: usize,
 }
 
 impl Done {
     /// The end of a task without signature nodes, with this exit status.
-    fn with_status(status: u8) -> Done
+    pub fn with_status(status: u8) -> Done
         ensures { EndedWith status result }
     {
         Done {
@@ -42,12 +43,12 @@ impl Done {
     }
 }
 
-impl<'a> Command for Task<'a> {
+impl Command for Task {
     type Value = Done;
 
     type Failure = Failure;
 
-    ghost can_run = { HasLengths };
+    ghost can_run = { λ _. ⊤ };
 
     ghost promise = { task_promise };
 
@@ -75,25 +76,31 @@ impl<'a> Command for Task<'a> {
                 return Ok(Done::with_status(SUCCESS));
             }
             Task::Verify => {
-                if !Verifier.run(alloc, input, limits, sink)? {
-                    return Ok(Done::with_status(NOT_GOOD));
-                }
-                return Ok(Done::with_status(SUCCESS));
+                let good = Verifier.run(alloc, input, limits, sink)?;
+                return Ok(Done::with_status(status(good)));
             }
-            Task::Extract(select) => {
-                Extractor { select: *select }.run(alloc, input, limits, sink)?;
+            Task::Check(allowed) => {
+                let clean = Checker { allowed: *allowed }.run(alloc, input, limits, sink)?;
+                return Ok(Done::with_status(status(clean)));
+            }
+            Task::Update(changes, form) => {
+                let updater = Updater {
+                    changes: *changes,
+                    form: *form,
+                };
+                let signatures = updater.run(alloc, input, limits, sink)?;
+                return Ok(Done {
+                    status: SUCCESS,
+                    signatures,
+                });
+            }
+            Task::Extract(selection) => {
+                let select = selection.select();
+                Extractor { select }.run(alloc, input, limits, sink)?;
                 return Ok(Done::with_status(SUCCESS));
             }
             Task::Convert => {
                 Converter.run(alloc, input, limits, sink)?;
-                return Ok(Done::with_status(SUCCESS));
-            }
-            Task::BuildLegacy(plan) => {
-                plan.builder().run(alloc, input, limits, sink)?;
-                return Ok(Done::with_status(SUCCESS));
-            }
-            Task::BuildFit(plan) => {
-                plan.builder().run(alloc, input, limits, sink)?;
                 return Ok(Done::with_status(SUCCESS));
             }
         }
@@ -102,4 +109,11 @@ impl<'a> Command for Task<'a> {
     ghost wraps_from = { λ _ _ _ _ same. same };
 
     ghost laws = { task_laws };
+}
+
+/// Returns the exit status after `verify` or `check`.
+fn status(good: bool) -> u8
+    ensures { result ≡ status_of good }
+{
+    if good { SUCCESS } else { NOT_GOOD }
 }

@@ -18,11 +18,11 @@ abbrev pub is_slash : ℕ → Bool
 is_slash byte = eqb byte 47
 
 -- The digit of a number below ten.
-low_glyph : (upper : Bool) (d : ℕ) → d < 10 → digit_glyph upper d ≡ 48 + d
+pub low_glyph : (upper : Bool) (d : ℕ) → d < 10 → digit_glyph upper d ≡ 48 + d
 low_glyph upper d small = cond-true (ltb d 10) (48 + d) (cond upper (55 + d) (87 + d)) (lt-ltb d 10 small)
 
 -- The digit of any other number.
-high_glyph : (upper : Bool) (d : ℕ) → 10 ≤ d → digit_glyph upper d ≡ cond upper (55 + d) (87 + d)
+pub high_glyph : (upper : Bool) (d : ℕ) → 10 ≤ d → digit_glyph upper d ≡ cond upper (55 + d) (87 + d)
 high_glyph upper d large = cond-false (ltb d 10) (48 + d) (cond upper (55 + d) (87 + d)) (le-ltb d 10 large)
 
 -- A number is read back from its digit.
@@ -85,7 +85,7 @@ plain_above byte plain =
     omega (arith, leb-true 0x21 byte low)
 
 -- It is no percent sign.
-plain_no_percent : (byte : ℕ) → is_plain byte ≡ true → byte ≡ 37 → ⊥
+pub plain_no_percent : (byte : ℕ) → is_plain byte ≡ true → byte ≡ 37 → ⊥
 plain_no_percent byte plain =
     eqb-false byte 37 (not-true (eqb byte 37) (and_parts (leb 0x21 byte && leb byte 0x7e) (not (eqb byte 37)) plain).1)
 
@@ -106,7 +106,7 @@ read_shown_byte a b x y same = where_tests (is_plain a) (is_plain b) refl refl
     where_tests false false one other = let both = texts false false one other in read_digits true a b x y cc
 
 -- No byte of a name is printed as nothing.
-some_shown_byte : (byte : ℕ) → shown_byte byte ≡ [] → ⊥
+pub some_shown_byte : (byte : ℕ) → shown_byte byte ≡ [] → ⊥
 some_shown_byte byte = where_test (is_plain byte)
   where
     where_test : (p : Bool) → cond p (byte ∷ []) (37 ∷ digits_of_byte true byte) ≡ [] → ⊥
@@ -114,13 +114,13 @@ some_shown_byte byte = where_test (is_plain byte)
     where_test false e = absurd cc
 
 -- How a name is shown.
-data ShownName (name : List ℕ) : Type 0 where
+pub data ShownName (name : List ℕ) : Type 0 where
   Nothing : name ≡ [] → shown name ≡ codes "-" → ShownName name
   Dash : name ≡ codes "-" → shown name ≡ codes "%2D" → ShownName name
   Others : name ≢ [] → name ≢ codes "-" → shown name ≡ flat_map shown_byte name → ShownName name
 
 -- It is shown in one of these ways.
-ways : (name : List ℕ) → ShownName name
+pub ways : (name : List ℕ) → ShownName name
 ways name = where_tests (bytes_eq name []) (bytes_eq name (codes "-")) refl refl
   where
     where_tests : (p q : Bool) → bytes_eq name [] ≡ p → bytes_eq name (codes "-") ≡ q → ShownName name
@@ -134,7 +134,7 @@ ways name = where_tests (bytes_eq name []) (bytes_eq name (codes "-")) refl refl
         ∙ cond-false (bytes_eq name (codes "-")) (codes "%2D") (flat_map shown_byte name) dash)
 
 -- Bytes are read back from how they are printed.
-same_shown_bytes : (one other : List ℕ) → flat_map shown_byte one ≡ flat_map shown_byte other → one ≡ other
+pub same_shown_bytes : (one other : List ℕ) → flat_map shown_byte one ≡ flat_map shown_byte other → one ≡ other
 same_shown_bytes one other same = codes_agree shown_byte read_shown_byte some_shown_byte one other same
 
 -- No bytes are printed as the name `-` is.

@@ -31,7 +31,7 @@ pub(super) fn digest_of(payload: &[u8]) -> PayloadDigest
 /// Checks that the payloads of images together are no longer than a limit.
 ///
 /// Error: TooLarge at the limit, exactly if they are longer.
-pub(super) fn check_payloads(images: &[Image], limit: u32) -> Result<(), Fault>
+pub(crate) fn check_payloads(images: &[Image], limit: u32) -> Result<(), Fault>
     ensures within { OnOk result (payloads_length (payloads_of images.now) ≤ limit) }
     ensures refused { IfErr result (λ fault. (fault ≡ too_large limit)
         × (limit < payloads_length (payloads_of images.now))) }
@@ -47,7 +47,7 @@ pub(super) fn check_payloads(images: &[Image], limit: u32) -> Result<(), Fault>
 }
 
 /// Returns the length of a payload, 0 if there is none.
-fn length_of(payload: Option<&[u8]>) -> usize
+pub(crate) fn length_of(payload: Option<&[u8]>) -> usize
     ensures length { result ≡ payload_length (option_map (λ payload. payload.now) payload.entry) }
     ensures small { result < 2 ^ 63 }
 {

@@ -78,7 +78,7 @@ fn put_head<S: Sink>(boot_cpu: u32, sink: &mut S) -> Result<(), Error>
 }
 
 /// Appends a line for each memory reservation. Fails as the sink does.
-fn put_reservations<S: Sink>(blob: &Blob, sink: &mut S) -> Result<(), Error>
+pub(crate) fn put_reservations<S: Sink>(blob: &Blob, sink: &mut S) -> Result<(), Error>
     ensures { Wrote S.appends S.fails sink.old
         (flat_map line (map reservation_words blob.now.reservations)) result sink.new }
 {

@@ -71,7 +71,7 @@ fn put_legacy<S: Sink>(fields: Fields, parts: &[PayloadDigest], sink: &mut S) ->
 }
 
 /// Appends the lines of the kind, the name and the numbers. Fails as the sink does.
-fn put_kind_and_fields<S: Sink>(fields: Fields, sink: &mut S) -> Result<(), Error>
+pub(crate) fn put_kind_and_fields<S: Sink>(fields: Fields, sink: &mut S) -> Result<(), Error>
     ensures { let image = image_of fields.entry [] in
         Wrote S.appends S.fails sink.old
         (flat_map line ((codes "kind" ∷ codes "legacy" ∷ []) ∷ field_words image)) result
@@ -90,7 +90,7 @@ fn put_kind_and_fields<S: Sink>(fields: Fields, sink: &mut S) -> Result<(), Erro
 }
 
 /// Appends the lines of the codes. Fails as the sink does.
-fn put_codes<S: Sink>(fields: Fields, sink: &mut S) -> Result<(), Error>
+pub(crate) fn put_codes<S: Sink>(fields: Fields, sink: &mut S) -> Result<(), Error>
     ensures { let image = image_of fields.entry [] in
         Wrote S.appends S.fails sink.old (flat_map line (code_words image)) result sink.new }
 {

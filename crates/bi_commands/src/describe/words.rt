@@ -1,4 +1,4 @@
-//! The lines of a description, appended to a sink word by word.
+//! Lines, appended to a sink word by word.
 
 ghost use Rattle.std.specs.Prelude.{◌≡◌, ◌<◌, ◌≤◌, ◌∷◌, ◌++◌, flat_map, length, map, true};
 ghost use Rattle.std.specs.Fmt.{decimal, digit_glyph};
@@ -18,7 +18,7 @@ use itoa::Buffer;
 
 /// A word of a line.
 #[derive(Clone, Copy)]
-pub(super) enum Word<'a, 'b> {
+pub(crate) enum Word<'a, 'b> {
     /// This text.
     Text(&'a [u8]),
     /// A name, as it is printed.
@@ -38,7 +38,7 @@ pub(super) enum Word<'a, 'b> {
 }
 
 /// Appends lines of two words each. Fails as the sink does.
-pub(super) fn put_lines<S: Sink>(lines: &[[Word; 2]], sink: &mut S) -> Result<(), Error>
+pub(crate) fn put_lines<S: Sink>(lines: &[[Word; 2]], sink: &mut S) -> Result<(), Error>
     ensures { Wrote S.appends S.fails sink.old (flat_map line (map words_of lines.now)) result
         sink.new }
 {
@@ -49,7 +49,7 @@ pub(super) fn put_lines<S: Sink>(lines: &[[Word; 2]], sink: &mut S) -> Result<()
 }
 
 /// Appends a line: words, with a space between each two, and a newline. Fails as the sink does.
-pub(super) fn put_line<S: Sink>(words: &[Word], sink: &mut S) -> Result<(), Error>
+pub(crate) fn put_line<S: Sink>(words: &[Word], sink: &mut S) -> Result<(), Error>
     ensures { Wrote S.appends S.fails sink.old (line (words_of words.now)) result sink.new }
 {
     put_words(words, sink)?;
@@ -57,7 +57,7 @@ pub(super) fn put_line<S: Sink>(words: &[Word], sink: &mut S) -> Result<(), Erro
 }
 
 /// Appends words, with a space between each two. Fails as the sink does.
-fn put_words<S: Sink>(words: &[Word], sink: &mut S) -> Result<(), Error>
+pub(crate) fn put_words<S: Sink>(words: &[Word], sink: &mut S) -> Result<(), Error>
     ensures { Wrote S.appends S.fails sink.old (join_with_byte 32 (words_of words.now)) result
         sink.new }
 {
@@ -82,7 +82,7 @@ fn put_later_words<S: Sink>(words: &[Word], sink: &mut S) -> Result<(), Error>
 }
 
 /// Appends a word after a space. Fails as the sink does.
-fn put_later_word<S: Sink>(word: Word, sink: &mut S) -> Result<(), Error>
+pub(crate) fn put_later_word<S: Sink>(word: Word, sink: &mut S) -> Result<(), Error>
     ensures { Wrote S.appends S.fails sink.old (32 ∷ word_text word.entry) result sink.new }
 {
     sink.put(b" ")?;
@@ -109,7 +109,7 @@ fn put_word<S: Sink>(word: Word, sink: &mut S) -> Result<(), Error>
 const PIECE: usize = 512;
 
 /// Appends a number in decimal digits. Fails as the sink does.
-fn put_decimal<S: Sink>(number: u64, sink: &mut S) -> Result<(), Error>
+pub(crate) fn put_decimal<S: Sink>(number: u64, sink: &mut S) -> Result<(), Error>
     ensures { Wrote S.appends S.fails sink.old (decimal number) result sink.new }
 {
     let mut buffer = Buffer::new();

@@ -1,114 +1,56 @@
 //! The listing of a legacy image.
 
-ghost use Rattle.std.specs.Prelude.{◌≡◌, ℕ, List, ◌∷◌, [], ◌++◌, IfOk, OnOk, IfErr};
-ghost use Rattle.std.specs.Prelude.{option_map, unwrap_or, string_bytes};
+ghost use Rattle.std.specs.Prelude.{◌≡◌, ◌∷◌, ◌++◌, [], codes};
 ghost use Rattle.std.specs.Fmt.{decimal};
-ghost use Rattle.bi_base.specs.Limits.{Bounds};
+ghost use Rattle.bi_base.specs.Sinks.{Wrote};
 ghost use Rattle.bi_legacy.specs.PlacedParts.{placed_part_of};
-ghost use Rattle.bi_legacy.specs.Reading.{IsParsedImage};
-ghost use Rattle.bi_norm.specs.NormalForm.{IsOpenError};
-ghost use Rattle.bi_commands.specs.Listing.{IsListing, legacy_listing as listing_of, field_lines};
-ghost use Rattle.bi_commands.specs.Listing.{code_lines, parts_lines, part_line};
-ghost use Rattle.bi_commands.specs.Shown.{line};
+ghost use Rattle.bi_commands.specs.Listing.{legacy_listing, parts_lines, part_line};
 
-use super::lines::{put_address, put_number, put_word};
-use crate::shown::shown_name;
-use bi_base::Error;
-use bi_legacy::codes::{arch_name, compression_name, os_name, type_name};
+use crate::describe::{Word, put_codes, put_decimal, put_kind_and_fields, put_line};
+use bi_base::{Error, Sink};
 use bi_legacy::{Legacy, Part};
-use std::alloc::{AllocError, Global};
-use std::fmt::Write;
 
-/// Returns the listing of a legacy image that was read.
-pub fn list_legacy(alloc: Global, image: &Legacy) -> Result<String, Error>
-    ensures lists { (limits : Bounds) (file : List ℕ) → IsParsedImage limits file image.now →
-        IfOk result (λ text. IsListing limits file (string_bytes text)) }
-    ensures failed { (limits : Bounds) (file : List ℕ) → IsParsedImage limits file image.now →
-        IfErr result (IsOpenError limits file) }
-{
-    let text = legacy_listing(alloc, image)?;
-    Ok(text)
-}
-
-/// The listing of a legacy image.
-fn legacy_listing(alloc: Global, image: &Legacy) -> Result<String, AllocError>
-    ensures { IfOk result (λ text. string_bytes text ≡ listing_of image.now) }
-{
-    let mut text = String::new(alloc);
-    put_word(&mut text, "kind", "legacy")?;
-    put_fields(alloc, &mut text, image)?;
-    put_codes(&mut text, image)?;
-    put_parts(&mut text, image)?;
-    put_number(&mut text, "unused", u64::from(image.unused()))?;
-    Ok(text)
-}
-
-/// Appends the lines of the name and the numbers of the header.
-fn put_fields(alloc: Global, text: &mut String, image: &Legacy) -> Result<(), AllocError>
-    ensures { OnOk result (string_bytes text.new ≡ string_bytes text.old
-        ++ field_lines image.now.image) }
+/// Appends the listing of a legacy image that was read. Fails as the sink does.
+pub(super) fn list_legacy<S: Sink>(image: &Legacy, sink: &mut S) -> Result<(), Error>
+    ensures { Wrote S.appends S.fails sink.old (legacy_listing image.now) result sink.new }
 {
     let fields = image.fields();
-    let name = shown_name(alloc, fields.name)?;
-    put_word(text, "name", name.as_str())?;
-    put_number(text, "time", u64::from(fields.time))?;
-    put_address(text, "load", fields.load)?;
-    put_address(text, "entry", fields.entry)?;
-    Ok(())
+    put_kind_and_fields(fields, sink)?;
+    put_codes(fields, sink)?;
+    put_parts(image, sink)?;
+    let unused = Word::Decimal(u64::from(image.unused()));
+    put_line(&[Word::Text(b"unused"), unused], sink)
 }
 
-/// Appends the lines of the codes of the header.
-fn put_codes(text: &mut String, image: &Legacy) -> Result<(), AllocError>
-    ensures { OnOk result (string_bytes text.new ≡ string_bytes text.old
-        ++ code_lines image.now.image) }
+/// Appends the line with the number of parts, and a line for each part. Fails as the sink does.
+fn put_parts<S: Sink>(image: &Legacy, sink: &mut S) -> Result<(), Error>
+    ensures { Wrote S.appends S.fails sink.old (parts_lines image.now.image) result sink.new }
 {
-    let fields = image.fields();
-    put_code(text, "os", os_name(fields.os), fields.os)?;
-    put_code(text, "arch", arch_name(fields.arch), fields.arch)?;
-    put_code(
-        text,
-        "type",
-        type_name(fields.image_type),
-        fields.image_type,
-    )?;
-    put_code(
-        text,
-        "compression",
-        compression_name(fields.compression),
-        fields.compression,
-    )?;
-    Ok(())
-}
-
-/// Appends the line with the number of parts, and a line for each part.
-fn put_parts(text: &mut String, image: &Legacy) -> Result<(), AllocError>
-    ensures { OnOk result (string_bytes text.new ≡ string_bytes text.old
-        ++ parts_lines image.now.image) }
-{
-    put_number(text, "parts", image.part_count() as u64)?;
+    let count = Word::Decimal(image.part_count() as u64);
+    put_line(&[Word::Text(b"parts"), count], sink)?;
     for (index, part) in image.parts().enumerate() {
-        put_part(text, index, &part)?;
+        put_part(index, &part, sink)?;
     }
     Ok(())
 }
 
-/// Appends the line of a part.
-fn put_part(text: &mut String, index: usize, part: &Part) -> Result<(), AllocError>
-    ensures { OnOk result (string_bytes text.new ≡ string_bytes text.old
-        ++ part_line index (placed_part_of part.now)) }
+/// Appends the line of a part. Fails as the sink does.
+fn put_part<S: Sink>(index: usize, part: &Part, sink: &mut S) -> Result<(), Error>
+    ensures { Wrote S.appends S.fails sink.old (part_line index (placed_part_of part.now)) result
+        sink.new }
 {
     let (size, place) = (part.bytes.len(), part.place);
-    writeln!(text, "part {index} size {size} at {place}")
+    // A listing may have millions of these lines, so a space is not put by itself.
+    put_text_and_number(b"part ", index as u64, sink)?;
+    put_text_and_number(b" size ", size as u64, sink)?;
+    put_text_and_number(b" at ", u64::from(place), sink)?;
+    sink.put(b"\n")
 }
 
-/// Appends the line of a code: its name, or its number where it has none.
-fn put_code(text: &mut String, label: &str, name: Option<&str>, code: u8) -> Result<(), AllocError>
-    ensures { OnOk result (string_bytes text.new ≡ string_bytes text.old
-        ++ line (label.now ∷ unwrap_or (option_map (λ name. name.now) name.entry) (decimal code)
-        ∷ [])) }
+/// Appends a text, and a number in decimal digits. Fails as the sink does.
+fn put_text_and_number<S: Sink>(text: &[u8], number: u64, sink: &mut S) -> Result<(), Error>
+    ensures { Wrote S.appends S.fails sink.old (text.now ++ decimal number) result sink.new }
 {
-    match name {
-        Some(name) => put_word(text, label, name),
-        None => put_number(text, label, u64::from(code)),
-    }
+    sink.put(text)?;
+    put_decimal(number, sink)
 }

@@ -10,12 +10,15 @@ ghost use Rattle.bi_lay.specs.Values.{value_bytes};
 ghost use Rattle.bi_fit.specs.Names.{is_payload_name as is_payload_name_of};
 ghost use Rattle.bi_fit.specs.ImageTree.{without_payload};
 ghost use Rattle.bi_fit.specs.Text.{with_payload};
+ghost use Rattle.bi_fit.specs.Updating.{with_time};
+ghost use Rattle.bi_fit.specs.TakenDigests.{HasDigest, with_first_digest, after_digest};
 ghost use Rattle.bi_fit.specs.Additions.{MayAdd, with_events, HasDistinctNames, HasCellSize};
 ghost use Rattle.bi_fit.specs.Additions.{properties_by_name};
 
 use crate::form::Form;
 use bi_base::Error;
 use bi_fdt::NodeRef;
+use bi_hash::Algo;
 use bi_lay::{Doc, Value};
 use std::alloc::Global;
 use std::collections::BTreeMap;
@@ -109,6 +112,42 @@ impl<'a> PropertyMap<'a> {
                 self.insert(b"data-size", Value::Cell(payload.len() as u32))
             }
         }
+    }
+
+    /// Gives a root this time of creation, if there is one: the property `timestamp` has it as its
+    /// value.
+    ///
+    /// The only error is `OutOfMemory`. It is not specified which properties the map has then.
+    pub(super) fn set_time(&mut self, time: Option<u32>) -> Result<(), Error>
+        ensures set { OnOk result (self.new ≡ with_time time self.old) }
+        ensures failed { IfErr result (λ error. error ≡ OutOfMemory) }
+    {
+        if let Some(time) = time {
+            self.insert(b"timestamp", Value::Cell(time))?;
+        }
+        Ok(())
+    }
+
+    /// Gives a hash node the first of these digests as its value, if there is an algorithm. Returns
+    /// the bytes after it.
+    ///
+    /// The only error is `OutOfMemory`. It is not specified which properties the map has then.
+    pub(super) fn set_digest(
+        &mut self,
+        algo: Option<Algo>,
+        digests: &'a [u8],
+    ) -> Result<&'a [u8], Error>
+        requires { HasDigest algo digests.now }
+        ensures set { OnOk result (self.new ≡ with_first_digest algo digests.entry.now self.old) }
+        ensures left { IfOk result (λ left. left.now ≡ after_digest algo digests.entry.now) }
+        ensures failed { IfErr result (λ error. error ≡ OutOfMemory) }
+    {
+        let Some(algo) = algo else {
+            return Ok(digests);
+        };
+        let (digest, left) = digests.split_at(algo.digest_size());
+        self.insert(b"value", Value::Slice(digest))?;
+        Ok(left)
     }
 
     /// Removes the four properties that hold a payload or name its region.

@@ -1,16 +1,18 @@
 //! Adding the tree of the normal text to a document.
 
-ghost use Rattle.std.specs.Prelude.{◌≡◌, [], ◌∷◌, length, OnOk, IfErr};
+ghost use Rattle.std.specs.Prelude.{◌≡◌, [], ◌∷◌, OnOk, IfErr};
 ghost use Rattle.bi_base.specs.declared.fault.Error.TheVariants.{OutOfMemory};
 ghost use Rattle.bi_blob.specs.Tree.{EachOwn};
 ghost use Rattle.bi_blob.specs.Events.{events};
 ghost use Rattle.bi_fdt.specs.Views.{node_of};
 ghost use Rattle.bi_fit.specs.Additions.{MayAdd, with_events, HasDistinctNames, AreWithin};
-ghost use Rattle.bi_fit.specs.Additions.{HaveImages, alone, payloads_of, sorted_root};
-ghost use Rattle.bi_fit.specs.Additions.{sorted_root_children};
+ghost use Rattle.bi_fit.specs.Additions.{HaveImageNodes, AreImageNodes, alone, payloads_of};
+ghost use Rattle.bi_fit.specs.Additions.{sorted_root, sorted_root_children};
 
+use crate::changes::Changes;
 use crate::document::image_nodes::add_images;
-use crate::document::nodes::{add_node, begin_node};
+use crate::document::nodes::{add_node, begin_with};
+use crate::document::property_map::PropertyMap;
 use crate::form::Form;
 use crate::image::Image;
 use bi_base::Error;
@@ -18,26 +20,33 @@ use bi_fdt::NodeRef;
 use bi_lay::Doc;
 use std::alloc::Global;
 
-/// Adds the tree with this root, whose images are these.
+/// Adds the tree with this root, whose images are these, with changes. The hash nodes get these
+/// digests, if the digests change.
 pub(super) fn add_tree<'a>(
     alloc: Global,
     doc: &mut Doc<'a>,
     root: NodeRef<'a, '_>,
+    changes: Changes,
+    digests: &'a [u8],
     form: Form,
     images: &[Image<'a>],
 ) -> Result<(), Error>
-    requires same_count { HaveImages (length images.now) (node_of root).children }
+    requires images { HaveImageNodes (AreImageNodes changes.hashes images.now digests.now)
+        (node_of root).children }
     requires within { AreWithin form 0 (payloads_of images.now) }
     requires distinct { EachOwn HasDistinctNames (alone (node_of root)) }
     requires may { let payloads = payloads_of images.now in
-        MayAdd doc.old (events (sorted_root form payloads (node_of root))) }
+        MayAdd doc.old (events (sorted_root changes form payloads digests.now (node_of root))) }
     ensures added { let payloads = payloads_of images.entry.now in
+        let bytes = digests.entry.now in
         OnOk result (doc.new ≡ with_events doc.old
-        (events (sorted_root form payloads (node_of root.entry)))) }
+        (events (sorted_root changes form payloads bytes (node_of root.entry)))) }
     ensures failed { IfErr result (λ error. error ≡ OutOfMemory) }
 {
-    begin_node(alloc, doc, root)?;
-    add_root_children(alloc, doc, root, form, images)?;
+    let mut properties = PropertyMap::from_node(alloc, root)?;
+    properties.set_time(changes.time)?;
+    begin_with(doc, root.name(), &properties)?;
+    add_root_children(alloc, doc, root, changes, digests, form, images)?;
     doc.end();
     Ok(())
 }
@@ -47,22 +56,28 @@ fn add_root_children<'a>(
     alloc: Global,
     doc: &mut Doc<'a>,
     root: NodeRef<'a, '_>,
+    changes: Changes,
+    digests: &'a [u8],
     form: Form,
     images: &[Image<'a>],
 ) -> Result<(), Error>
-    requires same_count { HaveImages (length images.now) (node_of root).children }
+    requires images { HaveImageNodes (AreImageNodes changes.hashes images.now digests.now)
+        (node_of root).children }
     requires within { AreWithin form 0 (payloads_of images.now) }
     requires distinct { EachOwn HasDistinctNames (node_of root).children }
     requires may { let payloads = payloads_of images.now in
-        MayAdd doc.old (events (sorted_root_children form payloads (node_of root).children)) }
+        let nodes = (node_of root).children in
+        MayAdd doc.old
+        (events (sorted_root_children changes.hashes form payloads digests.now nodes)) }
     ensures added { let payloads = payloads_of images.entry.now in
+        let nodes = (node_of root.entry).children in
         OnOk result (doc.new ≡ with_events doc.old
-        (events (sorted_root_children form payloads (node_of root.entry).children))) }
+        (events (sorted_root_children changes.hashes form payloads digests.entry.now nodes))) }
     ensures failed { IfErr result (λ error. error ≡ OutOfMemory) }
 {
     let mut next = root.first_child();
     while let Some(child) = next {
-        add_root_child(alloc, doc, child, form, images)?;
+        add_root_child(alloc, doc, child, changes, digests, form, images)?;
         next = child.next_sibling();
     }
     Ok(())
@@ -74,21 +89,27 @@ fn add_root_child<'a>(
     alloc: Global,
     doc: &mut Doc<'a>,
     node: NodeRef<'a, '_>,
+    changes: Changes,
+    digests: &'a [u8],
     form: Form,
     images: &[Image<'a>],
 ) -> Result<(), Error>
-    requires same_count { HaveImages (length images.now) (alone (node_of node)) }
+    requires images { HaveImageNodes (AreImageNodes changes.hashes images.now digests.now)
+        (alone (node_of node)) }
     requires within { AreWithin form 0 (payloads_of images.now) }
     requires distinct { EachOwn HasDistinctNames (alone (node_of node)) }
     requires may { let payloads = payloads_of images.now in
-        MayAdd doc.old (events (sorted_root_children form payloads (alone (node_of node)))) }
+        let nodes = alone (node_of node) in
+        MayAdd doc.old
+        (events (sorted_root_children changes.hashes form payloads digests.now nodes)) }
     ensures added { let payloads = payloads_of images.entry.now in
+        let nodes = alone (node_of node.entry) in
         OnOk result (doc.new ≡ with_events doc.old
-        (events (sorted_root_children form payloads (alone (node_of node.entry))))) }
+        (events (sorted_root_children changes.hashes form payloads digests.entry.now nodes))) }
     ensures failed { IfErr result (λ error. error ≡ OutOfMemory) }
 {
     if node.name() == b"images".as_slice() {
-        add_images(alloc, doc, node, form, images)
+        add_images(alloc, doc, node, changes, digests, form, images)
     } else {
         add_node(alloc, doc, node)
     }

@@ -2,19 +2,17 @@
 
 ghost use Rattle.std.specs.Prelude.{◌≡◌, IfOk, IfErr, length};
 ghost use Rattle.bootimg.specs.CodeWords.{IsCode};
-ghost use Rattle.bootimg.specs.CommandLine.{texts_of, AreImages, AreNumbers, FailsWith};
-ghost use Rattle.bootimg.specs.CommandLine.{IsBadImage, IsBadValue, IsFields, IsFitPlan};
-ghost use Rattle.bootimg.specs.CommandLine.{IsFitPlanFailure, IsLegacyPlan};
+ghost use Rattle.bootimg.specs.CommandLine.{texts_of, sources_of, AreImages, ArePartSources};
+ghost use Rattle.bootimg.specs.CommandLine.{FailsWith, IsBadImage, IsBadValue, IsFields};
+ghost use Rattle.bootimg.specs.CommandLine.{IsFitPlan, IsFitPlanFailure, IsLegacyPlan};
 
 use crate::codes::{CodeField, parse_code};
 use crate::command_line::Outcome;
 use crate::command_line::image::parse_image;
 use crate::command_line::options::{form, number, value};
+use crate::command_line::part::{PartSource, parse_part};
 use crate::command_line::table::NO_COMPRESSION;
 use crate::failure::Failure;
-use crate::numbers::parse_number;
-use bi_commands::build_fit::FitBuilder;
-use bi_commands::build_legacy::LegacyBuilder;
 use bi_legacy::Fields;
 use bi_norm::{Form, Head, ImageSpec};
 use clap::ArgMatches;
@@ -25,8 +23,8 @@ use std::alloc::Global;
 pub struct LegacyPlan<'a> {
     /// The fields of the header.
     pub fields: Fields<'a>,
-    /// The length of each part, in bytes. If there are none, the whole input is the one part.
-    pub lengths: Vec<u32>,
+    /// Where each part comes from. If there are none, the whole of standard input is the one part.
+    pub parts: Vec<PartSource<'a>>,
 }
 
 /// What `build-fit` builds.
@@ -36,52 +34,43 @@ pub struct FitPlan<'a> {
     pub head: Head<'a>,
     /// The images, with empty payloads.
     pub images: Vec<ImageSpec<'a>>,
-    /// The length of the payload of each image, in bytes.
-    pub lengths: Vec<u32>,
-    /// Where the payloads are.
+    /// Where the payload of each image comes from.
+    pub payloads: Vec<PartSource<'a>>,
+    /// Where the payloads are in the tree.
     pub form: Form,
 }
 
-impl<'a> LegacyPlan<'a> {
-    /// Returns the command that builds it.
-    pub fn builder(&self) -> LegacyBuilder<'_>
-        ensures fields { result.fields ≡ self.now.fields }
-        ensures lengths { result.lengths.now ≡ self.now.lengths.items }
-    {
-        LegacyBuilder {
-            fields: self.fields,
-            lengths: &self.lengths,
-        }
-    }
+/// What a command builds.
+#[derive(Debug, Drop)]
+pub enum BuildPlan<'a> {
+    /// A legacy image.
+    Legacy(LegacyPlan<'a>),
+    /// A flattened image tree.
+    Fit(FitPlan<'a>),
 }
 
-impl<'a> FitPlan<'a> {
-    /// Returns the command that builds it.
-    pub fn builder(&self) -> FitBuilder<'_>
-        ensures head { result.head ≡ self.now.head }
-        ensures images { result.images.now ≡ self.now.images.items }
-        ensures lengths { result.lengths.now ≡ self.now.lengths.items }
-        ensures form { result.form ≡ self.now.form }
+impl<'a> BuildPlan<'a> {
+    /// Returns where each part or payload comes from.
+    pub fn sources(&self) -> &[PartSource<'a>]
+        ensures { result.now ≡ sources_of self.now }
     {
-        FitBuilder {
-            head: self.head,
-            images: &self.images,
-            lengths: &self.lengths,
-            form: self.form,
+        match self {
+            BuildPlan::Legacy(plan) => &plan.parts,
+            BuildPlan::Fit(plan) => &plan.payloads,
         }
     }
 }
 
 /// Returns what `build-legacy` builds. Fails with BadValue if the value of an option is malformed
-/// or a length is no number, or with OutOfMemory.
+/// or a part is neither a length nor `@FILE`, or with OutOfMemory.
 pub fn legacy_plan<'a>(alloc: Global, options: &ArgMatches<'a>) -> Result<LegacyPlan<'a>, Outcome>
     ensures plan { IfOk result (IsLegacyPlan options.now) }
     ensures failure { IfErr result (FailsWith (IsBadValue (IsLegacyPlan options.now))) }
 {
     let fields = fields(options)?;
     let words = options.get_strs("lengths").unwrap_or(&[]);
-    let lengths = parse_numbers(alloc, words)?;
-    Ok(LegacyPlan { fields, lengths })
+    let parts = parse_parts(alloc, words)?;
+    Ok(LegacyPlan { fields, parts })
 }
 
 /// Returns the fields of the header that the options give. Fails with BadValue.
@@ -112,23 +101,25 @@ fn code(field: CodeField, word: &str) -> Result<u8, Failure>
     parse_code(field, word).ok_or(Failure::BadValue)
 }
 
-/// Parses numbers. Fails with BadValue at a word that is no number, or with OutOfMemory.
-fn parse_numbers(alloc: Global, words: &[&str]) -> Result<Vec<u32>, Outcome>
-    ensures numbers { IfOk result (λ numbers. AreNumbers (texts_of words.now) numbers.items) }
-    ensures failure { IfErr result (FailsWith (IsBadValue (AreNumbers (texts_of words.now)))) }
+/// Parses parts. Fails with BadValue at a word that is neither a length nor `@FILE`, or with
+/// OutOfMemory.
+fn parse_parts<'a>(alloc: Global, words: &[&'a str]) -> Result<Vec<PartSource<'a>>, Outcome>
+    ensures parts { IfOk result (λ parts. ArePartSources (texts_of words.now) parts.items) }
+    ensures failure { IfErr result (FailsWith
+        (IsBadValue (ArePartSources (texts_of words.now)))) }
 {
-    let mut numbers = Vec::with_capacity(alloc, words.len())?;
+    let mut parts = Vec::with_capacity(alloc, words.len())?;
     for word in words {
-        numbers.push(parse_number(word).ok_or(Failure::BadValue)?)?;
+        parts.push(parse_part(word).ok_or(Failure::BadValue)?)?;
     }
-    Ok(numbers)
+    Ok(parts)
 }
 
 /// Returns what `build-fit` builds. Fails with BadValue if the time is no number, then with
 /// BadImage at the first argument that is no image, or with OutOfMemory.
 pub fn fit_plan<'a>(alloc: Global, options: &ArgMatches<'a>) -> Result<FitPlan<'a>, Outcome>
     ensures plan { IfOk result (IsFitPlan options.now) }
-    ensures lengths { IfOk result (λ plan. length plan.lengths.items
+    ensures lengths { IfOk result (λ plan. length plan.payloads.items
         ≡ length plan.images.items) }
     ensures failure { IfErr result (FailsWith (IsFitPlanFailure options.now)) }
 {
@@ -137,32 +128,32 @@ pub fn fit_plan<'a>(alloc: Global, options: &ArgMatches<'a>) -> Result<FitPlan<'
         time: number(options, "time")?,
     };
     let words = options.get_strs("images").unwrap_or(&[]);
-    let (images, lengths) = parse_images(alloc, words)?;
+    let (images, payloads) = parse_images(alloc, words)?;
     Ok(FitPlan {
         head,
         images,
-        lengths,
+        payloads,
         form: form(options),
     })
 }
 
-/// Parses images, and the lengths of their payloads. Fails with BadImage at the first word that is
+/// Parses images, and where their payloads come from. Fails with BadImage at the first word that is
 /// no image, or with OutOfMemory.
 fn parse_images<'a>(
     alloc: Global,
     words: &[&'a str],
-) -> Result<(Vec<ImageSpec<'a>>, Vec<u32>), Outcome>
+) -> Result<(Vec<ImageSpec<'a>>, Vec<PartSource<'a>>), Outcome>
     ensures images { IfOk result (λ built. AreImages (texts_of words.now) built.0.items
         built.1.items) }
     ensures lengths { IfOk result (λ built. length built.1.items ≡ length built.0.items) }
     ensures failure { IfErr result (FailsWith (IsBadImage (texts_of words.now))) }
 {
     let mut images = Vec::with_capacity(alloc, words.len())?;
-    let mut lengths = Vec::with_capacity(alloc, words.len())?;
+    let mut payloads = Vec::with_capacity(alloc, words.len())?;
     for (index, word) in words.iter().enumerate() {
-        let (image, length) = parse_image(word).ok_or(Failure::BadImage(index))?;
+        let (image, payload) = parse_image(word).ok_or(Failure::BadImage(index))?;
         images.push(image)?;
-        lengths.push(length)?;
+        payloads.push(payload)?;
     }
-    Ok((images, lengths))
+    Ok((images, payloads))
 }

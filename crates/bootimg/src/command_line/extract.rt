@@ -3,42 +3,100 @@
 ghost use Rattle.std.specs.Prelude.{◌≡◌, Some, IfSome, IfOk, IfErr};
 ghost use Rattle.bi_fit.specs.declared.key.Key.{Key};
 ghost use Rattle.bi_fit.specs.Names.{key_name};
-ghost use Rattle.bootimg.specs.CommandLine.{IsBadValue, IsEntry, IsSelection, IsSelectionFailure};
+ghost use Rattle.bi_norm.specs.Meaning.{Meaning};
+ghost use Rattle.bi_commands.specs.Extracting.{choice_of};
+ghost use Rattle.bootimg.specs.CommandLine.{FailsWith, IsBadValue, IsEntry, IsNameOf};
+ghost use Rattle.bootimg.specs.CommandLine.{IsSelected, IsSelectionFailure};
+ghost use Rattle.bootimg.specs.Selections.{select_of};
 
+use crate::command_line::Outcome;
 use crate::command_line::options::{number, value};
 use crate::command_line::table::KERNEL_KEY;
 use crate::failure::Failure;
 use crate::numbers::parse_number;
 use bi_commands::extract::Select;
+use bi_commands::unshown::name_shown_as;
 use bi_fit::Key;
 use clap::ArgMatches;
+use std::alloc::Global;
+
+/// What is to be extracted: a `Select` that owns its name.
+#[derive(Debug, Drop)]
+pub enum Selected {
+    /// The part of this index, from 0, of a legacy image.
+    Part(u32),
+    /// The payload of the image of this name of a flattened image tree.
+    Image(Vec<u8>),
+    /// A payload that a configuration of a flattened image tree lists: by the name of the
+    /// configuration, the key, and the index, from 0, in what it lists under the key.
+    Config(Vec<u8>, Key, u32),
+    /// The same of the default configuration.
+    Default(Key, u32),
+}
+
+impl Selected {
+    /// Returns the selection as the library takes it.
+    pub fn select(&self) -> Select<'_>
+        ensures { (meaning : Meaning) → choice_of result meaning
+            ≡ choice_of (select_of self.now) meaning }
+    {
+        match self {
+            Selected::Part(index) => Select::Part(*index),
+            Selected::Image(name) => Select::Image(name),
+            Selected::Config(name, key, index) => Select::Config(name, *key, *index),
+            Selected::Default(key, index) => Select::Default(*key, *index),
+        }
+    }
+}
 
 /// Returns the selection that the options give. Fails with NoSelection if there is not exactly one,
-/// else with BadValue for the value of any of the options. The key and the index have no effect on
-/// a part or an image.
-pub fn selection<'a>(options: &ArgMatches<'a>) -> Result<Select<'a>, Failure>
-    ensures selection { IfOk result (IsSelection options.now) }
-    ensures failure { IfErr result (IsSelectionFailure options.now) }
+/// else with BadValue for the value of any of the options, or with OutOfMemory. The key and the
+/// index have no effect on a part or an image, and `--escaped` has none without a name.
+pub fn selection(alloc: Global, options: &ArgMatches<'_>) -> Result<Selected, Outcome>
+    ensures selection { IfOk result (IsSelected options.now) }
+    ensures failure { IfErr result (FailsWith (IsSelectionFailure options.now)) }
 {
     let part = options.get_str("part");
     let image = options.get_str("image");
     let config = options.get_str("config");
+    let default = options.get_flag("default");
+    let escaped = options.get_flag("escaped");
     let entry = entry(options);
-    match (part, image, config) {
-        (Some(value), None, None) => {
+    match (part, image, config, default) {
+        (Some(word), None, None, false) => {
             entry?;
-            let index = parse_number(value).ok_or(Failure::BadValue)?;
-            Ok(Select::Part(index))
+            let index = parse_number(word).ok_or(Failure::BadValue)?;
+            Ok(Selected::Part(index))
         }
-        (None, Some(name), None) => {
+        (None, Some(word), None, false) => {
             entry?;
-            Ok(Select::Image(name.as_bytes()))
+            Ok(Selected::Image(name(alloc, word, escaped)?))
         }
-        (None, None, Some(name)) => {
+        (None, None, Some(word), false) => {
             let (key, index) = entry?;
-            Ok(Select::Config(name.as_bytes(), key, index))
+            Ok(Selected::Config(name(alloc, word, escaped)?, key, index))
         }
-        _ => Err(Failure::NoSelection),
+        (None, None, None, true) => {
+            let (key, index) = entry?;
+            Ok(Selected::Default(key, index))
+        }
+        _ => Err(Outcome::Failure(Failure::NoSelection)),
+    }
+}
+
+/// Returns the name that the word is, or the one that is printed as the word if it is escaped.
+/// Fails with BadValue if there is none, or with OutOfMemory.
+fn name(alloc: Global, word: &str, escaped: bool) -> Result<Vec<u8>, Outcome>
+    ensures name { IfOk result (λ name. IsNameOf escaped word.now name.items) }
+    ensures failure { IfErr result (FailsWith (IsBadValue (IsNameOf escaped word.now))) }
+{
+    if !escaped {
+        return Ok(Vec::from_slice(alloc, word.as_bytes())?);
+    }
+    match name_shown_as(alloc, word.as_bytes()) {
+        Ok(Some(name)) => Ok(name),
+        Ok(None) => Err(Outcome::Failure(Failure::BadValue)),
+        Err(error) => Err(Outcome::Failure(Failure::Call(error))),
     }
 }
 

@@ -6,6 +6,7 @@ ghost use Rattle.bootimg.specs.CommandLine.{NoneIs};
 ghost use Rattle.bootimg.specs.declared.command_line.image.ImageTexts.{ImageTexts};
 
 use crate::codes::{CodeField, parse_code};
+use crate::command_line::part::{PartSource, parse_part};
 use crate::numbers::parse_number;
 use bi_norm::ImageSpec;
 
@@ -22,9 +23,9 @@ struct ImageTexts<'a> {
     length: &'a str,
 }
 
-/// Parses `NAME:TYPE:ARCH:OS:COMPRESSION:LOAD:ENTRY:LEN`: an image with an empty payload, and the
-/// length of its payload. Returns None exactly for any other text.
-pub fn parse_image(word: &str) -> Option<(ImageSpec<'_>, u32)>
+/// Parses `NAME:TYPE:ARCH:OS:COMPRESSION:LOAD:ENTRY:LEN`, where LEN may be `@FILE`: an image with
+/// an empty payload, and where its payload comes from. Returns None exactly for any other text.
+pub fn parse_image(word: &str) -> Option<(ImageSpec<'_>, PartSource<'_>)>
     ensures some { IfSome result (IsImageText word.now) }
     ensures none { IfNone result (NoneIs (IsImageText word.now)) }
 {
@@ -68,7 +69,7 @@ fn split_field(word: &str) -> Option<(&str, &str)>
 }
 
 /// Parses the fields of the text of an image. Returns None exactly if one of them is malformed.
-fn parse_fields(texts: ImageTexts<'_>) -> Option<(ImageSpec<'_>, u32)>
+fn parse_fields(texts: ImageTexts<'_>) -> Option<(ImageSpec<'_>, PartSource<'_>)>
     ensures some { IfSome result (IsImage texts.entry) }
     ensures none { IfNone result (NoneIs (IsImage texts.entry)) }
 {
@@ -82,7 +83,7 @@ fn parse_fields(texts: ImageTexts<'_>) -> Option<(ImageSpec<'_>, u32)>
         entry: parse_address(texts.entry)?,
         payload: &[],
     };
-    Some((image, parse_number(texts.length)?))
+    Some((image, parse_part(texts.length)?))
 }
 
 /// Parses an address, or `-` for none. Returns None exactly for any other text.

@@ -15,20 +15,23 @@ pub const NO_COMPRESSION: &str = "none";
 /// The default of each option for an address, a time or an index.
 pub const ZERO: &str = "0";
 
-/// The version that `--version` prints.
-const VERSION: &str = "0.1.0";
+/// The version that `--version` prints, and the kit that the program is built with.
+const VERSION: &str = "0.2.0 (rattle-kit-13b)";
 
 /// The text of `--help` before the usage.
 const ABOUT: &str =
-    "Normalises, lists, describes, verifies, takes apart, converts and builds U-Boot boot images";
+    "Normalises, lists, describes, compares, verifies, checks, updates, takes apart, converts and \
+     builds U-Boot boot images";
 
 /// The text of `--help` after the options.
 const AFTER_HELP: &str =
-    "The input is read from standard input, and the output is written to standard output. An\n\
-     image is a legacy image, or a flattened image tree (FIT):\n\n\
-     \x20   bootimg list < kernel.uimage\n\n\
+    "An image is a legacy image, or a flattened image tree (FIT). It is read from the file IMAGE,\n\
+     or from standard input without IMAGE or if it is -. The output is written to standard\n\
+     output, or to the file FILE with -o:\n\n\
+     \x20   bootimg list kernel.uimage\n\n\
      The exit status is 0 after success. A failure is reported on standard error, and the exit\n\
-     status is then 2. It is 1 if verify wrote a verdict that is not good.";
+     status is then 2. It is 1 if verify wrote a verdict that is not good, if check wrote a line,\n\
+     or if compare found that two images do not mean the same.";
 
 /// How an option is given.
 #[derive(Clone, Copy)]
@@ -39,8 +42,14 @@ enum OptionForm {
     Required,
     /// `--NAME VALUE`, without a default.
     Optional,
+    /// The same, or `-SHORT VALUE`.
+    Short(char),
     /// `--NAME VALUE`, with this default.
     Default(&'static str),
+    /// One argument that is no option, which may be left out.
+    Word,
+    /// One argument that is no option.
+    RequiredWord,
     /// Any number of arguments that are no options.
     Words,
 }
@@ -66,14 +75,50 @@ struct CommandText {
 
 /// Builds the program with its commands and options. Fails if memory runs out.
 pub fn program<'a>(alloc: Global) -> Result<Command<'a>, AllocError> {
-    let mut program = Command::new(alloc, "bootimg")
+    let program = Command::new(alloc, "bootimg")
         .bin_name("bootimg")?
         .no_binary_name(true)
         .version(VERSION)
         .about(ABOUT)
         .after_help(AFTER_HELP)
         .subcommand_required(true);
-    for text in &COMMANDS {
+    let program = with_reading_commands(alloc, program)?;
+    let program = with_changing_commands(alloc, program)?;
+    let program = with_building_commands(alloc, program)?;
+    program.subcommand(command(alloc, &EXPLAIN)?)
+}
+
+/// Adds the commands that show what an image is.
+fn with_reading_commands<'a>(
+    alloc: Global,
+    program: Command<'a>,
+) -> Result<Command<'a>, AllocError> {
+    with_commands(alloc, program, &READING_COMMANDS)
+}
+
+/// Adds the commands that make something else of an image.
+fn with_changing_commands<'a>(
+    alloc: Global,
+    program: Command<'a>,
+) -> Result<Command<'a>, AllocError> {
+    with_commands(alloc, program, &CHANGING_COMMANDS)
+}
+
+/// Adds the commands that build an image.
+fn with_building_commands<'a>(
+    alloc: Global,
+    program: Command<'a>,
+) -> Result<Command<'a>, AllocError> {
+    with_commands(alloc, program, &BUILDING_COMMANDS)
+}
+
+/// Adds commands to the program.
+fn with_commands<'a>(
+    alloc: Global,
+    mut program: Command<'a>,
+    texts: &[CommandText],
+) -> Result<Command<'a>, AllocError> {
+    for text in texts {
         program = program.subcommand(command(alloc, text)?)?;
     }
     Ok(program)
@@ -98,7 +143,10 @@ fn argument<'a>(alloc: Global, option: &OptionText) -> Arg<'a> {
         OptionForm::Flag => argument.long(option.name).action(ArgAction::SetTrue),
         OptionForm::Required => with_value(argument, option).required(true),
         OptionForm::Optional => with_value(argument, option),
+        OptionForm::Short(letter) => with_value(argument, option).short(letter),
         OptionForm::Default(value) => with_value(argument, option).default_value(value),
+        OptionForm::Word => argument.value_name(option.value_name),
+        OptionForm::RequiredWord => argument.value_name(option.value_name).required(true),
         OptionForm::Words => argument
             .value_name(option.value_name)
             .num_args(0..)
@@ -114,11 +162,67 @@ fn with_value<'a>(argument: Arg<'a>, option: &OptionText) -> Arg<'a> {
         .action(ArgAction::Set)
 }
 
+const FILE: OptionText = OptionText {
+    name: "file",
+    value_name: "IMAGE",
+    help: "The image: a file, or standard input without IMAGE or if it is -",
+    form: OptionForm::Word,
+};
+
+const ONE: OptionText = OptionText {
+    name: "one",
+    value_name: "ONE",
+    help: "The first image: a file, or standard input if it is -",
+    form: OptionForm::RequiredWord,
+};
+
+const OTHER: OptionText = OptionText {
+    name: "other",
+    value_name: "OTHER",
+    help: "The second image: a file, or standard input if it is -",
+    form: OptionForm::RequiredWord,
+};
+
+const QUIET: OptionText = OptionText {
+    name: "quiet",
+    value_name: "",
+    help: "Write nothing: the exit status is the result",
+    form: OptionForm::Flag,
+};
+
 const LIMIT: OptionText = OptionText {
     name: "limit",
     value_name: "N",
     help: "Refuse an image of more than N bytes: 64 to 2147483647, or in hexadecimal with 0x",
     form: OptionForm::Default(GREATEST_LIMIT),
+};
+
+const OUTPUT: OptionText = OptionText {
+    name: "output",
+    value_name: "FILE",
+    help: "Write the output to FILE, not to standard output: all of it, or FILE stays as it was",
+    form: OptionForm::Short('o'),
+};
+
+const ALLOW: OptionText = OptionText {
+    name: "allow",
+    value_name: "KIND[,KIND]..",
+    help: "Leave out the lines of these kinds",
+    form: OptionForm::Optional,
+};
+
+const NEW_TIME: OptionText = OptionText {
+    name: "time",
+    value_name: "N",
+    help: "Set the time of creation: seconds since 1970, as a number below 2^32",
+    form: OptionForm::Optional,
+};
+
+const HASHES: OptionText = OptionText {
+    name: "hashes",
+    value_name: "",
+    help: "Give each hash node of a known algorithm the digest of its image's payload",
+    form: OptionForm::Flag,
 };
 
 const EXTERNAL_NORMAL: OptionText = OptionText {
@@ -154,45 +258,68 @@ const CONFIG: OptionText = OptionText {
     form: OptionForm::Optional,
 };
 
+const DEFAULT: OptionText = OptionText {
+    name: "default",
+    value_name: "",
+    help: "Write a payload that the default configuration of a flattened image tree lists",
+    form: OptionForm::Flag,
+};
+
+const ESCAPED: OptionText = OptionText {
+    name: "escaped",
+    value_name: "",
+    help: "NAME is as list prints it: % and any byte that is not graphic ASCII are % and two \
+         hexadecimal digits in upper case, and no bytes are -",
+    form: OptionForm::Flag,
+};
+
 const KEY: OptionText = OptionText {
     name: "key",
     value_name: "KEY",
-    help: "With --config: the list, one of kernel, fdt, ramdisk, firmware, loadables, script",
+    help: "With --config or --default: the list, one of kernel, fdt, ramdisk, firmware, \
+         loadables, script",
     form: OptionForm::Default(KERNEL_KEY),
 };
 
 const INDEX: OptionText = OptionText {
     name: "index",
     value_name: "N",
-    help: "With --config: the entry of the list, counted from 0",
+    help: "With --config or --default: the entry of the list, counted from 0",
     form: OptionForm::Default(ZERO),
+};
+
+const CAUSE: OptionText = OptionText {
+    name: "cause",
+    value_name: "CAUSE",
+    help: "The cause, as a refusal prints it; without CAUSE each cause is explained",
+    form: OptionForm::Word,
 };
 
 const OS: OptionText = OptionText {
     name: "os",
     value_name: "OS",
-    help: "The operating system",
+    help: "The operating system: a name as list shows it, or a number of at most 255",
     form: OptionForm::Required,
 };
 
 const ARCH: OptionText = OptionText {
     name: "arch",
     value_name: "ARCH",
-    help: "The processor architecture",
+    help: "The processor architecture: a name as list shows it, or a number of at most 255",
     form: OptionForm::Required,
 };
 
 const TYPE: OptionText = OptionText {
     name: "type",
     value_name: "TYPE",
-    help: "The image type",
+    help: "The image type: a name as list shows it, or a number of at most 255",
     form: OptionForm::Required,
 };
 
 const COMPRESSION: OptionText = OptionText {
     name: "compression",
     value_name: "COMPRESSION",
-    help: "The compression",
+    help: "The compression: a name as list shows it, or a number of at most 255",
     form: OptionForm::Default(NO_COMPRESSION),
 };
 
@@ -206,28 +333,28 @@ const NAME: OptionText = OptionText {
 const TIME: OptionText = OptionText {
     name: "time",
     value_name: "N",
-    help: "The time of creation, in seconds since 1970",
+    help: "The time of creation: seconds since 1970, as a number below 2^32",
     form: OptionForm::Default(ZERO),
 };
 
 const LOAD: OptionText = OptionText {
     name: "load",
     value_name: "N",
-    help: "The address that the data is loaded to",
+    help: "The address that the data is loaded to: a number, hexadecimal only with 0x",
     form: OptionForm::Default(ZERO),
 };
 
 const ENTRY: OptionText = OptionText {
     name: "entry",
     value_name: "N",
-    help: "The address of the entry point",
+    help: "The address of the entry point: a number, hexadecimal only with 0x",
     form: OptionForm::Default(ZERO),
 };
 
 const LENGTHS: OptionText = OptionText {
     name: "lengths",
     value_name: "LEN",
-    help: "The length of each part in bytes",
+    help: "Each part: its length in bytes, in standard input, or @FILE for the bytes of FILE",
     form: OptionForm::Words,
 };
 
@@ -241,123 +368,183 @@ const DESCRIPTION: OptionText = OptionText {
 const IMAGES: OptionText = OptionText {
     name: "images",
     value_name: "IMAGE",
-    help: "Each image, with the length of its payload",
+    help: "Each image, with the length of its payload or @FILE",
     form: OptionForm::Words,
 };
 
-/// The commands, in the order in which `--help` prints them.
-static COMMANDS: [CommandText; 8] = [
+/// The commands that show what an image is, after the one that normalises it.
+static READING_COMMANDS: [CommandText; 6] = [
     CommandText {
         name: "normalise",
         about: "Write the normal form of an image",
-        usage: "bootimg normalise [OPTIONS] < IMAGE > NORMAL",
+        usage: "bootimg normalise [OPTIONS] [IMAGE] > NORMAL",
         after_help: "\
-             Reads an image from standard input, and writes its normal form to standard output.\n\
-             Two images of one kind have the same normal form exactly if they mean the same. A\n\
-             flattened image tree has one normal form with --external, and another without it.\n\n\
-             Signature nodes are kept, and not checked: a signature may no longer be valid. A \
-             note on\n\
-             standard error has their number, if there are any.\n\n\
-             Example: bootimg normalise < kernel.uimage > normal.uimage",
-        options: &[EXTERNAL_NORMAL, LIMIT],
+                 Reads an image, and writes its normal form to standard output. Two images of one\n\
+                 kind have the same normal form exactly if they mean the same. A flattened image\n\
+                 tree has one normal form with --external, and another without it.\n\n\
+                 Signature nodes are kept, and not checked: a signature may no longer be valid. A\n\
+                 note on standard error has their number, if there are any.\n\n\
+                 Example: bootimg normalise kernel.uimage > normal.uimage",
+        options: &[EXTERNAL_NORMAL, LIMIT, OUTPUT, FILE],
     },
     CommandText {
         name: "list",
         about: "List what an image holds",
-        usage: "bootimg list [OPTIONS] < IMAGE",
+        usage: "bootimg list [OPTIONS] [IMAGE]",
         after_help: "\
-             Reads an image from standard input, and writes to standard output what it holds.\n\
-             Of a legacy image: its fields, the size and offset of each part, and the number of \
-             bytes\n\
-             after the last part. Of a flattened image tree: its memory reservations, the size \
-             and\n\
-             offset of each payload, and what each configuration lists. Sizes and offsets are \
-             in bytes.\n\n\
-             Example: bootimg list < kernel.uimage",
-        options: &[LIMIT],
+                 Reads an image, and writes to standard output what it holds. Of a legacy image:\n\
+                 its fields, the size and offset of each part, and the number of bytes after the\n\
+                 last part. Of a flattened image tree: its memory reservations, the size and\n\
+                 offset of each payload, and what each configuration lists. Sizes and offsets are\n\
+                 in bytes.\n\n\
+                 Example: bootimg list kernel.uimage",
+        options: &[LIMIT, OUTPUT, FILE],
     },
     CommandText {
         name: "describe",
         about: "Describe what an image means",
-        usage: "bootimg describe [OPTIONS] < IMAGE",
+        usage: "bootimg describe [OPTIONS] [IMAGE]",
         after_help: "\
-             Reads an image from standard input, and writes to standard output what it means, in \
-             lines\n\
-             for diff. The lines are the same for images that mean the same: they show neither \
-             offsets,\n\
-             padding or versions, nor whether payloads are inside a flattened image tree or \
-             after it.\n\
-             Each payload or part has a line with its size and SHA-256. The payloads together, \
-             and the\n\
-             description, may have as many bytes as the limit.\n\n\
-             Example: bootimg describe < kernel.itb",
-        options: &[LIMIT],
+                 Reads an image, and writes to standard output what it means, in lines for diff.\n\
+                 The lines are the same for images that mean the same: they show neither offsets,\n\
+                 padding or versions, nor whether payloads are inside a flattened image tree or\n\
+                 after it. Each payload or part has a line with its size and SHA-256. The\n\
+                 payloads together, and the description, may have as many bytes as the limit.\n\n\
+                 Example: bootimg describe kernel.itb",
+        options: &[LIMIT, OUTPUT, FILE],
+    },
+    CommandText {
+        name: "compare",
+        about: "Compare what two images mean",
+        usage: "bootimg compare [OPTIONS] <ONE> <OTHER>",
+        after_help: "\
+                 Reads two images, and writes to standard output what differs between what they\n\
+                 mean: the lines of describe that only ONE has, each after -, and those that only\n\
+                 OTHER has, each after +. Writes nothing if both mean the same, whatever their\n\
+                 layout. At most one of the two is standard input.\n\n\
+                 The exit status is 0 if both mean the same, and 1 if they do not.\n\n\
+                 Example: bootimg compare yesterday.itb today.itb",
+        options: &[QUIET, LIMIT, OUTPUT, ONE, OTHER],
     },
     CommandText {
         name: "verify",
         about: "Check the checksums and digests of an image",
-        usage: "bootimg verify [OPTIONS] < IMAGE",
+        usage: "bootimg verify [OPTIONS] [IMAGE]",
         after_help: "\
-             Reads an image from standard input, and writes to standard output a verdict on \
-             each\n\
-             checksum of a legacy image, or on each hash node of a flattened image tree. \
-             Signatures\n\
-             are not checked.\n\n\
-             The exit status is 0 if each verdict is good, or if there is none. It is 1 if one \
-             is not.\n\n\
-             Example: bootimg verify < kernel.itb",
-        options: &[LIMIT],
+                 Reads an image, and writes to standard output a verdict on each checksum of a\n\
+                 legacy image, or on each hash node of a flattened image tree. Signatures are not\n\
+                 checked.\n\n\
+                 The exit status is 0 if each verdict is good, and 1 if one is not. It is also 0\n\
+                 if a flattened image tree has no hash node, so that nothing is checked: bootimg\n\
+                 check finds what is not protected.\n\n\
+                 Example: bootimg verify kernel.itb",
+        options: &[LIMIT, OUTPUT, FILE],
+    },
+    CommandText {
+        name: "check",
+        about: "Find what is not protected in an image",
+        usage: "bootimg check [OPTIONS] [IMAGE]",
+        after_help: "\
+                 Reads an image, and writes to standard output a line for each thing in it that\n\
+                 is not protected: nothing if all is. The first word of a line is its kind:\n\n\
+                 \x20 bad-hash     the verdict on a hash node is not good\n\
+                 \x20 unhashed     an image with a payload has no good hash node\n\
+                 \x20 weak-hash    it has good ones, and none of SHA-256, SHA-384 or SHA-512\n\
+                 \x20 bad-list     a value in a configuration is no list of names\n\
+                 \x20 missing      a configuration lists an image that is not there\n\
+                 \x20 bad-default  the default is none of the configurations\n\
+                 \x20 trailing     bytes follow the image, and not all of them are zero\n\n\
+                 A legacy image has trailing alone: its checksums are always checked, and an\n\
+                 image with a wrong one is refused. --limit bounds the payloads of a flattened\n\
+                 image tree together, too. Signatures are not checked.\n\n\
+                 The exit status is 0 if no line was written, and 1 if one was.\n\n\
+                 Example: bootimg check --allow weak-hash,trailing kernel.itb",
+        options: &[ALLOW, LIMIT, OUTPUT, FILE],
+    },
+];
+
+/// The commands that make something else of an image.
+static CHANGING_COMMANDS: [CommandText; 3] = [
+    CommandText {
+        name: "update",
+        about: "Set the time of an image, or compute its digests again",
+        usage: "bootimg update [OPTIONS] [IMAGE]",
+        after_help: "\
+                 Reads an image, and writes to standard output its normal form with the changes\n\
+                 that the options request. At least one of --time and --hashes has to be given.\n\
+                 Hash nodes whose algorithm is not known, and those of images without a payload,\n\
+                 are kept as they are. A legacy image has no hash nodes, and its checksums are\n\
+                 always computed. With --hashes, --limit bounds the payloads of a flattened image\n\
+                 tree together, too. Signature nodes are carried but not checked: a note on\n\
+                 standard error has their number, if there are any.\n\n\
+                 Example: bootimg update --hashes --time 1700000000 kernel.itb > new.itb",
+        options: &[NEW_TIME, HASHES, EXTERNAL_NORMAL, LIMIT, OUTPUT, FILE],
     },
     CommandText {
         name: "extract",
         about: "Write one part or payload of an image",
-        usage: "bootimg extract (--part <N> | --image <NAME> | --config <NAME>) [OPTIONS] \
-             < IMAGE > PAYLOAD",
-        after_help: "Reads an image from standard input, and writes the bytes that are selected to \
-             standard\n\
-             output. A legacy image has parts: those in the list of sizes of a multi-file image \
-             or a\n\
-             script, and one part in any other image. The images of a flattened image tree have \
-             payloads.\n\n\
-             Hash nodes are not checked: verify does that.\n\n\
-             Numbers are decimal, or hexadecimal with 0x.\n\n\
-             Example: bootimg extract --part 1 < multi.uimage > ramdisk\n\
-             Example: bootimg extract --config conf-1 --key fdt < kernel.itb > board.dtb",
-        options: &[PART, IMAGE, CONFIG, KEY, INDEX, LIMIT],
+        usage: "bootimg extract (--part <N> | --image <NAME> | --config <NAME> | --default) \
+             [OPTIONS] [IMAGE] > PAYLOAD",
+        after_help: "\
+                 Reads an image, and writes the bytes that are selected to standard output. A\n\
+                 legacy image has parts: those in the list of sizes of a multi-file image or a\n\
+                 script, and one part in any other image. The images of a flattened image tree\n\
+                 have payloads.\n\n\
+                 Hash nodes are not checked: verify does that.\n\n\
+                 Numbers are decimal, or hexadecimal with 0x.\n\n\
+                 Example: bootimg extract --part 1 multi.uimage > ramdisk\n\
+                 Example: bootimg extract --default --key fdt kernel.itb > board.dtb",
+        options: &[
+            PART, IMAGE, CONFIG, DEFAULT, KEY, INDEX, ESCAPED, LIMIT, OUTPUT, FILE,
+        ],
     },
     CommandText {
         name: "convert",
         about: "Convert a legacy image to a flattened image tree",
-        usage: "bootimg convert [OPTIONS] < IMAGE > FIT",
+        usage: "bootimg convert [OPTIONS] [IMAGE] > FIT",
         after_help: "\
-             Reads a legacy image from standard input, and writes a flattened image tree with \
-             the same\n\
-             payloads to standard output. The parts of a multi-file image become a kernel, a \
-             ramdisk and\n\
-             a devicetree, in this order. Each payload has its SHA-256, and configuration \
-             conf-1 lists\n\
-             the images.\n\n\
-             Example: bootimg convert < kernel.uimage > kernel.itb",
-        options: &[LIMIT],
+                 Reads a legacy image, and writes a flattened image tree with the same payloads\n\
+                 to standard output. The parts of a multi-file image become a kernel, a ramdisk\n\
+                 and a devicetree, in this order. Each payload has its SHA-256, and configuration\n\
+                 conf-1 lists the images.\n\n\
+                 Example: bootimg convert kernel.uimage > kernel.itb",
+        options: &[LIMIT, OUTPUT, FILE],
     },
+];
+
+/// The command that needs no image.
+static EXPLAIN: CommandText = CommandText {
+    name: "explain",
+    about: "Say what a cause of a refusal means",
+    usage: "bootimg explain [OPTIONS] [CAUSE]",
+    after_help: "\
+             Writes to standard output what the cause of a refusal means, and what can be done.\n\
+             Without CAUSE, writes a line for each cause, with its name. Reads no image.\n\n\
+             Example: bootimg explain BadMagic",
+    options: &[OUTPUT, CAUSE],
+};
+
+/// The commands that build an image.
+static BUILDING_COMMANDS: [CommandText; 2] = [
     CommandText {
         name: "build-legacy",
         about: "Build a legacy image",
         usage: "bootimg build-legacy --os <OS> --arch <ARCH> --type <TYPE> [OPTIONS] [LEN]... \
              < PARTS > IMAGE",
         after_help: "\
-             Reads the parts of a legacy image, one after another, from standard input, and \
-             writes the\n\
-             image to standard output. LEN is the length of a part in bytes, and the parts \
-             together are\n\
-             the whole input. Without LEN the whole input is the one part. An image of type \
-             multi or\n\
-             script has any number of parts, and any other image has one.\n\n\
-             OS, ARCH, TYPE and COMPRESSION are names as list shows them, or numbers of at most \
-             255.\n\
-             Numbers are decimal, or hexadecimal with 0x.\n\n\
-             Example: bootimg build-legacy --os linux --arch arm --type kernel < zImage > \
-             uImage",
+                 Builds a legacy image, and writes it to standard output. LEN is the length of a\n\
+                 part in bytes. The parts are read from standard input, one after another, and\n\
+                 together are the whole input. Without LEN the whole input is the one part. A part\n\
+                 may be in a file: LEN is then @FILE. If each part is, standard input is not read.\n\
+                 An image of type multi or script has any number of parts, and any other image\n\
+                 has one.\n\n\
+                 OS, ARCH, TYPE and COMPRESSION are names as list shows them, or numbers of at\n\
+                 most 255. Numbers are decimal, or hexadecimal with 0x. mkimage reads addresses\n\
+                 as hexadecimal without 0x, too.\n\n\
+                 Example: bootimg build-legacy --os linux --arch arm --type kernel < zImage > \
+                 uImage\n\
+                 Example: bootimg build-legacy --os linux --arch arm --type multi @zImage @initrd > \
+                 uImage",
         options: &[
             OS,
             ARCH,
@@ -368,6 +555,7 @@ static COMMANDS: [CommandText; 8] = [
             LOAD,
             ENTRY,
             LIMIT,
+            OUTPUT,
             LENGTHS,
         ],
     },
@@ -376,20 +564,21 @@ static COMMANDS: [CommandText; 8] = [
         about: "Build a flattened image tree",
         usage: "bootimg build-fit [OPTIONS] [IMAGE]... < PAYLOADS > FIT",
         after_help: "\
-             Reads the payloads of a flattened image tree, one after another, from standard \
-             input, and\n\
-             writes the flattened image tree to standard output. Each payload has its SHA-256, \
-             and\n\
-             configuration conf-1 lists the images by their types.\n\n\
-             An IMAGE is NAME:TYPE:ARCH:OS:COMPRESSION:LOAD:ENTRY:LEN. TYPE, ARCH, OS and \
-             COMPRESSION\n\
-             are names as list shows them for a legacy image, or numbers of at most 255. LOAD \
-             and ENTRY\n\
-             are addresses, or - for none. LEN is the length of the payload in bytes, and the \
-             payloads\n\
-             together are the whole input. Numbers are decimal, or hexadecimal with 0x.\n\n\
-             Example: bootimg build-fit kernel-1:kernel:arm:linux:none:0x8000:0x8000:4096 \
-             < zImage > kernel.itb",
-        options: &[EXTERNAL_BUILT, DESCRIPTION, TIME, LIMIT, IMAGES],
+                 Builds a flattened image tree, and writes it to standard output. Each payload has\n\
+                 its SHA-256, and configuration conf-1 lists the images by their types. Of two\n\
+                 devicetrees in conf-1, the second is an overlay, which U-Boot applies to the\n\
+                 first.\n\n\
+                 An IMAGE is NAME:TYPE:ARCH:OS:COMPRESSION:LOAD:ENTRY:LEN. TYPE, ARCH, OS and\n\
+                 COMPRESSION are names as list shows them for a legacy image, or numbers of at\n\
+                 most 255. LOAD and ENTRY are addresses, or - for none. LEN is the length of the\n\
+                 payload in bytes. The payloads are read from standard input, one after another,\n\
+                 and together are the whole input. A payload may be in a file, whose name has no\n\
+                 colon: LEN is then @FILE. If each payload is, standard input is not read. Numbers\n\
+                 are decimal, or hexadecimal with 0x.\n\n\
+                 Example: bootimg build-fit kernel-1:kernel:arm:linux:none:0x8000:0x8000:4096 \
+                 < zImage > kernel.itb\n\
+                 Example: bootimg build-fit kernel-1:kernel:arm:linux:none:0x8000:0x8000:@zImage > \
+                 kernel.itb",
+        options: &[EXTERNAL_BUILT, DESCRIPTION, TIME, LIMIT, OUTPUT, IMAGES],
     },
 ];

@@ -7,8 +7,8 @@ pub returns : goal.returns
 returns c =
     let register = c.args.register in
     let bytes = c.args.bytes.now in
-    let count = length bytes / 4 in
+    let count = length bytes / 16 in
     c.after_rest.ensures
-    ∙ (λ i. crc_after (c.after_fours.ensures i) (c.as_chunks.ensures.back i))
-    ∙ ap (λ (fours : List (List ℕ)). crc_after (fold crc_after register fours) (drop (count * 4) bytes)) c.as_chunks.ensures.front
+    ∙ (λ i. crc_after (c.after_groups.ensures i) (c.as_chunks.ensures.back i))
+    ∙ ap (λ (groups : List (List ℕ)). crc_after (fold crc_after register groups) (drop (count * 16) bytes)) c.as_chunks.ensures.front
     ∙ crc_after-groups count register bytes

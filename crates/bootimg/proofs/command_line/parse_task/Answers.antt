@@ -1,16 +1,7 @@
 use Rattle.std.proofs.Common.{subst, sym}
-use Rattle.bootimg.specs.CommandLine.{IsFitPlanFailure, IsTask, NotFit}
-use Rattle.bootimg.proofs.CommandLines.{task_outcome}
+use Rattle.bootimg.specs.CommandLine.{IsTask}
 use Rattle.bootimg.proofs.command_line.parse_task.Goals as goal
-use Rattle.bootimg.proofs.command_line.parse_task.Goals.{in-normalise, in-list, in-describe, in-verify, in-extract+in_ok-selection-in-extract, in-convert, in-text+in_ok-legacy_plan-in-text, in-text-2+in_ok-limits-in-text-2+in_ok-fit_plan-in-text-2}
-
-pub returns-in_err-fit_plan-in-text-2-clause-failure :
-    goal.returns-in_err-fit_plan-in-text-2-clause-failure
-returns-in_err-fit_plan-in-text-2-clause-failure c =
-    let options = c.args.options.now in
-    let exit = c.in_err-fit_plan-in-text-2 in
-    task_outcome c.args.name.now options (IsFitPlanFailure options) c.from_residual-in_err-fit_plan-in-text-2.result exit.field-0.0 c.from_residual-in_err-fit_plan-in-text-2.ensures.1 exit.ensures.failure
-    (λ failure bad. NotFit c.in-text-2.is c.in_ok-limits-in-text-2.field-0 c.in_ok-limits-in-text-2.ensures.value bad)
+use Rattle.bootimg.proofs.command_line.parse_task.Goals.{in-normalise, in-list, in-describe, in-verify, in-check+in_ok-allowed_kinds-in-check, in-update+in_ok-changes-in-update, in-extract+in_ok-selection-in-extract, in-convert}
 
 pub returns-clause-task : goal.returns-clause-task
 returns-clause-task c =
@@ -20,8 +11,8 @@ returns-clause-task c =
       | in-list w ↦ subst is_task (sym w.result-is) w.in-list.is
       | in-describe w ↦ subst is_task (sym w.result-is) w.in-describe.is
       | in-verify w ↦ subst is_task (sym w.result-is) w.in-verify.is
+      | in-check+in_ok-allowed_kinds-in-check w ↦ subst is_task (sym w.result-is) (w.in-check.is, w.in_ok-allowed_kinds-in-check.ensures.value)
+      | in-update+in_ok-changes-in-update w ↦ subst is_task (sym w.result-is) (w.in-update.is, w.in_ok-changes-in-update.ensures.changes, w.form-in-update.ensures)
       | in-extract+in_ok-selection-in-extract w ↦ subst is_task (sym w.result-is) (w.in-extract.is, w.in_ok-selection-in-extract.ensures.selection)
       | in-convert w ↦ subst is_task (sym w.result-is) w.in-convert.is
-      | in-text+in_ok-legacy_plan-in-text w ↦ subst is_task (sym w.result-is) (w.in-text.is, w.in_ok-legacy_plan-in-text.ensures.plan)
-      | in-text-2+in_ok-limits-in-text-2+in_ok-fit_plan-in-text-2 w ↦ subst is_task (sym w.result-is) (w.in-text-2.is, w.in_ok-fit_plan-in-text-2.ensures.plan)
     ]

@@ -6,19 +6,19 @@ use Rattle.bootimg.proofs.RunFacts.{logged}
 use Rattle.bootimg.proofs.run.print.Goals as goal
 
 pub returns-then-is_usage : goal.returns-then-is_usage
-returns-then-is_usage g c input =
+returns-then-is_usage g c input steps =
     let trace = g.E.TracedWrite.trace in
     IsUsage
     (logged (trace c.args.errors.now) (trace c.write_all.new.target) c.args.text.now c.write_all.result
     (subst
     (λ bytes. Wrote WroteAll WriteStopped (trace c.args.errors.now) bytes c.write_all.result (trace c.write_all.new.target))
     c.as_bytes.ensures.value c.write_all.ensures))
-    refl refl refl
+    refl refl refl refl
 
 pub returns-in-Err : goal.returns-in-Err
-returns-in-Err g c input =
+returns-in-Err g c input steps =
     let trace = g.T.TracedWrite.trace in
     IsNotWritten c.in-Err.error
     (subst (λ bytes. WriteOrFlushStopped (trace c.args.output.now) bytes (trace c.write_and_flush.new.target) c.in-Err.error)
     c.as_bytes-2.ensures.value c.in-Err.ensures)
-    c.report.ensures.line refl c.report.ensures.status
+    c.report.ensures.line refl refl c.report.ensures.status

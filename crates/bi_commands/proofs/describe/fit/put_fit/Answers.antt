@@ -1,4 +1,4 @@
-use Rattle.std.proofs.Common.{◌≡◌, ◌++◌, List, flat_map, map, ap, sym, ◌∙◌}
+use Rattle.std.proofs.Common.{◌++◌, List, flat_map, map, ap, sym, ◌∙◌}
 use Rattle.bi_commands.specs.Descriptions.{Words, reservation_words}
 use Rattle.bi_commands.specs.ReadDescription.{head_lines, root_lines}
 use Rattle.bi_commands.specs.Shown.{line}

@@ -1,4 +1,4 @@
-use Rattle.std.proofs.Common.{◌≡◌, ◌<◌, ◌+◌, ◌++◌, length, drop, flat_map, map, sym, ap, ◌∙◌, append_assoc, subst, arith, ℕ, Some}
+use Rattle.std.proofs.Common.{◌<◌, ◌+◌, ◌++◌, length, drop, flat_map, map, sym, ap, ◌∙◌, append_assoc, subst, arith, ℕ, Some}
 use Rattle.bi_commands.specs.Descriptions.{reservation_words}
 use Rattle.bi_commands.specs.Shown.{line}
 use Rattle.bi_commands.proofs.FitLines.{reservation_of, no_more_reservation}

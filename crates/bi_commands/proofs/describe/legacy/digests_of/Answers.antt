@@ -1,4 +1,4 @@
-use Rattle.std.proofs.Common.{◌≡◌, ◌++◌, map, sym, ap, ◌∙◌, append-nil}
+use Rattle.std.proofs.Common.{◌++◌, map, sym, ap, ◌∙◌, append-nil}
 use Rattle.bi_legacy.specs.PlacedParts.{PlacedPart, placed_parts}
 use Rattle.bi_commands.specs.Descriptions.{digest_of_payload}
 use Rattle.bi_commands.specs.TreeEntries.{digest_made}

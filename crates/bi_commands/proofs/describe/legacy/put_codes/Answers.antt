@@ -1,4 +1,4 @@
-use Rattle.std.proofs.Common.{◌≡◌, flat_map, ap, ◌∙◌, subst, unwrap_or}
+use Rattle.std.proofs.Common.{flat_map, ap, ◌∙◌, subst, unwrap_or}
 use Rattle.std.specs.Fmt.{decimal}
 use Rattle.bi_base.specs.Sinks.{Wrote}
 use Rattle.bi_commands.specs.Shown.{line}

@@ -1,4 +1,4 @@
-use Rattle.std.proofs.Common.{◌≡◌, ◌++◌, ◌∷◌, [], List, codes, flat_map, map, sym}
+use Rattle.std.proofs.Common.{◌++◌, ◌∷◌, [], List, codes, flat_map, map}
 use Rattle.bi_legacy.specs.Meaning.{image_of}
 use Rattle.bi_commands.specs.Descriptions.{Words, field_words, code_words, part_words}
 use Rattle.bi_commands.specs.Shown.{line}

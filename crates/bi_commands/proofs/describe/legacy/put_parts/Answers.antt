@@ -1,4 +1,4 @@
-use Rattle.std.proofs.Common.{◌≡◌, ℕ, List, ◌+◌, ◌++◌, ◌∷◌, [], codes, drop, get_or, flat_map, map, replicate, sym, ap, ◌∙◌, append_assoc}
+use Rattle.std.proofs.Common.{ℕ, List, ◌+◌, ◌++◌, ◌∷◌, [], codes, drop, get_or, flat_map, map, sym, ap, ◌∙◌, append_assoc}
 use Rattle.std.specs.Fmt.{decimal}
 use Rattle.bi_commands.specs.declared.describe.entries.PayloadDigest as made
 use Rattle.bi_commands.specs.Descriptions.{digest_words, part_words}

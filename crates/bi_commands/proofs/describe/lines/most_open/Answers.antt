@@ -1,4 +1,4 @@
-use Rattle.std.proofs.Common.{◌≡◌, ◌+◌, drop, get_or, map, max, ap, sym, subst, ◌∙◌, arith}
+use Rattle.std.proofs.Common.{◌≡◌, ◌+◌, drop, get_or, map, max, ap, subst, ◌∙◌, arith}
 use Rattle.bi_commands.specs.TreeEntries.{tree_entry, count_after}
 use Rattle.bi_commands.specs.TreeEntries as tree
 use Rattle.bi_commands.proofs.EntryLines.{entries_from, most_after, count_after-le, no_entry}

@@ -1,4 +1,4 @@
-use Rattle.std.proofs.Common.{◌≡◌, ◌≤◌, ◌+◌, ◌++◌, drop, take, get_or, length, map, flat_map, max, ap, sym, subst, ◌∙◌, arith}
+use Rattle.std.proofs.Common.{◌≤◌, ◌+◌, ◌++◌, drop, take, get_or, length, map, flat_map, ap, sym, subst, ◌∙◌, arith}
 use Rattle.bi_commands.specs.Shown.{line}
 use Rattle.bi_commands.specs.TreeEntries.{tree_entry, count_after, most_open, entry_lines, lines_of_entry, open_after}
 use Rattle.bi_commands.specs.WrittenWords.{name_bytes}

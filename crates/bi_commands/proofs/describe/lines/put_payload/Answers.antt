@@ -1,4 +1,4 @@
-use Rattle.std.proofs.Common.{◌≡◌, sym, subst, append-nil}
+use Rattle.std.proofs.Common.{sym, subst, append-nil}
 use Rattle.bi_base.specs.Sinks.{Wrote}
 use Rattle.bi_commands.proofs.describe.lines.put_payload.Goals as goal
 

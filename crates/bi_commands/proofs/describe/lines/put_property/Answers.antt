@@ -1,4 +1,4 @@
-use Rattle.std.proofs.Common.{◌≡◌, ◌++◌, ◌∷◌, [], codes, ap, subst}
+use Rattle.std.proofs.Common.{◌++◌, ◌∷◌, [], codes, subst}
 use Rattle.bi_base.specs.Sinks.{Wrote}
 use Rattle.bi_commands.specs.Descriptions.{path}
 use Rattle.bi_commands.specs.Shown.{shown}

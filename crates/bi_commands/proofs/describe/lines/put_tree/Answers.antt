@@ -1,4 +1,4 @@
-use Rattle.std.proofs.Common.{◌≡◌, ◌∷◌, [], codes, flat_map, map, refl}
+use Rattle.std.proofs.Common.{◌∷◌, [], codes, flat_map, map, refl}
 use Rattle.bi_commands.specs.Shown.{line}
 use Rattle.bi_commands.specs.TreeEntries.{entry_lines, tree_entry}
 use Rattle.bi_commands.proofs.SinkChains.{first_fails, last_writes}

@@ -1,4 +1,4 @@
-use Rattle.std.proofs.Common.{sym, ap, ◌∙◌, ◌&&◌}
+use Rattle.std.proofs.Common.{sym, ◌∙◌}
 use Rattle.bi_commands.proofs.QuotedValues.{texts_tested}
 use Rattle.bi_commands.proofs.describe.values.are_quotable_texts.Goals as goal
 

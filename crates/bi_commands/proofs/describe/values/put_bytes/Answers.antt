@@ -1,4 +1,4 @@
-use Rattle.std.proofs.Common.{◌≡◌, ◌∷◌, [], refl}
+use Rattle.std.proofs.Common.{◌∷◌, [], refl}
 use Rattle.bi_commands.specs.ValueTexts.{hexadecimal_digits}
 use Rattle.bi_commands.proofs.SinkChains.{first_fails, last_writes}
 use Rattle.bi_commands.proofs.describe.values.put_bytes.Goals as goal

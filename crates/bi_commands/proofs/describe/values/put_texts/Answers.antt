@@ -1,4 +1,4 @@
-use Rattle.std.proofs.Common.{◌≡◌, ◌∷◌, ◌++◌, [], refl, flat_map}
+use Rattle.std.proofs.Common.{◌∷◌, ◌++◌, [], refl, flat_map}
 use Rattle.bi_commands.specs.DescribedValues.{quoted_byte}
 use Rattle.bi_commands.proofs.SinkChains.{first_fails, next_fails, last_writes}
 use Rattle.bi_commands.proofs.describe.values.put_texts.Goals as goal

@@ -1,4 +1,4 @@
-use Rattle.std.proofs.Common.{◌≡◌, sym, subst, ◌∙◌}
+use Rattle.std.proofs.Common.{sym, subst, ◌∙◌}
 use Rattle.bi_base.specs.Sinks.{Wrote}
 use Rattle.bi_commands.proofs.QuotedValues.{words_of_texts, words_of_bytes}
 use Rattle.bi_commands.proofs.describe.values.put_value.Goals as goal

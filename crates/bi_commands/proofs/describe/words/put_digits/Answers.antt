@@ -1,4 +1,4 @@
-use Rattle.std.proofs.Common.{◌≡◌, ℕ, List, [], ◌++◌, rules, false, sym, ap, subst, ◌∙◌, append_assoc, refl}
+use Rattle.std.proofs.Common.{ℕ, List, ◌++◌, rules, false, sym, ap, ◌∙◌, append_assoc}
 use Rattle.std.specs.Slice.Iter.{chunks_rest}
 use Rattle.std.proofs.lemmas.Grind.{flat_map-append}
 use Rattle.bi_commands.specs.Shown.{digits_of_byte}

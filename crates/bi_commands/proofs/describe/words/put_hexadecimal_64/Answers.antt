@@ -1,4 +1,4 @@
-use Rattle.std.proofs.Common.{◌≡◌, ◌∷◌, [], refl, ap}
+use Rattle.std.proofs.Common.{◌∷◌, [], refl}
 use Rattle.bi_base.specs.Cells.{cell8}
 use Rattle.bi_commands.specs.ValueTexts.{hexadecimal_digits}
 use Rattle.bi_commands.proofs.SinkChains.{first_fails, last_writes}

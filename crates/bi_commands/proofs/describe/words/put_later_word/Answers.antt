@@ -1,4 +1,4 @@
-use Rattle.std.proofs.Common.{◌≡◌, ◌∷◌, [], refl}
+use Rattle.std.proofs.Common.{◌∷◌, [], refl}
 use Rattle.bi_commands.specs.WrittenWords.{word_text}
 use Rattle.bi_commands.proofs.SinkChains.{first_fails, last_writes}
 use Rattle.bi_commands.proofs.describe.words.put_later_word.Goals as goal

@@ -1,4 +1,4 @@
-use Rattle.std.proofs.Common.{◌≡◌, [], flat_map, map, sym, take, arith, subst}
+use Rattle.std.proofs.Common.{[], sym, take, arith, subst}
 use Rattle.std.proofs.lemmas.List.Folds.{flat_map-map}
 use Rattle.bi_base.proofs.SinkLaws.{failed_within, passed_on}
 use Rattle.bi_commands.specs.Shown.{line}

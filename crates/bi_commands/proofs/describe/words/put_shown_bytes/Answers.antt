@@ -1,4 +1,4 @@
-use Rattle.std.proofs.Common.{◌≡◌, flat_map, take_all, arith, ap, subst}
+use Rattle.std.proofs.Common.{arith}
 use Rattle.bi_base.proofs.SinkLaws.{failed_within, passed_on}
 use Rattle.bi_commands.specs.Shown.{shown_byte}
 use Rattle.bi_commands.proofs.describe.words.put_shown_bytes.Goals as goal

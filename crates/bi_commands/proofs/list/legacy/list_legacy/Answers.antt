@@ -1,12 +1,67 @@
-use Rattle.std.proofs.lemmas.Result.{err_from_is_err_and}
-use Rattle.bi_norm.specs.NormalForm.{ForLegacyImage}
-use Rattle.bi_commands.specs.Listing.{OfLegacyImage}
+use Rattle.std.proofs.Common.{List, [], ◌∷◌, ◌++◌, ℕ, codes, flat_map, refl, ◌∙◌}
+use Rattle.std.specs.Fmt.{decimal}
+use Rattle.bi_legacy.specs.Meaning.{image_of}
+use Rattle.bi_commands.specs.Descriptions.{field_words, code_words}
+use Rattle.bi_commands.specs.Listing.{parts_lines}
+use Rattle.bi_commands.specs.Shown.{line}
+use Rattle.bi_commands.proofs.ListedFiles.{legacy_pieces, one_more_piece}
+use Rattle.bi_commands.proofs.SinkChains.{first_fails, next_fails, last_writes}
 use Rattle.bi_commands.proofs.list.legacy.list_legacy.Goals as goal
 
-pub returns-clause-lists : goal.returns-clause-lists
-returns-clause-lists c limits file opened = OfLegacyImage c.args.image.now opened c.in_ok-text.ensures
+pub returns-in_err-put_kind_and_fields : goal.returns-in_err-put_kind_and_fields
+returns-in_err-put_kind_and_fields g c =
+    let S = g.S.Sink in
+    let laws = g.met.S.Sink in
+    let parsed = c.args.image.now in
+    let fields = c.fields-fields.result in
+    let one : List ℕ = flat_map line ((codes "kind" ∷ codes "legacy" ∷ []) ∷ field_words (image_of fields [])) in
+    let two : List ℕ = flat_map line (code_words (image_of fields [])) in
+    let rest : List ℕ = parts_lines parsed.image ++ line (codes "unused" ∷ decimal parsed.unused ∷ []) in
+    first_fails S.appends S.fails laws.fails_before c.args.sink.now c.put_kind_and_fields.new.sink one (two ++ rest) _ _ c.from_residual.result
+    (legacy_pieces parsed fields parsed.unused c.fields-fields.ensures refl) c.from_residual.ensures.1 c.in_err-put_kind_and_fields.ensures
 
-pub returns-in_err-text-clause-failed : goal.returns-in_err-text-clause-failed
-returns-in_err-text-clause-failed c limits file opened =
-    let p = err_from_is_err_and c.from_residual.result c.from_residual.ensures.1 in
-    rw (p.1, p.2) (ForLegacyImage c.args.image.now.image opened.means)
+pub returns-in_err-put_codes : goal.returns-in_err-put_codes
+returns-in_err-put_codes g c =
+    let S = g.S.Sink in
+    let laws = g.met.S.Sink in
+    let parsed = c.args.image.now in
+    let fields = c.fields-fields.result in
+    let one : List ℕ = flat_map line ((codes "kind" ∷ codes "legacy" ∷ []) ∷ field_words (image_of fields [])) in
+    let two : List ℕ = flat_map line (code_words (image_of fields [])) in
+    let rest : List ℕ = parts_lines parsed.image ++ line (codes "unused" ∷ decimal parsed.unused ∷ []) in
+    next_fails S.appends S.fails laws.fails_after laws.fails_before c.args.sink.now c.put_kind_and_fields.new.sink c.put_codes.new.sink one two rest _ _ c.from_residual-in_err-put_codes.result
+    (one_more_piece one two rest _ (legacy_pieces parsed fields parsed.unused c.fields-fields.ensures refl))
+    c.from_residual-in_err-put_codes.ensures.1 c.in_ok-put_kind_and_fields.ensures c.in_err-put_codes.ensures
+
+pub returns-in_err-put_parts : goal.returns-in_err-put_parts
+returns-in_err-put_parts g c =
+    let S = g.S.Sink in
+    let laws = g.met.S.Sink in
+    let parsed = c.args.image.now in
+    let fields = c.fields-fields.result in
+    let one : List ℕ = flat_map line ((codes "kind" ∷ codes "legacy" ∷ []) ∷ field_words (image_of fields [])) in
+    let two : List ℕ = flat_map line (code_words (image_of fields [])) in
+    let three : List ℕ = parts_lines parsed.image in
+    let rest : List ℕ = line (codes "unused" ∷ decimal parsed.unused ∷ []) in
+    next_fails S.appends S.fails laws.fails_after laws.fails_before c.args.sink.now c.put_codes.new.sink c.put_parts.new.sink (one ++ two) three rest _ _ c.from_residual-in_err-put_parts.result
+    (one_more_piece (one ++ two) three rest _ (one_more_piece one two (three ++ rest) _ (legacy_pieces parsed fields parsed.unused c.fields-fields.ensures refl)))
+    c.from_residual-in_err-put_parts.ensures.1
+    (laws.appends_in_turn c.args.sink.now c.put_kind_and_fields.new.sink c.put_codes.new.sink one two c.in_ok-put_kind_and_fields.ensures c.in_ok-put_codes.ensures)
+    c.in_err-put_parts.ensures
+
+pub returns : goal.returns
+returns g c =
+    let S = g.S.Sink in
+    let laws = g.met.S.Sink in
+    let parsed = c.args.image.now in
+    let fields = c.fields-fields.result in
+    let one : List ℕ = flat_map line ((codes "kind" ∷ codes "legacy" ∷ []) ∷ field_words (image_of fields [])) in
+    let two : List ℕ = flat_map line (code_words (image_of fields [])) in
+    let three : List ℕ = parts_lines parsed.image in
+    let four : List ℕ = line (codes "unused" ∷ decimal c.from.result ∷ []) in
+    last_writes S.appends S.fails laws.appends_in_turn laws.fails_after c.args.sink.now c.put_parts.new.sink c.put_line.new.sink ((one ++ two) ++ three) four _ c.put_line.result
+    (one_more_piece (one ++ two) three four _ (one_more_piece one two (three ++ four) _ (legacy_pieces parsed fields c.from.result c.fields-fields.ensures (c.from.ensures ∙ c.unused.ensures))))
+    (laws.appends_in_turn c.args.sink.now c.put_codes.new.sink c.put_parts.new.sink (one ++ two) three
+    (laws.appends_in_turn c.args.sink.now c.put_kind_and_fields.new.sink c.put_codes.new.sink one two c.in_ok-put_kind_and_fields.ensures c.in_ok-put_codes.ensures)
+    c.in_ok-put_parts.ensures)
+    c.put_line.ensures

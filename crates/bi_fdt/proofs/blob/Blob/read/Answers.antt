@@ -24,7 +24,7 @@ returns-in_err-entries-clause-refused c =
     (refused_in_tree c.args.limits c.args.file.now c.in_ok-reservation_count.reservation_count c.in_err-entries.field-0.0
     c.in_ok-reservation_count.ensures.header c.in_ok-reservation_count.ensures.reservations
     (subst (λ n. IsRefusal (IsStructureFault (tree_blocks c.args.file.now) n) c.in_err-entries.field-0.0) depth
-    (subst (λ b. IsRefusal (IsStructureFault b c.from.result) c.in_err-entries.field-0.0) c.tree_blocks.ensures c.in_err-entries.ensures.fault)))
+    (subst (λ b. IsRefusal (IsStructureFault b c.from.result) c.in_err-entries.field-0.0) c.tree_blocks-blocks.ensures c.in_err-entries.ensures.fault)))
 
 pub invariant_of-result : goal.invariant_of-result
 invariant_of-result c =
@@ -32,7 +32,7 @@ invariant_of-result c =
     is_held c.args.limits c.args.file.now c.in_ok-reservation_count.reservation_count c.in_ok-entries.entries.items
     c.in_ok-reservation_count.ensures.header c.in_ok-reservation_count.ensures.reservations
     (subst (λ n. HasTable (tree_blocks c.args.file.now) n c.in_ok-entries.entries.items) depth
-    (subst (λ b. HasTable b c.from.result c.in_ok-entries.entries.items) c.tree_blocks.ensures c.in_ok-entries.ensures.ok))
+    (subst (λ b. HasTable b c.from.result c.in_ok-entries.entries.items) c.tree_blocks-blocks.ensures c.in_ok-entries.ensures.ok))
 
 pub returns-clause-accepts : goal.returns-clause-accepts
 returns-clause-accepts c =
@@ -41,7 +41,7 @@ returns-clause-accepts c =
     is_blob_within c.args.limits c.args.file.now c.in_ok-reservation_count.reservation_count c.in_ok-entries.entries.items bytes
     c.in_ok-reservation_count.ensures.header c.in_ok-reservation_count.ensures.reservations
     (subst (λ n. HasTable (tree_blocks c.args.file.now) n c.in_ok-entries.entries.items) depth
-    (subst (λ b. HasTable b c.from.result c.in_ok-entries.entries.items) c.tree_blocks.ensures c.in_ok-entries.ensures.ok))
+    (subst (λ b. HasTable b c.from.result c.in_ok-entries.entries.items) c.tree_blocks-blocks.ensures c.in_ok-entries.ensures.ok))
 
 pub returns-clause-content : goal.returns-clause-content
 returns-clause-content c =
@@ -50,7 +50,7 @@ returns-clause-content c =
     is_blob c.args.limits c.args.file.now c.in_ok-reservation_count.reservation_count c.in_ok-entries.entries.items bytes
     c.in_ok-reservation_count.ensures.header c.in_ok-reservation_count.ensures.reservations
     (subst (λ n. HasTable (tree_blocks c.args.file.now) n c.in_ok-entries.entries.items) depth
-    (subst (λ b. HasTable b c.from.result c.in_ok-entries.entries.items) c.tree_blocks.ensures c.in_ok-entries.ensures.ok))
+    (subst (λ b. HasTable b c.from.result c.in_ok-entries.entries.items) c.tree_blocks-blocks.ensures c.in_ok-entries.ensures.ok))
 
 pub returns-clause-one_content : goal.returns-clause-one_content
 returns-clause-one_content c = λ cpu reservations root is.

@@ -1,9 +1,8 @@
 use Rattle.std.proofs.Common.{◌≡◌, ℕ, List, map, slice_get, ◌+◌, ◌-◌, ◌<◌, [], ◌∷◌, ◌++◌, length, refl, sym, ap, ◌∙◌, arith, rules}
-use Rattle.std.proofs.lemmas.Bool.{not-true, not-false}
+use Rattle.std.proofs.lemmas.Bool.{false≢true}
 use Rattle.std.proofs.lemmas.List.{length-append, with_items_is}
 use Rattle.std.proofs.Math.ListN.{set}
 use Rattle.bi_blob.specs.Tree.{names, IsNew}
-use Rattle.bi_blob.proofs.NameSets.{HoldsNames-new, HoldsNames-held}
 use Rattle.bi_blob.specs.OpenNodes.{OpenFileNode}
 use Rattle.bi_fdt.specs.declared.table.Entry.{Entry}
 use Rattle.bi_fdt.specs.declared.table.Entry.TheVariants as entry
@@ -14,30 +13,30 @@ use Rattle.bi_fdt.proofs.growing.Growing.add_property.Goals as goal
 pub returns-then-not-branch-clause-duplicate : goal.returns-then-not-branch-clause-duplicate
 returns-then-not-branch-clause-duplicate c =
     let duplicate : (innermost : OpenFileNode) (outer : List OpenFileNode) → IsGrowing c.args.self innermost outer → names innermost.children ≡ [] → ¬ (IsNew c.args.property.name.now (map (λ other. other.name) innermost.properties)) = λ innermost outer growing childless.
-    HoldsNames-held c.args.self.properties c.args.property.name _ (growing.properties childless) (not-false _ (sym c.in_ok-insert.ensures.added ∙ c.if-not-branch.true)) in
+    λ new. false≢true (sym c.if-not-branch.true ∙ (c.in_ok-insert.ensures.new _ (growing.properties childless)).1 new) in
     search rules
 
 pub returns-clause-new : goal.returns-clause-new
 returns-clause-new c = λ innermost outer growing childless.
-    HoldsNames-new c.args.self.properties c.args.property.name _ (growing.properties childless) (not-true _ (sym c.in_ok-insert.ensures.added ∙ c.if-not-branch.false))
+    (c.in_ok-insert.ensures.new _ (growing.properties childless)).0 c.if-not-branch.false
 
 pub overflow_sub-property_count : goal.overflow_sub-property_count
 overflow_sub-property_count c =
-    let within : c.args.self.innermost.entry < length c.args.self.entries.items = innermost_within c.args.self c.requires.innermost c.requires.outer c.requires.is in
+    let within : c.args.self.innermost.entry < length c.args.self.entries.items = innermost_within c.args.self c.requires.grown.innermost c.requires.grown.outer c.requires.grown.is in
     let longer : length c.push.new.self.items ≡ length (c.args.self.entries.items ++ entry.Property c.args.property ∷ []) = ap length c.in_ok-push.ensures.items in
     let more : length (c.args.self.entries.items ++ entry.Property c.args.property ∷ []) ≡ length c.args.self.entries.items + 1 = length-append _ _ in
     omega arith
 
 pub overflow_sub-property_count-2 : goal.overflow_sub-property_count-2
 overflow_sub-property_count-2 c =
-    let within : c.args.self.innermost.entry < length c.args.self.entries.items = innermost_within c.args.self c.requires.innermost c.requires.outer c.requires.is in
+    let within : c.args.self.innermost.entry < length c.args.self.entries.items = innermost_within c.args.self c.requires.grown.innermost c.requires.grown.outer c.requires.grown.is in
     let longer : length c.push.new.self.items ≡ length (c.args.self.entries.items ++ entry.Property c.args.property ∷ []) = ap length c.in_ok-push.ensures.items in
     let more : length (c.args.self.entries.items ++ entry.Property c.args.property ∷ []) ≡ length c.args.self.entries.items + 1 = length-append _ _ in
     omega arith
 
 pub set_property_count-requires : goal.set_property_count-requires
 set_property_count-requires c =
-    let within : c.args.self.innermost.entry < length c.args.self.entries.items = innermost_within c.args.self c.requires.innermost c.requires.outer c.requires.is in
+    let within : c.args.self.innermost.entry < length c.args.self.entries.items = innermost_within c.args.self c.requires.grown.innermost c.requires.grown.outer c.requires.grown.is in
     let longer : length c.push.new.self.items ≡ length (c.args.self.entries.items ++ entry.Property c.args.property ∷ []) = ap length c.in_ok-push.ensures.items in
     let more : length (c.args.self.entries.items ++ entry.Property c.args.property ∷ []) ≡ length c.args.self.entries.items + 1 = length-append _ _ in
     let now : length c.deref_mut.result.now ≡ length c.push.new.self.items = ap length c.deref_mut.ensures.value in
@@ -56,4 +55,4 @@ returns-clause-grown c = λ innermost outer growing childless.
     ∙ c.set_property_count.ensures n (ap (λ l. slice_get l index) now ∙ at)
     ∙ ap (λ l. set l index (entry.Node (record n { property_count = c.len.result - index - 1 }))) now
     ∙ ap (λ k. set pushed index (entry.Node (record n { property_count = k - index - 1 }))) long)
-    refl refl c.in_ok-insert.ensures.updates
+    refl refl (c.in_ok-insert.ensures.added _ (growing.properties childless))

@@ -35,4 +35,4 @@ returns-clause-grown c = λ innermost outer growing.
     (record { entry = c.args.self.innermost.entry; children = c.insert.new.self })
     growing c.in_ok-push.ensures.items (ap (λ d. NodeItem d c.args.place c.args.name.now) depth) depth refl (search rules) (HoldsNames-none c.new.result c.new.ensures.empty) c.in_ok-push-2.ensures.items refl
     (HoldsNames-insert c.args.self.innermost.children c.insert.new.self c.args.name (names innermost.children) held c.in_ok-insert.ensures.updates)
-    (HoldsNames-none c.clear.new.self c.clear.ensures.empty)
+    c.clear.ensures

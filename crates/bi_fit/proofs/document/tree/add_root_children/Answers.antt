@@ -5,7 +5,7 @@ use Rattle.bi_blob.specs.Tree.{EachOwn}
 use Rattle.bi_blob.specs.Lookups.{siblings}
 use Rattle.bi_blob.specs.Events.{events}
 use Rattle.bi_fdt.specs.Views.{node_of}
-use Rattle.bi_fit.specs.Additions.{with_events, HasDistinctNames, HaveImages, payloads_of, properties_by_name, sorted_below, sorted_root_children}
+use Rattle.bi_fit.specs.Additions.{with_events, HasDistinctNames, HaveImageNodes, AreImageNodes, payloads_of, properties_by_name, sorted_below, sorted_root_children}
 use Rattle.bi_fit.proofs.NodeEvents.{nodes_from, nodes_from_first, IsAdding, adding_all, may_add_first, adding_later}
 use Rattle.bi_fit.proofs.document.tree.add_root_children.Goals as goal
 
@@ -14,25 +14,26 @@ loop-next-init c =
     let s = node_of c.args.root in
     let all : nodes_from (option_map node_of c.first_child-next.result) ≡ s.children = ap nodes_from c.first_child-next.ensures ∙ nodes_from_first s.children in
     rw all (record {
-      adding = adding_all c.args.doc.now (sorted_root_children c.args.form (payloads_of c.args.images.now) s.children) c.requires.may;
+      adding = adding_all c.args.doc.now (sorted_root_children c.args.changes.hashes c.args.form (payloads_of c.args.images.now) c.args.digests.now s.children) c.requires.may;
       distinct = c.requires.distinct;
-      same_count = c.requires.same_count;
+      images = c.requires.images;
     })
 
 pub add_root_child-requires : goal.add_root_child-requires
 add_root_child-requires c =
     let s = node_of c.in-Some.child in
     let payloads = payloads_of c.args.images.now in
-    let target = with_events c.args.doc.now (events (sorted_root_children c.args.form payloads (node_of c.args.root).children)) in
+    let target = with_events c.args.doc.now (events (sorted_root_children c.args.changes.hashes c.args.form payloads c.args.digests.now (node_of c.args.root).children)) in
     let here : nodes_from (option_map node_of c.loop-next.next) ≡ nodes_from (Some s) = ap (λ next. nodes_from (option_map node_of next)) c.in-Some.is in
-    let count : HaveImages (length c.args.images.now) (nodes_from (Some s)) = subst (HaveImages (length c.args.images.now)) here c.loop-next.invariant.same_count in
+    let images : HaveImageNodes (AreImageNodes c.args.changes.hashes c.args.images.now c.args.digests.now) (nodes_from (Some s)) =
+    subst (HaveImageNodes (AreImageNodes c.args.changes.hashes c.args.images.now c.args.digests.now)) here c.loop-next.invariant.images in
     let distinct : EachOwn HasDistinctNames (nodes_from (Some s)) = subst (EachOwn HasDistinctNames) here c.loop-next.invariant.distinct in
     record {
-      same_count = (count.0, tt);
+      images = (images.0, tt);
       within = c.requires.within;
       distinct = (distinct.0, distinct.1, tt);
-      may = may_add_first c.loop-next.doc target s.name (entries (properties_by_name s.own)) (sorted_below c.args.form payloads s.name s.children) (sorted_root_children c.args.form payloads s.later)
-          (subst (λ nodes. IsAdding c.loop-next.doc target (sorted_root_children c.args.form payloads nodes)) here c.loop-next.invariant.adding);
+      may = may_add_first c.loop-next.doc target s.name (entries (properties_by_name s.own)) (sorted_below c.args.changes.hashes c.args.form payloads c.args.digests.now s.name s.children) (sorted_root_children c.args.changes.hashes c.args.form payloads c.args.digests.now s.later)
+          (subst (λ nodes. IsAdding c.loop-next.doc target (sorted_root_children c.args.changes.hashes c.args.form payloads c.args.digests.now nodes)) here c.loop-next.invariant.adding);
     }
 
 pub loop-next-smaller : goal.loop-next-smaller
@@ -48,15 +49,16 @@ pub loop-next-preserved : goal.loop-next-preserved
 loop-next-preserved c =
     let s = node_of c.in-Some.child in
     let payloads = payloads_of c.args.images.now in
-    let target = with_events c.args.doc.now (events (sorted_root_children c.args.form payloads (node_of c.args.root).children)) in
+    let target = with_events c.args.doc.now (events (sorted_root_children c.args.changes.hashes c.args.form payloads c.args.digests.now (node_of c.args.root).children)) in
     let here : nodes_from (option_map node_of c.loop-next.next) ≡ nodes_from (Some s) = ap (λ next. nodes_from (option_map node_of next)) c.in-Some.is in
     let rest : nodes_from (option_map node_of c.next_sibling-next.result) ≡ s.later = ap nodes_from c.next_sibling-next.ensures ∙ nodes_from_first s.later in
-    let count : HaveImages (length c.args.images.now) (nodes_from (Some s)) = subst (HaveImages (length c.args.images.now)) here c.loop-next.invariant.same_count in
+    let images : HaveImageNodes (AreImageNodes c.args.changes.hashes c.args.images.now c.args.digests.now) (nodes_from (Some s)) =
+    subst (HaveImageNodes (AreImageNodes c.args.changes.hashes c.args.images.now c.args.digests.now)) here c.loop-next.invariant.images in
     let distinct : EachOwn HasDistinctNames (nodes_from (Some s)) = subst (EachOwn HasDistinctNames) here c.loop-next.invariant.distinct in
     rw rest (record {
-      adding = adding_later c.loop-next.doc target s.name (entries (properties_by_name s.own)) (sorted_below c.args.form payloads s.name s.children) (sorted_root_children c.args.form payloads s.later)
-          (subst (λ nodes. IsAdding c.loop-next.doc target (sorted_root_children c.args.form payloads nodes)) here c.loop-next.invariant.adding)
+      adding = adding_later c.loop-next.doc target s.name (entries (properties_by_name s.own)) (sorted_below c.args.changes.hashes c.args.form payloads c.args.digests.now s.name s.children) (sorted_root_children c.args.changes.hashes c.args.form payloads c.args.digests.now s.later)
+          (subst (λ nodes. IsAdding c.loop-next.doc target (sorted_root_children c.args.changes.hashes c.args.form payloads c.args.digests.now nodes)) here c.loop-next.invariant.adding)
           c.add_root_child.new.doc c.in_ok-add_root_child.ensures.added;
       distinct = distinct.2;
-      same_count = count.1;
+      images = images.1;
     })

@@ -4,16 +4,16 @@ use Rattle.bi_blob.specs.Tree.{EachOwn}
 use Rattle.bi_blob.specs.Lookups.{siblings}
 use Rattle.bi_blob.specs.Events.{events}
 use Rattle.bi_fdt.specs.Views.{node_of}
-use Rattle.bi_fit.specs.Additions.{with_events, HasDistinctNames, HaveImages, payloads_of, sorted_root_children}
+use Rattle.bi_fit.specs.Additions.{with_events, HasDistinctNames, HaveImageNodes, AreImageNodes, payloads_of, sorted_root_children}
 use Rattle.bi_fit.proofs.NodeEvents.{nodes_from, IsAdding}
 use Rattle.bi_fit.proofs.document.tree.add_root_children.Given as goal
 
 abbrev pub invariant-loop-next : goal.invariant-loop-next
 invariant-loop-next l = record {
-  adding : IsAdding l.doc (with_events l.fn.doc (events (sorted_root_children l.form (payloads_of l.images) (node_of l.root).children)))
-      (sorted_root_children l.form (payloads_of l.images) (nodes_from (option_map node_of l.next)));
+  adding : IsAdding l.doc (with_events l.fn.doc (events (sorted_root_children l.changes.hashes l.form (payloads_of l.images) l.digests (node_of l.root).children)))
+      (sorted_root_children l.changes.hashes l.form (payloads_of l.images) l.digests (nodes_from (option_map node_of l.next)));
   distinct : EachOwn HasDistinctNames (nodes_from (option_map node_of l.next));
-  same_count : HaveImages (length l.images) (nodes_from (option_map node_of l.next));
+  images : HaveImageNodes (AreImageNodes l.changes.hashes l.images l.digests) (nodes_from (option_map node_of l.next));
 }
 
 abbrev pub decreases-loop-next : goal.decreases-loop-next

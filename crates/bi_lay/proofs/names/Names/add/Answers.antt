@@ -1,49 +1,39 @@
-use Rattle.std.proofs.Common.{◌≡◌, ◌++◌, ◌∷◌, [], bytes_eq, subst, length, sym, ap, ◌∙◌, arith}
-use Rattle.indexmap.proofs.CallerLemmas.{insert_entry-new}
+use Rattle.std.proofs.Common.{◌≡◌, ◌++◌, ◌∷◌, ℕ, false, Some, [], List, map, Bor, length, subst, sym, ap, ◌∙◌, arith, rules}
+use Rattle.std.specs.BTreeMap.{get, Updates}
+use Rattle.std.proofs.lemmas.List.{map-append}
 use Rattle.bi_blob.specs.Layout.{offset_in, strings_of}
-use Rattle.bi_lay.specs.Names.{capped, entry_names, AreAt}
-use Rattle.bi_lay.proofs.NameOffsets.{entry_names-push, look_up-some, look_up-none, with_name-known, with_name-new, AreAt-push, strings-push, offset_in-new}
+use Rattle.bi_blob.specs.NamesByLength.{by_length}
+use Rattle.bi_lay.specs.Names.{capped, offset_among, is_among}
+use Rattle.bi_lay.proofs.NameOffsets.{look_up-none, placed-push, strings-push, offset_in-new}
 use Rattle.bi_lay.proofs.names.Names.add.Goals as goal
 
-pub returns-in-Some-clause-offset : goal.returns-in-Some-clause-offset
-returns-in-Some-clause-offset c =
-    let found = look_up-some c.args.name.now 0 c.in-Some.offset.now c.self.inside.offsets.entries c.self.invariant.placed (sym c.in-Some.ensures.value) in
-    rw (← c.self.view_is) (found.0 ∙ ap capped (omega arith))
-
-pub returns-in-Some-clause-names : goal.returns-in-Some-clause-names
-returns-in-Some-clause-names c =
-    let found = look_up-some c.args.name.now 0 c.in-Some.offset.now c.self.inside.offsets.entries c.self.invariant.placed (sym c.in-Some.ensures.value) in
-    rw (← c.self.view_is) (sym (with_name-known _ _ found.1))
+-- The names that there were.
+abbrev before : goal.After-self-1 → List (List ℕ)
+before c = map (λ name. name.now) c.self.inside.names.items
 
 -- A name that was not there comes behind the others.
 abbrev appended : goal.After-self-1 → Type 0
-appended c = c.insert.new.self.entries ≡ c.self.inside.offsets.entries ++ (c.args.name, c.self.inside.length) ∷ []
+appended c = map (λ name. name.now) c.push.new.self.items ≡ before c ++ c.args.name.now ∷ []
 
 is_appended : (c : goal.After-self-1) → appended c
 is_appended c =
-    c.in_ok-insert.ensures.entries
-    ∙ insert_entry-new (λ x y. bytes_eq x.now y.now) c.self.inside.offsets c.args.name c.self.inside.length (sym c.in_default.ensures.value)
+    let pushed : c.push.new.self.items ≡ c.self.inside.names.items ++ c.args.name ∷ [] = search rules in
+    ap (map (λ name. name.now)) pushed ∙ map-append (λ name. name.now) c.self.inside.names.items (c.args.name ∷ [])
+
+was_new : (c : goal.After-self-1) → is_among c.args.name.now (before c) ≡ false
+was_new c = look_up-none (before c) c.args.name.now (sym (c.self.invariant.placed c.args.name) ∙ sym c.in_default.ensures.value)
 
 pub invariant_of-self-2 : goal.invariant_of-self-2
-invariant_of-self-2 c =
-    let names = ap entry_names (is_appended c) ∙ entry_names-push c.self.inside.offsets.entries c.args.name c.self.inside.length in
-    record {
-      placed =
-          subst (AreAt 0) (sym (is_appended c))
-          (AreAt-push 0 c.self.inside.offsets.entries c.args.name c.self.inside.length c.self.invariant.placed (c.self.invariant.is_length ∙ ap capped (omega arith)));
-      is_length =
-          omega (arith, c.self.invariant.is_length, c.saturating_add.ensures, c.saturating_add-self-inside.ensures, ap (λ l. length (strings_of l)) names, strings-push (entry_names c.self.inside.offsets.entries) c.args.name.now);
-    }
+invariant_of-self-2 c = record {
+  placed =
+      subst (λ names. (name : Bor (List ℕ)) → get by_length c.insert.new.self (length name.now, name) ≡ offset_among names name.now) (sym (is_appended c))
+      (placed-push c.self.inside.offsets c.insert.new.self (before c) c.args.name c.self.invariant.placed
+      (subst (λ n. Updates by_length c.self.inside.offsets c.insert.new.self (length c.args.name.now, c.args.name) (Some n)) c.self.invariant.is_length c.in_ok-insert.ensures.updates) (was_new c));
+  is_length =
+      omega (arith, c.self.invariant.is_length, c.saturating_add.ensures, c.saturating_add-self-inside.ensures, ap (λ l. length (strings_of l)) (is_appended c), strings-push (before c) c.args.name.now);
+}
 
 pub returns-clause-offset : goal.returns-clause-offset
 returns-clause-offset c =
-    let names = ap entry_names (is_appended c) ∙ entry_names-push c.self.inside.offsets.entries c.args.name c.self.inside.length in
-    let new = look_up-none c.args.name.now c.self.inside.offsets.entries (sym c.in_default.ensures.value) in
     c.self.invariant.is_length
-    ∙ ap capped (sym (ap (λ l. offset_in l c.args.name.now) names ∙ offset_in-new (entry_names c.self.inside.offsets.entries) c.args.name.now new))
-
-pub returns-clause-names : goal.returns-clause-names
-returns-clause-names c =
-    let names = ap entry_names (is_appended c) ∙ entry_names-push c.self.inside.offsets.entries c.args.name c.self.inside.length in
-    let new = look_up-none c.args.name.now c.self.inside.offsets.entries (sym c.in_default.ensures.value) in
-    rw (← c.self.view_is) (names ∙ sym (with_name-new _ _ new))
+    ∙ ap capped (sym (ap (λ l. offset_in l c.args.name.now) (is_appended c) ∙ offset_in-new (before c) c.args.name.now (was_new c)))

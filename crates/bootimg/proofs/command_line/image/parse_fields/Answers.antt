@@ -22,7 +22,7 @@ returns-in_err-parse_code-4-clause-none c =
     if_none c.from_residual-in_err-parse_code-4.result (NoneIs (IsImage c.args.texts))
     (λ image is. absurd (let e = c.in_err-parse_code-4.ensures.exactly _ is.compression in cc))
 
-pub returns-in_err-parse_number-clause-none : goal.returns-in_err-parse_number-clause-none
-returns-in_err-parse_number-clause-none c =
-    if_none c.from_residual-in_err-parse_number.result (NoneIs (IsImage c.args.texts))
-    (λ image is. absurd (let e = c.in_err-parse_number.ensures.exactly _ is.length_is in cc))
+pub returns-in_err-parse_part-clause-none : goal.returns-in_err-parse_part-clause-none
+returns-in_err-parse_part-clause-none c =
+    if_none c.from_residual-in_err-parse_part.result (NoneIs (IsImage c.args.texts))
+    (λ image is. c.in_err-parse_part.ensures.none image.1 is.source)

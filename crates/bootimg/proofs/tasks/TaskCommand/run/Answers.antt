@@ -1,19 +1,15 @@
-use Rattle.std.proofs.Common.{ℕ, List, subst, rules}
+use Rattle.std.proofs.Common.{rules}
 use Rattle.std.proofs.lemmas.Result.{err_from_is_err_and}
-use Rattle.bi_base.specs.Commands.{CommandFailed}
-use Rattle.bi_base.specs.declared.fault.Error.{Error}
-use Rattle.bi_fit.specs.declared.form.Form.{Form}
-use Rattle.bi_legacy.specs.declared.fields.Fields.{Fields}
-use Rattle.bi_norm.specs.declared.building.Head.{Head}
-use Rattle.bi_norm.specs.declared.building.ImageSpec.{ImageSpec}
 use Rattle.bi_norm.specs.Converting.{IsConvertedFile, IsConvertError}
 use Rattle.bi_norm.specs.NormalForm.{IsNormalForm, IsNormaliseError, IsOpenError}
-use Rattle.bi_commands.specs.Building.{IsLegacyOutput, IsLegacyOutputError}
-use Rattle.bi_commands.specs.Building.{IsFitOutput, IsFitOutputError}
+use Rattle.bi_commands.specs.CheckedFiles.{IsChecked, IsCheckError}
 use Rattle.bi_commands.specs.Describing.{IsDescription, IsDescribeError}
 use Rattle.bi_commands.specs.Extracting.{IsChosen, IsExtractError}
 use Rattle.bi_commands.specs.Listing.{IsListing}
 use Rattle.bi_commands.specs.Reports.{IsReport}
+use Rattle.bi_commands.specs.UpdatedFiles.{IsUpdated, IsUpdateError}
+use Rattle.bootimg.specs.Selections.{select_of}
+use Rattle.bootimg.proofs.Selected.{same_chosen, same_failure}
 use Rattle.bootimg.proofs.TaskFailures.{call_failed, extract_failed}
 use Rattle.bootimg.proofs.tasks.TaskCommand.run.Goals as goal
 
@@ -44,23 +40,47 @@ returns-in_err-run-in-Describe-clause-failed g c =
     (call_failed g.S.Sink.fails (IsDescription limits input) (IsDescribeError limits input) c.args.sink.now c.run-in-Describe.new.sink c.in_err-run-in-Describe.field-0.0 p.0 p.2
     c.in_err-run-in-Describe.ensures.failed)
 
-pub returns-in_err-run-in-Verify-clause-failed : goal.returns-in_err-run-in-Verify-clause-failed
-returns-in_err-run-in-Verify-clause-failed g c =
+pub returns-in_err-good-in-Verify-clause-failed : goal.returns-in_err-good-in-Verify-clause-failed
+returns-in_err-good-in-Verify-clause-failed g c =
     let limits = c.args.limits in
     let input = c.args.input.now in
-    let p = err_from_is_err_and c.from_residual-in_err-run-in-Verify.result c.from_residual-in_err-run-in-Verify.ensures.1 in
+    let p = err_from_is_err_and c.from_residual-in_err-good-in-Verify.result c.from_residual-in_err-good-in-Verify.ensures.1 in
     rw (c.in-Verify.is, p.1)
-    (call_failed g.S.Sink.fails (IsReport limits input) (IsOpenError limits input) c.args.sink.now c.run-in-Verify.new.sink c.in_err-run-in-Verify.field-0.0 p.0 p.2
-    c.in_err-run-in-Verify.ensures.failed)
+    (call_failed g.S.Sink.fails (IsReport limits input) (IsOpenError limits input) c.args.sink.now c.run-in-Verify.new.sink c.in_err-good-in-Verify.field-0.0 p.0 p.2
+    c.in_err-good-in-Verify.ensures.failed)
+
+pub returns-in_err-clean-in-Check-clause-failed : goal.returns-in_err-clean-in-Check-clause-failed
+returns-in_err-clean-in-Check-clause-failed g c =
+    let limits = c.args.limits in
+    let input = c.args.input.now in
+    let p = err_from_is_err_and c.from_residual-in_err-clean-in-Check.result c.from_residual-in_err-clean-in-Check.ensures.1 in
+    rw (c.in-Check.is, p.1)
+    (call_failed g.S.Sink.fails (IsChecked c.in-Check.allowed limits input) (IsCheckError limits input) c.args.sink.now c.run-in-Check.new.sink c.in_err-clean-in-Check.field-0.0 p.0 p.2
+    c.in_err-clean-in-Check.ensures.failed)
+
+pub returns-in_err-signatures-in-Update-clause-failed : goal.returns-in_err-signatures-in-Update-clause-failed
+returns-in_err-signatures-in-Update-clause-failed g c =
+    let limits = c.args.limits in
+    let input = c.args.input.now in
+    let changes = c.in-Update.changes in
+    let form = c.in-Update.form in
+    let p = err_from_is_err_and c.from_residual-in_err-signatures-in-Update.result c.from_residual-in_err-signatures-in-Update.ensures.1 in
+    rw (c.in-Update.is, p.1)
+    (call_failed g.S.Sink.fails (IsUpdated changes limits form input) (IsUpdateError changes limits form input) c.args.sink.now c.run-in-Update.new.sink
+    c.in_err-signatures-in-Update.field-0.0 p.0 p.2 c.in_err-signatures-in-Update.ensures.failed)
 
 pub returns-in_err-run-in-Extract-clause-failed : goal.returns-in_err-run-in-Extract-clause-failed
 returns-in_err-run-in-Extract-clause-failed g c =
     let limits = c.args.limits in
     let input = c.args.input.now in
+    let one = c.select-select.result in
+    let other = select_of c.in-Extract.selection in
+    let same = c.select-select.ensures in
     let p = err_from_is_err_and c.from_residual-in_err-run-in-Extract.result c.from_residual-in_err-run-in-Extract.ensures.1 in
     rw (c.in-Extract.is, p.1)
-    (extract_failed g.S.Sink.fails (IsChosen c.in-Extract.select limits input) (IsExtractError c.in-Extract.select limits input) c.args.sink.now c.run-in-Extract.new.sink c.in_err-run-in-Extract.field-0.0 p.0 p.2
-    c.in_err-run-in-Extract.ensures.failed)
+    (extract_failed g.S.Sink.fails (IsChosen other limits input) (IsExtractError other limits input) c.args.sink.now c.run-in-Extract.new.sink c.in_err-run-in-Extract.field-0.0 p.0 p.2
+    (same_failure g.S.Sink.fails one other same limits input c.args.sink.now c.run-in-Extract.new.sink c.in_err-run-in-Extract.field-0.0
+    c.in_err-run-in-Extract.ensures.failed))
 
 pub returns-in_err-run-in-Convert-clause-failed : goal.returns-in_err-run-in-Convert-clause-failed
 returns-in_err-run-in-Convert-clause-failed g c =
@@ -71,50 +91,18 @@ returns-in_err-run-in-Convert-clause-failed g c =
     (call_failed g.S.Sink.fails (IsConvertedFile limits input) (IsConvertError limits input) c.args.sink.now c.run-in-Convert.new.sink c.in_err-run-in-Convert.field-0.0 p.0 p.2
     c.in_err-run-in-Convert.ensures.failed)
 
-pub returns-in_err-run-in-BuildLegacy-clause-failed : goal.returns-in_err-run-in-BuildLegacy-clause-failed
-returns-in_err-run-in-BuildLegacy-clause-failed g c =
-    let fails = g.S.Sink.fails in
-    let limits = c.args.limits in
-    let input = c.args.input.now in
-    let plan = c.in-BuildLegacy.plan in
-    let builder = c.builder.result in
-    let error = c.in_err-run-in-BuildLegacy.field-0.0 in
-    let IsText : Fields → List ℕ → List ℕ → Type 0 = λ fields lengths. IsLegacyOutput limits fields lengths input in
-    let HasError : Fields → List ℕ → Error → Type 0 = λ fields lengths. IsLegacyOutputError limits fields lengths input in
-    let Fails : Fields → List ℕ → Type 0 = λ fields lengths. CommandFailed fails (λ cause. cause) (IsText fields lengths)
-    (HasError fields lengths) c.args.sink.now c.run-in-BuildLegacy.new.sink error in
-    let p = err_from_is_err_and c.from_residual-in_err-run-in-BuildLegacy.result c.from_residual-in_err-run-in-BuildLegacy.ensures.1 in
-    rw (c.in-BuildLegacy.is, p.1)
-    (call_failed fails (IsText plan.fields plan.lengths.items) (HasError plan.fields plan.lengths.items) c.args.sink.now
-    c.run-in-BuildLegacy.new.sink error p.0 p.2
-    (subst (λ (lengths : List ℕ). Fails plan.fields lengths) c.builder.ensures.lengths
-    (subst (λ (fields : Fields). Fails fields builder.lengths.now) c.builder.ensures.fields c.in_err-run-in-BuildLegacy.ensures.failed)))
-
-pub returns-in_err-run-in-BuildFit-clause-failed : goal.returns-in_err-run-in-BuildFit-clause-failed
-returns-in_err-run-in-BuildFit-clause-failed g c =
-    let fails = g.S.Sink.fails in
-    let limits = c.args.limits in
-    let input = c.args.input.now in
-    let plan = c.in-BuildFit.plan in
-    let builder = c.builder-in-BuildFit.result in
-    let is_builder = c.builder-in-BuildFit.ensures in
-    let error = c.in_err-run-in-BuildFit.field-0.0 in
-    let IsText : Form → Head → List ImageSpec → List ℕ → List ℕ → Type 0 = λ form head images lengths. IsFitOutput limits form head images lengths input in
-    let HasError : Form → Head → List ImageSpec → List ℕ → Error → Type 0 = λ form head images lengths. IsFitOutputError limits form head images lengths input in
-    let Fails : Form → Head → List ImageSpec → List ℕ → Type 0 = λ form head images lengths. CommandFailed fails (λ cause. cause)
-    (IsText form head images lengths) (HasError form head images lengths) c.args.sink.now c.run-in-BuildFit.new.sink error in
-    let p = err_from_is_err_and c.from_residual-in_err-run-in-BuildFit.result c.from_residual-in_err-run-in-BuildFit.ensures.1 in
-    rw (c.in-BuildFit.is, p.1)
-    (call_failed fails (IsText plan.form plan.head plan.images.items plan.lengths.items) (HasError plan.form plan.head plan.images.items plan.lengths.items)
-    c.args.sink.now c.run-in-BuildFit.new.sink error p.0 p.2
-    (subst (λ (lengths : List ℕ). Fails plan.form plan.head plan.images.items lengths) is_builder.lengths
-    (subst (λ (images : List ImageSpec). Fails plan.form plan.head images builder.lengths.now) is_builder.images
-    (subst (λ (head : Head). Fails plan.form head builder.images.now builder.lengths.now) is_builder.head
-    (subst (λ (form : Form). Fails form builder.head builder.images.now builder.lengths.now) is_builder.form
-    c.in_err-run-in-BuildFit.ensures.failed)))))
-
 pub returns-in-List-clause-appended : goal.returns-in-List-clause-appended
 returns-in-List-clause-appended g c =
     let appended = c.in_ok-run-in-List.ensures.appended in
     rw (c.in-List.is)
     (record { text = appended.text; is_text = (appended.is_text, search rules); appended = appended.appended })
+
+pub returns-in-Extract-clause-appended : goal.returns-in-Extract-clause-appended
+returns-in-Extract-clause-appended g c =
+    let appended = c.in_ok-run-in-Extract.ensures.appended in
+    rw (c.in-Extract.is)
+    (record {
+      text = appended.text;
+      is_text = (same_chosen c.select-select.result (select_of c.in-Extract.selection) c.select-select.ensures c.args.limits c.args.input.now appended.text appended.is_text, search rules);
+      appended = appended.appended;
+    })

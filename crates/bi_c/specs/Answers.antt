@@ -1,0 +1,107 @@
+use Rattle.std.specs.Prelude.{ℕ, ◌<◌, ◌≤◌, ◌≡◌, ◌++◌, List, length, drop}
+use Rattle.bi_base.specs.declared.fault.Error.{Error}
+use Rattle.bi_base.specs.declared.fault.Error.TheVariants as error
+use Rattle.bi_base.specs.Causes.{number_of}
+use Rattle.bi_c.specs.declared.answer.Answer.{Answer}
+use Rattle.bi_c.specs.declared.failure.Failure.{Failure}
+use Rattle.bi_c.specs.declared.failure.Failure.TheVariants.{WrongArgument, Refused, OutOfMemory}
+use Rattle.bi_c.specs.declared.failure.Failure.TheVariants.{NotFound}
+
+-- What a call from C returns: a status, and what it leaves in the caller's struct and buffer
+-- (profile of this project).
+
+-- The statuses.
+abbrev pub done : ℕ
+done = 0
+
+abbrev pub refused : ℕ
+refused = 1
+
+abbrev pub out_of_memory : ℕ
+out_of_memory = 2
+
+abbrev pub no_room : ℕ
+no_room = 3
+
+abbrev pub wrong_argument : ℕ
+wrong_argument = 4
+
+abbrev pub not_found : ℕ
+not_found = 5
+
+-- The struct after a call that has an output: its size, and the number that the call returns.
+abbrev pub answer_of : (size value : ℕ) → Answer
+answer_of size value =
+    record { size = size; value = value; cause = 0; offset = 0; file = 0; reason = 0 }
+
+-- The struct after a failure.
+abbrev pub answer_of_failure : Failure → Answer
+answer_of_failure (Refused file fault) = record {
+  size = 0;
+  value = 0;
+  cause = number_of fault.cause;
+  offset = fault.offset;
+  file = file;
+  reason = 0;
+}
+answer_of_failure (NotFound reason index) =
+    record { size = 0; value = index; cause = 0; offset = 0; file = 0; reason = reason }
+answer_of_failure OutOfMemory = answer_of 0 0
+answer_of_failure WrongArgument = answer_of 0 0
+
+-- The status of a failure.
+abbrev pub status_of : Failure → ℕ
+status_of WrongArgument = wrong_argument
+status_of (Refused file fault) = refused
+status_of OutOfMemory = out_of_memory
+status_of (NotFound reason index) = not_found
+
+-- A call without a buffer: it has an output of some size and returns some number, or it fails.
+pub data Answers (IsOutput : (size value : ℕ) → Type 0) (HasFailed : Failure → Type 0)
+    (answer : Answer) (status : ℕ) : Type 0
+  where
+    Returned : (size value : ℕ) → IsOutput size value → answer ≡ answer_of size value
+        → status ≡ done → Answers IsOutput HasFailed answer status
+    Failed : (failure : Failure) → HasFailed failure → answer ≡ answer_of_failure failure
+        → status ≡ status_of failure → Answers IsOutput HasFailed answer status
+
+-- A call that writes its output to the beginning of a buffer. The bytes after it stay. If the
+-- buffer has no room for the output, or the call fails, the buffer is as it was; without room, the
+-- struct has the size of the output.
+pub data Fills (IsOutput : (text : List ℕ) → (value : ℕ) → Type 0) (HasFailed : Failure → Type 0)
+    (before after : List ℕ) (answer : Answer) (status : ℕ) : Type 0
+  where
+    Filled : (text : List ℕ) (value : ℕ) → IsOutput text value → length text ≤ length before
+        → after ≡ text ++ drop (length text) before → answer ≡ answer_of (length text) value
+        → status ≡ done → Fills IsOutput HasFailed before after answer status
+    HadNoRoom : (text : List ℕ) (value : ℕ) → IsOutput text value → length before < length text
+        → after ≡ before → answer ≡ answer_of (length text) value → status ≡ no_room
+        → Fills IsOutput HasFailed before after answer status
+    FilledNothing : (failure : Failure) → HasFailed failure → after ≡ before
+        → answer ≡ answer_of_failure failure → status ≡ status_of failure
+        → Fills IsOutput HasFailed before after answer status
+
+-- The failure of a call on one file whose arguments have to be valid, and whose error is one of
+-- these.
+abbrev pub IsFailure : (AreValid : Type 0) → (HasError : Error → Type 0) → Failure → Type 0
+IsFailure AreValid HasError WrongArgument = ¬ AreValid
+IsFailure AreValid HasError (Refused file fault) =
+    AreValid × (file ≡ 1) × HasError (error.Refused fault)
+IsFailure AreValid HasError OutOfMemory = AreValid × HasError error.OutOfMemory
+IsFailure AreValid HasError (NotFound reason index) = ⊥
+
+-- The failure for an error of a call on one file in memory, which neither reads nor writes.
+abbrev pub failure_of : Error → Failure
+failure_of (error.Refused fault) = Refused 1 fault
+failure_of other = OutOfMemory
+
+-- The output is this text, and the call returns this number.
+pub record IsJust (wanted : List ℕ) (number : ℕ) (text : List ℕ) (value : ℕ) : Type 0 where
+  pub is_text : text ≡ wanted
+  pub is_number : value ≡ number
+
+-- The failure for an error that a call on one file in memory can have.
+pub record IsFailureBy (HasError : Error → Type 0) (failure : Failure) : Type 0 where
+  pub cause : Error
+  pub is_failure : failure ≡ failure_of cause
+  pub is_error : HasError cause

@@ -1,0 +1,68 @@
+use Rattle.std.specs.Prelude.{ℕ, ◌/◌, ◌%◌, ◌==◌, ◌<◌, Bool, Some, None, if◌then◌else◌}
+use Rattle.bi_base.specs.Limits.{Bounds, IsInRange}
+use Rattle.bi_commands.specs.declared.check.Allowed.{Allowed}
+use Rattle.bi_fit.specs.declared.changes.Changes.{Changes}
+use Rattle.bi_fit.specs.declared.form.Form.{Form}
+use Rattle.bi_fit.specs.declared.form.Form.TheVariants.{Embedded, External}
+use Rattle.bi_fit.specs.declared.key.Key.{Key}
+use Rattle.bi_fit.specs.declared.key.Key.TheVariants.{Kernel, Fdt, Ramdisk, Firmware, Loadables}
+use Rattle.bi_fit.specs.declared.key.Key.TheVariants.{Script}
+
+-- What the numbers that C passes stand for (profile of this project).
+
+-- The limits of a call.
+abbrev pub bounds : ℕ → ℕ → Bounds
+bounds limit depth = record { file = limit; depth = depth }
+
+-- The form: 0 for embedded payloads, 1 for external ones.
+abbrev pub form_of : ℕ → Form
+form_of number = if number == 0 then Embedded else External
+
+-- The limits are in their ranges, and the number is that of a form.
+pub record HasForm (limit depth form : ℕ) : Type 0 where
+  pub limits : IsInRange limit depth
+  pub is_form : form < 2
+
+-- Whether a number has the bit of this weight.
+abbrev pub has_bit : (weight : ℕ) → ℕ → Bool
+has_bit weight number = (number / weight) % 2 == 1
+
+-- The kinds of concerns that are allowed, a bit for each.
+abbrev pub allowed_of : ℕ → Allowed
+allowed_of kinds = record {
+  bad_hash = has_bit 1 kinds;
+  unhashed = has_bit 2 kinds;
+  weak_hash = has_bit 4 kinds;
+  bad_list = has_bit 8 kinds;
+  missing = has_bit 16 kinds;
+  bad_default = has_bit 32 kinds;
+  trailing = has_bit 64 kinds;
+}
+
+-- The changes of an update: the bit 1 sets the time, the bit 2 computes the digests again.
+abbrev pub changes_of : (changes time : ℕ) → Changes
+changes_of changes time = record {
+  time = if has_bit 1 changes then Some time else None;
+  hashes = has_bit 2 changes;
+}
+
+-- The limits are in their ranges, and the numbers are those of a form and of changes.
+pub record HasChanges (limit depth form changes : ℕ) : Type 0 where
+  pub limits : IsInRange limit depth
+  pub is_form : form < 2
+  pub are_changes : changes < 4
+
+-- The key of a configuration: a number for each, from 0.
+abbrev pub key_of : ℕ → Key
+key_of number =
+    if number == 0 then Kernel
+    else if number == 1 then Fdt
+    else if number == 2 then Ramdisk
+    else if number == 3 then Firmware
+    else if number == 4 then Loadables
+    else Script
+
+-- The limits are in their ranges, and the number is that of a key.
+pub record HasKey (limit depth key : ℕ) : Type 0 where
+  pub limits : IsInRange limit depth
+  pub is_key : key < 6

@@ -1,0 +1,147 @@
+use Rattle.std.specs.Prelude.{ℕ, ◌<◌, ◌≡◌, ◌⊎◌, Bool, List, codes}
+use Rattle.std.specs.Prelude.{if◌then◌else◌}
+use Rattle.bi_base.specs.declared.fault.Cause.{Cause}
+use Rattle.bi_base.specs.Causes.{number_of, name_of}
+use Rattle.bi_base.specs.declared.fault.Error.{Error}
+use Rattle.bi_base.specs.Limits.{Bounds, IsInRange}
+use Rattle.bi_norm.specs.Comparing.{AreCompared}
+use Rattle.bi_norm.specs.declared.kind.Kind.{Kind}
+use Rattle.bi_norm.specs.declared.kind.Kind.TheVariants.{Legacy, Fit}
+use Rattle.bi_norm.specs.Kinds.{BeginsAs, IsKindFault}
+use Rattle.bi_norm.specs.NormalForm.{Normalised, IsNormaliseError}
+use Rattle.bi_commands.specs.CheckedFiles.{Checked}
+use Rattle.bi_commands.specs.UpdatedFiles.{Updated, IsUpdateError}
+use Rattle.bi_commands.specs.declared.compare.CompareError.{CompareError}
+use Rattle.bi_commands.specs.declared.compare.CompareError.TheVariants as compare
+use Rattle.bi_c.specs.Answers.{IsFailure}
+use Rattle.bi_c.specs.Arguments.{bounds, form_of, allowed_of, changes_of, HasForm, HasChanges}
+use Rattle.bi_c.specs.declared.failure.Failure.{Failure}
+use Rattle.bi_c.specs.declared.failure.Failure.TheVariants.{WrongArgument, Refused, OutOfMemory}
+use Rattle.bi_c.specs.declared.failure.Failure.TheVariants.{NotFound}
+
+-- What each call from C returns (profile of this project).
+
+-- A yes or no as a number.
+abbrev pub flag : Bool → ℕ
+flag is = if is then 1 else 0
+
+-- The number of a kind.
+abbrev pub kind_number : Kind → ℕ
+kind_number Legacy = 1
+kind_number Fit = 2
+
+-- The number of the file's kind. There is no output.
+pub record IsKindNumber (file : List ℕ) (size value : ℕ) : Type 0 where
+  pub nothing : size ≡ 0
+  pub kind : Kind
+  pub begins : BeginsAs file kind
+  pub number : value ≡ kind_number kind
+
+-- The file is of no kind.
+abbrev pub IsKindFailure : List ℕ → Failure → Type 0
+IsKindFailure file (Refused number fault) = (number ≡ 1) × IsKindFault file fault
+IsKindFailure file other = ⊥
+
+-- The name of the cause of this number.
+pub record IsCauseName (number : ℕ) (text : List ℕ) (value : ℕ) : Type 0 where
+  pub cause : Cause
+  pub is_cause : number_of cause ≡ number
+  pub is_name : text ≡ name_of cause
+  pub no_value : value ≡ 0
+
+-- No cause has this number.
+abbrev pub IsNoCause : ℕ → Failure → Type 0
+IsNoCause number WrongArgument = (cause : Cause) → ¬ (number_of cause ≡ number)
+IsNoCause number other = ⊥
+
+-- The normal form of the file, and the number of its signature nodes.
+pub record IsNormalised (limit depth form : ℕ) (file text : List ℕ) (value : ℕ) : Type 0 where
+  pub arguments : HasForm limit depth form
+  pub is : Normalised (bounds limit depth) (form_of form) value file text
+
+-- Why a file was not normalised.
+abbrev pub IsNormaliseFailure : (limit depth form : ℕ) → List ℕ → Failure → Type 0
+IsNormaliseFailure limit depth form file =
+    IsFailure (HasForm limit depth form)
+    (IsNormaliseError (bounds limit depth) (form_of form) file)
+
+-- The normal form of the file with these changes, and the number of its signature nodes.
+pub record IsUpdatedText (limit depth form changes time : ℕ) (file text : List ℕ) (value : ℕ)
+    : Type 0
+  where
+    pub arguments : HasChanges limit depth form changes
+    pub is : Updated (changes_of changes time) (bounds limit depth) (form_of form) value file text
+
+-- Why a file was not updated.
+abbrev pub IsUpdateFailure : (limit depth form changes time : ℕ) → List ℕ → Failure → Type 0
+IsUpdateFailure limit depth form changes time file =
+    IsFailure (HasChanges limit depth form changes)
+    (IsUpdateError (changes_of changes time) (bounds limit depth) (form_of form) file)
+
+-- Whether two files mean the same, as a number. There is no output.
+pub record IsSame (limit depth : ℕ) (one other : List ℕ) (size value : ℕ) : Type 0 where
+  pub limits : IsInRange limit depth
+  pub nothing : size ≡ 0
+  pub same : Bool
+  pub number : value ≡ flag same
+  pub compared : AreCompared (bounds limit depth) one other same
+
+-- The failure of a call on two files whose limits have to be in range, and whose error is one of
+-- these.
+abbrev pub IsFailureOfTwo : (limit depth : ℕ) → (HasError : CompareError → Type 0) → Failure
+    → Type 0
+IsFailureOfTwo limit depth HasError WrongArgument = ¬ (IsInRange limit depth)
+IsFailureOfTwo limit depth HasError (Refused file fault) =
+    IsInRange limit depth
+    × (((file ≡ 1) × HasError (compare.One fault)) ⊎ ((file ≡ 2) × HasError (compare.Other fault)))
+IsFailureOfTwo limit depth HasError OutOfMemory =
+    IsInRange limit depth × HasError compare.OutOfMemory
+IsFailureOfTwo limit depth HasError (NotFound reason index) = ⊥
+
+-- The failure for an error of a call on two files.
+abbrev pub failure_of_two : CompareError → Failure
+failure_of_two (compare.One fault) = Refused 1 fault
+failure_of_two (compare.Other fault) = Refused 2 fault
+failure_of_two compare.OutOfMemory = OutOfMemory
+
+-- The version of the library, which is that of the program.
+pub record IsVersion (text : List ℕ) (value : ℕ) : Type 0 where
+  pub is_version : text ≡ codes "0.2.0"
+  pub no_value : value ≡ 0
+
+-- The output of a call on files whose limits have to be in range, which returns no number.
+pub record IsText (limit depth : ℕ) (Is : Bounds → List ℕ → Type 0) (text : List ℕ) (value : ℕ)
+    : Type 0
+  where
+    pub limits : IsInRange limit depth
+    pub is : Is (bounds limit depth) text
+    pub no_value : value ≡ 0
+
+-- The same with a yes or no as its number.
+pub record IsTextWithFlag (limit depth : ℕ) (Is : Bounds → Bool → List ℕ → Type 0) (text : List ℕ)
+    (value : ℕ) : Type 0
+  where
+    pub limits : IsInRange limit depth
+    pub yes : Bool
+    pub number : value ≡ flag yes
+    pub is : Is (bounds limit depth) yes text
+
+-- The failure of a call on one file whose limits have to be in range, and whose error is one of
+-- these.
+abbrev pub IsFailureOfOne : (limit depth : ℕ) → (HasError : Bounds → Error → Type 0) → Failure
+    → Type 0
+IsFailureOfOne limit depth HasError =
+    IsFailure (IsInRange limit depth) (HasError (bounds limit depth))
+
+-- The limits are in range, and the number is that of a choice of kinds of concerns.
+pub record HasKinds (limit depth kinds : ℕ) : Type 0 where
+  pub limits : IsInRange limit depth
+  pub are_kinds : kinds < 128
+
+-- The lines of the concerns about the file whose kinds are not allowed, and whether there is no
+-- line.
+pub record IsCheckText (limit depth kinds : ℕ) (file text : List ℕ) (value : ℕ) : Type 0 where
+  pub arguments : HasKinds limit depth kinds
+  pub clean : Bool
+  pub number : value ≡ flag clean
+  pub is : Checked (allowed_of kinds) (bounds limit depth) clean file text

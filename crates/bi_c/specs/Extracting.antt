@@ -1,0 +1,102 @@
+use Rattle.std.specs.Prelude.{ℕ, ◌≡◌, List, length, Option, None, Some}
+use Rattle.std.specs.List.{AllByRecursion}
+use Rattle.bi_base.specs.declared.fault.Error.TheVariants as error
+use Rattle.bi_base.specs.Limits.{Bounds}
+use Rattle.bi_fit.specs.Content.{FitContent, ReadImage}
+use Rattle.bi_fit.specs.Payloads.{IsAt, IsAtPlace}
+use Rattle.bi_fit.specs.declared.configurations.ConfigError.TheVariants as list
+use Rattle.bi_fit.specs.declared.image.Place.{Place}
+use Rattle.bi_fit.specs.declared.image.Place.TheVariants.{Absent, Data, DataOffset, DataPosition}
+use Rattle.bi_norm.specs.NormalForm.{IsOpenError}
+use Rattle.bi_commands.specs.declared.extract.ExtractError.{ExtractError}
+use Rattle.bi_commands.specs.declared.extract.ExtractError.TheVariants as extract
+use Rattle.bi_commands.specs.declared.extract.Select.{Select}
+use Rattle.bi_commands.specs.Extracting.{Choice, OfOtherKind, NoSuchPart, NoSuchImage}
+use Rattle.bi_commands.specs.Extracting.{NoSuchConfiguration, NoSuchKey, HasBadList}
+use Rattle.bi_commands.specs.Extracting.{HasMissingImage, NoSuchEntry, HasNoPayload, Chosen}
+use Rattle.bi_commands.specs.Extracting.{MeansSuch, choice_of}
+use Rattle.bi_c.specs.Answers.{failure_of}
+use Rattle.bi_c.specs.declared.failure.Failure.{Failure}
+use Rattle.bi_c.specs.declared.failure.Failure.TheVariants.{WrongArgument, Refused, OutOfMemory}
+use Rattle.bi_c.specs.declared.failure.Failure.TheVariants.{NotFound}
+
+-- What calls from C that extract return: where in the caller's file the bytes are (profile of this
+-- project).
+
+-- The choice is bytes that the file has from this offset on: this many.
+pub record IsChosenAt (file : List ℕ) (choice : Choice) (size offset : ℕ) : Type 0 where
+  pub bytes : List ℕ
+  pub is_chosen : choice ≡ Chosen bytes
+  pub is_size : size ≡ length bytes
+  -- They end within the file, and they are the file's bytes there.
+  pub is_there : IsAt file offset bytes
+
+-- The file means something of which the selection chooses the bytes from this offset on.
+abbrev pub IsFound : Bounds → Select → List ℕ → (size offset : ℕ) → Type 0
+IsFound limits select file size offset =
+    MeansSuch limits file (λ meaning. IsChosenAt file (choice_of select meaning) size offset)
+
+-- The numbers of the reason why a choice is no bytes: the reason, and the index of the first name
+-- that no image has, where the reason names one.
+abbrev pub IsReasonNumber : (reason index : ℕ) → Choice → Type 0
+IsReasonNumber reason index OfOtherKind = (reason ≡ 1) × (index ≡ 0)
+IsReasonNumber reason index NoSuchPart = (reason ≡ 2) × (index ≡ 0)
+IsReasonNumber reason index NoSuchImage = (reason ≡ 3) × (index ≡ 0)
+IsReasonNumber reason index NoSuchConfiguration = (reason ≡ 4) × (index ≡ 0)
+IsReasonNumber reason index NoSuchKey = (reason ≡ 5) × (index ≡ 0)
+IsReasonNumber reason index HasBadList = (reason ≡ 6) × (index ≡ 0)
+IsReasonNumber reason index (HasMissingImage missing) = (reason ≡ 7) × (index ≡ missing)
+IsReasonNumber reason index NoSuchEntry = (reason ≡ 8) × (index ≡ 0)
+IsReasonNumber reason index HasNoPayload = (reason ≡ 9) × (index ≡ 0)
+IsReasonNumber reason index (Chosen bytes) = ⊥
+
+-- Why a selection finds nothing in a file.
+abbrev pub IsSelectFailure : Bounds → Select → List ℕ → Failure → Type 0
+IsSelectFailure limits select file WrongArgument = ⊥
+IsSelectFailure limits select file (Refused number fault) =
+    (number ≡ 1) × IsOpenError limits file (error.Refused fault)
+IsSelectFailure limits select file OutOfMemory = IsOpenError limits file error.OutOfMemory
+IsSelectFailure limits select file (NotFound reason index) =
+    MeansSuch limits file (λ meaning. IsReasonNumber reason index (choice_of select meaning))
+
+-- The arguments are valid, and the selection finds this many bytes in the file, from this offset
+-- on.
+pub record IsExtracted (AreValid : Type 0) (limits : Bounds) (select : Select) (file : List ℕ)
+    (size offset : ℕ) : Type 0
+  where
+    pub valid : AreValid
+    pub is_found : IsFound limits select file size offset
+
+-- Why nothing is extracted.
+abbrev pub IsExtractFailure : (AreValid : Type 0) → Bounds → Select → List ℕ → Failure → Type 0
+IsExtractFailure AreValid limits select file WrongArgument = ¬ AreValid
+IsExtractFailure AreValid limits select file failure =
+    AreValid × IsSelectFailure limits select file failure
+
+-- The failure for an error of extracting.
+abbrev pub failure_of_extraction : ExtractError → Failure
+failure_of_extraction (extract.Failed cause) = failure_of cause
+failure_of_extraction extract.WrongKind = NotFound 1 0
+failure_of_extraction extract.NoPart = NotFound 2 0
+failure_of_extraction extract.NoImage = NotFound 3 0
+failure_of_extraction (extract.Config list.NoConfig) = NotFound 4 0
+failure_of_extraction (extract.Config list.NoKey) = NotFound 5 0
+failure_of_extraction (extract.Config list.BadList) = NotFound 6 0
+failure_of_extraction (extract.Config (list.Missing index)) = NotFound 7 index
+failure_of_extraction (extract.Config list.OutOfMemory) = OutOfMemory
+failure_of_extraction extract.NoIndex = NotFound 8 0
+failure_of_extraction extract.NoPayload = NotFound 9 0
+
+-- The offset of a place, if there is a payload.
+abbrev pub offset_of : Place → Option ℕ
+offset_of Absent = None
+offset_of (Data offset) = Some offset
+offset_of (DataOffset offset) = Some offset
+offset_of (DataPosition offset) = Some offset
+
+-- The payload of each image is in the file at its place.
+abbrev pub ArePlaced : FitContent → Type 0
+ArePlaced content =
+    AllByRecursion
+    (λ (image : ReadImage). IsAtPlace content.blob.file (offset_of image.place) image.payload)
+    content.images

@@ -1,0 +1,5 @@
+pub mod Answers
+pub mod Arguments
+pub mod Calls
+pub mod Extracting
+pub mod SliceSinks

@@ -1,0 +1,57 @@
+//! Numbers that C passes, as what they stand for.
+
+ghost use Rattle.std.specs.Prelude.{◌≡◌, ◌↔◌, ◌<◌, IsSome, IfSome};
+ghost use Rattle.bi_base.specs.Limits.{IsInRange};
+ghost use Rattle.bi_c.specs.Arguments.{bounds, form_of as form_of_number};
+ghost use Rattle.bi_c.specs.Arguments.{has_bit as is_set, key_of as key_of_number};
+
+use bi_base::Limits;
+use bi_fit::Key;
+use bi_norm::Form;
+
+/// Returns the limits with these bounds, if they are in range.
+pub(crate) fn limits_of(limit: u32, depth: u32) -> Option<Limits>
+    ensures in_range { IsSome result ↔ IsInRange limit depth }
+    ensures value { IfSome result (λ limits. limits ≡ bounds limit depth) }
+{
+    if depth > 64 {
+        return None;
+    }
+    Limits::new(limit, depth as u8)
+}
+
+/// Returns the form of this number, if there is one.
+pub(crate) fn form_of(number: u32) -> Option<Form>
+    ensures in_range { IsSome result ↔ number < 2 }
+    ensures value { IfSome result (λ form. form ≡ form_of_number number) }
+{
+    match number {
+        0 => Some(Form::Embedded),
+        1 => Some(Form::External),
+        _ => None,
+    }
+}
+
+/// Returns the key of this number, if there is one.
+pub(crate) fn key_of(number: u32) -> Option<Key>
+    ensures in_range { IsSome result ↔ number < 6 }
+    ensures value { IfSome result (λ key. key ≡ key_of_number number) }
+{
+    match number {
+        0 => Some(Key::Kernel),
+        1 => Some(Key::Fdt),
+        2 => Some(Key::Ramdisk),
+        3 => Some(Key::Firmware),
+        4 => Some(Key::Loadables),
+        5 => Some(Key::Script),
+        _ => None,
+    }
+}
+
+/// Whether a number has the bit of this weight.
+pub(crate) fn has_bit(weight: u32, number: u32) -> bool
+    requires { 0 < weight }
+    ensures { result ≡ is_set weight number }
+{
+    (number / weight) % 2 == 1
+}

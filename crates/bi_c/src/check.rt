@@ -1,0 +1,65 @@
+//! The concerns about a file.
+
+ghost use Rattle.std.specs.Prelude.{◌≡◌, ◌<◌, ◌↔◌, IsSome, IfSome};
+ghost use Rattle.bi_c.specs.Answers.{Fills, IsFailure};
+ghost use Rattle.bi_c.specs.Arguments.{allowed_of as allowed_of_number, bounds};
+ghost use Rattle.bi_c.specs.Calls.{IsCheckText, HasKinds};
+ghost use Rattle.bi_commands.specs.CheckedFiles.{IsCheckError};
+
+use crate::answer::{Answer, fail, fill};
+use crate::arguments::{has_bit, limits_of};
+use crate::failure::{Failure, failure_of};
+use bi_commands::check::{Allowed, check};
+use std::alloc::Global;
+
+/// Writes a line for each concern about a file whose kind is not allowed to a buffer, and returns
+/// whether there is no line: 1 if so, else 0. Each bit of `kinds` allows a kind.
+#[unsafe(no_mangle)]
+pub extern "C" fn bootimg_check(
+    alloc: Global,
+    file: &[u8],
+    kinds: u32,
+    limit: u32,
+    depth: u32,
+    buffer: &mut [u8],
+    answer: &mut Answer,
+) -> u32
+    ensures { Fills (IsCheckText limit depth kinds file.now)
+        (IsFailure (HasKinds limit depth kinds) (IsCheckError (bounds limit depth) file.now))
+        buffer.old buffer.new answer.new result }
+{
+    let Some(limits) = limits_of(limit, depth) else {
+        return fail(Failure::WrongArgument, answer);
+    };
+    let Some(allowed) = allowed_of(kinds) else {
+        return fail(Failure::WrongArgument, answer);
+    };
+    match check(alloc, file, allowed, limits) {
+        Ok(text) => fill(
+            text.as_bytes(),
+            usize::from(text.is_empty()),
+            buffer,
+            answer,
+        ),
+        Err(error) => fail(failure_of(error), answer),
+    }
+}
+
+/// Returns the kinds that these bits allow, if there are no others.
+fn allowed_of(kinds: u32) -> Option<Allowed>
+    ensures in_range { IsSome result ↔ kinds < 128 }
+    ensures value { IfSome result (λ allowed. allowed ≡ allowed_of_number kinds) }
+{
+    if kinds >= 128 {
+        return None;
+    }
+    Some(Allowed {
+        bad_hash: has_bit(1, kinds),
+        unhashed: has_bit(2, kinds),
+        weak_hash: has_bit(4, kinds),
+        bad_list: has_bit(8, kinds),
+        missing: has_bit(16, kinds),
+        bad_default: has_bit(32, kinds),
+        trailing: has_bit(64, kinds),
+    })
+}

@@ -1,0 +1,79 @@
+//! Comparing what two files mean.
+
+ghost use Rattle.std.specs.Prelude.{◌≡◌};
+ghost use Rattle.bi_c.specs.Answers.{Answers, Fills};
+ghost use Rattle.bi_c.specs.Arguments.{bounds};
+ghost use Rattle.bi_c.specs.Calls.{IsSame, IsTextWithFlag, IsFailureOfTwo};
+ghost use Rattle.bi_c.specs.Calls.{failure_of_two as failure_of_error};
+ghost use Rattle.bi_commands.specs.Comparing.{IsComparison, IsComparisonError, IsReadingError};
+
+use crate::answer::{Answer, fail, fill, succeed};
+use crate::arguments::limits_of;
+use crate::failure::Failure;
+use bi_commands::compare::{CompareError, compare, have_same_meaning};
+use std::alloc::Global;
+
+/// Returns whether two files mean the same: 1 if they do, else 0.
+#[unsafe(no_mangle)]
+pub extern "C" fn bootimg_same_meaning(
+    alloc: Global,
+    one: &[u8],
+    other: &[u8],
+    limit: u32,
+    depth: u32,
+    answer: &mut Answer,
+) -> u32
+    ensures { Answers (IsSame limit depth one.now other.now)
+        (IsFailureOfTwo limit depth (IsReadingError (bounds limit depth) one.now other.now))
+        answer.new result }
+{
+    let Some(limits) = limits_of(limit, depth) else {
+        return fail(Failure::WrongArgument, answer);
+    };
+    match have_same_meaning(alloc, one, other, limits) {
+        Ok(same) => succeed(0, usize::from(same), answer),
+        Err(error) => fail(failure_of_two(error), answer),
+    }
+}
+
+/// Writes what differs between what two files mean to a buffer, and returns whether they mean the
+/// same: 1 if they do, else 0.
+#[unsafe(no_mangle)]
+pub extern "C" fn bootimg_compare(
+    alloc: Global,
+    one: &[u8],
+    other: &[u8],
+    limit: u32,
+    depth: u32,
+    buffer: &mut [u8],
+    answer: &mut Answer,
+) -> u32
+    ensures { Fills (IsTextWithFlag limit depth
+        (λ limits same text. IsComparison limits one.now other.now same text))
+        (IsFailureOfTwo limit depth (IsComparisonError (bounds limit depth) one.now other.now))
+        buffer.old buffer.new answer.new result }
+{
+    let Some(limits) = limits_of(limit, depth) else {
+        return fail(Failure::WrongArgument, answer);
+    };
+    match compare(alloc, one, other, limits) {
+        Ok(compared) => fill(
+            compared.differences.as_bytes(),
+            usize::from(compared.same),
+            buffer,
+            answer,
+        ),
+        Err(error) => fail(failure_of_two(error), answer),
+    }
+}
+
+/// Returns the failure for an error of a call on two files.
+fn failure_of_two(error: CompareError) -> Failure
+    ensures { result ≡ failure_of_error error }
+{
+    match error {
+        CompareError::One(fault) => Failure::Refused(1, fault),
+        CompareError::Other(fault) => Failure::Refused(2, fault),
+        CompareError::OutOfMemory => Failure::OutOfMemory,
+    }
+}

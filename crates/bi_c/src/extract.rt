@@ -1,0 +1,151 @@
+//! Where a part or a payload of a file is.
+
+ghost use Rattle.std.specs.Prelude.{◌≡◌};
+ghost use Rattle.bi_base.specs.Limits.{IsInRange};
+ghost use Rattle.bi_commands.specs.declared.extract.Select.TheVariants.{Part, Image, Config};
+ghost use Rattle.bi_commands.specs.declared.extract.Select.TheVariants.{Default};
+ghost use Rattle.bi_c.specs.Answers.{Answers};
+ghost use Rattle.bi_c.specs.Arguments.{bounds, HasKey, key_of as key_of_number};
+ghost use Rattle.bi_c.specs.Extracting.{IsExtracted, IsExtractFailure, IsFound, IsSelectFailure};
+ghost use Rattle.bi_c.specs.Extracting.{failure_of_extraction as failure_of_error};
+
+use crate::answer::{Answer, fail, succeed};
+use crate::arguments::{key_of, limits_of};
+use crate::failure::{Failure, failure_of};
+use crate::regions::find;
+use bi_base::Limits;
+use bi_commands::extract::{ExtractError, Select};
+use bi_fit::ConfigError;
+use std::alloc::Global;
+
+/// Returns where the part of this index, from 0, of a legacy image is: the offset of its first
+/// byte in the file as the number, and its size as that of an output.
+#[unsafe(no_mangle)]
+pub extern "C" fn bootimg_extract_part(
+    alloc: Global,
+    file: &[u8],
+    index: u32,
+    limit: u32,
+    depth: u32,
+    answer: &mut Answer,
+) -> u32
+    ensures { Answers
+        (IsExtracted (IsInRange limit depth) (bounds limit depth) (Part index) file.now)
+        (IsExtractFailure (IsInRange limit depth) (bounds limit depth) (Part index) file.now)
+        answer.new result }
+{
+    let Some(limits) = limits_of(limit, depth) else {
+        return fail(Failure::WrongArgument, answer);
+    };
+    extract(alloc, file, Select::Part(index), limits, answer)
+}
+
+/// Returns where the payload is of the image of this name of a flattened image tree.
+#[unsafe(no_mangle)]
+pub extern "C" fn bootimg_extract_image(
+    alloc: Global,
+    file: &[u8],
+    name: &[u8],
+    limit: u32,
+    depth: u32,
+    answer: &mut Answer,
+) -> u32
+    ensures { Answers
+        (IsExtracted (IsInRange limit depth) (bounds limit depth) (Image name.entry) file.now)
+        (IsExtractFailure (IsInRange limit depth) (bounds limit depth) (Image name.entry) file.now)
+        answer.new result }
+{
+    let Some(limits) = limits_of(limit, depth) else {
+        return fail(Failure::WrongArgument, answer);
+    };
+    extract(alloc, file, Select::Image(name), limits, answer)
+}
+
+/// Returns where a payload is that the configuration of this name of a flattened image tree lists
+/// under the key of this number, at this index, from 0.
+#[unsafe(no_mangle)]
+pub extern "C" fn bootimg_extract_config(
+    alloc: Global,
+    file: &[u8],
+    name: &[u8],
+    key: u32,
+    index: u32,
+    limit: u32,
+    depth: u32,
+    answer: &mut Answer,
+) -> u32
+    ensures { let select = Config name.entry (key_of_number key) index in Answers
+        (IsExtracted (HasKey limit depth key) (bounds limit depth) select file.now)
+        (IsExtractFailure (HasKey limit depth key) (bounds limit depth) select file.now)
+        answer.new result }
+{
+    let Some(limits) = limits_of(limit, depth) else {
+        return fail(Failure::WrongArgument, answer);
+    };
+    let Some(listed) = key_of(key) else {
+        return fail(Failure::WrongArgument, answer);
+    };
+    extract(
+        alloc,
+        file,
+        Select::Config(name, listed, index),
+        limits,
+        answer,
+    )
+}
+
+/// Returns where a payload is that the default configuration of a flattened image tree lists
+/// under the key of this number, at this index, from 0.
+#[unsafe(no_mangle)]
+pub extern "C" fn bootimg_extract_default(
+    alloc: Global,
+    file: &[u8],
+    key: u32,
+    index: u32,
+    limit: u32,
+    depth: u32,
+    answer: &mut Answer,
+) -> u32
+    ensures { let select = Default (key_of_number key) index in Answers
+        (IsExtracted (HasKey limit depth key) (bounds limit depth) select file.now)
+        (IsExtractFailure (HasKey limit depth key) (bounds limit depth) select file.now)
+        answer.new result }
+{
+    let Some(limits) = limits_of(limit, depth) else {
+        return fail(Failure::WrongArgument, answer);
+    };
+    let Some(chosen) = key_of(key) else {
+        return fail(Failure::WrongArgument, answer);
+    };
+    extract(alloc, file, Select::Default(chosen, index), limits, answer)
+}
+
+/// Writes where the bytes are that are selected, or why there are none, and returns the status.
+fn extract(alloc: Global, file: &[u8], select: Select, limits: Limits, answer: &mut Answer) -> u32
+    ensures { Answers (IsFound limits select.entry file.now)
+        (IsSelectFailure limits select.entry file.now) answer.new result }
+{
+    match find(alloc, file, select, limits) {
+        Ok(region) => succeed(region.size, region.offset, answer),
+        Err(error) => fail(failure_of_extraction(error), answer),
+    }
+}
+
+/// Returns the failure for an error of extracting.
+fn failure_of_extraction(error: ExtractError) -> Failure
+    ensures { result ≡ failure_of_error error }
+{
+    match error {
+        ExtractError::Failed(error) => failure_of(error),
+        ExtractError::WrongKind => Failure::NotFound(1, 0),
+        ExtractError::NoPart => Failure::NotFound(2, 0),
+        ExtractError::NoImage => Failure::NotFound(3, 0),
+        ExtractError::Config(ConfigError::NoConfig) => Failure::NotFound(4, 0),
+        ExtractError::Config(ConfigError::NoKey) => Failure::NotFound(5, 0),
+        ExtractError::Config(ConfigError::BadList) => Failure::NotFound(6, 0),
+        ExtractError::Config(ConfigError::Missing(index)) => Failure::NotFound(7, index),
+        ExtractError::Config(ConfigError::OutOfMemory) => Failure::OutOfMemory,
+        ExtractError::NoIndex => Failure::NotFound(8, 0),
+        ExtractError::NoPayload => Failure::NotFound(9, 0),
+    }
+}

@@ -1,0 +1,31 @@
+//! Why a call fails.
+
+ghost use Rattle.std.specs.Prelude.{◌≡◌};
+ghost use Rattle.bi_c.specs.Answers.{failure_of as failure_of_error};
+
+use bi_base::{Error, Fault};
+
+/// Why a call fails.
+#[derive(Clone, Copy, Debug, PartialEq, Eq)]
+pub(crate) enum Failure {
+    /// An argument is out of its range.
+    WrongArgument,
+    /// A file is refused: which one, from 1, and why.
+    Refused(u32, Fault),
+    /// An allocation failed.
+    OutOfMemory,
+    /// Nothing is extracted: the number of the reason, and the index of the name that no image
+    /// has, for the reason that names one.
+    NotFound(u32, usize),
+}
+
+/// Returns the failure for an error of a call on one file in memory, which neither reads nor
+/// writes.
+pub(crate) fn failure_of(error: Error) -> Failure
+    ensures { result ≡ failure_of_error error }
+{
+    match error {
+        Error::Refused(fault) => Failure::Refused(1, fault),
+        _ => Failure::OutOfMemory,
+    }
+}

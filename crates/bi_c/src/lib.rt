@@ -1,0 +1,20 @@
+//! The library for C: an export for each call on boot images, over memory of the caller's.
+//! `include/bootimg.h` declares the exports and documents them.
+#![tactic(auto)]
+
+mod answer;
+mod arguments;
+mod causes;
+mod check;
+mod compare;
+mod extract;
+mod failure;
+mod kind;
+mod normalise;
+mod regions;
+mod slice_sink;
+mod texts;
+mod update;
+mod writing;
+
+pub use answer::Answer;

@@ -1,0 +1,89 @@
+//! The normal form of a file.
+
+ghost use Rattle.std.specs.Prelude.{ℕ, List};
+ghost use Rattle.bi_fit.specs.declared.form.Form.{Form};
+ghost use Rattle.bi_fit.specs.Reading.{IsReadFrom};
+ghost use Rattle.bi_legacy.specs.Reading.{IsParsedImage};
+ghost use Rattle.bi_norm.specs.NormalForm.{Normalised, IsNormaliseError};
+ghost use Rattle.bi_c.specs.Answers.{Fills, IsFailureBy};
+ghost use Rattle.bi_c.specs.Calls.{IsNormalised, IsNormaliseFailure};
+
+use crate::answer::{Answer, fail};
+use crate::arguments::{form_of, limits_of};
+use crate::failure::{Failure, failure_of};
+use crate::writing::{write_document, write_legacy};
+use bi_base::Limits;
+use bi_fit::{Fit, Form};
+use bi_legacy::Legacy;
+use bi_norm::BootImage;
+use std::alloc::Global;
+
+/// Writes the normal form of a file to a buffer, and returns the number of its signature nodes.
+#[unsafe(no_mangle)]
+pub extern "C" fn bootimg_normalise(
+    alloc: Global,
+    file: &[u8],
+    form: u32,
+    limit: u32,
+    depth: u32,
+    buffer: &mut [u8],
+    answer: &mut Answer,
+) -> u32
+    ensures { Fills (IsNormalised limit depth form file.now)
+        (IsNormaliseFailure limit depth form file.now) buffer.old buffer.new answer.new result }
+{
+    let Some(limits) = limits_of(limit, depth) else {
+        return fail(Failure::WrongArgument, answer);
+    };
+    let Some(kind) = form_of(form) else {
+        return fail(Failure::WrongArgument, answer);
+    };
+    match BootImage::read(alloc, file, limits) {
+        Ok(BootImage::Legacy(image)) => {
+            normalise_legacy(alloc, file, &image, limits, buffer, answer)
+        }
+        Ok(BootImage::Fit(fit)) => normalise_fit(alloc, &fit, kind, limits, buffer, answer),
+        Err(error) => fail(failure_of(error), answer),
+    }
+}
+
+/// Writes the normal form of a legacy image that was read from this file under the limits, and
+/// the answer. Returns the status.
+fn normalise_legacy(
+    alloc: Global,
+    file: &[u8],
+    image: &Legacy<'_>,
+    limits: Limits,
+    buffer: &mut [u8],
+    answer: &mut Answer,
+) -> u32
+    requires { IsParsedImage limits file.now image.now }
+    ensures { (form : Form) → Fills (λ text value. Normalised limits form value file.now text)
+        (IsFailureBy (IsNormaliseError limits form file.now)) buffer.old buffer.new answer.new
+        result }
+{
+    write_legacy(alloc, file, image, limits, buffer, answer)
+}
+
+/// Writes the normal form of a flattened image tree that was read under the limits, and the answer.
+/// Returns the status.
+fn normalise_fit(
+    alloc: Global,
+    fit: &Fit<'_>,
+    form: Form,
+    limits: Limits,
+    buffer: &mut [u8],
+    answer: &mut Answer,
+) -> u32
+    ensures { (file : List ℕ) → IsReadFrom limits file fit.now →
+        Fills (λ text value. Normalised limits form value file text)
+        (IsFailureBy (IsNormaliseError limits form file)) buffer.old buffer.new answer.new result }
+{
+    match fit.to_doc(alloc, form, limits) {
+        Ok(document) => {
+            let signatures = fit.signature_count();
+            write_document(&document, fit.images(), form, signatures, buffer, answer)
+        }
+        Err(error) => fail(failure_of(error), answer),
+    }
+}

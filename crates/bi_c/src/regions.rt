@@ -1,0 +1,186 @@
+//! Where the bytes are that a selection chooses of a boot image.
+
+ghost use Rattle.std.specs.Prelude.{◌≡◌, ◌⊎◌, ℕ, List, None, slice_get, IfOk, IfErr, IfSome};
+ghost use Rattle.std.specs.Prelude.{IfNone, MatchOption};
+ghost use Rattle.std.specs.Option.{option_and_then};
+ghost use Rattle.bi_base.specs.declared.fault.Error.TheVariants.{OutOfMemory};
+ghost use Rattle.bi_base.specs.Limits.{Bounds};
+ghost use Rattle.bi_fit.specs.Content.{IsHeld, tree_of};
+ghost use Rattle.bi_legacy.specs.Reading.{IsParsedImage};
+ghost use Rattle.bi_norm.specs.Meaning.{OfLegacy, OfFit};
+ghost use Rattle.bi_commands.specs.declared.extract.ExtractError.TheVariants.{Failed};
+ghost use Rattle.bi_commands.specs.Extracting.{HasNoPayload, IsExtractError, IsReason, choice_of};
+ghost use Rattle.bi_commands.specs.Extracting.{choice_by_configuration, choice_by_default};
+ghost use Rattle.bi_commands.specs.Extracting.{choice_by_name, choice_of_part, choice_of_payload};
+ghost use Rattle.bi_c.specs.Extracting.{ArePlaced, IsChosenAt, IsFound};
+ghost use Rattle.bi_c.specs.Extracting.{offset_of as offset_of_place};
+
+use bi_base::Limits;
+use bi_commands::extract::{ExtractError, Select};
+use bi_fit::{ConfigError, Fit, Key, Place};
+use bi_legacy::Legacy;
+use bi_norm::BootImage;
+use std::alloc::Global;
+
+/// Where bytes of a file are.
+#[derive(Clone, Copy, Debug, PartialEq, Eq)]
+pub(crate) struct Region {
+    /// The offset of the first byte in the file.
+    pub(crate) offset: usize,
+    /// The number of bytes.
+    pub(crate) size: usize,
+}
+
+/// Returns where in a boot image the bytes are that are selected. The errors are those of
+/// `extract`.
+pub(crate) fn find(
+    alloc: Global,
+    file: &[u8],
+    select: Select,
+    limits: Limits,
+) -> Result<Region, ExtractError>
+    ensures found { IfOk result (λ region.
+        IsFound limits select.entry file.now region.size region.offset) }
+    ensures failed { IfErr result (IsExtractError select.entry limits file.now) }
+{
+    match BootImage::read(alloc, file, limits)? {
+        BootImage::Legacy(image) => find_part(&image, select),
+        BootImage::Fit(fit) => find_payload(alloc, &fit, select),
+    }
+}
+
+/// Returns where the part of a legacy image is that is selected.
+fn find_part(image: &Legacy<'_>, select: Select) -> Result<Region, ExtractError>
+    ensures found { (limits : Bounds) (file : List ℕ) → IsParsedImage limits file image.now →
+        IfOk result (λ region. IsChosenAt file (choice_of select.entry (OfLegacy image.now.image))
+        region.size region.offset) }
+    ensures failed { IfErr result (λ error. IsReason error
+        (choice_of select.entry (OfLegacy image.now.image))) }
+{
+    match select {
+        Select::Part(index) => part_at(image, index as usize).ok_or(ExtractError::NoPart),
+        Select::Image(_) | Select::Config(..) | Select::Default(..) => Err(ExtractError::WrongKind),
+    }
+}
+
+/// Returns where the part of this index is. None exactly if there is no such part.
+fn part_at(image: &Legacy<'_>, index: usize) -> Option<Region>
+    ensures found { (limits : Bounds) (file : List ℕ) → IsParsedImage limits file image.now →
+        IfSome result (λ region. IsChosenAt file
+        (choice_of_part (slice_get image.now.image.parts index)) region.size region.offset) }
+    ensures none { IfNone result (slice_get image.now.image.parts index ≡ None) }
+{
+    let part = image.part(index)?;
+    let place = image.part_place(index)?;
+    Some(Region {
+        offset: place as usize,
+        size: part.len(),
+    })
+}
+
+/// Returns where the payload of a flattened image tree is that is selected.
+fn find_payload(alloc: Global, fit: &Fit<'_>, select: Select) -> Result<Region, ExtractError>
+    requires held { IsHeld fit.now }
+    requires placed { ArePlaced fit.now }
+    ensures found { IfOk result (λ region. IsChosenAt fit.now.blob.file
+        (choice_of select.entry (OfFit (tree_of fit.now))) region.size region.offset) }
+    ensures failed { IfErr result (λ error.
+        IsReason error (choice_of select.entry (OfFit (tree_of fit.now)))
+        ⊎ (error ≡ Failed OutOfMemory)) }
+{
+    match select {
+        Select::Part(_) => Err(ExtractError::WrongKind),
+        Select::Image(name) => find_by_name(fit, name),
+        Select::Config(name, key, index) => find_by_configuration(alloc, fit, name, key, index),
+        Select::Default(key, index) => find_by_default(alloc, fit, key, index),
+    }
+}
+
+/// Returns where the payload of the image of this name is.
+fn find_by_name(fit: &Fit<'_>, name: &[u8]) -> Result<Region, ExtractError>
+    requires held { IsHeld fit.now }
+    requires placed { ArePlaced fit.now }
+    ensures found { IfOk result (λ region. IsChosenAt fit.now.blob.file
+        (choice_by_name (tree_of fit.now) name.now) region.size region.offset) }
+    ensures failed { IfErr result (λ error. IsReason error
+        (choice_by_name (tree_of fit.now) name.now)) }
+{
+    let Some(index) = fit.image(name) else {
+        return Err(ExtractError::NoImage);
+    };
+    payload_at(fit, index).ok_or(ExtractError::NoPayload)
+}
+
+/// Returns where the payload of image `index` is. None exactly if it has no payload.
+fn payload_at(fit: &Fit<'_>, index: usize) -> Option<Region>
+    requires placed { ArePlaced fit.now }
+    ensures { let payload = option_and_then (λ image. image.payload)
+        (slice_get fit.now.images index) in
+        MatchOption result (choice_of_payload payload ≡ HasNoPayload)
+        (λ region. IsChosenAt fit.now.blob.file (choice_of_payload payload) region.size
+        region.offset) }
+{
+    let payload = fit.payload(index)?;
+    let offset = offset_of(fit.place(index))?;
+    Some(Region {
+        offset: offset as usize,
+        size: payload.len(),
+    })
+}
+
+/// Returns the offset of a place. None exactly if there is no payload.
+fn offset_of(place: Place) -> Option<u32>
+    ensures { result ≡ offset_of_place place }
+{
+    match place {
+        Place::Absent => None,
+        Place::Data(offset) | Place::DataOffset(offset) | Place::DataPosition(offset) => {
+            Some(offset)
+        }
+    }
+}
+
+/// Returns where the payload is at this index of what the configuration of this name lists under
+/// a key.
+fn find_by_configuration(
+    alloc: Global,
+    fit: &Fit<'_>,
+    name: &[u8],
+    key: Key,
+    index: u32,
+) -> Result<Region, ExtractError>
+    requires held { IsHeld fit.now }
+    requires placed { ArePlaced fit.now }
+    ensures found { IfOk result (λ region. IsChosenAt fit.now.blob.file
+        (choice_by_configuration (tree_of fit.now) name.now key index) region.size
+        region.offset) }
+    ensures failed { IfErr result (λ error.
+        IsReason error (choice_by_configuration (tree_of fit.now) name.now key index)
+        ⊎ (error ≡ Failed OutOfMemory)) }
+{
+    let listed = fit.config_payloads(alloc, name, key)?;
+    let named = listed.get(index as usize).ok_or(ExtractError::NoIndex)?;
+    find_by_name(fit, named.name)
+}
+
+/// Returns where the payload is at this index of what the default configuration lists under a
+/// key.
+fn find_by_default(
+    alloc: Global,
+    fit: &Fit<'_>,
+    key: Key,
+    index: u32,
+) -> Result<Region, ExtractError>
+    requires held { IsHeld fit.now }
+    requires placed { ArePlaced fit.now }
+    ensures found { IfOk result (λ region. IsChosenAt fit.now.blob.file
+        (choice_by_default (tree_of fit.now) key index) region.size region.offset) }
+    ensures failed { IfErr result (λ error.
+        IsReason error (choice_by_default (tree_of fit.now) key index)
+        ⊎ (error ≡ Failed OutOfMemory)) }
+{
+    let Some(name) = fit.default_config() else {
+        return Err(ExtractError::Config(ConfigError::NoConfig));
+    };
+    find_by_configuration(alloc, fit, name, key, index)
+}

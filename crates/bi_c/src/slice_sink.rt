@@ -1,0 +1,57 @@
+//! A sink that writes to a slice.
+
+ghost use Rattle.std.specs.Prelude.{◌≡◌};
+
+use bi_base::{Error, Sink};
+
+/// A sink that writes the bytes to the beginning of a slice, which it borrows. It allocates
+/// nothing.
+#[derive(Drop)]
+pub(crate) struct SliceSink<'a> {
+    bytes: &'a mut [u8],
+    filled: usize,
+}
+
+impl<'a> SliceSink<'a> {
+    ghost use Rattle.bi_c.specs.SliceSinks.{slice_of};
+
+    /// Returns a sink that has written nothing to this slice.
+    pub(crate) fn new(bytes: &'a mut [u8]) -> SliceSink<'a>
+        ensures same_slice { (slice_of result).ghost_name ≡ bytes.entry.ghost_name }
+        ensures value { (slice_of result).now ≡ bytes.old }
+        ensures filled { result.filled ≡ 0 }
+    {
+        SliceSink { bytes, filled: 0 }
+    }
+}
+
+impl<'a> Sink for SliceSink<'a> {
+    ghost use Rattle.bi_c.specs.SliceSinks.{SliceGrows, SliceFails, slice_grows_nothing};
+    ghost use Rattle.bi_c.specs.SliceSinks.{slice_grows_in_turn, slice_fails_after};
+    ghost use Rattle.bi_c.specs.SliceSinks.{slice_fails_before};
+
+    ghost appends = { SliceGrows };
+
+    ghost fails = { SliceFails };
+
+    /// Writes these bytes after those that were written. The only error is `WriteFailed`, which
+    /// comes exactly if the slice has no room for them, and nothing was written then.
+    fn put(&mut self, bytes: &[u8]) -> Result<(), Error> {
+        let size = self.bytes.len();
+        if self.filled > size || size - self.filled < bytes.len() {
+            return Err(Error::WriteFailed);
+        }
+        let end = self.filled + bytes.len();
+        self.bytes[self.filled..end].copy_from_slice(bytes);
+        self.filled = end;
+        Ok(())
+    }
+
+    ghost appends_nothing = { slice_grows_nothing };
+
+    ghost appends_in_turn = { slice_grows_in_turn };
+
+    ghost fails_after = { slice_fails_after };
+
+    ghost fails_before = { slice_fails_before };
+}

@@ -1,0 +1,118 @@
+//! Texts about a file, and the flattened image tree of a legacy image.
+
+ghost use Rattle.std.specs.Prelude.{IfOk};
+ghost use Rattle.bi_c.specs.Answers.{Fills};
+ghost use Rattle.bi_c.specs.Calls.{IsText, IsTextWithFlag, IsFailureOfOne};
+ghost use Rattle.bi_commands.specs.Describing.{IsDescription, IsDescribeError};
+ghost use Rattle.bi_commands.specs.Listing.{IsListing};
+ghost use Rattle.bi_commands.specs.Reports.{Verified};
+ghost use Rattle.bi_norm.specs.Converting.{IsConvertedFile, IsConvertError};
+ghost use Rattle.bi_norm.specs.NormalForm.{IsOpenError};
+
+use crate::answer::{Answer, fail, fill};
+use crate::arguments::limits_of;
+use crate::failure::{Failure, failure_of};
+use bi_commands::describe::describe;
+use bi_commands::list::listing;
+use bi_commands::verify::verify;
+use bi_norm::convert;
+use std::alloc::Global;
+
+/// Writes the listing of a file to a buffer.
+#[unsafe(no_mangle)]
+pub extern "C" fn bootimg_list(
+    alloc: Global,
+    file: &[u8],
+    limit: u32,
+    depth: u32,
+    buffer: &mut [u8],
+    answer: &mut Answer,
+) -> u32
+    ensures { Fills (IsText limit depth (λ limits text. IsListing limits file.now text))
+        (IsFailureOfOne limit depth (λ limits error. IsOpenError limits file.now error))
+        buffer.old buffer.new answer.new result }
+{
+    let Some(limits) = limits_of(limit, depth) else {
+        return fail(Failure::WrongArgument, answer);
+    };
+    match listing(alloc, file, limits) {
+        Ok(text) => fill(text.as_bytes(), 0, buffer, answer),
+        Err(error) => fail(failure_of(error), answer),
+    }
+}
+
+/// Writes the description of what a file means to a buffer.
+#[unsafe(no_mangle)]
+pub extern "C" fn bootimg_describe(
+    alloc: Global,
+    file: &[u8],
+    limit: u32,
+    depth: u32,
+    buffer: &mut [u8],
+    answer: &mut Answer,
+) -> u32
+    ensures { Fills (IsText limit depth (λ limits text. IsDescription limits file.now text))
+        (IsFailureOfOne limit depth (λ limits error. IsDescribeError limits file.now error))
+        buffer.old buffer.new answer.new result }
+{
+    let Some(limits) = limits_of(limit, depth) else {
+        return fail(Failure::WrongArgument, answer);
+    };
+    match describe(alloc, file, limits) {
+        Ok(text) => fill(text.as_bytes(), 0, buffer, answer),
+        Err(error) => fail(failure_of(error), answer),
+    }
+}
+
+/// Writes the report on the checksums and digests of a file to a buffer, and returns whether no
+/// verdict is other than Good: 1 if so, else 0.
+#[unsafe(no_mangle)]
+pub extern "C" fn bootimg_verify(
+    alloc: Global,
+    file: &[u8],
+    limit: u32,
+    depth: u32,
+    buffer: &mut [u8],
+    answer: &mut Answer,
+) -> u32
+    ensures { Fills
+        (IsTextWithFlag limit depth (λ limits good text. Verified limits good file.now text))
+        (IsFailureOfOne limit depth (λ limits error. IsOpenError limits file.now error))
+        buffer.old buffer.new answer.new result }
+{
+    let Some(limits) = limits_of(limit, depth) else {
+        return fail(Failure::WrongArgument, answer);
+    };
+    match verify(alloc, file, limits) {
+        Ok(report) => fill(
+            report.text.as_bytes(),
+            usize::from(report.all_good),
+            buffer,
+            answer,
+        ),
+        Err(error) => fail(failure_of(error), answer),
+    }
+}
+
+/// Writes the flattened image tree of a legacy image to a buffer.
+#[unsafe(no_mangle)]
+pub extern "C" fn bootimg_convert(
+    alloc: Global,
+    file: &[u8],
+    limit: u32,
+    depth: u32,
+    buffer: &mut [u8],
+    answer: &mut Answer,
+) -> u32
+    ensures { Fills (IsText limit depth (λ limits text. IsConvertedFile limits file.now text))
+        (IsFailureOfOne limit depth (λ limits error. IsConvertError limits file.now error))
+        buffer.old buffer.new answer.new result }
+{
+    let Some(limits) = limits_of(limit, depth) else {
+        return fail(Failure::WrongArgument, answer);
+    };
+    match convert(alloc, file, limits) {
+        Ok(text) => fill(&text, 0, buffer, answer),
+        Err(error) => fail(failure_of(error), answer),
+    }
+}

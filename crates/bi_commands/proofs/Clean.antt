@@ -1,0 +1,4 @@
+pub mod NoLines
+pub mod CleanImages
+pub mod CleanConfigurations
+pub mod EmptyIsClean

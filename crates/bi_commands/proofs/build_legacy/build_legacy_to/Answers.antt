@@ -1,0 +1,26 @@
+use Rattle.std.proofs.Common.{◌≡◌, List, subst, ◌∙◌}
+use Rattle.std.proofs.lemmas.Result.{err_from_is_err_and}
+use Rattle.bi_base.specs.Pipes.{IsPiped}
+use Rattle.bi_base.specs.declared.fault.Error.TheVariants.{OutOfMemory}
+use Rattle.bi_commands.specs.Building.{build_legacy_promise, IsLegacyOutput, IsLegacyOutputError}
+use Rattle.bi_commands.specs.Parts.{parts_of_lengths}
+use Rattle.bi_commands.specs.declared.parts.Part.{Part}
+use Rattle.bi_commands.proofs.NotBegun.{not_begun}
+use Rattle.bi_commands.proofs.build_legacy.build_legacy_to.Goals as goal
+
+pub returns-in_err-parts : goal.returns-in_err-parts
+returns-in_err-parts g c =
+    let p = err_from_is_err_and c.from_residual.result c.from_residual.ensures.1 in
+    let error : c.in_err-parts.field-0.0 ≡ OutOfMemory = c.in_err-parts.ensures.error in
+    let parts = parts_of_lengths c.args.lengths.now in
+    rw (p.1, p.2, error)
+    (not_begun (IsLegacyOutput c.args.limits c.args.fields parts) (IsLegacyOutputError c.args.limits c.args.fields parts) c.args.limits
+    (g.R.Read.remaining c.args.reader.now) (g.W.Write.contents c.args.writer.now))
+
+pub returns : goal.returns
+returns g c =
+    subst
+    (λ (parts : List Part). IsPiped (build_legacy_promise c.args.fields parts c.args.limits) c.args.limits
+    (g.R.Read.remaining c.args.reader.now) (g.R.Read.remaining c.pipe_to.new.reader) (g.W.Write.contents c.args.writer.now)
+    (g.W.Write.contents c.pipe_to.new.writer) c.pipe_to.result)
+    (c.deref.ensures.value ∙ c.in_ok-parts.ensures.parts) c.pipe_to.ensures

@@ -1,0 +1,79 @@
+use Rattle.std.proofs.Common.{◌≡◌, ℕ, zero, suc, ◌+◌, ◌-◌, ◌*◌, ◌++◌, inl, inr, ◌<◌, ◌≤◌, Bool, true, false, cond, List, [], ◌∷◌, length, take, drop, slice_index_or, refl, sym, ap, subst, ◌∙◌, arith}
+use Rattle.std.specs.Prelude.{◌==◌}
+use Rattle.std.proofs.Math.Nat.{eq-or-lt_of_le}
+use Rattle.std.proofs.Math.Seq.{drop-nil}
+use Rattle.std.proofs.lemmas.List.{length-drop, get_or_append_left, get_or-append_right}
+use Rattle.bi_blob.specs.Tokens.{name_from}
+use Rattle.bi_blob.specs.BlobFaults.{HasName}
+use Rattle.bi_blob.proofs.Blobs.Names.{before_zero, before_zero-cons, length_before_zero}
+use Rattle.bi_fdt.specs.Strings.{end_of}
+
+-- Where names end.
+
+-- Bytes after the beginning of a name have its rest before their first zero byte.
+before_zero-drop : (n : ℕ) (bytes : List ℕ) → n ≤ length (before_zero bytes) → n + length (before_zero (drop n bytes)) ≡ length (before_zero bytes)
+before_zero-drop zero bytes within = omega arith
+before_zero-drop (suc n) [] within = absurd (omega arith)
+before_zero-drop (suc n) (byte ∷ rest) within =
+    subst (λ front. suc n ≤ length front → suc n + length (before_zero (drop n rest)) ≡ length front) (sym (before_zero-cons byte rest))
+    (by_test (byte == 0) (before_zero-drop n rest)) within where
+      by_test : (is_zero : Bool) → (n ≤ length (before_zero rest) → n + length (before_zero (drop n rest)) ≡ length (before_zero rest))
+          → suc n ≤ length (cond is_zero [] (byte ∷ before_zero rest)) → suc n + length (before_zero (drop n rest)) ≡ length (cond is_zero [] (byte ∷ before_zero rest))
+      by_test true later short = absurd (omega arith)
+      by_test false later short =
+          let e : n + length (before_zero (drop n rest)) ≡ length (before_zero rest) = later (omega arith) in
+          omega arith
+
+pub drop_again : {X : Type 0} (m n : ℕ) (xs : List X) → drop n (drop m xs) ≡ drop (m + n) xs
+drop_again zero n xs = ap (λ k. drop k xs) (omega arith)
+drop_again (suc m) n [] = drop-nil n ∙ sym (drop-nil (suc m + n))
+drop_again (suc m) n (x ∷ xs) = drop_again m n xs ∙ ap (λ k. drop k (x ∷ xs)) (more m n) where
+  more : (a b : ℕ) → suc (a + b) ≡ suc a + b
+  more a b = omega arith
+
+-- A name ends where each of its ends does.
+pub later_end : (bytes : List ℕ) (at later : ℕ) → at ≤ later → later ≤ end_of bytes at → end_of bytes later ≡ end_of bytes at
+later_end bytes at later ordered within =
+    let n : ℕ = later - at in
+    let rest : n + length (before_zero (drop n (drop at bytes))) ≡ length (before_zero (drop at bytes)) = before_zero-drop n (drop at bytes) (omega arith) in
+    let same : length (before_zero (drop n (drop at bytes))) ≡ length (name_from bytes later) =
+    ap (λ l. length (before_zero l)) (drop_again at n bytes ∙ ap (λ k. drop k bytes) (omega arith)) in
+    omega arith
+
+-- A name ends within the bytes.
+pub end_within : (bytes : List ℕ) (at : ℕ) → at ≤ length bytes → end_of bytes at ≤ length bytes
+end_within bytes at within =
+    let most : length (name_from bytes at) ≤ length (drop at bytes) = length_before_zero (drop at bytes) in
+    let long : length (drop at bytes) ≡ length bytes - at = length-drop at bytes in
+    omega arith
+
+-- The bytes before the end are the name.
+take_front : (bytes : List ℕ) → take (length (before_zero bytes)) bytes ≡ before_zero bytes
+take_front [] = refl
+take_front (byte ∷ rest) =
+    subst (λ front. take (length front) (byte ∷ rest) ≡ front) (sym (before_zero-cons byte rest)) (by_test (byte == 0) (take_front rest)) where
+      by_test : (is_zero : Bool) → take (length (before_zero rest)) rest ≡ before_zero rest
+          → take (length (cond is_zero [] (byte ∷ before_zero rest))) (byte ∷ rest) ≡ cond is_zero [] (byte ∷ before_zero rest)
+      by_test true later = refl
+      by_test false later = ap (λ l. byte ∷ l) later
+
+pub name_before_end : (bytes : List ℕ) (at end : ℕ) → end ≡ end_of bytes at → take (end - at) (drop at bytes) ≡ name_from bytes at
+name_before_end bytes at end is = ap (λ n. take n (drop at bytes)) (omega arith) ∙ take_front (drop at bytes)
+
+-- No name ends before an offset where the name has not ended.
+pub end_not_before : (bytes : List ℕ) (at end : ℕ) → ¬ (HasName bytes at end) → end ≤ end_of bytes at
+end_not_before bytes at end none = omega (arith, none)
+
+-- One more end.
+pub ends_more : (bytes ends more : List ℕ) (n end : ℕ) → length ends ≡ n
+    → ((index : ℕ) (d : ℕ) → index < n → slice_index_or ends index d ≡ end_of bytes (64 * index))
+    → end ≡ end_of bytes (64 * n) → more ≡ ends ++ end ∷ []
+    → (index : ℕ) (d : ℕ) → index < n + 1 → slice_index_or more index d ≡ end_of bytes (64 * index)
+ends_more bytes ends more n end long each is pushed index d within =
+    ap (λ l. slice_index_or l index d) pushed ∙ elim (eq-or-lt_of_le {n = index} {m = n} (omega arith)) [
+      | inl same ↦ get_or-append_right ends (end ∷ []) n index d long (omega arith)
+          ∙ ap (λ k. slice_index_or (end ∷ []) k d) (first same) ∙ is ∙ ap (λ k. end_of bytes (64 * k)) (sym same)
+      | inr below ↦ get_or_append_left ends (end ∷ []) d index (omega arith) ∙ each index d below
+    ] where
+      first : index ≡ n → index - n ≡ 0
+      first same = omega arith

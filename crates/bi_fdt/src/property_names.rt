@@ -1,0 +1,56 @@
+//! The names of the properties of a node, while the node is read.
+
+ghost use Rattle.std.specs.Prelude.{◌≡◌, ◌++◌, ◌∷◌, ◌↔◌, ℕ, List, [], IsTrue, IfOk, OnOk};
+ghost use Rattle.bi_blob.specs.Tree.{IsNew};
+ghost use Rattle.bi_fdt.specs.Digests.{digest_of};
+ghost use Rattle.bi_fdt.specs.PropertySets.{HoldsProperties};
+
+use crate::strings::STRIDE;
+use std::alloc::{AllocError, Global};
+use std::collections::BTreeSet;
+
+/// The names of the properties of a node so far. Only a name that is as long as a block has a
+/// digest, so the others are in a set without digests.
+#[derive(Drop)]
+pub(crate) struct PropertyNames<'a> {
+    /// The names of less than 64 bytes.
+    short: BTreeSet<&'a [u8]>,
+    /// The others, each after its length and its digest, so that no more than 63 bytes of two
+    /// different names are read.
+    long: BTreeSet<(usize, [u8; 32], &'a [u8])>,
+}
+
+impl<'a> PropertyNames<'a> {
+    /// No names. It allocates nothing yet.
+    pub(crate) fn new(alloc: Global) -> PropertyNames<'a>
+        ensures { HoldsProperties result [] }
+    {
+        PropertyNames {
+            short: BTreeSet::new(alloc),
+            long: BTreeSet::new(alloc),
+        }
+    }
+
+    /// Removes all names.
+    pub(crate) fn clear(&mut self)
+        ensures { HoldsProperties self.new [] }
+    {
+        self.short.clear();
+        self.long.clear();
+    }
+
+    /// Adds a name, which has this digest, and returns whether it is new. It takes log n
+    /// comparisons, for n names.
+    pub(crate) fn insert(&mut self, name: &'a [u8], digest: [u8; 32]) -> Result<bool, AllocError>
+        requires { digest ≡ digest_of name.now }
+        ensures added { OnOk result ((held : List (List ℕ)) → HoldsProperties self.old held
+            → HoldsProperties self.new (held ++ name.entry.now ∷ [])) }
+        ensures new { IfOk result (λ is_new. (held : List (List ℕ))
+            → HoldsProperties self.old held → (IsTrue is_new ↔ IsNew name.entry.now held)) }
+    {
+        if name.len() < STRIDE {
+            return Ok(self.short.insert(name)?);
+        }
+        Ok(self.long.insert((name.len(), digest, name))?)
+    }
+}

@@ -1,0 +1,114 @@
+//! The strings block of a blob (Devicetree Specification, 5.5).
+
+ghost use Rattle.std.specs.Prelude.{◌≡◌, ◌+◌, ◌/◌, ◌≤◌, ◌↔◌, length, IsSome, IfSome, IfOk};
+ghost use Rattle.bi_blob.specs.Tokens.{name_from};
+ghost use Rattle.bi_blob.specs.Tree.{HasNoZero};
+ghost use Rattle.bi_blob.specs.BlobFaults.{HasName};
+ghost use Rattle.bi_fdt.specs.Digests.{digest_of};
+ghost use Rattle.bi_fdt.specs.Strings.{AreEnds};
+
+use crate::digests::{NO_DIGEST, digests_of_names, longer_digest};
+use crate::names::name_at;
+use std::alloc::{AllocError, Global};
+use std::marker::Model;
+
+/// How far apart the offsets are whose names' ends are kept.
+pub(crate) const STRIDE: usize = 64;
+
+/// A strings block. It keeps where the name at each multiple of `STRIDE` ends, and its digest, so
+/// that a name and its digest are found as fast however long it is.
+#[derive(Drop)]
+pub(crate) struct Strings<'a> {
+    bytes: &'a [u8],
+    ends: Vec<usize>,
+    digests: Vec<[u8; 32]>,
+}
+
+impl<'a> Model for Strings<'a> {
+    ghost use Rattle.std.specs.Prelude.{List, ℕ};
+    ghost use Rattle.bi_fdt.specs.Digests.{AreDigests};
+    ghost use Rattle.bi_fdt.specs.Strings.{AreEnds};
+
+    ghost Value = { List ℕ };
+
+    ghost view = { λ strings. strings.bytes.now };
+
+    ghost invariant = { λ strings. AreEnds strings.bytes.now strings.ends.items
+        × AreDigests strings.bytes.now strings.digests.items };
+}
+
+impl<'a> Strings<'a> {
+    /// The strings block of these bytes. Takes time linear in them.
+    pub(crate) fn new(alloc: Global, bytes: &'a [u8]) -> Result<Strings<'a>, AllocError>
+        ensures { IfOk result (λ strings. strings ≡ bytes.entry.now) }
+    {
+        let ends = ends_of_names(alloc, bytes)?;
+        let digests = digests_of_names(alloc, bytes, &ends)?;
+        Ok(Strings {
+            bytes,
+            ends,
+            digests,
+        })
+    }
+
+    /// The name at offset `at`. None exactly if no zero byte ends it.
+    pub(crate) fn name_at(&self, at: usize) -> Option<&'a [u8]>
+        ensures some { IsSome result ↔ HasName self.now at (length self.now) }
+        ensures value { IfSome result (λ name. name.now ≡ name_from self.now at) }
+        ensures no_zero { IfSome result (λ name. HasNoZero name.now) }
+    {
+        let index = at / STRIDE + 1;
+        if index >= self.ends.len() {
+            return name_at(self.bytes, at, self.bytes.len());
+        }
+        if let Some(name) = name_at(self.bytes, at, STRIDE * index) {
+            return Some(name);
+        }
+        let end = self.ends[index];
+        if end == self.bytes.len() {
+            return None;
+        }
+        Some(&self.bytes[at..end])
+    }
+
+    /// The digest of the name at offset `at`.
+    pub(crate) fn digest_at(&self, at: usize, name: &[u8]) -> [u8; 32]
+        requires { name.now ≡ name_from self.now at }
+        ensures { result ≡ digest_of name.now }
+    {
+        if name.len() < STRIDE {
+            return NO_DIGEST;
+        }
+        let after = self.digests.len() - 1 - (at / STRIDE + 1);
+        longer_digest(name, STRIDE - at % STRIDE, self.digests[after])
+    }
+}
+
+/// The ends of the names at the first multiples of 64.
+fn ends_of_names(alloc: Global, bytes: &[u8]) -> Result<Vec<usize>, AllocError>
+    ensures ends { IfOk result (λ ends. AreEnds bytes.now ends.items) }
+    ensures count { IfOk result (λ ends. length ends.items ≡ length bytes.now / 64 + 1) }
+{
+    let count = bytes.len() / STRIDE + 1;
+    let mut ends = Vec::with_capacity(alloc, count)?;
+    let mut end = 0;
+    for index in 0..count {
+        if end <= STRIDE * index {
+            end = end_of_name(bytes, STRIDE * index);
+        }
+        ends.push(end)?;
+    }
+    Ok(ends)
+}
+
+/// The offset of the first zero byte from offset `at` on, or the length of the bytes if there is
+/// none.
+fn end_of_name(bytes: &[u8], at: usize) -> usize
+    requires { at ≤ length bytes.now }
+    ensures { result ≡ at + length (name_from bytes.now at) }
+{
+    match name_at(bytes, at, bytes.len()) {
+        Some(name) => at + name.len(),
+        None => bytes.len(),
+    }
+}

@@ -1,0 +1,71 @@
+//! The digests that hash nodes get by an update.
+
+ghost use Rattle.std.specs.Prelude.{◌≡◌, ◌++◌, IfOk, IfErr, OnOk};
+ghost use Rattle.std.specs.Option.{option_map};
+ghost use Rattle.bi_base.specs.declared.fault.Error.TheVariants.{OutOfMemory};
+ghost use Rattle.bi_fdt.specs.Views.{node_of};
+ghost use Rattle.bi_fit.specs.Content.{tree_of};
+ghost use Rattle.bi_fit.specs.NewDigests.{hash_algorithm, digests_of_image, new_digests};
+ghost use Rattle.bi_fit.specs.Additions.{nodes_by_name, properties_by_name};
+
+use crate::changes::Changes;
+use crate::fit::Fit;
+use crate::nodes::Siblings;
+use bi_base::{Error, text_before_nul};
+use bi_fdt::NodeRef;
+use bi_hash::{Algo, PayloadDigests};
+use std::alloc::{AllocError, Global};
+
+impl<'a> Fit<'a> {
+    /// Returns the digests that the hash nodes get by an update, one after another: images in their
+    /// order, and the hash nodes of an image in theirs. There are none if the digests do not
+    /// change. A payload is read once for each algorithm that its hash nodes name.
+    ///
+    /// The only error is OutOfMemory.
+    pub fn new_digests(&self, alloc: Global, changes: Changes) -> Result<Vec<u8>, Error>
+        ensures digests { IfOk result (λ digests. digests.items
+            ≡ new_digests changes (tree_of self.now)) }
+        ensures failed { IfErr result (λ error. error ≡ OutOfMemory) }
+    {
+        let mut digests = Vec::new(alloc);
+        if !changes.hashes {
+            return Ok(digests);
+        }
+        for (node, image) in self.image_nodes().zip(self.images()) {
+            append_digests(&mut digests, node, image.payload)?;
+        }
+        Ok(digests)
+    }
+}
+
+/// Adds the digests for the hash nodes of an image node with this payload, in their order.
+fn append_digests(
+    digests: &mut Vec<u8>,
+    image: NodeRef<'_, '_>,
+    payload: Option<&[u8]>,
+) -> Result<(), AllocError>
+    ensures { OnOk result (digests.new.items ≡ digests.old.items ++ digests_of_image
+        (option_map (λ payload. payload.now) payload.entry)
+        (nodes_by_name (node_of image.entry).children)) }
+{
+    let mut payload_digests = PayloadDigests::new(payload);
+    for node in Siblings::children(image) {
+        if let Some(algo) = hash_algo(node) {
+            payload_digests.append_digest(algo, digests)?;
+        }
+    }
+    Ok(())
+}
+
+/// Returns the algorithm of a child of an image node. None exactly if it is no hash node, or names
+/// no known algorithm.
+pub(crate) fn hash_algo(node: NodeRef<'_, '_>) -> Option<Algo>
+    ensures { result ≡ hash_algorithm
+        (node_of node.entry).name
+        (properties_by_name (node_of node.entry).own) }
+{
+    if !node.name().starts_with(b"hash") {
+        return None;
+    }
+    Algo::from_name(text_before_nul(node.property(b"algo")?)?)
+}

@@ -1,0 +1,28 @@
+//! Laws of updates of flattened image trees. Each is the contract of a function that does nothing.
+
+ghost use Rattle.bi_fit.specs.UpdateLaws.{EachUpdateHasItsJudgement, NoChangeKeepsTree};
+ghost use Rattle.bi_fit.specs.UpdateLaws.{UpdatedIsAccepted, UpdatedIsImageTree};
+
+/// An update without changes keeps the tree. So its text is the normal text.
+pub fn no_change_keeps_tree()
+    ensures { NoChangeKeepsTree }
+{}
+
+/// An updated tree is one that a file can mean, if the tree is, and it has as many levels.
+pub fn updated_is_image_tree()
+    ensures { UpdatedIsImageTree }
+{}
+
+/// The text of an updated tree in either form, if it is no longer than the limit on files, is
+/// accepted under limits that hold the tree, and means the updated tree. The limit on files is at
+/// most 0x7fffffff.
+pub fn updated_is_accepted()
+    ensures { UpdatedIsAccepted }
+{}
+
+/// After an update of the digests, each verdict on a hash node of an image with a payload and a
+/// known algorithm is Good. All other verdicts stay, and so do the configurations, what they list,
+/// the default and the number of signature nodes.
+pub fn each_update_has_its_judgement()
+    ensures { EachUpdateHasItsJudgement }
+{}

@@ -1,0 +1,135 @@
+use Rattle.std.proofs.Common.{◌≡◌, ◌++◌, ◌∷◌, [], ◌∙◌, ◌<◌, ◌≤◌, ◌+◌, ◌⊎◌, ℕ, List, Option, Some, None, option_map, map, Contains, Result, OnOk, OnErr, IfErr, Ok, Err, ap, subst, sym, inl, inr, refl, arith}
+use Rattle.bi_base.specs.Sinks.{Wrote}
+use Rattle.bi_base.specs.Traces.{WriteTrace}
+use Rattle.bi_base.specs.Writing.{WroteAndFlushed, WriteOrFlushStopped}
+use Rattle.bi_base.specs.declared.fault.Error.{Error}
+use Rattle.bootimg.specs.declared.failure.Failure.{Failure}
+use Rattle.bootimg.specs.declared.failure.Failure.TheVariants.{NotWritten}
+use Rattle.std.proofs.lemmas.Bool.{cases_lt}
+use Rattle.std.proofs.lemmas.List.{append_assoc, append-nil, map_push}
+use Rattle.std.proofs.lemmas.List.Elements.{All-nil, All-push, Contains-push, Contains-append_left}
+use Rattle.bootimg.specs.Files.{AreTaken, Closed, ClosingFailed, FilePromise, FileStep, IsBeside, IsMadeBeside, IsNotFilled, IsNotMade, IsNotPutInPlace, IsNotSaved, IsTried, MakingFailed, NameTaken, NewFileFailed, NotClosed, NotMade, NotRemoved, Removed, SavesNothing, TookSteps, WritingStopped, no_files}
+
+-- New files beside a file.
+
+-- ---- steps in turn
+
+-- No step was taken.
+no_steps : (now : Option (List FileStep)) → TookSteps now now []
+no_steps None = refl
+no_steps (Some steps) = ap (λ l. Some l) (sym (append-nil steps))
+
+-- Some steps were taken, and then others.
+steps_in_turn : (old middle new : Option (List FileStep)) (first second : List FileStep) → TookSteps old middle first
+    → TookSteps middle new second → TookSteps old new (first ++ second)
+steps_in_turn old middle new first second one other = other ∙ ap (option_map (λ l. l ++ second)) one ∙ both old
+  where
+    both : (old : Option (List FileStep))
+        → option_map (λ l. l ++ second) (option_map (λ l. l ++ first) old) ≡ option_map (λ l. l ++ (first ++ second)) old
+    both None = refl
+    both (Some l) = ap (λ l. Some l) (append_assoc l first second)
+
+-- ---- names that were tried
+
+-- No name was tried.
+pub none_tried : (name : List ℕ) (now : Option (List FileStep)) → AreTaken name 0 now now
+none_tried name now = record {
+  taken = [];
+  each_is_beside = All-nil _;
+  each_is_tried = λ number below. absurd (omega arith);
+  steps = no_steps now;
+}
+
+-- One more number was tried, and the names that were taken still are.
+more_tried : (name : List ℕ) (taken more : List (List ℕ)) (count : ℕ) → ((number : ℕ) → number < count → IsTried name taken number)
+    → IsTried name more count → ((beside : List ℕ) → Contains taken beside → Contains more beside)
+    → (number : ℕ) → number < count + 1 → IsTried name more number
+more_tried name taken more count before last kept number below = by_order (cases_lt number count)
+  where
+    still : (beside : List ℕ) → (beside ≡ name) ⊎ Contains taken beside → (beside ≡ name) ⊎ Contains more beside
+    still beside (inl same) = inl same
+    still beside (inr has) = inr (kept beside has)
+
+    by_order : (number < count) ⊎ (count ≤ number) → IsTried name more number
+    by_order (inl less) =
+        let tried = before number less in
+        (tried.0, tried.1, still tried.0 tried.2)
+    by_order (inr not_less) = subst (IsTried name more) (omega arith) last
+
+-- The next name is that of the file itself.
+pub own_name_tried : (name beside shown : List ℕ) (number : ℕ) (old new : Option (List FileStep)) → AreTaken name number old new
+    → IsBeside name number beside → shown ≡ beside → shown ≡ name → AreTaken name (number + 1) old new
+own_name_tried name beside shown number old new are is shows same = record {
+  taken = are.taken;
+  each_is_beside = are.each_is_beside;
+  each_is_tried = more_tried name are.taken are.taken number are.each_is_tried (beside, is, inl (sym shows ∙ same)) (λ other has. has);
+  steps = are.steps;
+}
+
+-- Something has the next name.
+pub taken_name_tried : (name beside shown : List ℕ) (number : ℕ) (old middle new : Option (List FileStep))
+    → AreTaken name number old middle → IsBeside name number beside → shown ≡ beside → TookSteps middle new (NameTaken shown ∷ [])
+    → AreTaken name (number + 1) old new
+taken_name_tried name beside shown number old middle new are is shows took = record {
+  taken = are.taken ++ beside ∷ [];
+  each_is_beside = All-push (λ other. (n : ℕ) × IsBeside name n other) are.taken beside are.each_is_beside (number, is);
+  each_is_tried = more_tried name are.taken (are.taken ++ beside ∷ []) number are.each_is_tried
+      (beside, is, inr (Contains-push are.taken beside)) (λ other has. Contains-append_left are.taken (beside ∷ []) other has);
+  steps = subst (TookSteps old new) (sym (map_push NameTaken are.taken beside))
+      (steps_in_turn old middle new (map NameTaken are.taken) (NameTaken beside ∷ []) are.steps
+      (subst (λ s. TookSteps middle new (NameTaken s ∷ [])) shows took));
+}
+
+-- A file of the next name could not be made.
+pub making_failed : (name beside shown : List ℕ) (number : ℕ) (old middle new : Option (List FileStep)) → AreTaken name number old middle
+    → IsBeside name number beside → shown ≡ beside → TookSteps middle new (NotMade shown ∷ []) → IsNotMade name NotWritten old new
+making_failed name beside shown number old middle new are is shows took =
+    MakingFailed number beside middle are is (subst (λ s. TookSteps middle new (NotMade s ∷ [])) shows took) refl
+
+-- ---- the steps with a new file
+
+-- What is true is so at an error.
+pub always_at_err : {V E : Type 0} {P : Type 0} (result : Result V E) → P → IfErr result (λ _. P)
+always_at_err (Ok v) p = tt
+always_at_err (Err e) p = p
+
+-- A step was taken, or it failed.
+either : {T E : Type 0} {P Q : Type 0} (result : Result T E) → OnOk result P → OnErr result Q → P ⊎ Q
+either (Ok v) p q = inl p
+either (Err e) p q = inr q
+
+-- Writing to a new file or flushing it stopped.
+pub writing_stopped : {T E : Type 0} (beside bytes : List ℕ) (file filled : WriteTrace) (old new : Option (List FileStep))
+    (written : Result (Unit {0}) Error) (error : Error) (closed : Result T E) → written ≡ Err error
+    → Wrote WroteAndFlushed WriteOrFlushStopped file bytes written filled
+    → OnOk closed (TookSteps old new (Closed beside filled ∷ [])) → OnErr closed (TookSteps old new (NotClosed beside filled ∷ []))
+    → IsNotFilled beside bytes file old new
+writing_stopped beside bytes file filled old new written error closed is wrote well badly =
+    WritingStopped filled error (subst (λ (r : Result (Unit {0}) Error). Wrote WroteAndFlushed WriteOrFlushStopped file bytes r filled) is wrote)
+    (either closed well badly)
+
+-- All was written to a new file and flushed, and it could not be closed.
+pub closing_failed : {T E : Type 0} (beside bytes : List ℕ) (file filled : WriteTrace) (old new : Option (List FileStep))
+    (written : Result (Unit {0}) Error) (done : Unit {0}) (closed : Result T E) (error : E) → written ≡ Ok done → closed ≡ Err error
+    → Wrote WroteAndFlushed WriteOrFlushStopped file bytes written filled
+    → OnErr closed (TookSteps old new (NotClosed beside filled ∷ [])) → IsNotFilled beside bytes file old new
+closing_failed {T} {E} beside bytes file filled old new written done closed error is fails wrote badly =
+    ClosingFailed filled (subst (λ (r : Result (Unit {0}) Error). Wrote WroteAndFlushed WriteOrFlushStopped file bytes r filled) is wrote)
+    (subst (λ (r : Result T E). OnErr r (TookSteps old new (NotClosed beside filled ∷ []))) fails badly)
+
+-- A new file was made and not put in place, and it was removed, or that failed.
+pub new_file_failed : {T E : Type 0} (files : FilePromise) (name bytes beside shown again : List ℕ) (failure : Failure) (file : WriteTrace)
+    (old made failed new : Option (List FileStep)) (removed : Result T E) → files.can_replace name
+    → IsMadeBeside name beside file old made → shown ≡ beside → IsNotPutInPlace name shown bytes file made failed → again ≡ beside
+    → OnOk removed (TookSteps failed new (Removed again ∷ [])) → OnErr removed (TookSteps failed new (NotRemoved again ∷ []))
+    → failure ≡ NotWritten → IsNotSaved files name bytes failure old new
+new_file_failed files name bytes beside shown again failure file old made failed new removed can is shows not_put same well badly why =
+    NewFileFailed beside file made failed can is (subst (λ b. IsNotPutInPlace name b bytes file made failed) shows not_put)
+    (subst (λ b. TookSteps failed new (Removed b ∷ []) ⊎ TookSteps failed new (NotRemoved b ∷ [])) same (either removed well badly))
+    why
+
+-- ---- no files
+
+-- Without files no output is saved.
+pub nothing_is_saved : SavesNothing no_files
+nothing_is_saved name bytes old new saved = saved.can_be_replaced

@@ -1,0 +1,185 @@
+use Rattle.std.proofs.Common.{◌≡◌, ◌∙◌, ℕ, List, Option, Bor, Result, ap}
+use Rattle.bi_base.specs.declared.fault.Cause.{Cause}
+use Rattle.bi_base.specs.Limits.{Bounds}
+use Rattle.bi_base.specs.Traces.{ReadTrace, WriteTrace}
+use Rattle.bi_commands.specs.declared.parts.Part.{Part}
+use Rattle.bootimg.specs.declared.command_line.Job.{Job}
+use Rattle.bootimg.specs.declared.command_line.Job.TheVariants.{Run as RunTask, Compare, Build, Explain}
+use Rattle.bootimg.specs.declared.command_line.Task.{Task}
+use Rattle.bootimg.specs.declared.command_line.build.BuildPlan.{BuildPlan}
+use Rattle.bootimg.specs.declared.command_line.source.ComparePlan.{ComparePlan}
+use Rattle.bootimg.specs.declared.command_line.source.ImageSource.{ImageSource}
+use Rattle.bootimg.specs.declared.failure.Failure.{Failure}
+use Rattle.bootimg.specs.Files.{FileStep, FilePromise}
+use Rattle.bootimg.specs.declared.command_line.Request.{Request}
+use Rattle.bootimg.specs.declared.jobs.Problem.{Problem}
+use Rattle.bootimg.specs.declared.tasks.Done.{Done}
+use Rattle.bootimg.specs.Runs.{Run, Work, work_of, with_input, Logs, IsLogged, HasStopped, Reports, ReportsFailure, ReportsMemory, Notes, HasNone, HasSome, IsRejection, IsTaskWork, Succeeded, HasFailed, IsImageWork, DoneOnInput, DoneOnFile, FileNotOpened, IsImageRead, InputRead, FileRead, IsImageNotRead, InputNotRead, FileNotRead, IsComparedWork, WroteDifferences, NotAllWritten, NotCompared, IsCompareWork, BothRead, OneNotRead, OtherNotRead, IsExplainWork, WroteExplanation, ExplanationNotWritten, NoMemoryForExplanation, IsBuiltWork, WasBuilt, WasNotBuilt, IsBuildWork, BuiltWithInput, BuiltOfFiles, PartNotRead, NoRoom, IsJobWork, IsHeldWork, IsSavedWork, OutputSaved, OutputNotSaved, NoOutput, IsOutputRun, ToStandardOutput, ToFile, IsEnd, EndsWell, EndsWithFailure, IsRequestRun, IsTextRun, IsWritten, IsNotWritten, IsUsage, IsRun, RanJob, Rejected, WroteText}
+
+-- A run has the same streams before and after it.
+
+-- The streams of a run are the same before and after it.
+pub record KeepsStreams (run : Run) : Type 0 where
+  pub reader : run.new_input.reader ≡ run.input.reader
+  pub writer : run.new_output.writer ≡ run.output.writer
+  pub log : run.new_errors.writer ≡ run.errors.writer
+
+logs_keep : (old new : WriteTrace) (bytes : List ℕ) → Logs old bytes new → new.writer ≡ old.writer
+logs_keep old new bytes (IsLogged wrote) = wrote.same_writer
+logs_keep old new bytes (HasStopped error stopped) = stopped.same_writer
+
+reports_keep : (source : ImageSource) (failure : Failure) (old new : WriteTrace) → Reports source failure old new
+    → new.writer ≡ old.writer
+reports_keep source failure old new (ReportsFailure logs) = logs_keep _ _ _ logs
+reports_keep source failure old new (ReportsMemory logs) = logs_keep _ _ _ logs
+
+notes_keep : (signatures : ℕ) (old new : WriteTrace) → Notes signatures old new → new.writer ≡ old.writer
+notes_keep signatures old new (HasNone none same) = ap (λ trace. trace.writer) same
+notes_keep signatures old new (HasSome some logs) = logs_keep _ _ _ logs
+
+-- The reader is the same after an image was read, or not read, from its source.
+read_keeps : (files : FilePromise) (limits : Bounds) (old new : ReadTrace) (image : List ℕ) (source : ImageSource)
+    → IsImageRead files limits old new image source → new.reader ≡ old.reader
+read_keeps files limits old new image source (InputRead read) = read.same_reader
+read_keeps files limits old new image source (FileRead name read same) = ap (λ trace. trace.reader) same
+
+not_read_keeps : (files : FilePromise) (limits : Bounds) (old new : ReadTrace) (failure : Failure) (source : ImageSource)
+    → IsImageNotRead files limits old new failure source → new.reader ≡ old.reader
+not_read_keeps files limits old new failure source (InputNotRead read) = read.same_reader
+not_read_keeps files limits old new failure source (FileNotRead name read same) = ap (λ trace. trace.reader) same
+
+rejection_keeps : (source : ImageSource) (failure : Failure) (run : Run) → IsRejection source failure run → KeepsStreams run
+rejection_keeps source failure run is = record {
+  reader = ap (λ trace. trace.reader) is.nothing_read;
+  writer = ap (λ trace. trace.writer) is.nothing_written;
+  log = reports_keep _ _ _ _ is.reports;
+}
+
+-- The input and the output of work are the same before and after it.
+pub record KeepsWork (work : Work) : Type 0 where
+  pub reader : work.new_input.reader ≡ work.input.reader
+  pub writer : work.new_output.writer ≡ work.output.writer
+
+task_work_keeps : (task : Task) (limits : Bounds) (source : ImageSource) (work : Work) → IsTaskWork task limits source work
+    → KeepsWork work
+task_work_keeps task limits source work (Succeeded done piped outcome) =
+    record { reader = piped.same_streams.same_reader; writer = piped.same_streams.same_writer }
+task_work_keeps task limits source work (HasFailed failure piped outcome) =
+    record { reader = piped.same_streams.same_reader; writer = piped.same_streams.same_writer }
+
+image_work_keeps : (files : FilePromise) (task : Task) (limits : Bounds) (work : Work) (source : ImageSource)
+    → IsImageWork files task limits work source → KeepsWork work
+image_work_keeps files task limits work source (DoneOnInput done) = task_work_keeps _ _ _ _ done
+image_work_keeps files task limits work source (DoneOnFile name opened end is done same) =
+    record { reader = ap (λ trace. trace.reader) same; writer = (task_work_keeps task limits _ (with_input work opened end) done).writer }
+image_work_keeps files task limits work source (FileNotOpened name none failed same) =
+    record { reader = ap (λ trace. trace.reader) same; writer = ap (λ trace. trace.writer) failed.nothing_written }
+
+-- The output is the same after two images were compared.
+compared_keeps_writer : (plan : ComparePlan) (limits : Bounds) (one other : List ℕ) (work : Work)
+    → IsComparedWork plan limits one other work → work.new_output.writer ≡ work.output.writer
+compared_keeps_writer plan limits one other work (WroteDifferences same text is wrote done ended outcome) = wrote.same_writer
+compared_keeps_writer plan limits one other work (NotAllWritten same text is error stopped outcome) = stopped.same_writer
+compared_keeps_writer plan limits one other work (NotCompared error is failed) = ap (λ trace. trace.writer) failed.nothing_written
+
+compare_work_keeps : (files : FilePromise) (plan : ComparePlan) (limits : Bounds) (work : Work) → IsCompareWork files plan limits work
+    → KeepsWork work
+compare_work_keeps files plan limits work (BothRead one other middle one_read other_read compared) = record {
+  reader = read_keeps _ _ _ _ _ _ other_read ∙ read_keeps _ _ _ _ _ _ one_read;
+  writer = compared_keeps_writer _ _ _ _ _ compared;
+}
+compare_work_keeps files plan limits work (OneNotRead failure not_read failed) = record {
+  reader = not_read_keeps _ _ _ _ _ _ not_read;
+  writer = ap (λ trace. trace.writer) failed.nothing_written;
+}
+compare_work_keeps files plan limits work (OtherNotRead one middle failure one_read not_read failed) = record {
+  reader = not_read_keeps _ _ _ _ _ _ not_read ∙ read_keeps _ _ _ _ _ _ one_read;
+  writer = ap (λ trace. trace.writer) failed.nothing_written;
+}
+
+explain_work_keeps : (cause : Option Cause) (work : Work) → IsExplainWork cause work → KeepsWork work
+explain_work_keeps cause work (WroteExplanation wrote done ended outcome input) =
+    record { reader = ap (λ trace. trace.reader) input; writer = wrote.same_writer }
+explain_work_keeps cause work (ExplanationNotWritten error stopped outcome input) =
+    record { reader = ap (λ trace. trace.reader) input; writer = stopped.same_writer }
+explain_work_keeps cause work (NoMemoryForExplanation failed input) =
+    record { reader = ap (λ trace. trace.reader) input; writer = ap (λ trace. trace.writer) failed.nothing_written }
+
+-- Building keeps the input and the output.
+built_keeps : (plan : BuildPlan) (parts : List Part) (limits : Bounds) (work : Work) → IsBuiltWork plan parts limits work
+    → KeepsWork work
+built_keeps plan parts limits work (WasBuilt done piped ended outcome) =
+    record { reader = piped.same_streams.same_reader; writer = piped.same_streams.same_writer }
+built_keeps plan parts limits work (WasNotBuilt error piped outcome) =
+    record { reader = piped.same_streams.same_reader; writer = piped.same_streams.same_writer }
+
+build_work_keeps : (files : FilePromise) (plan : BuildPlan) (limits : Bounds) (work : Work) → IsBuildWork files plan limits work
+    → KeepsWork work
+build_work_keeps files plan limits work (BuiltWithInput parts are reads built) = built_keeps _ _ _ _ built
+build_work_keeps files plan limits work (BuiltOfFiles parts are reads nothing end empty built same) =
+    record { reader = ap (λ trace. trace.reader) same; writer = (built_keeps plan parts limits (with_input work nothing end) built).writer }
+build_work_keeps files plan limits work (PartNotRead failed not_read is same) =
+    record { reader = ap (λ trace. trace.reader) same; writer = ap (λ trace. trace.writer) is.nothing_written }
+build_work_keeps files plan limits work (NoRoom is same) =
+    record { reader = ap (λ trace. trace.reader) same; writer = ap (λ trace. trace.writer) is.nothing_written }
+
+-- A job keeps its input and its output.
+pub job_work_keeps : (files : FilePromise) (job : Job) (limits : Bounds) (work : Work) → IsJobWork files job limits work
+    → KeepsWork work
+job_work_keeps files (RunTask task source) limits work done = image_work_keeps _ _ _ _ _ done
+job_work_keeps files (Compare plan) limits work done = compare_work_keeps _ _ _ _ done
+job_work_keeps files (Explain cause) limits work done = explain_work_keeps _ _ done
+job_work_keeps files (Build plan) limits work done = build_work_keeps _ _ _ _ done
+
+held_work_keeps : (files : FilePromise) (job : Job) (limits : Bounds) (input new_input : ReadTrace) (outcome : Result Done Problem)
+    (held : Option (List ℕ)) → IsHeldWork files job limits input new_input outcome held → new_input.reader ≡ input.reader
+held_work_keeps files job limits input new_input outcome held is = (job_work_keeps files job limits _ is.work).reader
+
+saved_work_keeps : (files : FilePromise) (job : Job) (limits : Bounds) (name : Bor (List ℕ)) (input new_input : ReadTrace)
+    (steps new_steps : Option (List FileStep)) (outcome : Result Done Problem)
+    → IsSavedWork files job limits name input new_input steps new_steps outcome → new_input.reader ≡ input.reader
+saved_work_keeps files job limits name input new_input steps new_steps outcome (OutputSaved done output is saved same) =
+    held_work_keeps _ job limits _ _ _ _ is
+saved_work_keeps files job limits name input new_input steps new_steps outcome (OutputNotSaved done output is failure not same) =
+    held_work_keeps _ job limits _ _ _ _ is
+saved_work_keeps files job limits name input new_input steps new_steps outcome (NoOutput failed is kept same) =
+    held_work_keeps _ job limits _ _ _ _ is.work
+
+output_run_keeps : (files : FilePromise) (job : Job) (limits : Bounds) (run : Run) (outcome : Result Done Problem)
+    (output : Option (Bor (List ℕ))) → IsOutputRun files job limits run outcome output → KeepsWork (work_of run outcome)
+output_run_keeps files job limits run outcome output (ToStandardOutput work kept) = job_work_keeps files job limits _ work
+output_run_keeps files job limits run outcome output (ToFile name saved same) =
+    record { reader = saved_work_keeps _ job limits _ _ _ _ _ _ saved; writer = ap (λ trace. trace.writer) same }
+
+end_keeps : (errors new_errors : WriteTrace) (status : ℕ) (outcome : Result Done Problem) → IsEnd errors new_errors status outcome
+    → new_errors.writer ≡ errors.writer
+end_keeps errors new_errors status outcome (EndsWell done same notes is) = notes_keep _ _ _ notes
+end_keeps errors new_errors status outcome (EndsWithFailure failed same reports is) = reports_keep _ _ _ _ reports
+
+request_run_keeps : (files : FilePromise) (request : Request) (run : Run) → IsRequestRun files request run → KeepsStreams run
+request_run_keeps files request run is =
+    let keeps = output_run_keeps files request.job request.limits run is.outcome request.output is.done in
+    record { reader = keeps.reader; writer = keeps.writer; log = end_keeps _ _ _ _ is.end }
+
+text_run_keeps : (text : List ℕ) (run : Run) → IsTextRun text run → KeepsStreams run
+text_run_keeps text run (IsWritten wrote errors input steps status) = record {
+  reader = ap (λ trace. trace.reader) input;
+  writer = wrote.same_writer;
+  log = ap (λ trace. trace.writer) errors;
+}
+text_run_keeps text run (IsNotWritten error stopped reports input steps status) = record {
+  reader = ap (λ trace. trace.reader) input;
+  writer = stopped.same_writer;
+  log = reports_keep _ _ _ _ reports;
+}
+text_run_keeps text run (IsUsage logs output input steps status) = record {
+  reader = ap (λ trace. trace.reader) input;
+  writer = ap (λ trace. trace.writer) output;
+  log = logs_keep _ _ _ logs;
+}
+
+-- A run keeps its streams.
+pub run_keeps : (files : FilePromise) (run : Run) → IsRun files run → KeepsStreams run
+run_keeps files run (RanJob request is lengths ran) = request_run_keeps _ request _ ran
+run_keeps files run (Rejected failure why rejection) = rejection_keeps _ _ _ rejection
+run_keeps files run (WroteText text is) = text_run_keeps _ _ is

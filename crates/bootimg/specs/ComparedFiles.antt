@@ -1,0 +1,43 @@
+use Rattle.std.specs.Prelude.{◌≡◌, ℕ, Bool, true, false, List, []}
+use Rattle.bi_base.specs.declared.fault.Error.TheVariants.{Refused, OutOfMemory as NoMemory}
+use Rattle.bi_base.specs.Limits.{Bounds}
+use Rattle.bi_commands.specs.Comparing.{IsComparison, IsComparisonError, IsReadingError}
+use Rattle.bi_commands.specs.declared.compare.CompareError.{CompareError}
+use Rattle.bi_commands.specs.declared.compare.CompareError.TheVariants.{One, Other, OutOfMemory}
+use Rattle.bi_norm.specs.Comparing.{AreCompared}
+use Rattle.bootimg.specs.declared.command_line.source.ComparePlan.{ComparePlan}
+use Rattle.bootimg.specs.declared.command_line.source.ImageSource.{ImageSource}
+use Rattle.bootimg.specs.declared.command_line.source.ImageSource.TheVariants.{Standard}
+use Rattle.bootimg.specs.declared.failure.Failure.{Failure}
+use Rattle.bootimg.specs.declared.failure.Failure.TheVariants.{Call}
+
+-- What the command `compare` makes of two files (profile of this project).
+
+-- The exit status after comparing, by whether both files mean the same.
+abbrev pub compare_status : (same : Bool) → ℕ
+compare_status true = 0
+compare_status false = 1
+
+-- What `compare` writes for two files, and whether they mean the same. With `--quiet` it writes
+-- nothing.
+abbrev pub IsCompareOutput : (quiet : Bool) → Bounds → (one other : List ℕ) → (same : Bool)
+    → (text : List ℕ) → Type 0
+IsCompareOutput true limits one other same text = AreCompared limits one other same × (text ≡ [])
+IsCompareOutput false limits one other same text = IsComparison limits one other same text
+
+-- Why `compare` fails for two files. With `--quiet` they need not be described.
+abbrev pub IsCompareFailure : (quiet : Bool) → Bounds → (one other : List ℕ) → CompareError → Type 0
+IsCompareFailure true limits one other error = IsReadingError limits one other error
+IsCompareFailure false limits one other error = IsComparisonError limits one other error
+
+-- The failure for an error of comparing.
+abbrev pub failure_of_comparing : CompareError → Failure
+failure_of_comparing (One fault) = Call (Refused fault)
+failure_of_comparing (Other fault) = Call (Refused fault)
+failure_of_comparing OutOfMemory = Call NoMemory
+
+-- The image that an error of comparing is about.
+abbrev pub refused_source : ComparePlan → CompareError → ImageSource
+refused_source plan (One fault) = plan.one
+refused_source plan (Other fault) = plan.other
+refused_source plan OutOfMemory = Standard

@@ -1,0 +1,123 @@
+use Rattle.std.specs.Prelude.{List, [], ◌∷◌, ◌++◌, ℕ, Option, None, Some, codes}
+use Rattle.std.specs.List.{flat_map}
+use Rattle.bi_base.specs.Causes.{name_of}
+use Rattle.bi_base.specs.declared.fault.Cause.{Cause}
+use Rattle.bi_base.specs.declared.fault.Cause.TheVariants.{Truncated, BadMagic, BadHeaderCrc}
+use Rattle.bi_base.specs.declared.fault.Cause.TheVariants.{BadDataCrc, BadPartTable, BadPart}
+use Rattle.bi_base.specs.declared.fault.Cause.TheVariants.{BadTotalSize, BadVersion, BadOffset}
+use Rattle.bi_base.specs.declared.fault.Cause.TheVariants.{BadToken, BadName, BadNameOffset}
+use Rattle.bi_base.specs.declared.fault.Cause.TheVariants.{PropertyAfterChild, DuplicateProperty}
+use Rattle.bi_base.specs.declared.fault.Cause.TheVariants.{DuplicateNode, TooDeep, NoImages}
+use Rattle.bi_base.specs.declared.fault.Cause.TheVariants.{BadCell, NoSize, OutsideFile, TooLarge}
+use Rattle.bi_base.specs.declared.fault.Cause.TheVariants.{NoCodeName, TooManyParts, EmptyPart}
+use Rattle.bi_base.specs.declared.fault.Cause.TheVariants.{BadField, Unsupported}
+
+-- What `explain` writes (profile of this project).
+
+-- What a cause means, and what a user can do.
+abbrev pub sentence_of : Cause → List ℕ
+sentence_of Truncated =
+    codes "The file ends before something that it has to hold, for example before the end of "
+    ++ codes "the data of a legacy image: copy it again, as a whole."
+sentence_of BadMagic =
+    codes "The file is of no kind that the command reads: unpack it if it is compressed, or "
+    ++ codes "take away what is before the image. convert reads legacy images alone."
+sentence_of BadHeaderCrc =
+    codes "The header of a legacy image has another checksum than it says: fetch the image "
+    ++ codes "again, or build it again after a change of its fields."
+sentence_of BadDataCrc =
+    codes "The data of a legacy image has another checksum than its header says: fetch the "
+    ++ codes "image again."
+sentence_of BadPartTable =
+    codes "The list of sizes of a multi-file image or a script has no end: build the image "
+    ++ codes "with data, not with -s of mkimage."
+sentence_of BadPart =
+    codes "A part ends after the data of the image, as in one that was built with -x of "
+    ++ codes "mkimage: build it again without. If build-legacy or build-fit says so, the lengths "
+    ++ codes "are not those of the input: give the length of each part, so that together they are "
+    ++ codes "the whole input."
+sentence_of BadTotalSize =
+    codes "A devicetree blob says that it is shorter than its header: build it again with dtc."
+sentence_of BadVersion =
+    codes "A devicetree blob is older than version 16, or asks for a reader that is newer than "
+    ++ codes "version 17: write it as version 17 with dtc."
+sentence_of BadOffset =
+    codes "A block of a devicetree blob is in a place where it may not be: build the blob "
+    ++ codes "again."
+sentence_of BadToken =
+    codes "The structure of a devicetree blob has an unknown token, or one in a wrong place: "
+    ++ codes "build the blob again."
+sentence_of BadName =
+    codes "A node or a property of a devicetree blob has a name that it may not have, such as "
+    ++ codes "an empty one: rename it in the source."
+sentence_of BadNameOffset =
+    codes "The name of a property is outside the strings of the devicetree blob: build the "
+    ++ codes "blob again."
+sentence_of PropertyAfterChild =
+    codes "A property comes after a child of its node: build the blob again with dtc, which "
+    ++ codes "writes properties first."
+sentence_of DuplicateProperty =
+    codes "A node has two properties of one name: remove one from the source."
+sentence_of DuplicateNode =
+    codes "A node has two children of one name, or two images of build-fit have one name, and "
+    ++ codes "the offset is then the number of the second, counted from 0: rename one of them."
+sentence_of TooDeep =
+    codes "More than 64 nodes are inside one another: no boot image needs that many, so "
+    ++ codes "distrust the file."
+sentence_of NoImages =
+    codes "The devicetree blob is no flattened image tree, since its root has no node "
+    ++ codes "'images': read it with dtc."
+sentence_of BadCell =
+    codes "A property that gives the place or size of a payload is not a number of four bytes: "
+    ++ codes "correct it in the source."
+sentence_of NoSize =
+    codes "An image has the offset of its payload but not its size: add 'data-size' to it."
+sentence_of OutsideFile =
+    codes "A payload ends after the end of the file: copy the whole file, not only the tree "
+    ++ codes "before the payloads."
+sentence_of TooLarge =
+    codes "The file, the image or description that would be written, or for describe, compare, "
+    ++ codes "check and update --hashes the payloads together are longer than --limit, which is "
+    ++ codes "the offset: give a greater limit if you trust the file."
+sentence_of NoCodeName =
+    codes "A code that a flattened image tree has to name has no name: the offset is that of "
+    ++ codes "the code in the header for convert, and the number of the image, counted from 0, "
+    ++ codes "for build-fit. Give a code that has a name."
+sentence_of TooManyParts =
+    codes "A multi-file image of more than three parts, or a script of more than one, cannot "
+    ++ codes "be converted: extract the parts, and build a tree of them."
+sentence_of EmptyPart =
+    codes "A part is empty, which ends the list of sizes, or the image to be converted has no "
+    ++ codes "part: leave the part out. The offset is in the image."
+sentence_of BadField =
+    codes "A field cannot be written as it is given: a name of more than 32 bytes (32), "
+    ++ codes "several parts for a type that has one (30), or, with the number of the image, a bad "
+    ++ codes "name or the type multi in build-fit: give another value."
+sentence_of Unsupported =
+    codes "The file is of a kind that cannot be handled yet. No command of this version says "
+    ++ codes "so."
+
+-- The causes, in the order of the manual page.
+abbrev pub all_causes : List Cause
+all_causes =
+    Truncated ∷ BadMagic ∷ BadHeaderCrc ∷ BadDataCrc ∷ BadPartTable ∷ BadPart ∷ BadTotalSize ∷
+    BadVersion ∷ BadOffset ∷ BadToken ∷ BadName ∷ BadNameOffset ∷ PropertyAfterChild ∷
+    DuplicateProperty ∷ DuplicateNode ∷ TooDeep ∷ NoImages ∷ BadCell ∷ NoSize ∷ OutsideFile ∷
+    TooLarge ∷ NoCodeName ∷ TooManyParts ∷ EmptyPart ∷ BadField ∷ Unsupported ∷ []
+
+-- What a cause means, as a line.
+abbrev pub explanation_of : Cause → List ℕ
+explanation_of cause = sentence_of cause ++ 10 ∷ []
+
+-- The same after the name of the cause.
+abbrev pub line_of_cause : Cause → List ℕ
+line_of_cause cause = name_of cause ++ codes ": " ++ explanation_of cause
+
+-- A line for each cause.
+abbrev pub all_explanations : List ℕ
+all_explanations = flat_map line_of_cause all_causes
+
+-- What `explain` writes for this cause, or without one.
+abbrev pub explained : Option Cause → List ℕ
+explained None = all_explanations
+explained (Some cause) = explanation_of cause

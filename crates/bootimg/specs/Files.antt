@@ -1,0 +1,209 @@
+use Rattle.std.specs.Prelude.{◌≡◌, ◌≢◌, ◌⊎◌, ◌<◌, ⊤, ℕ, List, [], ◌∷◌, ◌++◌, length, get_or}
+use Rattle.std.specs.Prelude.{All, Contains, Option, None, Some, codes, map, option_map}
+use Rattle.std.specs.Fmt.{decimal}
+use Rattle.bi_base.specs.Traces.{ReadTrace, WriteTrace, ReadsWell, WritesWell}
+use Rattle.bi_base.specs.Writing.{WroteAndFlushed, WriteOrFlushStopped}
+use Rattle.bi_base.specs.declared.fault.Error.{Error}
+use Rattle.bi_base.specs.declared.fault.Error.TheVariants.{OutOfMemory}
+use Rattle.bootimg.specs.declared.failure.Failure.{Failure}
+use Rattle.bootimg.specs.declared.failure.Failure.TheVariants.{Call, NotWritten}
+
+-- The files that the program opens by name, and those that it makes (profile of this project).
+
+-- What a file system promises of the file of each name.
+pub record FilePromise : Type 1 where
+  -- A file of this name can be opened, and its reader has these bytes, if they are known.
+  pub has_file : (name : List ℕ) → (remaining : Option (List ℕ)) → Type 0
+  -- No file of this name can be opened.
+  pub has_no_file : (name : List ℕ) → Type 0
+  -- A new file may take this name: nothing has it, or a regular file does.
+  pub can_replace : (name : List ℕ) → Type 0
+  -- No new file may take this name.
+  pub cannot_replace : (name : List ℕ) → Type 0
+
+-- The promise of a file system without files.
+abbrev pub no_files : FilePromise
+no_files = record {
+  has_file = λ name remaining. ⊥;
+  has_no_file = λ name. ⊤;
+  can_replace = λ name. ⊥;
+  cannot_replace = λ name. ⊤;
+}
+
+-- The promise of a file system of which nothing is known.
+abbrev pub any_files : FilePromise
+any_files = record {
+  has_file = λ name remaining. ⊤;
+  has_no_file = λ name. ⊤;
+  can_replace = λ name. ⊤;
+  cannot_replace = λ name. ⊤;
+}
+
+-- The file of this name was opened, and this is its reader before the first call. What the calls
+-- made of it is known by their own promises alone: the file is closed after them, and no one else
+-- sees its reader.
+pub record IsOpened (files : FilePromise) (name : List ℕ) (trace : ReadTrace) : Type 0 where
+  pub is_file : files.has_file name trace.remaining
+  pub reads_well : ReadsWell trace
+  pub none_taken : trace.taken ≡ 0
+
+-- ---- new files
+
+-- A step with a new file, which succeeded or failed. Its writer is known before the first call, and
+-- when it is closed.
+pub data FileStep : Type 0 where
+  -- A file of this name was made, which nothing had before.
+  Made : (name : List ℕ) → (file : WriteTrace) → FileStep
+  -- No file of this name was made, since something has the name.
+  NameTaken : (name : List ℕ) → FileStep
+  -- No file of this name could be made, for another reason.
+  NotMade : (name : List ℕ) → FileStep
+  -- The file of this name was closed.
+  Closed : (name : List ℕ) → (file : WriteTrace) → FileStep
+  -- The same failed.
+  NotClosed : (name : List ℕ) → (file : WriteTrace) → FileStep
+  -- The file of the first name took the second one, in place of the file that had it.
+  Renamed : (name new_name : List ℕ) → FileStep
+  -- The same failed: each file has the name that it had.
+  NotRenamed : (name new_name : List ℕ) → FileStep
+  -- The file of this name was removed.
+  Removed : (name : List ℕ) → FileStep
+  -- The same failed.
+  NotRemoved : (name : List ℕ) → FileStep
+
+-- These steps were taken between two times, if the steps up to each are known.
+abbrev pub TookSteps : (old new : Option (List FileStep)) → List FileStep → Type 0
+TookSteps old new steps = new ≡ option_map (λ before. before ++ steps) old
+
+-- There are no bytes, if they are known.
+abbrev pub HasNoBytes : Option (List ℕ) → Type 0
+HasNoBytes None = ⊤
+HasNoBytes (Some bytes) = bytes ≡ []
+
+-- The writer of a new file before the first call.
+pub record IsNewFile (file : WriteTrace) : Type 0 where
+  pub has_no_bytes : HasNoBytes file.contents
+  pub writes_well : WritesWell file
+
+-- ---- saving
+
+-- The second name is that of a new file with this number, in the directory that the first one
+-- names.
+pub record IsBeside (name : List ℕ) (number : ℕ) (beside : List ℕ) : Type 0 where
+  -- The directory, with the slash after it, or nothing.
+  pub directory : List ℕ
+  pub last : List ℕ
+  pub is_name : name ≡ directory ++ last
+  pub is_beside : beside ≡ directory ++ (codes ".bootimg-" ++ decimal number)
+  pub ends_with_slash : (directory ≡ []) ⊎ ((before : List ℕ) × (directory ≡ before ++ 47 ∷ []))
+  pub last_has_no_slash : (index : ℕ) → index < length last → get_or last index 0 ≢ 47
+
+-- The name of this number beside a file is one of these, or it is that of the file itself.
+abbrev pub IsTried : (name : List ℕ) → (taken : List (List ℕ)) → (number : ℕ) → Type 0
+IsTried name taken number =
+    (beside : List ℕ) × IsBeside name number beside × ((beside ≡ name) ⊎ Contains taken beside)
+
+-- No file was made of a name beside this file with a number below this one: something has each of
+-- these names.
+pub record AreTaken (name : List ℕ) (count : ℕ) (old new : Option (List FileStep)) : Type 0 where
+  pub taken : List (List ℕ)
+  pub each_is_beside : All (λ beside. (number : ℕ) × IsBeside name number beside) taken
+  pub each_is_tried : (number : ℕ) → number < count → IsTried name taken number
+  pub steps : TookSteps old new (map NameTaken taken)
+
+-- A new file was made beside the file of this name. It has the first of the numbered names that
+-- nothing has.
+pub record IsMadeBeside (name beside : List ℕ) (file : WriteTrace)
+    (old new : Option (List FileStep)) : Type 0
+  where
+    pub number : ℕ
+    pub tried : Option (List FileStep)
+    pub are_taken : AreTaken name number old tried
+    pub is_beside : IsBeside name number beside
+    pub is_another : beside ≢ name
+    pub is_new : IsNewFile file
+    pub made : TookSteps tried new (Made beside file ∷ [])
+
+-- No new file was made beside the file of this name, for this reason.
+pub data IsNotMade (name : List ℕ) (failure : Failure) (old new : Option (List FileStep)) : Type 0
+  where
+    NoMemoryForName : (number : ℕ) → AreTaken name number old new → failure ≡ Call OutOfMemory
+        → IsNotMade name failure old new
+    AllNamesTaken : AreTaken name 10000 old new → failure ≡ NotWritten
+        → IsNotMade name failure old new
+    MakingFailed : (number : ℕ) (beside : List ℕ) (tried : Option (List FileStep))
+        → AreTaken name number old tried → IsBeside name number beside
+        → TookSteps tried new (NotMade beside ∷ []) → failure ≡ NotWritten
+        → IsNotMade name failure old new
+
+-- These bytes were written to the new file of this name, and it was flushed and closed.
+pub record IsFilled (beside bytes : List ℕ) (file : WriteTrace) (old new : Option (List FileStep))
+    : Type 0
+  where
+    pub filled : WriteTrace
+    pub is_filled : WroteAndFlushed file bytes filled
+    pub closed : TookSteps old new (Closed beside filled ∷ [])
+
+-- That failed: writing these bytes or flushing stopped, and the file was closed or not; or all was
+-- written and flushed, and the file could not be closed.
+pub data IsNotFilled (beside bytes : List ℕ) (file : WriteTrace) (old new : Option (List FileStep))
+    : Type 0
+  where
+    WritingStopped : (filled : WriteTrace) (error : Error)
+        → WriteOrFlushStopped file bytes filled error
+        → TookSteps old new (Closed beside filled ∷ [])
+        ⊎ TookSteps old new (NotClosed beside filled ∷ [])
+        → IsNotFilled beside bytes file old new
+    ClosingFailed : (filled : WriteTrace) → WroteAndFlushed file bytes filled
+        → TookSteps old new (NotClosed beside filled ∷ []) → IsNotFilled beside bytes file old new
+
+-- These bytes were written to the new file, and it took the name.
+pub record IsPutInPlace (name beside bytes : List ℕ) (file : WriteTrace)
+    (old new : Option (List FileStep)) : Type 0
+  where
+    pub closed : Option (List FileStep)
+    pub is_filled : IsFilled beside bytes file old closed
+    pub renamed : TookSteps closed new (Renamed beside name ∷ [])
+
+-- That failed: the new file was not filled, or it was and could not take the name.
+pub data IsNotPutInPlace (name beside bytes : List ℕ) (file : WriteTrace)
+    (old new : Option (List FileStep)) : Type 0
+  where
+    FillingFailed : IsNotFilled beside bytes file old new
+        → IsNotPutInPlace name beside bytes file old new
+    RenamingFailed : (closed : Option (List FileStep)) → IsFilled beside bytes file old closed
+        → TookSteps closed new (NotRenamed beside name ∷ [])
+        → IsNotPutInPlace name beside bytes file old new
+
+-- The file of this name has these bytes now: they were written to a new file beside it, which was
+-- flushed and closed, and took its name.
+pub record IsSaved (files : FilePromise) (name bytes : List ℕ) (old new : Option (List FileStep))
+    : Type 0
+  where
+    pub beside : List ℕ
+    pub file : WriteTrace
+    pub made : Option (List FileStep)
+    pub can_be_replaced : files.can_replace name
+    pub is_made : IsMadeBeside name beside file old made
+    pub is_put_in_place : IsPutInPlace name beside bytes file made new
+
+-- The file of this name is as it was, for this reason. If a new file was made it was removed then.
+-- If that failed, it is left.
+pub data IsNotSaved (files : FilePromise) (name bytes : List ℕ) (failure : Failure)
+    (old new : Option (List FileStep)) : Type 0
+  where
+    CannotBeReplaced : files.cannot_replace name → new ≡ old → failure ≡ NotWritten
+        → IsNotSaved files name bytes failure old new
+    NoNewFile : files.can_replace name → IsNotMade name failure old new
+        → IsNotSaved files name bytes failure old new
+    NewFileFailed : (beside : List ℕ) (file : WriteTrace) (made failed : Option (List FileStep))
+        → files.can_replace name → IsMadeBeside name beside file old made
+        → IsNotPutInPlace name beside bytes file made failed
+        → TookSteps failed new (Removed beside ∷ []) ⊎ TookSteps failed new (NotRemoved beside ∷ [])
+        → failure ≡ NotWritten → IsNotSaved files name bytes failure old new
+
+-- No output can be saved with such files.
+abbrev pub SavesNothing : FilePromise → Type 0
+SavesNothing files =
+    (name bytes : List ℕ) (old new : Option (List FileStep))
+    → ¬ (IsSaved files name bytes old new)

@@ -1,0 +1,214 @@
+//! Building an image of the parts that the arguments name.
+
+ghost use Rattle.std.specs.Prelude.{◌≡◌, length, IfOk, IfErr};
+ghost use Rattle.std.specs.List.{AllZip, list_any};
+ghost use Rattle.bi_base.specs.Pipes.{IsTracedPipe};
+ghost use Rattle.bi_base.specs.declared.fault.Error.TheVariants.{OutOfMemory};
+ghost use Rattle.bootimg.specs.CommandLine.{HasLengths, sources_of};
+ghost use Rattle.bootimg.specs.CommandLine.{is_input as is_input_of, reads_input as reads_input_of};
+ghost use Rattle.bootimg.specs.ReadParts.{IsLent, IsReadingProblem, IsSourceProblem, WasRead};
+ghost use Rattle.bootimg.specs.Runs.{build_promise, problem, IsBuildWork, IsBuiltWork};
+ghost use Rattle.bootimg.specs.declared.command_line.source.ImageSource.TheVariants.{Standard};
+ghost use Rattle.bootimg.specs.declared.failure.Failure.TheVariants.{Call};
+
+use crate::command_line::{BuildPlan, ImageSource, PartSource};
+use crate::failure::Failure;
+use crate::files::FileSystem;
+use crate::jobs::{Problem, read_file};
+use crate::tasks::{Done, SUCCESS};
+use bi_base::{Error, Limits, TracedRead, TracedReader, TracedWrite, pipe};
+use bi_commands::build_fit::FitBuilder;
+use bi_commands::build_legacy::LegacyBuilder;
+use bi_commands::parts::Part;
+use std::alloc::Global;
+use std::io;
+
+/// A part of an image to be built, whose file was read if it has one.
+#[derive(Debug, Drop)]
+pub enum ReadPart {
+    /// The next bytes of standard input: this many.
+    Input(u32),
+    /// The bytes of the file.
+    File(Vec<u8>),
+}
+
+/// Builds an image, and returns how that ended. First the files of the parts are read, in the order
+/// of the parts, then standard input, if a part is in it or if no part is named.
+pub fn build_image<'a, S: TracedRead, T: TracedWrite, F: FileSystem>(
+    alloc: Global,
+    plan: &BuildPlan<'a>,
+    limits: Limits,
+    files: &F,
+    input: &mut S,
+    output: &mut T,
+) -> Result<Done, Problem<'a>>
+    requires { HasLengths plan.now }
+    ensures { IsBuildWork (F.promise files.now) plan.now limits (record {
+      input = S.trace input.old;
+      new_input = S.trace input.new;
+      output = T.trace output.old;
+      new_output = T.trace output.new;
+      outcome = result;
+    }) }
+{
+    let sources = plan.sources();
+    let read = read_parts(alloc, sources, limits, files)?;
+    let parts = lend_parts(alloc, &read)?;
+    if reads_input(sources) {
+        build(alloc, plan, &parts, limits, input, output)
+    } else {
+        let mut empty = io::empty();
+        let mut nothing = TracedReader::new(&mut empty);
+        build(alloc, plan, &parts, limits, &mut nothing, output)
+    }
+}
+
+/// Returns whether standard input is read: if a part is in it, or if no part is named.
+fn reads_input(sources: &[PartSource<'_>]) -> bool
+    ensures { result ≡ reads_input_of sources.now }
+{
+    sources.is_empty() || has_input(sources)
+}
+
+/// Returns whether one of these parts is in standard input.
+fn has_input(sources: &[PartSource<'_>]) -> bool
+    ensures { result ≡ list_any is_input_of sources.now }
+{
+    sources.iter().any(|source| is_input(source))
+}
+
+/// Returns whether a part is in standard input.
+fn is_input(source: &PartSource<'_>) -> bool
+    ensures { result ≡ is_input_of source.now }
+{
+    match source {
+        PartSource::Input(_) => true,
+        PartSource::File(_) => false,
+    }
+}
+
+/// Reads the files of parts, in the order of the parts. Fails as `read_part` does for the first
+/// part for which it fails, or with OutOfMemory.
+fn read_parts<'a, F: FileSystem>(
+    alloc: Global,
+    sources: &[PartSource<'a>],
+    limits: Limits,
+    files: &F,
+) -> Result<Vec<ReadPart>, Problem<'a>>
+    ensures read { IfOk result (λ read. AllZip (WasRead (F.promise files.now) limits) sources.now
+        read.items) }
+    ensures failed { IfErr result (IsReadingProblem (F.promise files.now) limits sources.now) }
+{
+    let mut read = Vec::with_capacity(alloc, sources.len())?;
+    for source in sources {
+        let part = read_part(alloc, *source, limits, files)?;
+        read.push(part)?;
+    }
+    Ok(read)
+}
+
+/// Reads the file of a part, if it has one. Fails as `read_file` does, with the name of the file.
+fn read_part<'a, F: FileSystem>(
+    alloc: Global,
+    source: PartSource<'a>,
+    limits: Limits,
+    files: &F,
+) -> Result<ReadPart, Problem<'a>>
+    ensures read { IfOk result (λ read. WasRead (F.promise files.now) limits source.entry read) }
+    ensures failed { IfErr result (IsSourceProblem (F.promise files.now) limits source.entry) }
+{
+    match source {
+        PartSource::Input(length) => Ok(ReadPart::Input(length)),
+        PartSource::File(name) => match read_file(alloc, name, limits, files) {
+            Ok(bytes) => Ok(ReadPart::File(bytes)),
+            Err(failure) => Err(Problem {
+                source: ImageSource::File(name),
+                failure,
+            }),
+        },
+    }
+}
+
+/// Returns these parts, which borrow the bytes of the files. Fails with OutOfMemory.
+fn lend_parts<'r, 'a>(alloc: Global, read: &'r [ReadPart]) -> Result<Vec<Part<'r>>, Problem<'a>>
+    ensures parts { IfOk result (λ parts. AllZip IsLent read.entry.now parts.items) }
+    ensures failed { IfErr result (λ failed. failed ≡ problem Standard (Call OutOfMemory)) }
+{
+    let mut parts = Vec::with_capacity(alloc, read.len())?;
+    for part in read {
+        parts.push(lend_part(part))?;
+    }
+    Ok(parts)
+}
+
+/// Returns this part, which borrows the bytes of the file.
+fn lend_part(read: &ReadPart) -> Part<'_>
+    ensures { IsLent read.entry.now result }
+{
+    match read {
+        ReadPart::Input(length) => Part::Length(*length),
+        ReadPart::File(bytes) => Part::Bytes(bytes),
+    }
+}
+
+/// Builds the image of these parts, and returns how that ended.
+fn build<'a, S: TracedRead, T: TracedWrite>(
+    alloc: Global,
+    plan: &BuildPlan<'_>,
+    parts: &[Part<'_>],
+    limits: Limits,
+    input: &mut S,
+    output: &mut T,
+) -> Result<Done, Problem<'a>>
+    requires lengths { HasLengths plan.now }
+    requires one_each { length parts.now ≡ length (sources_of plan.now) }
+    ensures { IsBuiltWork plan.now parts.now limits (record {
+      input = S.trace input.old;
+      new_input = S.trace input.new;
+      output = T.trace output.old;
+      new_output = T.trace output.new;
+      outcome = result;
+    }) }
+{
+    match run_builder(alloc, plan, parts, limits, input, output) {
+        Ok(()) => Ok(Done::with_status(SUCCESS)),
+        Err(error) => Err(Problem {
+            source: ImageSource::Standard,
+            failure: Failure::Call(error),
+        }),
+    }
+}
+
+/// Runs the command that builds the image of these parts. Fails as `pipe` does.
+fn run_builder<S: TracedRead, T: TracedWrite>(
+    alloc: Global,
+    plan: &BuildPlan<'_>,
+    parts: &[Part<'_>],
+    limits: Limits,
+    input: &mut S,
+    output: &mut T,
+) -> Result<(), Error>
+    requires lengths { HasLengths plan.now }
+    requires one_each { length parts.now ≡ length (sources_of plan.now) }
+    ensures { IsTracedPipe (build_promise plan.now parts.now limits) limits (S.trace input.old)
+        (S.trace input.new) (T.trace output.old) (T.trace output.new) result }
+{
+    match plan {
+        BuildPlan::Legacy(plan) => {
+            let builder = LegacyBuilder {
+                fields: plan.fields,
+                parts,
+            };
+            pipe(alloc, &builder, input, output, limits)
+        }
+        BuildPlan::Fit(plan) => {
+            let builder = FitBuilder {
+                head: plan.head,
+                images: &plan.images,
+                payloads: parts,
+                form: plan.form,
+            };
+            pipe(alloc, &builder, input, output, limits)
+        }
+    }
+}

@@ -1,0 +1,26 @@
+//! The parts of an image to be built, as the arguments name them.
+
+ghost use Rattle.std.specs.Prelude.{IfSome, IfNone};
+ghost use Rattle.bootimg.specs.CommandLine.{IsPartSource, NoneIs};
+
+use crate::numbers::parse_number;
+
+/// Where a part of an image to be built comes from.
+#[derive(Clone, Copy, Debug, PartialEq, Eq)]
+pub enum PartSource<'a> {
+    /// The next bytes of standard input: this many.
+    Input(u32),
+    /// The whole file of this name.
+    File(&'a str),
+}
+
+/// Parses a length, or `@FILE`. Returns None exactly for any other text.
+pub fn parse_part(word: &str) -> Option<PartSource<'_>>
+    ensures some { IfSome result (IsPartSource word.now) }
+    ensures none { IfNone result (NoneIs (IsPartSource word.now)) }
+{
+    match word.strip_prefix("@") {
+        Some(name) => Some(PartSource::File(name)),
+        None => Some(PartSource::Input(parse_number(word)?)),
+    }
+}

@@ -1,0 +1,54 @@
+//! The images that the arguments name, and the command `compare`.
+
+ghost use Rattle.std.specs.Prelude.{IfOk, IfErr, option_map};
+ghost use Rattle.bootimg.specs.CommandLine.{option_of, IsBadValue, IsComparePlan};
+ghost use Rattle.bootimg.specs.CommandLine.{IsImageSource, IsQuiet};
+
+use crate::failure::Failure;
+use clap::ArgMatches;
+
+/// Where an image is read from.
+#[derive(Clone, Copy, Debug, PartialEq, Eq)]
+pub enum ImageSource<'a> {
+    /// Standard input.
+    Standard,
+    /// The file of this name.
+    File(&'a str),
+}
+
+/// What `compare` compares.
+#[derive(Clone, Copy, Debug)]
+pub struct ComparePlan<'a> {
+    /// The first image.
+    pub one: ImageSource<'a>,
+    /// The second image. At most one of the two is read from standard input.
+    pub other: ImageSource<'a>,
+    /// Whether the differences are left out.
+    pub quiet: bool,
+}
+
+/// Returns the image that the argument of this name gives: standard input if there is none, or if
+/// it is `-`.
+pub fn source<'a>(options: &ArgMatches<'a>, id: &str) -> ImageSource<'a>
+    ensures { IsImageSource (option_of options.now id.now) result }
+{
+    match options.get_str(id) {
+        None | Some("-") => ImageSource::Standard,
+        Some(name) => ImageSource::File(name),
+    }
+}
+
+/// Returns what the options of `compare` give. Fails with BadValue if both images are to be read
+/// from standard input.
+pub fn compare_plan<'a>(options: &ArgMatches<'a>) -> Result<ComparePlan<'a>, Failure>
+    ensures plan { IfOk result (IsComparePlan options.now) }
+    ensures bad { IfErr result (IsBadValue (IsComparePlan options.now)) }
+{
+    let one = source(options, "one");
+    let other = source(options, "other");
+    let quiet = options.get_flag("quiet");
+    match (one, other) {
+        (ImageSource::Standard, ImageSource::Standard) => Err(Failure::BadValue),
+        _ => Ok(ComparePlan { one, other, quiet }),
+    }
+}

@@ -1,0 +1,233 @@
+//! What the causes of refusals mean.
+
+ghost use Rattle.std.specs.Prelude.{◌≡◌, ◌++◌, IfNone, IfOk, IfSome, OnOk, string_bytes};
+ghost use Rattle.bootimg.specs.CommandLine.{IsCauseName, NoneIs};
+ghost use Rattle.bootimg.specs.Explanations.{all_explanations, explained, explanation_of};
+ghost use Rattle.bootimg.specs.Explanations.{line_of_cause, sentence_of};
+
+use bi_base::Cause;
+use std::alloc::{AllocError, Global};
+
+/// The causes, in the order of the manual page.
+const CAUSES: [Cause; 26] = [
+    Cause::Truncated,
+    Cause::BadMagic,
+    Cause::BadHeaderCrc,
+    Cause::BadDataCrc,
+    Cause::BadPartTable,
+    Cause::BadPart,
+    Cause::BadTotalSize,
+    Cause::BadVersion,
+    Cause::BadOffset,
+    Cause::BadToken,
+    Cause::BadName,
+    Cause::BadNameOffset,
+    Cause::PropertyAfterChild,
+    Cause::DuplicateProperty,
+    Cause::DuplicateNode,
+    Cause::TooDeep,
+    Cause::NoImages,
+    Cause::BadCell,
+    Cause::NoSize,
+    Cause::OutsideFile,
+    Cause::TooLarge,
+    Cause::NoCodeName,
+    Cause::TooManyParts,
+    Cause::EmptyPart,
+    Cause::BadField,
+    Cause::Unsupported,
+];
+
+/// Parses the name of a cause. Returns None exactly for any other text.
+pub fn parse_cause(word: &str) -> Option<Cause>
+    ensures some { IfSome result (IsCauseName word.now) }
+    ensures none { IfNone result (NoneIs (IsCauseName word.now)) }
+{
+    match word {
+        "Truncated" => Some(Cause::Truncated),
+        "BadMagic" => Some(Cause::BadMagic),
+        "BadHeaderCrc" => Some(Cause::BadHeaderCrc),
+        "BadDataCrc" => Some(Cause::BadDataCrc),
+        "BadPartTable" => Some(Cause::BadPartTable),
+        "BadPart" => Some(Cause::BadPart),
+        "BadTotalSize" => Some(Cause::BadTotalSize),
+        "BadVersion" => Some(Cause::BadVersion),
+        "BadOffset" => Some(Cause::BadOffset),
+        "BadToken" => Some(Cause::BadToken),
+        "BadName" => Some(Cause::BadName),
+        "BadNameOffset" => Some(Cause::BadNameOffset),
+        "PropertyAfterChild" => Some(Cause::PropertyAfterChild),
+        "DuplicateProperty" => Some(Cause::DuplicateProperty),
+        "DuplicateNode" => Some(Cause::DuplicateNode),
+        "TooDeep" => Some(Cause::TooDeep),
+        "NoImages" => Some(Cause::NoImages),
+        "BadCell" => Some(Cause::BadCell),
+        "NoSize" => Some(Cause::NoSize),
+        "OutsideFile" => Some(Cause::OutsideFile),
+        "TooLarge" => Some(Cause::TooLarge),
+        "NoCodeName" => Some(Cause::NoCodeName),
+        "TooManyParts" => Some(Cause::TooManyParts),
+        "EmptyPart" => Some(Cause::EmptyPart),
+        "BadField" => Some(Cause::BadField),
+        "Unsupported" => Some(Cause::Unsupported),
+        _ => None,
+    }
+}
+
+/// Returns what `explain` writes: what this cause means, or what each one means.
+pub fn explanation(alloc: Global, cause: Option<Cause>) -> Result<String, AllocError>
+    ensures { IfOk result (λ text. string_bytes text ≡ explained cause) }
+{
+    match cause {
+        Some(cause) => explanation_of_cause(alloc, cause),
+        None => explanation_of_all(alloc),
+    }
+}
+
+/// Returns what this cause means, as a line.
+fn explanation_of_cause(alloc: Global, cause: Cause) -> Result<String, AllocError>
+    ensures { IfOk result (λ text. string_bytes text ≡ explanation_of cause) }
+{
+    let mut text = String::new(alloc);
+    text.push_str(sentence(cause))?;
+    text.push_str("\n")?;
+    Ok(text)
+}
+
+/// Returns a line for each cause: its name, and what it means.
+fn explanation_of_all(alloc: Global) -> Result<String, AllocError>
+    ensures { IfOk result (λ text. string_bytes text ≡ all_explanations) }
+{
+    let mut text = String::new(alloc);
+    for cause in CAUSES {
+        put_cause(&mut text, cause)?;
+    }
+    Ok(text)
+}
+
+/// Appends the line of a cause.
+fn put_cause(text: &mut String, cause: Cause) -> Result<(), AllocError>
+    ensures { OnOk result (string_bytes text.new ≡ string_bytes text.old ++ line_of_cause cause) }
+{
+    text.push_str(cause.name())?;
+    text.push_str(": ")?;
+    text.push_str(sentence(cause))?;
+    text.push_str("\n")?;
+    Ok(())
+}
+
+/// Returns what a cause means, and what a user can do. The manual page has the same words.
+fn sentence(cause: Cause) -> &'static str
+    ensures { result.now ≡ sentence_of cause }
+{
+    match cause {
+        Cause::Truncated => {
+            "The file ends before something that it has to hold, for example before the end \
+             of the data of a legacy image: copy it again, as a whole."
+        }
+        Cause::BadMagic => {
+            "The file is of no kind that the command reads: unpack it if it is compressed, \
+             or take away what is before the image. convert reads legacy images alone."
+        }
+        Cause::BadHeaderCrc => {
+            "The header of a legacy image has another checksum than it says: fetch the image \
+             again, or build it again after a change of its fields."
+        }
+        Cause::BadDataCrc => {
+            "The data of a legacy image has another checksum than its header says: fetch the \
+             image again."
+        }
+        Cause::BadPartTable => {
+            "The list of sizes of a multi-file image or a script has no end: build the image \
+             with data, not with -s of mkimage."
+        }
+        Cause::BadPart => {
+            "A part ends after the data of the image, as in one that was built with -x of \
+             mkimage: build it again without. If build-legacy or build-fit says so, the \
+             lengths are not those of the input: give the length of each part, so that \
+             together they are the whole input."
+        }
+        Cause::BadTotalSize => {
+            "A devicetree blob says that it is shorter than its header: build it again with \
+             dtc."
+        }
+        Cause::BadVersion => {
+            "A devicetree blob is older than version 16, or asks for a reader that is newer \
+             than version 17: write it as version 17 with dtc."
+        }
+        Cause::BadOffset => {
+            "A block of a devicetree blob is in a place where it may not be: build the blob \
+             again."
+        }
+        Cause::BadToken => {
+            "The structure of a devicetree blob has an unknown token, or one in a wrong \
+             place: build the blob again."
+        }
+        Cause::BadName => {
+            "A node or a property of a devicetree blob has a name that it may not have, such \
+             as an empty one: rename it in the source."
+        }
+        Cause::BadNameOffset => {
+            "The name of a property is outside the strings of the devicetree blob: build the \
+             blob again."
+        }
+        Cause::PropertyAfterChild => {
+            "A property comes after a child of its node: build the blob again with dtc, \
+             which writes properties first."
+        }
+        Cause::DuplicateProperty => {
+            "A node has two properties of one name: remove one from the source."
+        }
+        Cause::DuplicateNode => {
+            "A node has two children of one name, or two images of build-fit have one name, \
+             and the offset is then the number of the second, counted from 0: rename one of \
+             them."
+        }
+        Cause::TooDeep => {
+            "More than 64 nodes are inside one another: no boot image needs that many, so \
+             distrust the file."
+        }
+        Cause::NoImages => {
+            "The devicetree blob is no flattened image tree, since its root has no node \
+             'images': read it with dtc."
+        }
+        Cause::BadCell => {
+            "A property that gives the place or size of a payload is not a number of four \
+             bytes: correct it in the source."
+        }
+        Cause::NoSize => {
+            "An image has the offset of its payload but not its size: add 'data-size' to it."
+        }
+        Cause::OutsideFile => {
+            "A payload ends after the end of the file: copy the whole file, not only the \
+             tree before the payloads."
+        }
+        Cause::TooLarge => {
+            "The file, the image or description that would be written, or for describe, \
+             compare, check and update --hashes the payloads together are longer than \
+             --limit, which is the offset: give a greater limit if you trust the file."
+        }
+        Cause::NoCodeName => {
+            "A code that a flattened image tree has to name has no name: the offset is that \
+             of the code in the header for convert, and the number of the image, counted \
+             from 0, for build-fit. Give a code that has a name."
+        }
+        Cause::TooManyParts => {
+            "A multi-file image of more than three parts, or a script of more than one, \
+             cannot be converted: extract the parts, and build a tree of them."
+        }
+        Cause::EmptyPart => {
+            "A part is empty, which ends the list of sizes, or the image to be converted has \
+             no part: leave the part out. The offset is in the image."
+        }
+        Cause::BadField => {
+            "A field cannot be written as it is given: a name of more than 32 bytes (32), \
+             several parts for a type that has one (30), or, with the number of the image, a \
+             bad name or the type multi in build-fit: give another value."
+        }
+        Cause::Unsupported => {
+            "The file is of a kind that cannot be handled yet. No command of this version \
+             says so."
+        }
+    }
+}

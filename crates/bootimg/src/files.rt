@@ -1,0 +1,174 @@
+//! The files that the program opens by name, and those that it makes.
+
+ghost use Rattle.std.specs.Prelude.{◌≡◌, ◌≢◌, ◌∷◌, [], Option, List, None, OnOk, OnErr};
+ghost use Rattle.std.specs.Prelude.{IfOk, IfErr, IfSome, IfNone, IsTrue, IsFalse};
+ghost use Rattle.std.specs.IoError.{error_kind};
+ghost use Rattle.std.specs.declared.io.ErrorKind.TheVariants.{AlreadyExists};
+ghost use Rattle.bootimg.specs.Files.{any_files, no_files, FilePromise, FileStep};
+ghost use Rattle.bootimg.specs.Files.{IsNewFile, TookSteps};
+ghost use Rattle.bootimg.specs.Files.{Made, NameTaken, NotMade, Closed, NotClosed};
+ghost use Rattle.bootimg.specs.Files.{Renamed, NotRenamed, Removed, NotRemoved};
+
+use crate::new_file::NewFile;
+use bi_base::TracedWrite;
+use std::fs::{self, File, Files};
+use std::io::{self, Empty, ErrorKind, Read, Write};
+
+/// What opens files, and makes them.
+pub trait FileSystem {
+    /// A file that is open for reading. It is closed when it is dropped.
+    type Opened: Read + Drop;
+
+    /// A new file that is open for writing, which records the outcome of each call.
+    type Created: TracedWrite + Drop;
+
+    // What is known of the file of each name.
+    ghost promise: { Self → FilePromise };
+
+    // The steps with new files so far, if they are known.
+    ghost steps: { Self → Option (List FileStep) };
+
+    /// Opens the file of this name for reading. Returns None if it cannot be opened.
+    fn open(&self, name: &str) -> Option<Self::Opened>
+        ensures opened { IfSome result (λ file. (promise self.now).has_file name.now
+            (Self.Opened.remaining file)) }
+        ensures not_opened { IfNone result ((promise self.now).has_no_file name.now) };
+
+    /// Returns whether a new file may take this name: nothing has it, or a regular file does.
+    fn can_replace(&self, name: &str) -> bool
+        ensures can { IsTrue result → (promise self.now).can_replace name.now }
+        ensures cannot { IsFalse result → (promise self.now).cannot_replace name.now };
+
+    /// Makes a new file of this name for writing. Fails with the kind AlreadyExists if something
+    /// has the name.
+    fn create(&mut self, name: &str) -> io::Result<Self::Created>
+        ensures is_new { IfOk result (λ file. IsNewFile (Self.Created.trace file)) }
+        ensures made { IfOk result (λ file. TookSteps (steps self.old) (steps self.new)
+            (Made name.now (Self.Created.trace file) ∷ [])) }
+        ensures taken { IfErr result (λ error. error_kind error ≡ AlreadyExists
+            → TookSteps (steps self.old) (steps self.new) (NameTaken name.now ∷ [])) }
+        ensures not_made { IfErr result (λ error. error_kind error ≢ AlreadyExists
+            → TookSteps (steps self.old) (steps self.new) (NotMade name.now ∷ [])) };
+
+    /// Closes the new file of this name. After a failure it is closed, too, but it may not have the
+    /// bytes that were written.
+    fn close(&mut self, name: &str, file: Self::Created) -> io::Result<()>
+        ensures closed { OnOk result (TookSteps (steps self.old) (steps self.new)
+            (Closed name.now (Self.Created.trace file) ∷ [])) }
+        ensures not_closed { OnErr result (TookSteps (steps self.old) (steps self.new)
+            (NotClosed name.now (Self.Created.trace file) ∷ [])) };
+
+    /// Gives the file of the first name the second one, in place of a file that has it.
+    fn rename(&mut self, name: &str, new_name: &str) -> io::Result<()>
+        ensures renamed { OnOk result (TookSteps (steps self.old) (steps self.new)
+            (Renamed name.now new_name.now ∷ [])) }
+        ensures not_renamed { OnErr result (TookSteps (steps self.old) (steps self.new)
+            (NotRenamed name.now new_name.now ∷ [])) };
+
+    /// Removes the file of this name.
+    fn remove(&mut self, name: &str) -> io::Result<()>
+        ensures removed { OnOk result (TookSteps (steps self.old) (steps self.new)
+            (Removed name.now ∷ [])) }
+        ensures not_removed { OnErr result (TookSteps (steps self.old) (steps self.new)
+            (NotRemoved name.now ∷ [])) };
+}
+
+/// No files: none can be opened, and none can be made.
+#[derive(Clone, Copy, Debug)]
+pub struct NoFiles;
+
+impl FileSystem for NoFiles {
+    type Opened = Empty;
+
+    type Created = NewFile<Vec<u8>>;
+
+    ghost promise = { λ _. no_files };
+
+    ghost steps = { λ _. None };
+
+    fn open(&self, _name: &str) -> Option<Empty> {
+        None
+    }
+
+    fn can_replace(&self, _name: &str) -> bool {
+        false
+    }
+
+    fn create(&mut self, _name: &str) -> io::Result<NewFile<Vec<u8>>> {
+        Err(io::Error::from(ErrorKind::Unsupported))
+    }
+
+    fn close(&mut self, _name: &str, _file: NewFile<Vec<u8>>) -> io::Result<()> {
+        Err(io::Error::from(ErrorKind::Unsupported))
+    }
+
+    fn rename(&mut self, _name: &str, _new_name: &str) -> io::Result<()> {
+        Err(io::Error::from(ErrorKind::Unsupported))
+    }
+
+    fn remove(&mut self, _name: &str) -> io::Result<()> {
+        Err(io::Error::from(ErrorKind::Unsupported))
+    }
+}
+
+/// The files of the system. What they hold, and how they change, is not known to a proof.
+#[derive(Drop)]
+pub struct SystemFiles<'a, R> {
+    /// The part of the runtime that opens files.
+    pub runtime: &'a R,
+}
+
+impl<'a, R: Files> FileSystem for SystemFiles<'a, R> {
+    type Opened = R::File;
+
+    type Created = NewFile<SystemFile<R::File>>;
+
+    ghost promise = { λ _. any_files };
+
+    ghost steps = { λ _. None };
+
+    fn open(&self, name: &str) -> Option<R::File> {
+        File::open(self.runtime, name).ok()
+    }
+
+    fn can_replace(&self, name: &str) -> bool {
+        match fs::symlink_metadata(self.runtime, name) {
+            Ok(metadata) => metadata.is_file(),
+            Err(error) => error.kind() == ErrorKind::NotFound,
+        }
+    }
+
+    fn create(&mut self, name: &str) -> io::Result<NewFile<SystemFile<R::File>>> {
+        let file = File::create_new(self.runtime, name)?;
+        Ok(NewFile::new(SystemFile { file }))
+    }
+
+    // The system closes a file when it is dropped, and tells no failure of that.
+    fn close(&mut self, _name: &str, _file: NewFile<SystemFile<R::File>>) -> io::Result<()> {
+        Ok(())
+    }
+
+    fn rename(&mut self, name: &str, new_name: &str) -> io::Result<()> {
+        fs::rename(self.runtime, name, new_name)
+    }
+
+    fn remove(&mut self, name: &str) -> io::Result<()> {
+        fs::remove_file(self.runtime, name)
+    }
+}
+
+/// A new file of the system. What it holds is not known to a proof.
+#[derive(Drop)]
+pub struct SystemFile<W> {
+    file: W,
+}
+
+impl<W: Write> Write for SystemFile<W> {
+    fn write(&mut self, bytes: &[u8]) -> io::Result<usize> {
+        self.file.write(bytes)
+    }
+
+    fn flush(&mut self) -> io::Result<()> {
+        self.file.flush()
+    }
+}

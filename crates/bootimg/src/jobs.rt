@@ -1,0 +1,341 @@
+//! What the program does with the images that the arguments name.
+
+ghost use Rattle.std.specs.Prelude.{◌≡◌, Err, IfOk, IfErr, string_bytes};
+ghost use Rattle.bi_base.specs.declared.fault.Error.TheVariants.{OutOfMemory};
+ghost use Rattle.bootimg.specs.CommandLine.{HasJobLengths};
+ghost use Rattle.bootimg.specs.ComparedFiles.{IsCompareOutput, IsCompareFailure, compare_status};
+ghost use Rattle.bootimg.specs.ComparedFiles.{failure_of_comparing, refused_source};
+ghost use Rattle.bootimg.specs.declared.command_line.source.ImageSource.TheVariants.{Standard};
+ghost use Rattle.bootimg.specs.declared.failure.Failure.TheVariants.{Call};
+ghost use Rattle.bootimg.specs.Runs.{IsComparedWork, IsCompareWork, IsFileNotRead, IsFileRead};
+ghost use Rattle.bootimg.specs.Runs.{IsExplainWork, IsImageNotRead, IsImageRead};
+ghost use Rattle.bootimg.specs.Runs.{IsImageWork, IsJobWork, IsNotRead, IsRead, IsTaskWork};
+ghost use Rattle.bootimg.specs.Runs.{problem};
+ghost use Rattle.bi_base.specs.Traces.{ReadTrace};
+
+use crate::builds::build_image;
+use crate::command_line::{ComparePlan, ImageSource, Job, Task};
+use crate::explanations::explanation;
+use crate::failure::Failure;
+use crate::files::FileSystem;
+use crate::tasks::Done;
+use bi_base::{
+    Cause, Error, Limits, TracedRead, TracedReader, TracedWrite, pipe, read_all_traced,
+    write_and_flush,
+};
+use bi_commands::compare::{CompareError, Comparison, compare, have_same_meaning};
+use std::alloc::{AllocError, AllocFailed, Global};
+
+/// The exit status after explaining.
+const EXPLAINED: u8 = 0;
+
+/// The exit status after comparing two images that mean the same.
+const SAME: u8 = 0;
+
+/// The exit status after comparing two images that do not mean the same.
+const DIFFERENT: u8 = 1;
+
+/// Why a job failed.
+#[derive(Clone, Copy, Debug)]
+pub struct Problem<'a> {
+    /// The image or the part that the failure is about, or the output file, if it is about one.
+    pub source: ImageSource<'a>,
+    /// The failure.
+    pub failure: Failure,
+}
+
+impl<'a> From<AllocError> for Problem<'a> {
+    ghost from_gives = { λ _ result. result ≡ problem Standard (Call OutOfMemory) };
+
+    fn from(error: AllocError) -> Problem<'a> {
+        Problem {
+            source: ImageSource::Standard,
+            failure: Failure::Call(Error::from(error)),
+        }
+    }
+}
+
+impl<'a, T: Drop> From<AllocFailed<T>> for Problem<'a> {
+    ghost from_gives = { λ _ result. result ≡ problem Standard (Call OutOfMemory) };
+
+    fn from(error: AllocFailed<T>) -> Problem<'a> {
+        Problem {
+            source: ImageSource::Standard,
+            failure: Failure::Call(Error::from(error)),
+        }
+    }
+}
+
+/// Does a job, and returns how it ended.
+pub fn do_job<'a, S: TracedRead, T: TracedWrite, F: FileSystem>(
+    alloc: Global,
+    job: &Job<'a>,
+    limits: Limits,
+    files: &F,
+    input: &mut S,
+    output: &mut T,
+) -> Result<Done, Problem<'a>>
+    requires lengths { HasJobLengths job.now }
+    ensures { IsJobWork (F.promise files.now) job.now limits (record {
+      input = S.trace input.old;
+      new_input = S.trace input.new;
+      output = T.trace output.old;
+      new_output = T.trace output.new;
+      outcome = result;
+    }) }
+{
+    match job {
+        Job::Run(task, source) => {
+            run_on_image(alloc, task, *source, limits, files, input, output)
+        }
+        Job::Compare(plan) => compare_images(alloc, *plan, limits, files, input, output),
+        Job::Build(plan) => build_image(alloc, plan, limits, files, input, output),
+        Job::Explain(cause) => explain(alloc, *cause, output),
+    }
+}
+
+/// Does a task with the image from this source, and returns how it ended.
+fn run_on_image<'a, S: TracedRead, T: TracedWrite, F: FileSystem>(
+    alloc: Global,
+    task: &Task,
+    source: ImageSource<'a>,
+    limits: Limits,
+    files: &F,
+    input: &mut S,
+    output: &mut T,
+) -> Result<Done, Problem<'a>>
+    ensures { IsImageWork (F.promise files.now) task.now limits (record {
+      input = S.trace input.old;
+      new_input = S.trace input.new;
+      output = T.trace output.old;
+      new_output = T.trace output.new;
+      outcome = result;
+    }) source.entry }
+{
+    match source {
+        ImageSource::Standard => run_task(alloc, task, source, limits, input, output),
+        ImageSource::File(name) => match files.open(name) {
+            Some(mut file) => {
+                let mut image = TracedReader::new(&mut file);
+                run_task(alloc, task, source, limits, &mut image, output)
+            }
+            None => Err(Problem {
+                source,
+                failure: Failure::CannotOpen,
+            }),
+        },
+    }
+}
+
+/// Does a task with an input that is read from this source, and returns how it ended.
+fn run_task<'a, S: TracedRead, T: TracedWrite>(
+    alloc: Global,
+    task: &Task,
+    source: ImageSource<'a>,
+    limits: Limits,
+    input: &mut S,
+    output: &mut T,
+) -> Result<Done, Problem<'a>>
+    ensures { IsTaskWork task.now limits source.entry (record {
+      input = S.trace input.old;
+      new_input = S.trace input.new;
+      output = T.trace output.old;
+      new_output = T.trace output.new;
+      outcome = result;
+    }) }
+{
+    match pipe(alloc, task, input, output, limits) {
+        Ok(done) => Ok(done),
+        Err(failure) => Err(Problem { source, failure }),
+    }
+}
+
+/// Reads two images and compares them, and returns how that ended.
+fn compare_images<'a, S: TracedRead, T: TracedWrite, F: FileSystem>(
+    alloc: Global,
+    plan: ComparePlan<'a>,
+    limits: Limits,
+    files: &F,
+    input: &mut S,
+    output: &mut T,
+) -> Result<Done, Problem<'a>>
+    ensures { IsCompareWork (F.promise files.now) plan.entry limits (record {
+      input = S.trace input.old;
+      new_input = S.trace input.new;
+      output = T.trace output.old;
+      new_output = T.trace output.new;
+      outcome = result;
+    }) }
+{
+    let one = match read_image(alloc, plan.one, limits, files, input) {
+        Ok(one) => one,
+        Err(failure) => return failed(plan.one, failure),
+    };
+    let other = match read_image(alloc, plan.other, limits, files, input) {
+        Ok(other) => other,
+        Err(failure) => return failed(plan.other, failure),
+    };
+    compare_files(alloc, plan, &one, &other, limits, output)
+}
+
+/// The end of a job that failed with an image from this source.
+fn failed<'a>(source: ImageSource<'a>, failure: Failure) -> Result<Done, Problem<'a>>
+    ensures { result ≡ Err (problem source.entry failure) }
+{
+    Err(Problem { source, failure })
+}
+
+/// Reads the image from this source. Fails as `read_input` does, or with CannotOpen.
+fn read_image<S: TracedRead, F: FileSystem>(
+    alloc: Global,
+    source: ImageSource<'_>,
+    limits: Limits,
+    files: &F,
+    input: &mut S,
+) -> Result<Vec<u8>, Failure>
+    ensures read { IfOk result (λ image. IsImageRead (F.promise files.now) limits
+        (S.trace input.old) (S.trace input.new) image.items source.entry) }
+    ensures failed { IfErr result (λ failure. IsImageNotRead (F.promise files.now) limits
+        (S.trace input.old) (S.trace input.new) failure source.entry) }
+{
+    match source {
+        ImageSource::Standard => read_input(alloc, limits, input),
+        ImageSource::File(name) => read_file(alloc, name, limits, files),
+    }
+}
+
+/// Opens the file of this name and reads the whole of it. Fails as `read_input` does, or with
+/// CannotOpen.
+pub fn read_file<F: FileSystem>(
+    alloc: Global,
+    name: &str,
+    limits: Limits,
+    files: &F,
+) -> Result<Vec<u8>, Failure>
+    ensures read { IfOk result (λ bytes. IsFileRead (F.promise files.now) limits name.now
+        bytes.items) }
+    ensures failed { IfErr result (IsFileNotRead (F.promise files.now) limits name.now) }
+{
+    match files.open(name) {
+        Some(mut file) => {
+            let mut bytes = TracedReader::new(&mut file);
+            read_input(alloc, limits, &mut bytes)
+        }
+        None => Err(Failure::CannotOpen),
+    }
+}
+
+/// Reads a whole input. Fails as `read_all_traced` does.
+fn read_input<S: TracedRead>(
+    alloc: Global,
+    limits: Limits,
+    input: &mut S,
+) -> Result<Vec<u8>, Failure>
+    ensures read { IfOk result (λ bytes. IsRead limits (S.trace input.old) (S.trace input.new)
+        bytes.items) }
+    ensures failed { IfErr result (IsNotRead limits (S.trace input.old) (S.trace input.new)) }
+{
+    match read_all_traced(alloc, input, limits) {
+        Ok(bytes) => Ok(bytes),
+        Err(error) => Err(Failure::Call(error)),
+    }
+}
+
+/// Compares two images, writes their differences, and returns how that ended.
+fn compare_files<'a, T: TracedWrite>(
+    alloc: Global,
+    plan: ComparePlan<'a>,
+    one: &[u8],
+    other: &[u8],
+    limits: Limits,
+    output: &mut T,
+) -> Result<Done, Problem<'a>>
+    ensures { (old new : ReadTrace) → IsComparedWork plan.entry limits one.now other.now (record {
+      input = old;
+      new_input = new;
+      output = T.trace output.old;
+      new_output = T.trace output.new;
+      outcome = result;
+    }) }
+{
+    match differences(alloc, one, other, plan.quiet, limits) {
+        Ok(comparison) => match write_and_flush(output, comparison.differences.as_bytes()) {
+            Ok(()) => Ok(Done::with_status(status(comparison.same))),
+            Err(error) => failed(ImageSource::Standard, Failure::Call(error)),
+        },
+        Err(error) => Err(problem_of(plan, error)),
+    }
+}
+
+/// Returns whether two images mean the same, and the differences that `compare` writes: none if
+/// `quiet` is set. Fails as `have_same_meaning` does then, and else as `compare` does.
+fn differences(
+    alloc: Global,
+    one: &[u8],
+    other: &[u8],
+    quiet: bool,
+    limits: Limits,
+) -> Result<Comparison, CompareError>
+    ensures compared { IfOk result (λ comparison. IsCompareOutput quiet limits one.now other.now
+        comparison.same (string_bytes comparison.differences)) }
+    ensures failed { IfErr result (IsCompareFailure quiet limits one.now other.now) }
+{
+    if !quiet {
+        return compare(alloc, one, other, limits);
+    }
+    Ok(Comparison {
+        same: have_same_meaning(alloc, one, other, limits)?,
+        differences: String::new(alloc),
+    })
+}
+
+/// Returns why comparing failed.
+fn problem_of<'a>(plan: ComparePlan<'a>, error: CompareError) -> Problem<'a>
+    ensures { result
+        ≡ problem (refused_source plan.entry error) (failure_of_comparing error) }
+{
+    match error {
+        CompareError::One(fault) => Problem {
+            source: plan.one,
+            failure: Failure::Call(Error::Refused(fault)),
+        },
+        CompareError::Other(fault) => Problem {
+            source: plan.other,
+            failure: Failure::Call(Error::Refused(fault)),
+        },
+        CompareError::OutOfMemory => Problem {
+            source: ImageSource::Standard,
+            failure: Failure::Call(Error::OutOfMemory),
+        },
+    }
+}
+
+/// Writes what this cause means, or what each one means, and returns how that ended.
+fn explain<'a, T: TracedWrite>(
+    alloc: Global,
+    cause: Option<Cause>,
+    output: &mut T,
+) -> Result<Done, Problem<'a>>
+    ensures { (input : ReadTrace) → IsExplainWork cause (record {
+      input = input;
+      new_input = input;
+      output = T.trace output.old;
+      new_output = T.trace output.new;
+      outcome = result;
+    }) }
+{
+    match explanation(alloc, cause) {
+        Ok(text) => match write_and_flush(output, text.as_bytes()) {
+            Ok(()) => Ok(Done::with_status(EXPLAINED)),
+            Err(error) => failed(ImageSource::Standard, Failure::Call(error)),
+        },
+        Err(error) => failed(ImageSource::Standard, Failure::from(error)),
+    }
+}
+
+/// Returns the exit status after comparing.
+fn status(same: bool) -> u8
+    ensures { result ≡ compare_status same }
+{
+    if same { SAME } else { DIFFERENT }
+}

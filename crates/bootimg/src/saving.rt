@@ -1,0 +1,125 @@
+//! Saving an output in a file.
+
+ghost use Rattle.std.specs.Prelude.{◌≡◌, IfOk, IfErr, OnOk, string_bytes};
+ghost use Rattle.bootimg.specs.declared.failure.Failure.TheVariants.{NotWritten};
+ghost use Rattle.bootimg.specs.Files.{IsBeside, IsFilled, IsMadeBeside, IsNotFilled, IsNotMade};
+ghost use Rattle.bootimg.specs.Files.{IsNotPutInPlace, IsNotSaved, IsPutInPlace, IsSaved};
+
+use crate::failure::Failure;
+use crate::files::FileSystem;
+use bi_base::write_and_flush;
+use std::alloc::{AllocError, Global};
+use std::io::ErrorKind;
+
+/// How many names are tried for a new file.
+const MOST_NAMES: u32 = 10_000;
+
+/// Gives the file of this name these bytes: writes them to a new file beside it, which takes its
+/// name then.
+///
+/// Fails with NotWritten if something that is no regular file has the name, or if the new file
+/// cannot be made, written, flushed, closed or renamed, and with OutOfMemory. The file is as it was
+/// then, and the new file is removed; if that fails, it is left.
+pub fn save<F: FileSystem>(
+    alloc: Global,
+    files: &mut F,
+    name: &str,
+    bytes: &[u8],
+) -> Result<(), Failure>
+    ensures saved { OnOk result (IsSaved (F.promise files.old) name.now bytes.now
+        (F.steps files.old) (F.steps files.new)) }
+    ensures not_saved { IfErr result (λ failure. IsNotSaved (F.promise files.old) name.now
+        bytes.now failure (F.steps files.old) (F.steps files.new)) }
+{
+    if !files.can_replace(name) {
+        return Err(Failure::NotWritten);
+    }
+    let (beside, file) = create_beside(alloc, files, name)?;
+    match put_in_place(files, beside.as_str(), file, bytes, name) {
+        Ok(()) => Ok(()),
+        Err(failure) => {
+            let _ = files.remove(beside.as_str());
+            Err(failure)
+        }
+    }
+}
+
+/// Writes these bytes to the new file of the name `beside`, and gives it the name `name` in place
+/// of a file that has it. Fails with NotWritten, and both have the names that they had then.
+fn put_in_place<F: FileSystem>(
+    files: &mut F,
+    beside: &str,
+    file: F::Created,
+    bytes: &[u8],
+    name: &str,
+) -> Result<(), Failure>
+    ensures put { OnOk result (IsPutInPlace name.now beside.now bytes.now (F.Created.trace file)
+        (F.steps files.old) (F.steps files.new)) }
+    ensures not_put { IfErr result (λ _. IsNotPutInPlace name.now beside.now bytes.now
+        (F.Created.trace file) (F.steps files.old) (F.steps files.new)) }
+    ensures failure { IfErr result (λ failure. failure ≡ NotWritten) }
+{
+    fill(files, beside, file, bytes)?;
+    match files.rename(beside, name) {
+        Ok(()) => Ok(()),
+        Err(_) => Err(Failure::NotWritten),
+    }
+}
+
+/// Writes these bytes to the new file of this name, flushes it and closes it. Fails with
+/// NotWritten, and it is closed then, too.
+fn fill<F: FileSystem>(
+    files: &mut F,
+    beside: &str,
+    mut file: F::Created,
+    bytes: &[u8],
+) -> Result<(), Failure>
+    ensures filled { OnOk result (IsFilled beside.now bytes.now (F.Created.trace file)
+        (F.steps files.old) (F.steps files.new)) }
+    ensures not_filled { IfErr result (λ _. IsNotFilled beside.now bytes.now
+        (F.Created.trace file) (F.steps files.old) (F.steps files.new)) }
+    ensures failure { IfErr result (λ failure. failure ≡ NotWritten) }
+{
+    let written = write_and_flush(&mut file, bytes);
+    let closed = files.close(beside, file);
+    match (written, closed) {
+        (Ok(()), Ok(())) => Ok(()),
+        _ => Err(Failure::NotWritten),
+    }
+}
+
+/// Makes a new file beside the one of this name, and returns its name and the file. Fails with
+/// NotWritten if none can be made, or with OutOfMemory.
+fn create_beside<F: FileSystem>(
+    alloc: Global,
+    files: &mut F,
+    name: &str,
+) -> Result<(String, F::Created), Failure>
+    ensures made { IfOk result (λ made. IsMadeBeside name.now (string_bytes made.0)
+        (F.Created.trace made.1) (F.steps files.old) (F.steps files.new)) }
+    ensures not_made { IfErr result (λ failure. IsNotMade name.now failure (F.steps files.old)
+        (F.steps files.new)) }
+{
+    for number in 0..MOST_NAMES {
+        let beside = name_beside(alloc, name, number)?;
+        if beside.as_str() == name {
+            continue;
+        }
+        match files.create(beside.as_str()) {
+            Ok(file) => return Ok((beside, file)),
+            Err(error) if error.kind() == ErrorKind::AlreadyExists => {}
+            Err(_) => return Err(Failure::NotWritten),
+        }
+    }
+    Err(Failure::NotWritten)
+}
+
+/// Returns the name of a new file with this number in the directory that has the file of this name.
+fn name_beside(alloc: Global, name: &str, number: u32) -> Result<String, AllocError>
+    ensures { IfOk result (λ beside. IsBeside name.now number (string_bytes beside)) }
+{
+    match name.rsplit_once('/') {
+        Some((directory, _)) => format!(in alloc; "{directory}/.bootimg-{number}"),
+        None => format!(in alloc; ".bootimg-{number}"),
+    }
+}

@@ -1,0 +1,431 @@
+"""Boot images of U-Boot: legacy images and flattened image trees (FIT).
+
+Each function takes the bytes of a file, and returns bytes or text. It calls the shared library of bootimg, which is proved: two accepted
+images of one kind have the same normal form exactly if they mean the same. Functions may be called from several threads.
+
+`limit` is the most bytes of a file, and of an image, payload or description that is made: 64 to LIMIT. `depth` is the most nodes of a
+flattened image tree that may be open at once: 1 to DEPTH. A file that is refused raises Refused, a number out of its range
+WrongArgument, a selection of which there is nothing to extract NotFound, and a failed allocation OutOfMemory.
+
+`python3 -m bootimg COMMAND ..` prints what `bootimg COMMAND ..` prints.
+
+The library is the first that is there of: the file that the environment variable BOOTIMG_LIBRARY names, libbootimg.so beside this file,
+the one that ./install puts under the same prefix, and that of the system.
+"""
+
+import argparse
+import ctypes
+import ctypes.util
+import os
+import sys
+from typing import Callable, Iterable, NamedTuple
+
+LIMIT = 0x7FFFFFFF
+DEPTH = 64
+CONCERNS = ("bad-hash", "unhashed", "weak-hash", "bad-list", "missing", "bad-default", "trailing")
+KEYS = ("kernel", "fdt", "ramdisk", "firmware", "loadables", "script")
+REASONS = (
+    "the selection does not fit this kind of image",
+    "no such part",
+    "no such image",
+    "no such configuration",
+    "no such key",
+    "bad list",
+    "missing image",
+    "no such entry",
+    "no payload",
+)
+
+_DONE, _REFUSED, _OUT_OF_MEMORY, _NO_ROOM, _WRONG_ARGUMENT, _NOT_FOUND = range(6)
+_MISSING = 7
+
+
+class BootimgError(Exception):
+    """Why a call failed."""
+
+
+class Refused(BootimgError):
+    """A file is refused: the name of the cause and its number, the offset in the file, and which file it is, from 1."""
+
+    def __init__(self, cause: str, number: int, offset: int, file: int) -> None:
+        super().__init__(f"{cause} at {offset}")
+        self.cause = cause
+        self.number = number
+        self.offset = offset
+        self.file = file
+
+
+class OutOfMemory(BootimgError, MemoryError):
+    """An allocation failed."""
+
+
+class WrongArgument(BootimgError, ValueError):
+    """A number is not one that the argument may be."""
+
+
+class NotFound(BootimgError, LookupError):
+    """There is nothing to extract: the reason, of REASONS, and for "missing image" the index of the first name that no image has."""
+
+    def __init__(self, reason: str, index: int | None) -> None:
+        super().__init__(reason if index is None else f"{reason} {index}")
+        self.reason = reason
+        self.index = index
+
+
+class Report(NamedTuple):
+    """The report on the checksums and digests of a file, and whether no verdict is other than good."""
+
+    text: str
+    all_good: bool
+
+
+class Comparison(NamedTuple):
+    """Whether two files mean the same, and what differs."""
+
+    same: bool
+    differences: str
+
+
+class _Answer(ctypes.Structure):
+    _fields_ = [
+        ("size", ctypes.c_size_t),
+        ("value", ctypes.c_size_t),
+        ("cause", ctypes.c_uint32),
+        ("offset", ctypes.c_uint32),
+        ("file", ctypes.c_uint32),
+        ("reason", ctypes.c_uint32),
+    ]
+
+
+_FILE = [ctypes.c_char_p, ctypes.c_size_t]
+_NUMBER = [ctypes.c_uint32]
+_BUFFER = [ctypes.c_void_p, ctypes.c_size_t]
+_CALLS = {
+    "kind": _FILE,
+    "normalise": _FILE + _NUMBER * 3 + _BUFFER,
+    "update": _FILE + _NUMBER * 5 + _BUFFER,
+    "extract_part": _FILE + _NUMBER * 3,
+    "extract_image": _FILE * 2 + _NUMBER * 2,
+    "extract_config": _FILE * 2 + _NUMBER * 4,
+    "extract_default": _FILE + _NUMBER * 4,
+    "list": _FILE + _NUMBER * 2 + _BUFFER,
+    "describe": _FILE + _NUMBER * 2 + _BUFFER,
+    "verify": _FILE + _NUMBER * 2 + _BUFFER,
+    "check": _FILE + _NUMBER * 3 + _BUFFER,
+    "convert": _FILE + _NUMBER * 2 + _BUFFER,
+    "same_meaning": _FILE * 2 + _NUMBER * 2,
+    "compare": _FILE * 2 + _NUMBER * 2 + _BUFFER,
+    "cause_name": _NUMBER + _BUFFER,
+    "version": _BUFFER,
+}
+
+
+def _load() -> ctypes.CDLL:
+    here = os.path.dirname(os.path.abspath(__file__))
+    known = [os.path.join(here, "libbootimg.so"), os.path.join(here, "..", "..", "..", "lib", "libbootimg.so.0")]
+    path = os.environ.get("BOOTIMG_LIBRARY") or next(filter(os.path.exists, known), None) or ctypes.util.find_library("bootimg")
+    library = ctypes.CDLL(path or "libbootimg.so.0")
+    for name, arguments in _CALLS.items():
+        function = getattr(library, "bootimg_" + name)
+        function.argtypes = [*arguments, ctypes.POINTER(_Answer)]
+        function.restype = ctypes.c_uint32
+    return library
+
+
+_library = _load()
+
+
+def _number(number: int) -> int:
+    """A number that C can take. Any other one is out of its range."""
+    return number if 0 <= number <= 0xFFFFFFFF else 0xFFFFFFFF
+
+
+def _raise(status: int, answer: _Answer) -> None:
+    if status == _REFUSED:
+        raise Refused(cause_name(answer.cause), answer.cause, answer.offset, answer.file)
+    if status == _OUT_OF_MEMORY:
+        raise OutOfMemory("out of memory")
+    if status == _WRONG_ARGUMENT:
+        raise WrongArgument("wrong argument")
+    if status == _NOT_FOUND:
+        raise NotFound(REASONS[answer.reason - 1], answer.value if answer.reason == _MISSING else None)
+
+
+def _tell(name: str, *arguments: object) -> _Answer:
+    """Calls a function without a buffer, and returns what it leaves in the struct."""
+    answer = _Answer()
+    status = getattr(_library, "bootimg_" + name)(*arguments, ctypes.byref(answer))
+    _raise(status, answer)
+    return answer
+
+
+def _fill(name: str, room: int, *arguments: object) -> tuple[bytes, int]:
+    """Calls a function with a buffer of this size, or of the right size if that is larger, and returns the output and the number."""
+    answer = _Answer()
+    while True:
+        buffer = ctypes.create_string_buffer(room)
+        status = getattr(_library, "bootimg_" + name)(*arguments, buffer, room, ctypes.byref(answer))
+        if status != _NO_ROOM:
+            break
+        room = answer.size
+    _raise(status, answer)
+    return ctypes.string_at(buffer, answer.size), answer.value
+
+
+def _of(file: bytes) -> tuple[bytes, int]:
+    data = bytes(file)
+    return data, len(data)
+
+
+def version() -> str:
+    """The version of the library."""
+    return _fill("version", 64)[0].decode("ascii")
+
+
+def cause_name(number: int) -> str:
+    """The name of the cause of this number, 1 to 26."""
+    return _fill("cause_name", 64, _number(number))[0].decode("ascii")
+
+
+def kind(file: bytes) -> str:
+    """The kind of a file by its first four bytes: "legacy" or "fit"."""
+    return ("legacy", "fit")[_tell("kind", *_of(file)).value - 1]
+
+
+def normalise(file: bytes, external: bool = False, limit: int = LIMIT, depth: int = DEPTH) -> bytes:
+    """The normal form of a file. With `external`, that of a flattened image tree has its payloads after the blob."""
+    return normalise_and_count(file, external, limit, depth)[0]
+
+
+def normalise_and_count(file: bytes, external: bool = False, limit: int = LIMIT, depth: int = DEPTH) -> tuple[bytes, int]:
+    """The normal form of a file, and the number of its signature nodes, which are carried and not checked."""
+    data = _of(file)
+    return _fill("normalise", data[1] + 4096, *data, int(external), _number(limit), _number(depth))
+
+
+def update(
+    file: bytes,
+    time: int | None = None,
+    hashes: bool = False,
+    external: bool = False,
+    limit: int = LIMIT,
+    depth: int = DEPTH,
+) -> bytes:
+    """The normal form of a file with this time of creation, if one is given, and with digests computed again, if `hashes` is set."""
+    return update_and_count(file, time, hashes, external, limit, depth)[0]
+
+
+def update_and_count(
+    file: bytes,
+    time: int | None = None,
+    hashes: bool = False,
+    external: bool = False,
+    limit: int = LIMIT,
+    depth: int = DEPTH,
+) -> tuple[bytes, int]:
+    """The same, and the number of its signature nodes, which are carried and not checked."""
+    data = _of(file)
+    if time is not None and not 0 <= time <= 0xFFFFFFFF:
+        raise WrongArgument("wrong argument")
+    changes = int(time is not None) + 2 * int(hashes)
+    return _fill("update", data[1] + 4096, *data, changes, time or 0, int(external), _number(limit), _number(depth))
+
+
+def _region(file: bytes, name: str, *arguments: object) -> memoryview:
+    answer = _tell(name, *arguments)
+    return memoryview(file).cast("B")[answer.value : answer.value + answer.size]
+
+
+def extract_part(file: bytes, index: int = 0, limit: int = LIMIT, depth: int = DEPTH) -> memoryview:
+    """The part of this index of a legacy image: a view of the file, of which nothing is copied."""
+    return _region(file, "extract_part", *_of(file), _number(index), _number(limit), _number(depth))
+
+
+def extract_image(file: bytes, name: bytes | str, limit: int = LIMIT, depth: int = DEPTH) -> memoryview:
+    """The payload of the image of this name of a flattened image tree: a view of the file."""
+    return _region(file, "extract_image", *_of(file), *_name_of(name), _number(limit), _number(depth))
+
+
+def extract_config(
+    file: bytes,
+    name: bytes | str | None = None,
+    key: str = "kernel",
+    index: int = 0,
+    limit: int = LIMIT,
+    depth: int = DEPTH,
+) -> memoryview:
+    """The payload at this index of what a configuration lists under a key, of KEYS: a view of the file. Without a name it is the
+    default configuration."""
+    numbers = (KEYS.index(key), _number(index), _number(limit), _number(depth))
+    if name is None:
+        return _region(file, "extract_default", *_of(file), *numbers)
+    return _region(file, "extract_config", *_of(file), *_name_of(name), *numbers)
+
+
+def _name_of(name: bytes | str) -> tuple[bytes, int]:
+    return _of(name.encode() if isinstance(name, str) else name)
+
+
+def _text(name: str, file: bytes, limit: int, depth: int) -> tuple[str, int]:
+    text, value = _fill(name, 16384, *_of(file), _number(limit), _number(depth))
+    return text.decode("ascii"), value
+
+
+def listing(file: bytes, limit: int = LIMIT, depth: int = DEPTH) -> str:
+    """The listing of a file: what the image holds, and where each part or payload is."""
+    return _text("list", file, limit, depth)[0]
+
+
+def describe(file: bytes, limit: int = LIMIT, depth: int = DEPTH) -> str:
+    """The description of what a file means. It does not depend on the layout of the file."""
+    return _text("describe", file, limit, depth)[0]
+
+
+def verify(file: bytes, limit: int = LIMIT, depth: int = DEPTH) -> Report:
+    """The report on the checksums and digests of a file."""
+    text, value = _text("verify", file, limit, depth)
+    return Report(text, value == 1)
+
+
+def check(file: bytes, allow: Iterable[str] = (), limit: int = LIMIT, depth: int = DEPTH) -> str:
+    """A line for each concern about a file, so no text if it is clean. The kinds in `allow`, of CONCERNS, are left out."""
+    kinds = sum(1 << CONCERNS.index(kind) for kind in set(allow))
+    return _fill("check", 16384, *_of(file), kinds, _number(limit), _number(depth))[0].decode("ascii")
+
+
+def convert(file: bytes, limit: int = LIMIT, depth: int = DEPTH) -> bytes:
+    """The flattened image tree that a legacy image is converted to."""
+    data = _of(file)
+    return _fill("convert", data[1] + 4096, *data, _number(limit), _number(depth))[0]
+
+
+def same_meaning(one: bytes, other: bytes, limit: int = LIMIT, depth: int = DEPTH) -> bool:
+    """Whether two files mean the same."""
+    return _tell("same_meaning", *_of(one), *_of(other), _number(limit), _number(depth)).value == 1
+
+
+def compare(one: bytes, other: bytes, limit: int = LIMIT, depth: int = DEPTH) -> Comparison:
+    """Whether two files mean the same, and what differs between what they mean: no text if they do."""
+    text, value = _fill("compare", 16384, *_of(one), *_of(other), _number(limit), _number(depth))
+    return Comparison(value == 1, text.decode("ascii"))
+
+
+def _whole_number(word: str) -> int:
+    return int(word, 16) if word.startswith("0x") else int(word)
+
+
+def _parser() -> argparse.ArgumentParser:
+    parser = argparse.ArgumentParser(prog="python3 -m bootimg", description="Boot images of U-Boot.", allow_abbrev=False)
+    commands = parser.add_subparsers(dest="command", required=True, metavar="COMMAND")
+    for name, help in (
+        ("normalise", "write the normal form"),
+        ("update", "write the normal form with a time or with digests"),
+        ("extract", "write a part or a payload"),
+        ("list", "write the listing"),
+        ("describe", "write what the image means"),
+        ("compare", "write what differs between two images"),
+        ("verify", "write the verdict on each checksum and digest"),
+        ("check", "write a line for each thing that is not protected"),
+        ("convert", "write the flattened image tree of a legacy image"),
+    ):
+        command = commands.add_parser(name, help=help, allow_abbrev=False)
+        command.add_argument("--limit", type=_whole_number, default=LIMIT, metavar="N")
+        if name in ("normalise", "update"):
+            command.add_argument("--external", action="store_true")
+        if name == "update":
+            command.add_argument("--time", type=_whole_number, metavar="SECONDS")
+            command.add_argument("--hashes", action="store_true")
+        if name == "extract":
+            selection = command.add_mutually_exclusive_group(required=True)
+            selection.add_argument("--part", type=_whole_number, metavar="N")
+            selection.add_argument("--image", metavar="NAME")
+            selection.add_argument("--config", metavar="NAME")
+            selection.add_argument("--default", action="store_true")
+            command.add_argument("--key", choices=KEYS, default=KEYS[0])
+            command.add_argument("--index", type=_whole_number, default=0, metavar="N")
+        if name == "check":
+            command.add_argument("--allow", type=lambda words: words.split(","), default=[], metavar="KINDS")
+        if name == "compare":
+            command.add_argument("--quiet", action="store_true")
+            command.add_argument("files", nargs=2, metavar="IMAGE")
+        else:
+            command.add_argument("files", nargs="?", default="-", metavar="IMAGE")
+    return parser
+
+
+def _read(path: str) -> bytes:
+    if path == "-":
+        return sys.stdin.buffer.read()
+    with open(path, "rb") as file:
+        return file.read()
+
+
+def _extracted(options: argparse.Namespace, file: bytes) -> memoryview:
+    if options.part is not None:
+        return extract_part(file, options.part, options.limit)
+    if options.image is not None:
+        return extract_image(file, os.fsencode(options.image), options.limit)
+    name = None if options.default else os.fsencode(options.config)
+    return extract_config(file, name, options.key, options.index, options.limit)
+
+
+def _run(options: argparse.Namespace, files: list[bytes]) -> tuple[bytes, int]:
+    """The output of a command and the exit status."""
+    limit = options.limit
+    if options.command in ("normalise", "update"):
+        if options.command == "normalise":
+            text, count = normalise_and_count(files[0], options.external, limit)
+        else:
+            text, count = update_and_count(files[0], options.time, options.hashes, options.external, limit)
+        if count:
+            print(f"bootimg: note: {count} signature nodes carried, not checked", file=sys.stderr)
+        return text, 0
+    if options.command == "extract":
+        return bytes(_extracted(options, files[0])), 0
+    if options.command == "compare":
+        if options.quiet:
+            return b"", int(not same_meaning(*files, limit))
+        compared = compare(*files, limit)
+        return compared.differences.encode("ascii"), int(not compared.same)
+    if options.command == "verify":
+        report = verify(files[0], limit)
+        return report.text.encode("ascii"), int(not report.all_good)
+    if options.command == "check":
+        text = check(files[0], options.allow, limit)
+        return text.encode("ascii"), int(text != "")
+    if options.command == "convert":
+        return convert(files[0], limit), 0
+    write: Callable[..., str] = listing if options.command == "list" else describe
+    return write(files[0], limit).encode("ascii"), 0
+
+
+def main(words: list[str] | None = None) -> int:
+    """Does what the program does with these arguments, and returns its exit status."""
+    options = _parser().parse_args(words)
+    if options.command == "update" and options.time is None and not options.hashes:
+        print("bootimg: usage: give --time or --hashes", file=sys.stderr)
+        return 2
+    paths = options.files if isinstance(options.files, list) else [options.files]
+    files = []
+    for path in paths:
+        try:
+            files.append(_read(path))
+        except OSError:
+            print(f"bootimg: {path}: cannot be opened", file=sys.stderr)
+            return 2
+    try:
+        output, status = _run(options, files)
+    except (Refused, NotFound) as reason:
+        path = paths[reason.file - 1 if isinstance(reason, Refused) else 0]
+        print(f"bootimg: {path + ': ' if path != '-' else ''}{reason}", file=sys.stderr)
+        return 2
+    except BootimgError as error:
+        print(f"bootimg: {error}", file=sys.stderr)
+        return 2
+    sys.stdout.buffer.write(output)
+    sys.stdout.buffer.flush()
+    return status
+
+
+if __name__ == "__main__":
+    sys.exit(main())

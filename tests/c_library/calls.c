@@ -1,0 +1,448 @@
+/*
+ * calls COMMAND [ARGUMENT..]: does what `bootimg COMMAND ARGUMENT..` does, by a call of the library. It calls with a buffer of the
+ * right size, with one byte more and one less, and with none, and checks what each call leaves. Files and buffers end where the
+ * memory does that may be touched. A failed check ends the program with status 3.
+ */
+#define _GNU_SOURCE
+#include <bootimg.h>
+
+#include <fcntl.h>
+#include <pthread.h>
+#include <stdio.h>
+#include <stdlib.h>
+#include <string.h>
+#include <sys/mman.h>
+#include <sys/stat.h>
+#include <unistd.h>
+
+#define CHECK(condition) \
+    do { \
+        if (!(condition)) { \
+            fprintf(stderr, "%s:%d: %s\n", __FILE__, __LINE__, #condition); \
+            exit(3); \
+        } \
+    } while (0)
+
+struct memory {
+    uint8_t *bytes;
+    size_t size;
+    void *map;
+    size_t map_size;
+};
+
+/* Memory of this size. The page after it, and the one before, may not be touched. */
+static struct memory take(size_t size)
+{
+    const size_t page = 4096;
+    struct memory memory;
+    size_t pages = (size + page - 1) / page + 1;
+    memory.map_size = (pages + 2) * page;
+    memory.map = mmap(NULL, memory.map_size, PROT_READ | PROT_WRITE, MAP_PRIVATE | MAP_ANONYMOUS, -1, 0);
+    CHECK(memory.map != MAP_FAILED);
+    CHECK(mprotect(memory.map, page, PROT_NONE) == 0);
+    CHECK(mprotect((char *)memory.map + memory.map_size - page, page, PROT_NONE) == 0);
+    memory.bytes = (uint8_t *)memory.map + memory.map_size - page - size;
+    memory.size = size;
+    return memory;
+}
+
+static void give_back(struct memory memory)
+{
+    CHECK(munmap(memory.map, memory.map_size) == 0);
+}
+
+/* The bytes of a file, which may not be changed. */
+static struct memory read_file(const char *path)
+{
+    struct stat status;
+    struct memory memory;
+    size_t done = 0;
+    int file = open(path, O_RDONLY);
+    CHECK(file >= 0);
+    CHECK(fstat(file, &status) == 0);
+    memory = take((size_t)status.st_size);
+    while (done < memory.size) {
+        ssize_t count = read(file, memory.bytes + done, memory.size - done);
+        CHECK(count > 0);
+        done += (size_t)count;
+    }
+    CHECK(close(file) == 0);
+    CHECK(mprotect((char *)memory.map + 4096, memory.map_size - 2 * 4096, PROT_READ) == 0);
+    return memory;
+}
+
+/* What is called, and on what. */
+struct call {
+    const char *command;
+    const char *paths[2];
+    struct memory files[2];
+    uint32_t form;
+    uint32_t kinds;
+    uint32_t limit;
+    uint32_t number;
+    uint32_t changes;
+    uint32_t time;
+    int is_quiet;
+    /* What is extracted: a part, or by the name of an image, of a configuration or of none. */
+    int selection;
+    struct memory name;
+    uint32_t key;
+    uint32_t index;
+};
+
+enum { PART = 1, IMAGE, CONFIG, DEFAULT };
+
+static uint32_t make(const struct call *call, uint8_t *buffer, size_t size, bootimg_answer *answer)
+{
+    const uint8_t *one = call->files[0].bytes, *other = call->files[1].bytes;
+    size_t one_size = call->files[0].size, other_size = call->files[1].size;
+    uint32_t limit = call->limit, depth = BOOTIMG_DEPTH;
+    if (strcmp(call->command, "normalise") == 0)
+        return bootimg_normalise(one, one_size, call->form, limit, depth, buffer, size, answer);
+    if (strcmp(call->command, "update") == 0)
+        return bootimg_update(one, one_size, call->changes, call->time, call->form, limit, depth, buffer, size, answer);
+    if (strcmp(call->command, "list") == 0)
+        return bootimg_list(one, one_size, limit, depth, buffer, size, answer);
+    if (strcmp(call->command, "describe") == 0)
+        return bootimg_describe(one, one_size, limit, depth, buffer, size, answer);
+    if (strcmp(call->command, "verify") == 0)
+        return bootimg_verify(one, one_size, limit, depth, buffer, size, answer);
+    if (strcmp(call->command, "check") == 0)
+        return bootimg_check(one, one_size, call->kinds, limit, depth, buffer, size, answer);
+    if (strcmp(call->command, "convert") == 0)
+        return bootimg_convert(one, one_size, limit, depth, buffer, size, answer);
+    if (strcmp(call->command, "compare") == 0)
+        return bootimg_compare(one, one_size, other, other_size, limit, depth, buffer, size, answer);
+    if (strcmp(call->command, "cause") == 0)
+        return bootimg_cause_name(call->number, buffer, size, answer);
+    CHECK(strcmp(call->command, "version") == 0);
+    return bootimg_version(buffer, size, answer);
+}
+
+/* Calls with a buffer of this size whose bytes are 0xa5. The struct has no zeros, and nothing after it is written. */
+static uint32_t make_with(const struct call *call, struct memory *buffer, size_t size, bootimg_answer *answer)
+{
+    struct {
+        bootimg_answer answer;
+        uint64_t after;
+    } room;
+    uint32_t status;
+    *buffer = take(size);
+    memset(buffer->bytes, 0xa5, size);
+    memset(&room, 0xc3, sizeof room);
+    status = make(call, buffer->bytes, size, &room.answer);
+    CHECK(room.after == 0xc3c3c3c3c3c3c3c3u);
+    *answer = room.answer;
+    return status;
+}
+
+static int is_unchanged(const uint8_t *bytes, size_t size)
+{
+    for (size_t i = 0; i < size; i++)
+        if (bytes[i] != 0xa5)
+            return 0;
+    return 1;
+}
+
+/* The refused file as the program names it, and why it is refused. */
+static void tell(const struct call *call, const bootimg_answer *answer)
+{
+    uint8_t name[64];
+    bootimg_answer named;
+    CHECK(bootimg_cause_name(answer->cause, name, sizeof name, &named) == BOOTIMG_DONE);
+    CHECK(answer->file == 1 || answer->file == 2);
+    if (!call->is_quiet)
+        fprintf(stderr, "bootimg: %s: %.*s at %u\n", call->paths[answer->file - 1], (int)named.size, name, (unsigned)answer->offset);
+}
+
+/* Calls with buffers of several sizes, and writes the output. Returns the exit status of the program. */
+static int run(const struct call *call, FILE *output)
+{
+    struct memory buffer, exact;
+    bootimg_answer answer, again;
+    uint32_t status = make_with(call, &buffer, 0, &answer);
+    give_back(buffer);
+    CHECK(answer.reason == 0);
+    if (status != BOOTIMG_DONE && status != BOOTIMG_NO_ROOM) {
+        CHECK(answer.size == 0 && answer.value == 0);
+        CHECK(make_with(call, &buffer, 100, &again) == status);
+        CHECK(memcmp(&answer, &again, sizeof answer) == 0);
+        CHECK(is_unchanged(buffer.bytes, 100));
+        give_back(buffer);
+        if (status == BOOTIMG_REFUSED)
+            tell(call, &answer);
+        else
+            CHECK(answer.cause == 0 && answer.offset == 0 && answer.file == 0);
+        return status == BOOTIMG_REFUSED ? 2 : 10 + (int)status;
+    }
+    CHECK(status == (answer.size == 0 ? BOOTIMG_DONE : BOOTIMG_NO_ROOM));
+    CHECK(answer.cause == 0 && answer.offset == 0 && answer.file == 0);
+    CHECK(make_with(call, &exact, answer.size, &again) == BOOTIMG_DONE);
+    CHECK(memcmp(&answer, &again, sizeof answer) == 0);
+    CHECK(make_with(call, &buffer, answer.size + 9, &again) == BOOTIMG_DONE);
+    CHECK(memcmp(&answer, &again, sizeof answer) == 0);
+    CHECK(memcmp(buffer.bytes, exact.bytes, answer.size) == 0 && is_unchanged(buffer.bytes + answer.size, 9));
+    give_back(buffer);
+    if (answer.size != 0) {
+        CHECK(make_with(call, &buffer, answer.size - 1, &again) == BOOTIMG_NO_ROOM);
+        CHECK(memcmp(&answer, &again, sizeof answer) == 0);
+        CHECK(is_unchanged(buffer.bytes, answer.size - 1));
+        give_back(buffer);
+    }
+    CHECK(fwrite(exact.bytes, 1, answer.size, output) == answer.size);
+    give_back(exact);
+    if ((strcmp(call->command, "normalise") == 0 || strcmp(call->command, "update") == 0) && answer.value != 0 && !call->is_quiet)
+        fprintf(stderr, "bootimg: note: %zu signature nodes carried, not checked\n", answer.value);
+    if (strcmp(call->command, "compare") == 0) {
+        CHECK(bootimg_same_meaning(call->files[0].bytes, call->files[0].size, call->files[1].bytes, call->files[1].size,
+                                   call->limit, BOOTIMG_DEPTH, &again) == BOOTIMG_DONE);
+        CHECK(again.value == answer.value && again.size == 0);
+    }
+    if (strcmp(call->command, "verify") == 0 || strcmp(call->command, "check") == 0 || strcmp(call->command, "compare") == 0)
+        return answer.value == 1 ? 0 : 1;
+    return 0;
+}
+
+static uint32_t make_extract(const struct call *call, bootimg_answer *answer)
+{
+    const uint8_t *file = call->files[0].bytes, *name = call->name.bytes;
+    size_t size = call->files[0].size, name_size = call->name.size;
+    uint32_t limit = call->limit, depth = BOOTIMG_DEPTH;
+    switch (call->selection) {
+    case PART:
+        return bootimg_extract_part(file, size, call->index, limit, depth, answer);
+    case IMAGE:
+        return bootimg_extract_image(file, size, name, name_size, limit, depth, answer);
+    case CONFIG:
+        return bootimg_extract_config(file, size, name, name_size, call->key, call->index, limit, depth, answer);
+    default:
+        CHECK(call->selection == DEFAULT);
+        return bootimg_extract_default(file, size, call->key, call->index, limit, depth, answer);
+    }
+}
+
+/* Writes what is extracted out of the file, or why there is nothing. Returns the exit status of the program. */
+static int extract(const struct call *call, FILE *output)
+{
+    static const char *const reasons[] = {
+        "", "the selection does not fit this kind of image", "no such part", "no such image", "no such configuration",
+        "no such key", "bad list", "missing image", "no such entry", "no payload",
+    };
+    struct {
+        bootimg_answer answer;
+        uint64_t after;
+    } room;
+    const bootimg_answer *answer = &room.answer;
+    uint32_t status;
+    memset(&room, 0xc3, sizeof room);
+    status = make_extract(call, &room.answer);
+    CHECK(room.after == 0xc3c3c3c3c3c3c3c3u);
+    if (status == BOOTIMG_REFUSED) {
+        CHECK(answer->size == 0 && answer->value == 0 && answer->reason == 0);
+        tell(call, answer);
+        return 2;
+    }
+    CHECK(answer->cause == 0 && answer->offset == 0 && answer->file == 0);
+    if (status == BOOTIMG_NOT_FOUND) {
+        CHECK(answer->size == 0 && answer->reason >= BOOTIMG_WRONG_KIND && answer->reason <= BOOTIMG_NO_PAYLOAD);
+        CHECK(answer->value == 0 || answer->reason == BOOTIMG_MISSING);
+        if (!call->is_quiet) {
+            fprintf(stderr, "bootimg: %s: %s", call->paths[0], reasons[answer->reason]);
+            if (answer->reason == BOOTIMG_MISSING)
+                fprintf(stderr, " %zu", answer->value);
+            fputc('\n', stderr);
+        }
+        return 2;
+    }
+    CHECK(answer->reason == 0);
+    if (status != BOOTIMG_DONE)
+        return 10 + (int)status;
+    CHECK(answer->value <= call->files[0].size && answer->size <= call->files[0].size - answer->value);
+    CHECK(fwrite(call->files[0].bytes + answer->value, 1, answer->size, output) == answer->size);
+    return 0;
+}
+
+/* Calls whose numbers are out of their ranges leave the buffer as it is. */
+static int try_arguments(struct call *call)
+{
+    static const uint32_t limits[] = {0, 63, 0x80000000u, 0xffffffffu}, depths[] = {0, 65, 257, 0xffffffffu};
+    bootimg_answer answer;
+    uint8_t byte = 0xa5;
+    for (int i = 0; i < 4; i++) {
+        struct call wrong = *call;
+        wrong.limit = limits[i];
+        CHECK(make(&wrong, &byte, 1, &answer) == BOOTIMG_WRONG_ARGUMENT);
+        CHECK(byte == 0xa5 && answer.size == 0 && answer.value == 0 && answer.cause == 0);
+        CHECK(bootimg_list(call->files[0].bytes, call->files[0].size, call->limit, depths[i], &byte, 1, &answer) ==
+              BOOTIMG_WRONG_ARGUMENT);
+        CHECK(bootimg_same_meaning(call->files[0].bytes, call->files[0].size, call->files[0].bytes, call->files[0].size,
+                                   call->limit, depths[i], &answer) == BOOTIMG_WRONG_ARGUMENT);
+    }
+    CHECK(bootimg_normalise(call->files[0].bytes, call->files[0].size, 2, call->limit, 64, &byte, 1, &answer) ==
+          BOOTIMG_WRONG_ARGUMENT);
+    CHECK(bootimg_check(call->files[0].bytes, call->files[0].size, 128, call->limit, 64, &byte, 1, &answer) ==
+          BOOTIMG_WRONG_ARGUMENT);
+    CHECK(bootimg_update(call->files[0].bytes, call->files[0].size, 4, 0, 0, call->limit, 64, &byte, 1, &answer) ==
+          BOOTIMG_WRONG_ARGUMENT);
+    CHECK(bootimg_update(call->files[0].bytes, call->files[0].size, 0, 0, 2, call->limit, 64, &byte, 1, &answer) ==
+          BOOTIMG_WRONG_ARGUMENT);
+    for (int selection = PART; selection <= DEFAULT; selection++) {
+        struct call wrong = *call;
+        wrong.selection = selection;
+        wrong.name = call->files[0];
+        for (int i = 0; i < 4; i++) {
+            wrong.limit = limits[i];
+            CHECK(make_extract(&wrong, &answer) == BOOTIMG_WRONG_ARGUMENT && answer.reason == 0);
+        }
+        wrong.limit = call->limit;
+        wrong.key = BOOTIMG_SCRIPT + 1;
+        CHECK((make_extract(&wrong, &answer) == BOOTIMG_WRONG_ARGUMENT) == (selection >= CONFIG));
+    }
+    CHECK(bootimg_cause_name(0, &byte, 1, &answer) == BOOTIMG_WRONG_ARGUMENT);
+    CHECK(bootimg_cause_name(27, &byte, 1, &answer) == BOOTIMG_WRONG_ARGUMENT);
+    CHECK(byte == 0xa5);
+    return 0;
+}
+
+static const char *const of_one[] = {"normalise", "update", "list", "describe", "verify", "check", "convert"};
+
+/* Writes what all calls on one file write. */
+static void run_all(const struct call *call, FILE *output)
+{
+    for (size_t i = 0; i < sizeof of_one / sizeof of_one[0]; i++) {
+        struct call one = *call;
+        one.command = of_one[i];
+        one.is_quiet = 1;
+        one.changes = BOOTIMG_CHANGE_TIME | BOOTIMG_CHANGE_HASHES;
+        fprintf(output, "%s %d\n", one.command, run(&one, output));
+    }
+    for (int selection = PART; selection <= DEFAULT; selection++) {
+        struct call one = *call;
+        one.is_quiet = 1;
+        one.selection = selection;
+        fprintf(output, "extract %d\n", extract(&one, output));
+    }
+}
+
+struct turn {
+    const struct call *call;
+    const char *wanted;
+    size_t size;
+};
+
+static void *run_turn(void *argument)
+{
+    const struct turn *turn = argument;
+    for (int i = 0; i < 20; i++) {
+        char *text;
+        size_t size;
+        FILE *output = open_memstream(&text, &size);
+        run_all(turn->call, output);
+        fclose(output);
+        CHECK(size == turn->size && memcmp(text, turn->wanted, size) == 0);
+        free(text);
+    }
+    return NULL;
+}
+
+/* Four threads make all calls on one file at the same time. */
+static int try_threads(const struct call *call)
+{
+    pthread_t threads[4];
+    char *text;
+    struct turn turn;
+    FILE *output = open_memstream(&text, &turn.size);
+    run_all(call, output);
+    fclose(output);
+    turn.call = call;
+    turn.wanted = text;
+    for (int i = 0; i < 4; i++)
+        CHECK(pthread_create(&threads[i], NULL, run_turn, &turn) == 0);
+    for (int i = 0; i < 4; i++)
+        CHECK(pthread_join(threads[i], NULL) == 0);
+    free(text);
+    return 0;
+}
+
+/* The number of a key. */
+static uint32_t key_of(const char *word)
+{
+    static const char *const keys[] = {"kernel", "fdt", "ramdisk", "firmware", "loadables", "script"};
+    uint32_t key = BOOTIMG_KERNEL;
+    while (key < BOOTIMG_SCRIPT && strcmp(word, keys[key]) != 0)
+        key++;
+    return key;
+}
+
+int main(int count, char **words)
+{
+    struct call call;
+    int files = 0, status;
+    memset(&call, 0, sizeof call);
+    call.limit = BOOTIMG_LIMIT;
+    CHECK(count > 1);
+    call.command = words[1];
+    for (int i = 2; i < count; i++) {
+        if (strcmp(words[i], "--external") == 0) {
+            call.form = BOOTIMG_EXTERNAL;
+        } else if (strcmp(words[i], "--limit") == 0) {
+            call.limit = (uint32_t)strtoul(words[++i], NULL, 10);
+        } else if (strcmp(words[i], "--kinds") == 0) {
+            call.kinds = (uint32_t)strtoul(words[++i], NULL, 10);
+        } else if (strcmp(words[i], "--number") == 0) {
+            call.number = (uint32_t)strtoul(words[++i], NULL, 10);
+        } else if (strcmp(words[i], "--time") == 0) {
+            call.changes |= BOOTIMG_CHANGE_TIME;
+            call.time = (uint32_t)strtoul(words[++i], NULL, 0);
+        } else if (strcmp(words[i], "--hashes") == 0) {
+            call.changes |= BOOTIMG_CHANGE_HASHES;
+        } else if (strcmp(words[i], "--part") == 0) {
+            call.selection = PART;
+            call.index = (uint32_t)strtoul(words[++i], NULL, 0);
+        } else if (strcmp(words[i], "--image") == 0 || strcmp(words[i], "--config") == 0) {
+            call.selection = strcmp(words[i], "--image") == 0 ? IMAGE : CONFIG;
+            call.name = take(strlen(words[i + 1]));
+            memcpy(call.name.bytes, words[i + 1], call.name.size);
+            i++;
+        } else if (strcmp(words[i], "--default") == 0) {
+            call.selection = DEFAULT;
+        } else if (strcmp(words[i], "--key") == 0) {
+            call.key = key_of(words[++i]);
+        } else if (strcmp(words[i], "--index") == 0) {
+            call.index = (uint32_t)strtoul(words[++i], NULL, 0);
+        } else {
+            CHECK(files < 2);
+            call.paths[files] = words[i];
+            call.files[files++] = read_file(words[i]);
+        }
+    }
+    if (strcmp(call.command, "kind") == 0) {
+        bootimg_answer answer;
+        uint32_t kind = bootimg_kind(call.files[0].bytes, call.files[0].size, &answer);
+        status = kind == BOOTIMG_REFUSED ? 2 : 0;
+        if (kind == BOOTIMG_REFUSED)
+            tell(&call, &answer);
+        else
+            printf("kind %s\n", answer.value == BOOTIMG_LEGACY ? "legacy" : "fit");
+    } else if (strcmp(call.command, "arguments") == 0) {
+        call.command = "describe";
+        status = try_arguments(&call);
+    } else if (strcmp(call.command, "threads") == 0) {
+        status = try_threads(&call);
+    } else if (strcmp(call.command, "sizes") == 0) {
+        printf("%zu %zu %zu %zu %zu %zu %zu\n", sizeof(bootimg_answer), offsetof(bootimg_answer, size),
+               offsetof(bootimg_answer, value), offsetof(bootimg_answer, cause), offsetof(bootimg_answer, offset),
+               offsetof(bootimg_answer, file), offsetof(bootimg_answer, reason));
+        status = 0;
+    } else if (strcmp(call.command, "extract") == 0) {
+        status = extract(&call, stdout);
+    } else {
+        status = run(&call, stdout);
+    }
+    if (call.name.map != NULL)
+        give_back(call.name);
+    while (files > 0)
+        give_back(call.files[--files]);
+    CHECK(fflush(stdout) == 0);
+    return status;
+}

@@ -1,0 +1,93 @@
+/*
+ * memory FILE: makes each call on a file with each of its allocations failing in turn. It has to do what it does with memory, or say that
+ * memory ran out, and leave the buffer as it was. To be linked with --wrap=malloc and --wrap=realloc. Prints how many allocations failed.
+ */
+#include <bootimg.h>
+
+#include <stdio.h>
+#include <stdlib.h>
+#include <string.h>
+
+static long allocations, failing = -1;
+
+void *__real_malloc(size_t size);
+void *__real_realloc(void *old, size_t size);
+void *__wrap_malloc(size_t size);
+void *__wrap_realloc(void *old, size_t size);
+
+void *__wrap_malloc(size_t size)
+{
+    return allocations++ == failing ? NULL : __real_malloc(size);
+}
+
+void *__wrap_realloc(void *old, size_t size)
+{
+    return allocations++ == failing ? NULL : __real_realloc(old, size);
+}
+
+static uint8_t file[1 << 20], text[1 << 21], wanted[1 << 21];
+static size_t size;
+
+static uint32_t make(int call, uint8_t *buffer, bootimg_answer *answer)
+{
+    const uint8_t *name = (const uint8_t *)"conf-1";
+    switch (call) {
+    case 0: return bootimg_normalise(file, size, BOOTIMG_EMBEDDED, BOOTIMG_LIMIT, 64, buffer, sizeof text, answer);
+    case 1: return bootimg_normalise(file, size, BOOTIMG_EXTERNAL, BOOTIMG_LIMIT, 64, buffer, sizeof text, answer);
+    case 2: return bootimg_update(file, size, 3, 7, BOOTIMG_EMBEDDED, BOOTIMG_LIMIT, 64, buffer, sizeof text, answer);
+    case 3: return bootimg_list(file, size, BOOTIMG_LIMIT, 64, buffer, sizeof text, answer);
+    case 4: return bootimg_describe(file, size, BOOTIMG_LIMIT, 64, buffer, sizeof text, answer);
+    case 5: return bootimg_verify(file, size, BOOTIMG_LIMIT, 64, buffer, sizeof text, answer);
+    case 6: return bootimg_check(file, size, 0, BOOTIMG_LIMIT, 64, buffer, sizeof text, answer);
+    case 7: return bootimg_convert(file, size, BOOTIMG_LIMIT, 64, buffer, sizeof text, answer);
+    case 8: return bootimg_compare(file, size, file, size - 1, BOOTIMG_LIMIT, 64, buffer, sizeof text, answer);
+    case 9: return bootimg_same_meaning(file, size, file, size, BOOTIMG_LIMIT, 64, answer);
+    case 10: return bootimg_extract_part(file, size, 0, BOOTIMG_LIMIT, 64, answer);
+    case 11: return bootimg_extract_image(file, size, (const uint8_t *)"kernel-1", 8, BOOTIMG_LIMIT, 64, answer);
+    case 12: return bootimg_extract_config(file, size, name, 6, BOOTIMG_KERNEL, 0, BOOTIMG_LIMIT, 64, answer);
+    default: return bootimg_extract_default(file, size, BOOTIMG_FDT, 0, BOOTIMG_LIMIT, 64, answer);
+    }
+}
+
+/* Makes a call with the allocation of this number failing, and returns whether it got that far. */
+static int fails(int call, long number, uint32_t status, const bootimg_answer *expected)
+{
+    static const bootimg_answer none;
+    bootimg_answer answer;
+    uint32_t got;
+    memset(text, 0xa5, sizeof text);
+    memset(&answer, 0xc3, sizeof answer);
+    allocations = 0;
+    failing = number;
+    got = make(call, text, &answer);
+    failing = -1;
+    if (got == BOOTIMG_OUT_OF_MEMORY && allocations > number) {
+        for (size_t i = 0; i < sizeof text; i++)
+            if (text[i] != 0xa5)
+                exit(3);
+        if (memcmp(&answer, &none, sizeof answer) != 0)
+            exit(4);
+    } else if (got != status || memcmp(&answer, expected, sizeof answer) != 0 || memcmp(text, wanted, sizeof text) != 0) {
+        exit(5);
+    }
+    return allocations > number;
+}
+
+int main(int count, char **words)
+{
+    FILE *input = fopen(words[count - 1], "rb");
+    long failed = 0;
+    size = input == NULL ? 0 : fread(file, 1, sizeof file, input);
+    if (size == 0)
+        return 2;
+    for (int call = 0; call <= 13; call++) {
+        bootimg_answer expected;
+        uint32_t status;
+        memset(wanted, 0xa5, sizeof wanted);
+        status = make(call, wanted, &expected);
+        for (long number = 0; fails(call, number, status, &expected); number++)
+            failed++;
+    }
+    printf("%ld\n", failed);
+    return 0;
+}
