@@ -1,6 +1,7 @@
-use Rattle.std.proofs.Common.{ℕ, ◌+◌, ◌-◌, ◌^◌, ◌<◌, zero, suc, List, [], ◌∷◌, ◌++◌, length, get_or, take, drop, replicate, flat_map, inl, inr, refl, sym, subst, arith, get_or-append-add, get_or-drop}
-use Rattle.std.specs.List.{AllByRecursion}
-use Rattle.std.proofs.lemmas.Bool.{cases_lt}
+use Rattle.std.proofs.Common.{◌≡◌, ℕ, true, ◌+◌, ◌-◌, ◌^◌, ◌<◌, zero, suc, List, [], ◌∷◌, ◌++◌, length, get_or, take, drop, replicate, flat_map, inl, inr, refl, sym, subst, arith, get_or-append-add, get_or-drop}
+use Rattle.std.specs.Prelude.{ltb}
+use Rattle.std.specs.List.{AllByRecursion, list_all}
+use Rattle.std.proofs.lemmas.Bool.{cases_lt, and_parts, ltb-true}
 use Rattle.std.proofs.lemmas.List.{get_or_append_left, get_or-append_right, get_or_past}
 use Rattle.bi_base.specs.Cells.{cell, cell8, AreBytes}
 use Rattle.bi_base.proofs.CellLaws.{AreBytes-slice}
@@ -69,3 +70,10 @@ AreBytes-drop n file bytes = record { each = λ i. subst (λ k. k < 2 ^ 8) (sym 
 -- The first bytes.
 pub AreBytes-take : (n : ℕ) (file : List ℕ) → AreBytes file → AreBytes (take n file)
 AreBytes-take n file bytes = AreBytes-slice file 0 n bytes
+
+-- A list of bytes is one, by a test of each.
+pub bytes_by_test : (bytes : List ℕ) → list_all (λ byte. ltb byte 256) bytes ≡ true → AreBytes bytes
+bytes_by_test [] passes = AreBytes-none
+bytes_by_test (byte ∷ later) passes =
+    let parts = and_parts (ltb byte 256) (list_all (λ byte. ltb byte 256) later) passes in
+    AreBytes-cons byte later (ltb-true byte 256 parts.0) (bytes_by_test later parts.1)

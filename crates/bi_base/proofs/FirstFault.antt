@@ -1,4 +1,4 @@
-use Rattle.std.proofs.Common.{◌≡◌, ◌⊎◌, List, [], ◌∷◌, refl, sym, ◌∙◌, inl, inr}
+use Rattle.std.proofs.Common.{◌≡◌, ◌⊎◌, List, [], ◌∷◌, ◌++◌, refl, sym, ◌∙◌, inl, inr}
 use Rattle.bi_base.specs.Checks.{IsFirstFault, HasNoFault}
 use Rattle.bi_base.specs.declared.fault.Fault.{Fault}
 
@@ -27,3 +27,14 @@ pub fault_or_none : {C : Type 0} (Passes : C → Type 0) (fault_of : C → Fault
 fault_or_none Passes fault_of decided [] = inl tt
 fault_or_none Passes fault_of decided (check ∷ later) =
     fault_or_none_from Passes fault_of check later (decided check) (fault_or_none Passes fault_of decided later)
+
+-- The first fault of two lists where it is in the first list.
+pub IsFirstFault-front : {C : Type 0} (P : C → Type 0) (f : C → Fault) (front after : List C) (fault : Fault) → IsFirstFault P f front fault → IsFirstFault P f (front ++ after) fault
+IsFirstFault-front P f [] after fault first = absurd first
+IsFirstFault-front P f (check ∷ front) after fault (inl here) = inl here
+IsFirstFault-front P f (check ∷ front) after fault (inr later) = inr (later.0, IsFirstFault-front P f front after fault later.1)
+
+-- The first fault of two lists where the first list passes.
+pub IsFirstFault-after : {C : Type 0} (P : C → Type 0) (f : C → Fault) (front after : List C) (fault : Fault) → HasNoFault P front → IsFirstFault P f after fault → IsFirstFault P f (front ++ after) fault
+IsFirstFault-after P f [] after fault none first = first
+IsFirstFault-after P f (check ∷ front) after fault none first = inr (none.0, IsFirstFault-after P f front after fault none.1 first)

@@ -11,6 +11,8 @@ use Rattle.bi_fit.specs.Judgement.{images_with, image_named}
 use Rattle.bi_fit.specs.Names.{images_name}
 use Rattle.bi_commands.specs.declared.extract.ExtractError.TheVariants.{NoPayload}
 use Rattle.bi_commands.specs.Extracting.{Choice, NoSuchImage, Chosen, IsReason, choice_of_image, choice_of_payload, choice_by_name}
+use Rattle.bi_blob.proofs.Blobs.Lookups.{names-with_each, names-siblings}
+use Rattle.bi_fit.proofs.Shapes.{names-without_payloads}
 
 -- What the name of an image chooses of a flattened image tree that was read.
 
@@ -48,19 +50,6 @@ found_by_name name (entry ∷ entries) (image ∷ later) same =
         → choice_of_image (image_named name (images_with (entry ∷ entries) (map (λ (image : ReadImage). image.payload) (image ∷ later)))) ≡ choice_at (image ∷ later) (index_of name (image ∷ later))
     by true is same rest = rw (same, is) refl
     by false is same rest = rw (same, is) (rest ∙ sym (ap (choice_at (image ∷ later)) (index_from-next 0 name later) ∙ choice_at-next image later (index_of name later)))
-
--- What a node has itself makes no difference to the names.
-names-with_each : {A B : Type 0} (change : A → B) (nodes : Nodes A) → names (with_each change nodes) ≡ names nodes
-names-with_each change none = refl
-names-with_each change (node name own children later) = ap (λ l. name ∷ l) (names-with_each change later)
-
-names-without_payloads : (nodes : Nodes PropertyMap) → names (without_payloads nodes) ≡ names nodes
-names-without_payloads none = refl
-names-without_payloads (node name own children later) = ap (λ l. name ∷ l) (names-without_payloads later)
-
-names-siblings : {Own : Type 0} (nodes : Nodes Own) → map (λ (entry : Sibling Own). entry.name) (siblings nodes) ≡ names nodes
-names-siblings none = refl
-names-siblings (node name own children later) = ap (λ l. name ∷ l) (names-siblings later)
 
 -- The nodes of an image tree, by those of a file.
 abbrev pub meant : Nodes FileNode → Nodes PropertyMap

@@ -4,13 +4,12 @@ use Rattle.bi_base.specs.declared.fault.Error.TheVariants.{Refused, OutOfMemory 
 use Rattle.bi_base.specs.declared.fault.Fault.{Fault}
 use Rattle.bi_base.specs.Limits.{Bounds}
 use Rattle.bi_norm.specs.declared.image.BootImage.{BootImage}
-use Rattle.bi_norm.specs.declared.image.BootImage.TheVariants.{Legacy, Fit}
-use Rattle.bi_norm.specs.Comparing.{MeansOnly, AreCompared}
+use Rattle.bi_norm.specs.Comparing.{AreCompared}
 use Rattle.bi_norm.specs.Meaning.{Meaning, OfLegacy, OfFit}
 use Rattle.bi_norm.specs.NormalForm.{IsOpenError, NeedsMemory}
 use Rattle.bi_norm.specs.OpenedMeaning.{meaning_of}
 use Rattle.bi_norm.specs.Opening.{IsOpened}
-use Rattle.bi_norm.proofs.NormalForms.{only_legacy, only_tree, needs_memory}
+use Rattle.bi_norm.proofs.NormalForms.{needs_memory}
 use Rattle.bi_commands.specs.declared.compare.CompareError.{CompareError}
 use Rattle.bi_commands.specs.declared.compare.CompareError.TheVariants.{OutOfMemory}
 use Rattle.bi_commands.specs.Comparing.{AreTheSame, AreDifferent, IsComparison, IsReadingError, IsDescribingError, IsComparisonError}
@@ -18,6 +17,7 @@ use Rattle.bi_commands.specs.Comparing.{comparison, other_order_line, other_payl
 use Rattle.bi_commands.specs.Descriptions.{description, description_texts}
 use Rattle.bi_commands.specs.Differences.{differences}
 use Rattle.bi_commands.specs.Describing.{CanBeDescribed}
+use Rattle.bi_norm.proofs.Comparisons.{opened_means}
 
 -- Two files that were read and are compared.
 
@@ -27,11 +27,6 @@ memory_of_reading limits file (Refused fault) other is = absurd (other fault ref
 memory_of_reading limits file NoMemory other is = is
 memory_of_reading limits file ReadFailed other is = absurd is
 memory_of_reading limits file WriteFailed other is = absurd is
-
--- A file that was read means what was read, and nothing else.
-pub opened_means : (limits : Bounds) (file : List ℕ) (image : BootImage) → IsOpened limits file image → MeansOnly limits file (meaning_of image)
-opened_means limits file (Legacy parsed) opened = record { means = opened.means; only = only_legacy limits file parsed opened }
-opened_means limits file (Fit content) opened = record { means = opened.means; only = only_tree limits file content opened }
 
 abbrev pub are_compared : (limits : Bounds) (one other : List ℕ) (image other_image : BootImage) (same : Bool) → IsOpened limits one image → IsOpened limits other other_image → IsTrue same ↔ (meaning_of image ≡ meaning_of other_image)
     → AreCompared limits one other same

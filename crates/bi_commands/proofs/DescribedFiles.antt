@@ -11,7 +11,7 @@ use Rattle.bi_norm.proofs.NormalForms.{needs_memory}
 use Rattle.bi_commands.specs.Descriptions.{description}
 use Rattle.bi_commands.specs.Describing.{CanBeDescribed, IsDescription, IsDescribeError, IsImageError}
 use Rattle.bi_commands.specs.ReadDescription.{IsDescriptionOf}
-use Rattle.bi_commands.proofs.Compared.{opened_means}
+use Rattle.bi_norm.proofs.Comparisons.{opened_means}
 
 -- The description of what was read from a file is that of the file.
 

@@ -1,4 +1,4 @@
-use Rattle.std.proofs.Common.{◌≡◌, ℕ, ◌+◌, codes, ◌<◌, ◌≤◌, ◌-◌, false, get_or, take, drop, take_all, List, [], ◌∷◌, ◌++◌, flat_map, length, map, sym, ap, ◌∙◌, arith, append-nil, append_assoc, Result, Ok, Err, OnOk}
+use Rattle.std.proofs.Common.{◌≡◌, ℕ, ◌+◌, codes, ◌<◌, ◌≤◌, ◌-◌, false, get_or, take, drop, take_all, List, [], ◌∷◌, ◌++◌, flat_map, length, map, sym, ap, ◌∙◌, arith, append_assoc, Result, Ok, Err, OnOk}
 use Rattle.std.specs.Result.{is_err}
 use Rattle.std.specs.Borrow.{Bor}
 use Rattle.std.specs.List.{join_with_byte}
@@ -13,6 +13,7 @@ use Rattle.bi_commands.specs.TreeEntries.{digest_made}
 use Rattle.bi_commands.specs.Descriptions.{Words, digest_words, part_words, path}
 use Rattle.bi_commands.specs.Shown.{line, shown}
 use Rattle.bi_commands.specs.WrittenWords.{name_bytes, word_text, words_of}
+use Rattle.bi_commands.proofs.FitLines.{joined_after}
 
 -- The pieces of which a description is made.
 
@@ -28,11 +29,6 @@ steps_of names = flat_map step_of names
 pub steps_are_path : (names : List (Bor (List ℕ))) → 0 < length names → steps_of names ≡ path (name_bytes names)
 steps_are_path [] some = absurd (omega arith)
 steps_are_path (first ∷ names) some = sym (flat_map-map (λ other. 47 ∷ shown other) (λ (name : Bor (List ℕ)). name.now) (first ∷ names))
-
--- Words after a first one, with a space before each.
-pub joined_after : (first : List ℕ) (words : List (List ℕ)) → join_with_byte 32 (first ∷ words) ≡ first ++ flat_map (λ word. 32 ∷ word) words
-joined_after first [] = sym (append-nil first)
-joined_after first (word ∷ words) = ap (λ later. first ++ (32 ∷ later)) (joined_after word words)
 
 -- The same for words as the code has them.
 pub words_joined : (first : Word) (later : List Word) → join_with_byte 32 (words_of (first ∷ later)) ≡ word_text first ++ flat_map (λ word. 32 ∷ word_text word) later

@@ -1,23 +1,16 @@
-use Rattle.std.proofs.Common.{◌≡◌, ◌⊎◌, ℕ, List, [], ◌∷◌, ◌++◌, Option, Some, None, map, codes, refl, sym, ap, ap₂, subst, ◌∙◌, inl, inr, arith}
+use Rattle.std.proofs.Common.{◌≡◌, ◌⊎◌, ℕ, List, [], ◌∷◌, ◌++◌, Option, Some, None, map, codes, refl, sym, ap, ap₂, subst, ◌∙◌}
 use Rattle.std.specs.Fmt.{decimal}
 use Rattle.std.specs.List.{AllZip, flat_map}
-use Rattle.bi_base.specs.declared.fault.Fault.{Fault}
 use Rattle.bi_base.specs.Limits.{Bounds}
 use Rattle.bi_blob.specs.Blob.{totalsize}
-use Rattle.bi_blob.specs.BlobFaults.{HasNoFaultBeforeTree, IsFaultBeforeTree}
 use Rattle.bi_blob.specs.Lookups.{siblings}
 use Rattle.bi_blob.specs.Tree.{Nodes, none, node, FileNode}
-use Rattle.bi_blob.proofs.Blobs.BeforeTree.{fault_before_tree_comes_first}
 use Rattle.bi_fdt.specs.Content.{root_of}
 use Rattle.bi_fit.specs.Content.{FitContent, ReadImage, tree_of, place_of, IsReadImage}
-use Rattle.bi_fit.specs.Faults.{InBlob}
 use Rattle.bi_fit.specs.ImageTree.{image_nodes, nodes_or_none}
 use Rattle.bi_fit.specs.Judgement.{default_of}
 use Rattle.bi_fit.specs.Payloads.{PayloadSource, NoSource, Data, DataOffset, DataPosition, source_of, IsPayload}
 use Rattle.bi_fit.specs.Reading.{IsReadFrom}
-use Rattle.bi_norm.specs.declared.kind.Kind.TheVariants.{Legacy}
-use Rattle.bi_norm.specs.Kinds.{BeginsAs}
-use Rattle.bi_norm.specs.NormalForm.{NeedsMemory, ForTree}
 use Rattle.bi_commands.specs.FitListing.{image_line, image_lines, fit_listing, reservation_line, default_line}
 use Rattle.bi_commands.specs.Listing.{IsListing, OfImageTree}
 use Rattle.bi_commands.specs.ReadListing.{read_image_line, placed_line, read_listing, configurations_lines}
@@ -74,13 +67,3 @@ listing_of_file limits file content is =
 pub tree_listing : (limits : Bounds) (file text : List ℕ) (content : FitContent) → IsReadFrom limits file content → text ≡ read_listing content → IsListing limits file text
 tree_listing limits file text content is written =
     OfImageTree (record { tree = tree_of content; means = is.means; is = written ∙ listing_of_file limits file content is })
-
--- Memory may run out after a flattened image tree was read.
-pub memory_for_tree : (limits : Bounds) (file : List ℕ) (content : FitContent) → IsReadFrom limits file content → NeedsMemory limits file
-memory_for_tree limits file content is = ForTree other (by (fault_before_tree_comes_first limits file).decided) where
-  other : ¬ (BeginsAs file Legacy)
-  other begins = omega (arith, begins.magic, is.means.is_file.blob.header.is_magic)
-
-  by : HasNoFaultBeforeTree limits file ⊎ ((fault : Fault) × IsFaultBeforeTree limits file fault) → HasNoFaultBeforeTree limits file
-  by (inl fine) = fine
-  by (inr faulty) = absurd (is.no_fault faulty.0 (InBlob ((fault_before_tree_comes_first limits file).first faulty.0 faulty.1)))

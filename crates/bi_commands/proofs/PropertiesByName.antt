@@ -19,16 +19,10 @@ use Rattle.bi_fit.specs.Names.{is_payload_name}
 use Rattle.bi_fit.specs.ImageTree.{without_payload}
 use Rattle.bi_fit.proofs.Maps.{same, get-without}
 use Rattle.bi_commands.specs.SortedProperties.{properties_in, by_name, IsSorted}
+use Rattle.bi_blob.proofs.Texts.NormalEvents.{both_hold}
+use Rattle.bi_blob.proofs.NameSets.{name_cmp}
 
 -- The entries of an ordered map of slices, and the properties by name that they are.
-
--- The order of names that are slices.
-abbrev pub name_cmp : Bor (List ℕ) → Bor (List ℕ) → Ordering
-name_cmp x y = slice_cmp nat_cmp x.now y.now
-
-both_hold : (a b : Bool) → T a → T b → T (a && b)
-both_hold true b first second = second
-both_hold false b first second = absurd first
 
 -- A name that is before others is before their entries.
 before_all : (name : Bor (List ℕ)) (es : List (Bor (List ℕ) × Bor (List ℕ))) → AllByRecursion (λ other. name_cmp name other ≡ Less) (keys_of es) → T (below_all (slice_cmp nat_cmp) name.now (properties_in es))

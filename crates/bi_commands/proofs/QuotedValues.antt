@@ -5,7 +5,7 @@ use Rattle.bi_fit.specs.Judgement.{listed_names, with_byte}
 use Rattle.bi_fit.proofs.NameLists.{ends_later}
 use Rattle.bi_commands.specs.DescribedValues.{end_texts, quoted_byte, quoted_texts}
 use Rattle.bi_commands.specs.ValueTexts.{is_printable, is_quotable, are_quotable_texts, escaped_byte, quoted, value_words, hexadecimal_digits}
-use Rattle.bi_commands.proofs.DescriptionPieces.{joined_after}
+use Rattle.bi_commands.proofs.FitLines.{joined_after}
 
 -- The values of properties, as they are written byte by byte.
 

@@ -1,13 +1,9 @@
-use Rattle.std.proofs.Common.{◌≡◌, ℕ, List, [], ◌∷◌, ◌++◌, codes, flat_map, Option, None, Some, refl, ap, ◌∙◌, nat_cmp}
-use Rattle.std.specs.Cmp.Lexicographic.{slice_cmp}
+use Rattle.std.proofs.Common.{◌≡◌, ℕ, List, [], ◌∷◌, ◌++◌, codes, flat_map, Option, None, Some, refl, ap, ◌∙◌}
 use Rattle.std.specs.Fmt.{digits}
-use Rattle.std.specs.FinMap.{get, from_entries, find, get-from_entries}
-use Rattle.std.proofs.lemmas.Cmp.{nat_list_cmp_total}
 use Rattle.bi_base.specs.Cells.{cell, cell8, u32_at}
 use Rattle.bi_base.specs.Crc.{crc32, crc_after, low_bits}
 use Rattle.bi_base.specs.Strings.{text_before_nul}
 use Rattle.bi_blob.specs.Layout.{text_of_events, text_of_blocks}
-use Rattle.bi_blob.specs.Tree.{Property}
 use Rattle.bi_hash.specs.Algos.{find_algorithm}
 use Rattle.bi_hash.specs.Digests.{digest_of}
 use Rattle.bi_hash.specs.Verdicts.{verdict_of}
@@ -17,7 +13,7 @@ use Rattle.bi_fit.specs.Judgement.{CheckedHash, verdicts_of}
 use Rattle.bi_fit.specs.Names.{key_name, default_name, algo_name, value_name}
 use Rattle.bi_fit.specs.declared.key.Key.TheVariants.{Kernel, Fdt, Ramdisk, Firmware, Loadables, Script}
 use Rattle.bi_fit.specs.KnownJudgements.{configuration_lists, other_lists, default_list, hashed_tree, good_crc, short_crc, other_crc, no_value}
-use Rattle.bi_fit.proofs.JudgementFacts.{lists_are_read}
+use Rattle.bi_fit.proofs.JudgementFacts.{lists_are_read, find-properties}
 use Rattle.bi_commands.specs.Extracting.{choice_of_listed}
 use Rattle.bi_commands.specs.Reports.{hash_line, summary_line}
 use Rattle.bi_commands.specs.KnownConcerns.{ConcernsAreKnown}
@@ -40,10 +36,6 @@ names_are_shown = record {
   minus_inside = refl;
 }
 
--- A property of a list by its name.
-found : (properties : List Property) (name : List ℕ) → get (from_entries {R = slice_cmp nat_cmp} properties) name ≡ find (slice_cmp nat_cmp) name properties
-found properties name = get-from_entries nat_list_cmp_total properties name
-
 pub choices_are_known : ChoicesAreKnown
 unfolding text_before_nul
 choices_are_known = record {
@@ -63,10 +55,10 @@ choices_are_known = record {
   no_key = ap (λ listed. choice_of_listed listed 0) lists_are_read.no_key;
   no_configuration = refl;
   default_of_legacy = refl;
-  default_entry = rw (found second_default default_name, found second_kernel (key_name Kernel)) refl;
-  no_default_entry = rw (found second_default default_name, found second_kernel (key_name Kernel)) refl;
-  no_default_key = rw (found second_default default_name, found second_kernel (key_name Fdt)) refl;
-  default_is_elsewhere = rw (found default_list default_name) refl;
+  default_entry = rw (find-properties second_default default_name, find-properties second_kernel (key_name Kernel)) refl;
+  no_default_entry = rw (find-properties second_default default_name, find-properties second_kernel (key_name Kernel)) refl;
+  no_default_key = rw (find-properties second_default default_name, find-properties second_kernel (key_name Fdt)) refl;
+  default_is_elsewhere = rw (find-properties default_list default_name) refl;
   no_default = refl;
 }
 
@@ -89,7 +81,7 @@ known_hashes =
 hashes_are_known : verdicts_of hashed_tree ≡ known_hashes
 unfolding text_before_nul verdict_of find_algorithm digest_of cell crc32 crc_after low_bits
 hashes_are_known =
-    rw (found good_crc algo_name, found good_crc value_name, found short_crc algo_name, found short_crc value_name, found other_crc algo_name, found other_crc value_name, found no_value algo_name, found no_value value_name)
+    rw (find-properties good_crc algo_name, find-properties good_crc value_name, find-properties short_crc algo_name, find-properties short_crc value_name, find-properties other_crc algo_name, find-properties other_crc value_name, find-properties no_value algo_name, find-properties no_value value_name)
     refl
 
 -- The report on hash nodes.
@@ -118,15 +110,15 @@ fit_listing_is_known = refl
 pub configuration_lines_are_known : ConfigurationLinesAreKnown
 unfolding digits text_before_nul
 configuration_lines_are_known =
-    rw (found configuration_lists (key_name Kernel), found configuration_lists (key_name Fdt), found configuration_lists (key_name Ramdisk), found configuration_lists (key_name Firmware), found configuration_lists (key_name Loadables), found configuration_lists (key_name Script), found other_lists (key_name Kernel), found other_lists (key_name Fdt), found other_lists (key_name Ramdisk), found other_lists (key_name Firmware), found other_lists (key_name Loadables), found other_lists (key_name Script), found default_list default_name)
+    rw (find-properties configuration_lists (key_name Kernel), find-properties configuration_lists (key_name Fdt), find-properties configuration_lists (key_name Ramdisk), find-properties configuration_lists (key_name Firmware), find-properties configuration_lists (key_name Loadables), find-properties configuration_lists (key_name Script), find-properties other_lists (key_name Kernel), find-properties other_lists (key_name Fdt), find-properties other_lists (key_name Ramdisk), find-properties other_lists (key_name Firmware), find-properties other_lists (key_name Loadables), find-properties other_lists (key_name Script), find-properties default_list default_name)
     refl
 
 pub concerns_are_known : ConcernsAreKnown
 unfolding digits text_before_nul verdict_of find_algorithm digest_of text_of_events text_of_blocks cell cell8 u32_at crc32 crc_after low_bits
 concerns_are_known = record {
-  hashes = rw (found good_crc algo_name, found good_crc value_name, found short_crc algo_name, found short_crc value_name, found other_crc algo_name, found other_crc value_name, found no_value algo_name, found no_value value_name) refl;
-  configurations = rw (found configuration_lists (key_name Kernel), found configuration_lists (key_name Fdt), found configuration_lists (key_name Ramdisk), found configuration_lists (key_name Firmware), found configuration_lists (key_name Loadables), found configuration_lists (key_name Script), found other_lists (key_name Kernel), found other_lists (key_name Fdt), found other_lists (key_name Ramdisk), found other_lists (key_name Firmware), found other_lists (key_name Loadables), found other_lists (key_name Script), found default_list default_name) refl;
-  lists_allowed = rw (found configuration_lists (key_name Kernel), found configuration_lists (key_name Fdt), found configuration_lists (key_name Ramdisk), found configuration_lists (key_name Firmware), found configuration_lists (key_name Loadables), found configuration_lists (key_name Script), found other_lists (key_name Kernel), found other_lists (key_name Fdt), found other_lists (key_name Ramdisk), found other_lists (key_name Firmware), found other_lists (key_name Loadables), found other_lists (key_name Script), found default_list default_name) refl;
+  hashes = rw (find-properties good_crc algo_name, find-properties good_crc value_name, find-properties short_crc algo_name, find-properties short_crc value_name, find-properties other_crc algo_name, find-properties other_crc value_name, find-properties no_value algo_name, find-properties no_value value_name) refl;
+  configurations = rw (find-properties configuration_lists (key_name Kernel), find-properties configuration_lists (key_name Fdt), find-properties configuration_lists (key_name Ramdisk), find-properties configuration_lists (key_name Firmware), find-properties configuration_lists (key_name Loadables), find-properties configuration_lists (key_name Script), find-properties other_lists (key_name Kernel), find-properties other_lists (key_name Fdt), find-properties other_lists (key_name Ramdisk), find-properties other_lists (key_name Firmware), find-properties other_lists (key_name Loadables), find-properties other_lists (key_name Script), find-properties default_list default_name) refl;
+  lists_allowed = rw (find-properties configuration_lists (key_name Kernel), find-properties configuration_lists (key_name Fdt), find-properties configuration_lists (key_name Ramdisk), find-properties configuration_lists (key_name Firmware), find-properties configuration_lists (key_name Loadables), find-properties configuration_lists (key_name Script), find-properties other_lists (key_name Kernel), find-properties other_lists (key_name Fdt), find-properties other_lists (key_name Ramdisk), find-properties other_lists (key_name Firmware), find-properties other_lists (key_name Loadables), find-properties other_lists (key_name Script), find-properties default_list default_name) refl;
   last_payload_ends = refl;
   zeros = refl;
   end = refl;

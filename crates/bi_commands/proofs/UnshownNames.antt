@@ -110,10 +110,7 @@ pub some_holds : {T : Type 0} (P : T → Type 0) (found : Option T) (value : T) 
 some_holds P None value is holds = absurd cc
 some_holds P (Some other) value is holds = let same : other ≡ value = cc in subst P same holds
 
--- No bytes are bytes, and so is the name `-`.
-pub none_are_bytes : AreBytes []
-none_are_bytes = record { each = λ i. omega arith }
-
+-- The name `-` is bytes.
 pub dash_is_bytes : AreBytes (codes "-")
 dash_is_bytes = record { each = each }
   where

@@ -23,7 +23,8 @@ use Rattle.bi_fit.specs.Text.{with_payload, with_payloads, end_after, normal_tre
 use Rattle.bi_fit.specs.KnownFiles.{tree_of_images, file_of_images, plain_images, plain_tree, SmallestIsFit, NoneIsNotEmpty, only_data, nested_tree, nested_image_tree, OnlyImagesHavePayloads, UnusedHaveNoMeaning, region_of, shared_region, SharedRegionIsRepeated, ThreeImagesHaveTexts, ChildrenKeepOrder, PositionIsBeforeData, OffsetIsBeforeData, PositionIsBeforeOffset, PayloadsAreAligned, offset_file, OffsetIsFromAlignedEnd}
 use Rattle.bi_fit.proofs.Maps.{taken_out}
 use Rattle.bi_fit.proofs.BuiltTrees.{none_found}
-use Rattle.bi_fit.proofs.Tested.{is_tree, content_by_test, are_bytes_by_test}
+use Rattle.bi_fit.proofs.Tested.{is_tree, content_by_test}
+use Rattle.bi_base.proofs.ByteLists.{bytes_by_test}
 
 -- What the definitions compute for small files.
 
@@ -37,7 +38,7 @@ no_entries = by_length (entries empty) (sym (len-entries empty) ∙ len-empty (s
 
 -- The text of a tested tree, with bytes after it, is a blob of it.
 pub blob_by_test : (root : Root (List Property)) (rest : List ℕ) → is_tree root ≡ true → list_all (λ byte. ltb byte 256) rest ≡ true → length (text_of_tree 0 [] root) ≤ longest_text → IsBlob (text_of_tree 0 [] root ++ rest) 0 [] (tree_with_places [] root)
-blob_by_test root rest tree bytes short = text_blob 0 [] root rest (content_by_test root tree) short (are_bytes_by_test rest bytes)
+blob_by_test root rest tree bytes short = text_blob 0 [] root rest (content_by_test root tree) short (bytes_by_test rest bytes)
 
 -- Properties of payloads alone leave none.
 all_taken_out : (properties : List Property) → AllByRecursion (λ property. not (is_payload_name property.0) ≡ false) properties → without_payload (from_entries properties) ≡ empty
@@ -293,7 +294,7 @@ offset_root = tree_of_images (node (codes "a") (region_of 0 3) none none)
 offset_blob : IsBlob offset_file 0 [] (tree_with_places [] offset_root)
 unfolding text_of_events text_of_blocks cell cell8 u32_at test
 offset_blob = record {
-  bytes = are_bytes_by_test offset_file refl;
+  bytes = bytes_by_test offset_file refl;
   header = HasNoHeaderFault-Header widest offset_file (fine_by_test widest offset_file refl);
   is_cpu = refl;
   reserved = record { are_reservations = tt; trailing = _; is_at = refl };

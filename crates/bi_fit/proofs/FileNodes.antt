@@ -5,7 +5,7 @@ use Rattle.std.specs.FinMap.{get, from_entries, find, get-from_entries}
 use Rattle.std.proofs.lemmas.Cmp.{nat_list_cmp_total, nat_list_eq_equiv}
 use Rattle.std.proofs.lemmas.Slice.Eq.{bytes_eq-Decides}
 use Rattle.std.proofs.lemmas.Map.Text.{is_eq-slice_cmp}
-use Rattle.bi_blob.specs.Tree.{Nodes, none, node, Property, PropertyMap, FileNode, properties_of, with_each, names}
+use Rattle.bi_blob.specs.Tree.{Nodes, none, node, Property, PropertyMap, FileNode, names}
 use Rattle.bi_blob.specs.Lookups.{Sibling, siblings, node_named, value_named}
 use Rattle.bi_fdt.specs.Content.{root_of}
 use Rattle.bi_fit.specs.Names.{images_name, configurations_name}
@@ -13,22 +13,15 @@ use Rattle.bi_fit.specs.ImageTree.{children_of, with_children_of, nodes_or_none,
 use Rattle.bi_fit.specs.Content.{FitContent, tree_of}
 use Rattle.bi_fit.specs.Judgement.{configuration_nodes}
 use Rattle.bi_fit.specs.Nodes.{file_images, file_configurations}
+use Rattle.bi_fit.specs.Additions.{properties_by_name, nodes_by_name}
 
 -- The nodes of an image tree that was read, and those of its blob.
 
--- The properties of a node by their names.
-abbrev pub by_name : FileNode → PropertyMap
-by_name own = from_entries (properties_of own)
-
--- Nodes of a file, each with its properties by their names.
-abbrev pub nodes_by_name : Nodes FileNode → Nodes PropertyMap
-nodes_by_name nodes = with_each from_entries (with_each properties_of nodes)
-
--- The same of one of some siblings.
+-- One of some siblings, with the properties of each node by their names.
 abbrev pub sibling_by_name : Sibling FileNode → Sibling PropertyMap
 sibling_by_name sibling = record {
   name = sibling.name;
-  own = by_name sibling.own;
+  own = properties_by_name sibling.own;
   children = nodes_by_name sibling.children;
   later = nodes_by_name sibling.later;
 }
@@ -37,7 +30,7 @@ sibling_by_name sibling = record {
 abbrev pub bare_image : Sibling FileNode → Sibling PropertyMap
 bare_image sibling = record {
   name = sibling.name;
-  own = without_payload (by_name sibling.own);
+  own = without_payload (properties_by_name sibling.own);
   children = nodes_by_name sibling.children;
   later = without_payloads (nodes_by_name sibling.later);
 }

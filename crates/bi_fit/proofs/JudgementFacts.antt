@@ -17,26 +17,26 @@ use Rattle.bi_fit.specs.KnownJudgements.{configuration_lists, other_lists, defau
 -- What the definitions compute of small trees.
 
 -- A property of a list by its name.
-found : (properties : List Property) (name : List ℕ) → get (from_entries {R = slice_cmp nat_cmp} properties) name ≡ find (slice_cmp nat_cmp) name properties
-found properties name = get-from_entries nat_list_cmp_total properties name
+pub find-properties : (properties : List Property) (name : List ℕ) → get (from_entries {R = slice_cmp nat_cmp} properties) name ≡ find (slice_cmp nat_cmp) name properties
+find-properties properties name = get-from_entries nat_list_cmp_total properties name
 
 pub lists_are_read : ListsAreRead
 unfolding text_before_nul
 lists_are_read = record {
-  listed = ap (listed_at (images_of configured_tree)) (found configuration_lists (key_name Kernel));
-  missing = ap (listed_at (images_of configured_tree)) (found configuration_lists (key_name Fdt));
-  no_zero = ap (listed_at (images_of configured_tree)) (found configuration_lists (key_name Ramdisk));
-  empty_name = ap (listed_at (images_of configured_tree)) (found configuration_lists (key_name Firmware));
-  second_empty = ap (listed_at (images_of configured_tree)) (found configuration_lists (key_name Loadables));
-  no_key = ap (listed_at (images_of configured_tree)) (found configuration_lists (key_name Script));
-  empty_value = ap (listed_at (images_of configured_tree)) (found other_lists (key_name Kernel));
+  listed = ap (listed_at (images_of configured_tree)) (find-properties configuration_lists (key_name Kernel));
+  missing = ap (listed_at (images_of configured_tree)) (find-properties configuration_lists (key_name Fdt));
+  no_zero = ap (listed_at (images_of configured_tree)) (find-properties configuration_lists (key_name Ramdisk));
+  empty_name = ap (listed_at (images_of configured_tree)) (find-properties configuration_lists (key_name Firmware));
+  second_empty = ap (listed_at (images_of configured_tree)) (find-properties configuration_lists (key_name Loadables));
+  no_key = ap (listed_at (images_of configured_tree)) (find-properties configuration_lists (key_name Script));
+  empty_value = ap (listed_at (images_of configured_tree)) (find-properties other_lists (key_name Kernel));
   no_configuration = refl;
-  default = ap (option_and_then text_before_nul) (found default_list default_name);
+  default = ap (option_and_then text_before_nul) (find-properties default_list default_name);
   signatures = refl;
 }
 
 pub hashes_are_judged : HashesAreJudged
 unfolding text_before_nul verdict_of find_algorithm digest_of cell crc32 crc_after low_bits
 hashes_are_judged =
-    rw (found good_crc algo_name, found good_crc value_name, found short_crc algo_name, found short_crc value_name, found other_crc algo_name, found other_crc value_name, found no_value algo_name, found no_value value_name)
+    rw (find-properties good_crc algo_name, find-properties good_crc value_name, find-properties short_crc algo_name, find-properties short_crc value_name, find-properties other_crc algo_name, find-properties other_crc value_name, find-properties no_value algo_name, find-properties no_value value_name)
     refl

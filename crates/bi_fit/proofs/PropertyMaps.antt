@@ -20,16 +20,10 @@ use Rattle.bi_fit.specs.Names.{is_payload_name}
 use Rattle.bi_fit.specs.ImageTree.{without_payload}
 use Rattle.bi_fit.specs.PropertyMaps.{properties_in}
 use Rattle.bi_fit.proofs.Maps.{same, get-without, get-put, get-put_other}
+use Rattle.bi_blob.proofs.Texts.NormalEvents.{both_hold}
+use Rattle.bi_blob.proofs.NameSets.{name_cmp}
 
 -- The map of a node's properties, and the entries that hold it.
-
--- The order of names that are slices.
-abbrev pub name_cmp : Bor (List ℕ) → Bor (List ℕ) → Ordering
-name_cmp x y = slice_cmp nat_cmp x.now y.now
-
-both_hold : (a b : Bool) → T a → T b → T (a && b)
-both_hold true b first second = second
-both_hold false b first second = absurd first
 
 -- A name that is before others is before their entries.
 before_all : (name : Bor (List ℕ)) (es : List (Bor (List ℕ) × Value)) → AllByRecursion (λ other. name_cmp name other ≡ Less) (keys_of es) → T (below_all (slice_cmp nat_cmp) name.now (properties_in es))

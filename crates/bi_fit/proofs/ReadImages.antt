@@ -1,7 +1,7 @@
-use Rattle.std.proofs.Common.{◌≡◌, ℕ, List, [], ◌∷◌, ◌++◌, refl, sym, ap, subst, append_assoc, append-nil, inl, inr}
+use Rattle.std.proofs.Common.{◌≡◌, ℕ, List, [], ◌∷◌, ◌++◌, refl, sym, ap, subst, append_assoc, append-nil}
 use Rattle.std.specs.List.{AllByRecursion, AllZip}
 use Rattle.bi_base.specs.declared.fault.Fault.{Fault}
-use Rattle.bi_base.specs.Checks.{IsFirstFault, HasNoFault}
+use Rattle.bi_base.specs.Checks.{IsFirstFault}
 use Rattle.bi_blob.specs.Tree.{Nodes, none, node, FileNode}
 use Rattle.bi_blob.specs.Lookups.{Sibling, siblings}
 use Rattle.bi_fit.specs.Payloads.{source_of}
@@ -9,20 +9,9 @@ use Rattle.bi_fit.specs.Faults.{FitCheck, FitPasses, fit_fault, source_checks, i
 use Rattle.bi_fit.specs.Content.{ReadImage, IsReadImage}
 use Rattle.bi_fit.specs.Images.{HasDataInFile}
 use Rattle.bi_fit.proofs.Faults.{source_passes}
+use Rattle.bi_base.proofs.FirstFault.{IsFirstFault-after, IsFirstFault-front}
 
 -- What is read of image nodes, one after the other.
-
--- The first fault of some checks is that of more, after checks that pass or before any.
-pub fault_after : {C : Type 0} (Passes : C → Type 0) (fault_of : C → Fault) (passed checks : List C) (fault : Fault) → HasNoFault Passes passed → IsFirstFault Passes fault_of checks fault → IsFirstFault Passes fault_of (passed ++ checks) fault
-fault_after Passes fault_of [] checks fault fine first = first
-fault_after Passes fault_of (check ∷ passed) checks fault fine first =
-    inr (fine.0, fault_after Passes fault_of passed checks fault fine.1 first)
-
-pub fault_before : {C : Type 0} (Passes : C → Type 0) (fault_of : C → Fault) (checks later : List C) (fault : Fault) → IsFirstFault Passes fault_of checks fault → IsFirstFault Passes fault_of (checks ++ later) fault
-fault_before Passes fault_of [] later fault first = absurd first
-fault_before Passes fault_of (check ∷ checks) later fault (inl fails) = inl fails
-fault_before Passes fault_of (check ∷ checks) later fault (inr passes) =
-    inr (passes.0, fault_before Passes fault_of checks later fault passes.1)
 
 -- The checks of image nodes, by the nodes in order.
 abbrev pub sibling_checks : List ℕ → List (Sibling FileNode) → List FitCheck
@@ -60,7 +49,7 @@ module _ (file : List ℕ) (nodes : Nodes FileNode) (images : List ReadImage) (a
   child_fault fault first =
       are.fault fault
       (subst (λ siblings. IsFirstFault (FitPasses file) fit_fault (sibling_checks file siblings) fault) (sym is_first)
-      (fault_before (FitPasses file) fit_fault (source_checks file (source_of child.own)) (sibling_checks file left) fault first))
+      (IsFirstFault-front (FitPasses file) fit_fault (source_checks file (source_of child.own)) (sibling_checks file left) fault first))
 
   -- The first of them is read.
   pub one_more : (image : ReadImage) → IsReadImage file child image → AreReadTo file nodes (images ++ image ∷ []) left
@@ -73,7 +62,7 @@ module _ (file : List ℕ) (nodes : Nodes FileNode) (images : List ReadImage) (a
     fault = λ fault first.
         are.fault fault
         (subst (λ siblings. IsFirstFault (FitPasses file) fit_fault (sibling_checks file siblings) fault) (sym is_first)
-        (fault_after (FitPasses file) fit_fault (source_checks file (source_of child.own)) (sibling_checks file left) fault
+        (IsFirstFault-after (FitPasses file) fit_fault (source_checks file (source_of child.own)) (sibling_checks file left) fault
         (source_passes file (source_of child.own) image.payload is.payload) first));
   }
 

@@ -10,7 +10,8 @@ use Rattle.bi_fit.specs.Content.{FitContent, ReadImage, IsReadImage, IsHeld, tre
 use Rattle.bi_fit.specs.Judgement.{images_with, signatures_in, signature_count}
 use Rattle.bi_fit.specs.Nodes.{file_images, file_configurations, file_signatures}
 use Rattle.bi_fit.specs.Siblings.{children_of_each}
-use Rattle.bi_fit.proofs.FileNodes.{bare_image, nodes_by_name, sibling_by_name, siblings-by_name, image_siblings, configuration_nodes_are}
+use Rattle.bi_fit.proofs.FileNodes.{bare_image, sibling_by_name, siblings-by_name, image_siblings, configuration_nodes_are}
+use Rattle.bi_fit.specs.Additions.{nodes_by_name}
 
 -- The number of signature nodes of an image tree that was read.
 

@@ -1,9 +1,9 @@
 use Rattle.std.proofs.Common.{◌≡◌, ◌≢◌, ℕ, Bool, true, false, not, List, [], ◌∷◌, ◌++◌, map, bytes_eq, arith}
 use Rattle.std.specs.Prelude.{◌&&◌, ◌==◌, ltb}
 use Rattle.std.specs.List.{AllByRecursion, list_all}
-use Rattle.std.proofs.lemmas.Bool.{and_parts, not-true, eqb-false, ltb-true, false≢true}
+use Rattle.std.proofs.lemmas.Bool.{and_parts, not-true, eqb-false, false≢true}
 use Rattle.bi_base.specs.Cells.{AreBytes}
-use Rattle.bi_base.proofs.ByteLists.{AreBytes-none, AreBytes-cons}
+use Rattle.bi_base.proofs.ByteLists.{AreBytes-none, bytes_by_test}
 use Rattle.bi_base.proofs.EqualBytes.{other_bytes}
 use Rattle.bi_base.proofs.ListMembers.{each-append}
 use Rattle.bi_blob.specs.Tree.{Nodes, none, node, Root, Property, names, IsChildName, IsNew, AreProperties, AreNodes}
@@ -15,12 +15,6 @@ use Rattle.bi_blob.specs.Layout.{AreEventBytes, IsContent}
 -- Whether these are bytes.
 abbrev are_bytes : List ℕ → Bool
 are_bytes bytes = list_all (λ byte. ltb byte 256) bytes
-
-bytes_by_test : (bytes : List ℕ) → are_bytes bytes ≡ true → AreBytes bytes
-bytes_by_test [] passes = AreBytes-none
-bytes_by_test (byte ∷ later) passes =
-    let both = and_parts (ltb byte 256) (are_bytes later) passes in
-    AreBytes-cons byte later (ltb-true byte 256 both.0) (bytes_by_test later both.1)
 
 -- Whether none of these bytes is this one.
 abbrev has_no : ℕ → List ℕ → Bool
@@ -137,7 +131,3 @@ content_by_test root passes =
             (each-append AreEventBytes (events root.children) (NodeEnd ∷ []) children.1 (tt, tt)),
       );
     }
-
--- A list of bytes is one, by the test.
-pub are_bytes_by_test : (bytes : List ℕ) → list_all (λ byte. ltb byte 256) bytes ≡ true → AreBytes bytes
-are_bytes_by_test bytes passes = bytes_by_test bytes passes

@@ -8,7 +8,7 @@ use Rattle.bi_blob.specs.Events.{Event}
 use Rattle.bi_blob.specs.Blob.{Reservation, reservation_block}
 use Rattle.bi_blob.specs.Layout.{encoding, token_of, tokens_of, event_width, offset_in, strings_of, structure_block, text_of_blocks, text_of_events, length_before_padding, longest_text}
 use Rattle.bi_base.proofs.CellLaws.{length-cell}
-use Rattle.bi_blob.proofs.Texts.TokenEncoding.{length-encoding, length_unpadded-prop}
+use Rattle.bi_blob.proofs.Texts.TokenEncoding.{length-encoding}
 use Rattle.bi_blob.proofs.Texts.EventEncoding.{offset_in-le}
 use Rattle.bi_blob.proofs.Texts.Lengths.{text_of_events_has_length, length-reservation_block}
 use Rattle.bi_lay.specs.declared.document.Doc.TheInside.{Inside as Fields}
@@ -20,6 +20,7 @@ use Rattle.bi_lay.specs.Names.{capped}
 use Rattle.bi_lay.specs.Items.{event_of, events_of_items, item_encoding, structure_of_items, reservations_of, HasOffset}
 use Rattle.bi_lay.specs.Values.{value_bytes}
 use Rattle.bi_lay.specs.Documents.{IsConsistentDocument, content_of}
+use Rattle.bi_blob.proofs.Blobs.Passing.{length-Prop}
 
 -- The text of a document is made of what its fields hold.
 
@@ -28,7 +29,7 @@ length-item : (item : Item) → length (item_encoding item) ≡ event_width (eve
 length-item (Begin name) = length-encoding (BeginNode name.now)
 length-item (Property property) =
     length-encoding (Prop property.name_offset (value_bytes property.value))
-    ∙ ap up4 (length_unpadded-prop property.name_offset (value_bytes property.value) ∙ sym (length_unpadded-prop 0 (value_bytes property.value)))
+    ∙ ap up4 (length-Prop property.name_offset (value_bytes property.value) ∙ sym (length-Prop 0 (value_bytes property.value)))
 length-item End = length-encoding EndNode
 
 -- The same of all items.

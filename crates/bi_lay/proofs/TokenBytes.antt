@@ -3,7 +3,7 @@ use Rattle.bi_base.specs.Cells.{cell, up4}
 use Rattle.bi_blob.specs.Tokens.{BeginNode, Prop, token_bytes}
 use Rattle.bi_blob.specs.Layout.{encoding, padding_to_4}
 use Rattle.bi_base.proofs.CellLaws.{length-cell}
-use Rattle.bi_blob.proofs.Texts.TokenEncoding.{length_unpadded-prop}
+use Rattle.bi_blob.proofs.Blobs.Passing.{length-Prop}
 
 -- The bytes of tokens, put together of the pieces that are written.
 
@@ -48,4 +48,4 @@ property_bytes offset value size low_size low_offset is_size is_low_size is_low_
     same_offset = ap cell is_low_offset ∙ cell-low offset
 
     same_padding : up4 size - size ≡ up4 (length (token_bytes (Prop offset value))) - length (token_bytes (Prop offset value))
-    same_padding = omega (arith, is_size, length_unpadded-prop offset value)
+    same_padding = omega (arith, is_size, length-Prop offset value)

@@ -4,6 +4,7 @@ use Rattle.bi_base.specs.Limits.{Bounds}
 use Rattle.bi_base.specs.declared.fault.Fault.{Fault}
 use Rattle.bi_legacy.specs.Faults.{Passes, InPartTable, fault_of, header_checks, body_of, IsLegacyFault, HasNoLegacyFault}
 use Rattle.bi_legacy.specs.PartTables.{TablePasses, table_fault, body_checks}
+use Rattle.bi_base.proofs.FirstFault.{IsFirstFault-after}
 
 -- Lists of checks.
 
@@ -11,17 +12,6 @@ use Rattle.bi_legacy.specs.PartTables.{TablePasses, table_fault, body_checks}
 pub HasNoFault-append : {C : Type 0} (P : C → Type 0) (front after : List C) → HasNoFault P front → HasNoFault P after → HasNoFault P (front ++ after)
 HasNoFault-append P [] after none rest = rest
 HasNoFault-append P (check ∷ front) after none rest = (none.0, HasNoFault-append P front after none.1 rest)
-
--- The first fault of two lists where it is in the first list.
-pub IsFirstFault-front : {C : Type 0} (P : C → Type 0) (f : C → Fault) (front after : List C) (fault : Fault) → IsFirstFault P f front fault → IsFirstFault P f (front ++ after) fault
-IsFirstFault-front P f [] after fault first = absurd first
-IsFirstFault-front P f (check ∷ front) after fault (inl here) = inl here
-IsFirstFault-front P f (check ∷ front) after fault (inr later) = inr (later.0, IsFirstFault-front P f front after fault later.1)
-
--- The first fault of two lists where the first list passes.
-pub IsFirstFault-after : {C : Type 0} (P : C → Type 0) (f : C → Fault) (front after : List C) (fault : Fault) → HasNoFault P front → IsFirstFault P f after fault → IsFirstFault P f (front ++ after) fault
-IsFirstFault-after P f [] after fault none first = first
-IsFirstFault-after P f (check ∷ front) after fault none first = inr (none.0, IsFirstFault-after P f front after fault none.1 first)
 
 -- Checks that are embedded in checks of another type: all pass in both.
 pub HasNoFault-map : {C D : Type 0} (P : D → Type 0) (g : C → D) (checks : List C) → HasNoFault (λ check. P (g check)) checks → HasNoFault P (map g checks)

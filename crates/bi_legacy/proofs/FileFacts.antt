@@ -1,22 +1,13 @@
-use Rattle.std.proofs.Common.{ℕ, ◌≡◌, true, List, [], ◌∷◌, ◌++◌, codes, replicate, refl, lit≤, lit<}
-use Rattle.std.specs.Prelude.{ltb}
-use Rattle.std.specs.List.{list_all}
-use Rattle.std.proofs.lemmas.Bool.{and_parts, ltb-true, eqb-false}
-use Rattle.bi_base.specs.Cells.{cell, AreBytes}
+use Rattle.std.proofs.Common.{ℕ, ◌≡◌, [], ◌∷◌, ◌++◌, codes, replicate, refl, lit≤, lit<}
+use Rattle.std.proofs.lemmas.Bool.{eqb-false}
+use Rattle.bi_base.specs.Cells.{cell}
 use Rattle.bi_base.specs.Crc.{crc32, crc_after, low_bits}
-use Rattle.bi_base.proofs.ByteLists.{AreBytes-none, AreBytes-cons}
+use Rattle.bi_base.proofs.ByteLists.{bytes_by_test}
 use Rattle.bi_legacy.specs.File.{header}
 use Rattle.bi_legacy.specs.Meaning.{IsImageName}
 use Rattle.bi_legacy.specs.KnownFiles.{multi_data_with_rest, FreeBytesHaveNoMeaning}
 
 -- What small files mean.
-
--- A list of bytes is one, by a test of each.
-bytes_by_test : (bytes : List ℕ) → list_all (λ byte. ltb byte 256) bytes ≡ true → AreBytes bytes
-bytes_by_test [] passes = AreBytes-none
-bytes_by_test (byte ∷ later) passes =
-    let parts = and_parts (ltb byte 256) (list_all (λ byte. ltb byte 256) later) passes in
-    AreBytes-cons byte later (ltb-true byte 256 parts.0) (bytes_by_test later parts.1)
 
 -- The name `k`.
 k_is_name : IsImageName (codes "k")

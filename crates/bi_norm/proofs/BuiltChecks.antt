@@ -8,13 +8,13 @@ use Rattle.bi_blob.specs.Tree.{HasNoZero, IsNew, AreDistinct}
 use Rattle.bi_legacy.specs.Codes.{os_names, arch_names, compression_names}
 use Rattle.bi_fit.specs.declared.form.Form.{Form}
 use Rattle.bi_fit.specs.Building.{ImageSpecification, IsText, IsSpecification, CanBeBuilt}
-use Rattle.bi_fit.proofs.ReadImages.{fault_before}
 use Rattle.bi_norm.specs.declared.building.Head.{Head}
 use Rattle.bi_norm.specs.declared.building.ImageSpec.{ImageSpec}
 use Rattle.bi_norm.specs.Building.{head_of, specifications_of, image_checks, BuildPasses, build_fault, FitsLimit, IsBuildError, HasBuildableType}
 use Rattle.bi_norm.specs.BuildChecks.{IsImagesError, HasBytes}
 use Rattle.bi_norm.proofs.ConvertedImages.{code_text, os_texts, arch_texts, compression_texts}
 use Rattle.bi_norm.proofs.ImageChecks.{names_of}
+use Rattle.bi_base.proofs.FirstFault.{IsFirstFault-front}
 
 -- What passes the checks can be built.
 
@@ -80,7 +80,7 @@ module _ (limits : Bounds) (form : Form) (head : Head) (all : List ImageSpec) wh
 -- An error of the checks of images is one of building, after the checks before them.
 pub image_error : (limits : Bounds) (form : Form) (head : Head) (images : List ImageSpec) (error : Error) → length images ≤ limits.file → HasNoZero head.description.now → IsImagesError images error → IsBuildError limits form head images error
 image_error limits form head images (Refused fault) few text is =
-    inr (few, inr (text, fault_before (BuildPasses limits form head images) (build_fault limits) (image_checks 0 [] images) (FitsLimit ∷ []) fault (is limits form head images)))
+    inr (few, inr (text, IsFirstFault-front (BuildPasses limits form head images) (build_fault limits) (image_checks 0 [] images) (FitsLimit ∷ []) fault (is limits form head images)))
 image_error limits form head images OutOfMemory few text is = (few, (text, is limits form head images))
 image_error limits form head images ReadFailed few text is = is
 image_error limits form head images WriteFailed few text is = is

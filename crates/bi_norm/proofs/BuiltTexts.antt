@@ -12,12 +12,12 @@ use Rattle.bi_fit.specs.Laws.{IsAcceptedAs}
 use Rattle.bi_fit.specs.Text.{fit_text}
 use Rattle.bi_fit.proofs.Building.{built_is_accepted, built_has_good_payloads}
 use Rattle.bi_fit.proofs.BuiltConfigurations.{built_has_configuration}
-use Rattle.bi_fit.proofs.ReadImages.{fault_after}
 use Rattle.bi_norm.specs.declared.building.Head.{Head}
 use Rattle.bi_norm.specs.declared.building.ImageSpec.{ImageSpec}
 use Rattle.bi_norm.specs.Building.{head_of, specifications_of, tree_of_images, BuildPasses, build_fault, FitsLimit, image_checks, IsBuilt, IsBuildError, IsTextOfTree, BuildCheck, first_image_checks}
 use Rattle.bi_norm.specs.BuildChecks.{early_checks}
 use Rattle.bi_base.specs.Commands.{Appended, AppendFailed, WasRefused, SinkFailed}
+use Rattle.bi_base.proofs.FirstFault.{IsFirstFault-after}
 
 -- The texts of trees to be built.
 
@@ -49,7 +49,7 @@ module _ (limits : Bounds) (form : Form) (head : Head) (images : List ImageSpec)
   -- An error of making the document is one of building.
   document_error : (error : Error) → IsDocumentError limits form (tree_of_images head images) error → IsBuildError limits form head images error
   document_error (Refused fault) is =
-      fault_after (BuildPasses limits form head images) (build_fault limits) (early_checks images) (FitsLimit ∷ []) fault fine
+      IsFirstFault-after (BuildPasses limits form head images) (build_fault limits) (early_checks images) (FitsLimit ∷ []) fault fine
       (inl ((λ fits. omega (arith, fits, is.1)), is.0))
   document_error OutOfMemory is =
       (fine.0, (fine.1.0, first_of_images limits form head images images fine.1.1))

@@ -13,7 +13,7 @@ use Rattle.bi_norm.proofs.NormalForms.{only_legacy, only_tree, needs_memory}
 -- Comparing files that were read.
 
 -- A file that was read means what was read, and nothing else.
-opened_means : (limits : Bounds) (file : List ℕ) (image : BootImage) → IsOpened limits file image → MeansOnly limits file (meaning_of image)
+pub opened_means : (limits : Bounds) (file : List ℕ) (image : BootImage) → IsOpened limits file image → MeansOnly limits file (meaning_of image)
 opened_means limits file (Legacy parsed) opened = record { means = opened.means; only = only_legacy limits file parsed opened }
 opened_means limits file (Fit content) opened = record { means = opened.means; only = only_tree limits file content opened }
 

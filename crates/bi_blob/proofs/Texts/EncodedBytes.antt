@@ -5,10 +5,11 @@ use Rattle.std.proofs.lemmas.List.{map-append}
 use Rattle.bi_base.specs.Cells.{cell, AreBytes}
 use Rattle.bi_blob.specs.Tokens.{Token, BeginNode, EndNode, Prop, Nop, End, token_bytes, width, AreEncodings, IsNameAt, begin_node_number, prop_number}
 use Rattle.bi_blob.specs.Tree.{Nodes, none, node, Root, FileProperty, FileNode, as_nodes, with_each, properties_of, tree_without_places, property_of}
-use Rattle.bi_blob.specs.Events.{Event, NodeStart, NodeProperty, NodeEnd, events, events_of, FileEvent, FileNodeStart, FileNodeProperty, FileNodeEnd, file_events, file_events_of, EncodeEvents}
+use Rattle.bi_blob.specs.Events.{NodeStart, NodeProperty, NodeEnd, events, events_of, FileEvent, FileNodeStart, FileNodeProperty, FileNodeEnd, file_events, file_events_of, EncodeEvents}
 use Rattle.bi_blob.specs.Layout.{AreEventBytes}
 use Rattle.bi_base.proofs.ByteLists.{AreBytes-left, AreBytes-right, AreBytes-drop, AreBytes-take}
 use Rattle.bi_base.proofs.ListMembers.{each-map}
+use Rattle.bi_blob.proofs.Blobs.Passing.{event_without_place}
 
 -- The events of tokens that are bytes have names and values that are bytes.
 
@@ -36,12 +37,6 @@ tokens_bytes (token ∷ later) bytes are is_encoded = (
   token_has_bytes token (AreBytes-left (token_bytes token) is_encoded.0.padding (subst AreBytes is_encoded.0.is_encoded (AreBytes-take (width token) bytes are))),
   tokens_bytes later (drop (width token) bytes) (AreBytes-drop (width token) bytes are) is_encoded.1,
 )
-
--- An event without its place.
-abbrev pub event_without_place : FileEvent → Event
-event_without_place (FileNodeStart place name) = NodeStart name
-event_without_place (FileNodeProperty property) = NodeProperty (property_of property)
-event_without_place FileNodeEnd = NodeEnd
 
 -- A name in a strings block of bytes is bytes.
 pub name_bytes : (strings : List ℕ) (offset : ℕ) (name : List ℕ) → AreBytes strings → IsNameAt strings offset name → AreBytes name

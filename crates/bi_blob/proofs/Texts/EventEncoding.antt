@@ -7,8 +7,9 @@ use Rattle.bi_blob.specs.Events.{Event, NodeStart, NodeProperty, NodeEnd, Encode
 use Rattle.bi_blob.specs.Layout.{used_names, strings_of, offset_in, padding_to_4, encoding, token_of, event_width}
 use Rattle.bi_blob.proofs.Texts.Names.{found_at_offset}
 use Rattle.bi_blob.proofs.Texts.Trees.{NameEndsAtZero}
-use Rattle.bi_blob.proofs.Texts.TokenEncoding.{width-token, length_unpadded-prop}
+use Rattle.bi_blob.proofs.Texts.TokenEncoding.{width-token}
 use Rattle.bi_blob.proofs.Texts.Places.{placed_from}
+use Rattle.bi_blob.proofs.Blobs.Passing.{length-Prop}
 
 -- The tokens of a text are tokens, and encode its events.
 
@@ -59,7 +60,7 @@ offset_in-le (first ∷ others) name = where_first (bytes_eq first name) refl (o
 -- A value is no longer than its token.
 pub value-le : (name_offset : ℕ) (value : List ℕ) → length value ≤ length (encoding (Prop name_offset value))
 value-le name_offset value =
-    omega (arith, length-append (token_bytes (Prop name_offset value)) (padding_to_4 (length (token_bytes (Prop name_offset value)))), length_unpadded-prop name_offset value)
+    omega (arith, length-append (token_bytes (Prop name_offset value)) (padding_to_4 (length (token_bytes (Prop name_offset value)))), length-Prop name_offset value)
 
 -- The tokens of events are tokens, where the blocks are short enough.
 pub are_tokens : (names : List (List ℕ)) (events : List Event) → AllByRecursion NameEndsAtZero events → length (strings_of names) < 2 ^ 32 → length (flat_map encoding (map (token_of names) events)) < 2 ^ 32 → AllByRecursion IsToken (map (token_of names) events)

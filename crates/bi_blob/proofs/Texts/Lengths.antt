@@ -11,8 +11,9 @@ use Rattle.bi_blob.specs.Layout.{used_names, distinct_names, encoding, token_of,
 use Rattle.bi_blob.specs.TextLaws.{TextOfEventsHasItsLength, HasEventWidths}
 use Rattle.bi_base.proofs.CellLaws.{length-cell}
 pub use Rattle.bi_blob.proofs.Blobs.ReservationFaults.{length-reservation_block}
-use Rattle.bi_blob.proofs.Texts.TokenEncoding.{length-encoding, width-token, length_unpadded-prop}
+use Rattle.bi_blob.proofs.Texts.TokenEncoding.{length-encoding, width-token}
 use Rattle.bi_blob.proofs.Texts.Length.{length-text_of_blocks, up4-whole}
+use Rattle.bi_blob.proofs.Blobs.Passing.{length-Prop}
 
 -- How long the text of some events is.
 
@@ -20,7 +21,7 @@ use Rattle.bi_blob.proofs.Texts.Length.{length-text_of_blocks, up4-whole}
 pub has_event_widths : HasEventWidths
 has_event_widths = record {
   node_start = λ name. ap up4 (length-append _ (name ++ 0 ∷ []) ∙ omega (arith, length-cell 1, length_push name 0));
-  property = λ property. ap up4 (length_unpadded-prop 0 property.1 ∙ omega arith);
+  property = λ property. ap up4 (length-Prop 0 property.1 ∙ omega arith);
   node_end = ap up4 (length-cell 2);
 }
 

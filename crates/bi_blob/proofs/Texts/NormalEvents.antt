@@ -127,7 +127,8 @@ abbrev pub AreChained : Option (List ℕ) → List Property → Type 0
 AreChained last [] = ⊤
 AreChained last (property ∷ later) = IfSome last (λ n. IsBefore n property.0) × AreChained (Some property.0) later
 
-both_hold : (a b : Bool) → T a → T b → T (a && b)
+-- Two tests that hold, hold together.
+pub both_hold : (a b : Bool) → T a → T b → T (a && b)
 both_hold true b first second = second
 both_hold false b first second = absurd first
 

@@ -2,10 +2,10 @@ use Rattle.std.proofs.Common.{◌≡◌, ℕ, ◌+◌, List, [], ◌∷◌, leng
 use Rattle.std.specs.List.{AllByRecursion}
 use Rattle.std.proofs.lemmas.List.{take_at, drop_at, length-replicate}
 use Rattle.bi_base.specs.Cells.{up4}
-use Rattle.bi_blob.specs.Tokens.{Token, Prop, token_bytes, width, IsToken, IsEncoding, AreEncodings}
+use Rattle.bi_blob.specs.Tokens.{Token, token_bytes, width, IsToken, IsEncoding, AreEncodings}
 use Rattle.bi_blob.specs.Events.{Event, NodeStart, NodeProperty, NodeEnd}
 use Rattle.bi_blob.specs.Layout.{padding_to_4, encoding, token_of, event_width, offset_in}
-use Rattle.bi_base.proofs.CellLaws.{length-cell}
+use Rattle.bi_blob.proofs.Blobs.Passing.{length-Prop}
 
 -- The encodings of tokens in a text, with zeros as padding.
 
@@ -34,13 +34,9 @@ is_encoded (token ∷ later) each = (
   subst (AreEncodings later) (sym (drop_at (encoding token) (flat_map encoding later) (width token) (length-encoding token))) (is_encoded later each.1),
 )
 
--- The bytes of an FDT_PROP token but for its padding: three cells and the value.
-pub length_unpadded-prop : (name_offset : ℕ) (value : List ℕ) → length (token_bytes (Prop name_offset value)) ≡ 12 + length value
-length_unpadded-prop name_offset value = simp (length-append, length-cell) (omega arith)
-
 -- The token of an event has the event's width, wherever its name is.
 pub width-token : (names : List (List ℕ)) (event : Event) → width (token_of names event) ≡ event_width event
 width-token names (NodeStart name) = refl
 width-token names (NodeProperty property) =
-    ap up4 (length_unpadded-prop (offset_in names property.0) property.1 ∙ sym (length_unpadded-prop 0 property.1))
+    ap up4 (length-Prop (offset_in names property.0) property.1 ∙ sym (length-Prop 0 property.1))
 width-token names NodeEnd = refl

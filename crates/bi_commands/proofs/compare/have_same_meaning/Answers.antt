@@ -1,7 +1,8 @@
 use Rattle.std.proofs.lemmas.Result.{err_from_is_err_and}
-use Rattle.bi_commands.proofs.Compared.{opened_means, result_same, result_memory}
+use Rattle.bi_commands.proofs.Compared.{result_same, result_memory}
 use Rattle.bi_norm.specs.OpenedMeaning.{meaning_of}
 use Rattle.bi_commands.proofs.compare.have_same_meaning.Goals as goal
+use Rattle.bi_norm.proofs.Comparisons.{opened_means}
 
 pub returns-in_err-image-clause-failed : goal.returns-in_err-image-clause-failed
 returns-in_err-image-clause-failed c =

@@ -5,8 +5,9 @@ use Rattle.bi_base.specs.Cells.{AreBytes}
 use Rattle.bi_commands.specs.Shown.{shown, shown_byte}
 use Rattle.bi_commands.specs.Unshown.{IsNameShownAs}
 use Rattle.bi_commands.proofs.Readable.ShownNames.{some_shown}
-use Rattle.bi_commands.proofs.UnshownNames.{bytes_are_name, dash_is_bytes, empty_list, none_are_bytes, only_name, some_holds, some_list}
+use Rattle.bi_commands.proofs.UnshownNames.{bytes_are_name, dash_is_bytes, empty_list, only_name, some_holds, some_list}
 use Rattle.bi_commands.proofs.unshown.name_shown_as.Goals as goal
+use Rattle.bi_base.proofs.ByteLists.{AreBytes-none}
 
 pub returns-then-is_empty-clause-none : goal.returns-then-is_empty-clause-none
 returns-then-is_empty-clause-none c = λ name are is.
@@ -16,7 +17,7 @@ pub returns-then-eq-clause-some : goal.returns-then-eq-clause-some
 returns-then-eq-clause-some c =
     let text = c.args.text.now in
     let is_dash = same_bytes text c.as_slice.result.now (sym c.eq.ensures ∙ c.if-eq.true) ∙ c.as_slice.ensures in
-    subst (IsNameShownAs text) (sym c.new.ensures.items) (only_name text _ none_are_bytes (sym is_dash))
+    subst (IsNameShownAs text) (sym c.new.ensures.items) (only_name text _ AreBytes-none (sym is_dash))
 
 pub returns-then-eq-2-clause-some : goal.returns-then-eq-2-clause-some
 returns-then-eq-2-clause-some c =

@@ -5,9 +5,9 @@ use Rattle.bi_fit.specs.declared.hashes.Checked.{Checked}
 use Rattle.bi_fit.specs.Judging.{checked_hash_of}
 use Rattle.bi_hash.specs.declared.verdicts.Verdict.TheVariants.{Good}
 use Rattle.bi_commands.specs.Reports.{hash_line, summary_line, is_verdict}
-use Rattle.bi_commands.proofs.FitListings.{memory_for_tree}
 use Rattle.bi_commands.proofs.Reported.{tree_verified}
 use Rattle.bi_commands.proofs.verify.verify_fit.Goals as goal
+use Rattle.bi_commands.proofs.Opened.{tree_needs_memory}
 
 pub returns-clause-verified : goal.returns-clause-verified
 returns-clause-verified c limits file is =
@@ -18,9 +18,9 @@ returns-clause-verified c limits file is =
 pub returns-in_err-hashes-clause-failed : goal.returns-in_err-hashes-clause-failed
 returns-in_err-hashes-clause-failed c limits file is =
     let p = err_from_is_err_and c.from_residual.result c.from_residual.ensures.1 in
-    rw (p.1, p.2, c.in_err-hashes.ensures.error) (memory_for_tree limits file c.args.fit.now is)
+    rw (p.1, p.2, c.in_err-hashes.ensures.error) (tree_needs_memory limits file c.args.fit.now is)
 
 pub returns-in_err-text-clause-failed : goal.returns-in_err-text-clause-failed
 returns-in_err-text-clause-failed c limits file is =
     let p = err_from_is_err_and c.from_residual-in_err-text.result c.from_residual-in_err-text.ensures.1 in
-    rw (p.1, p.2) (memory_for_tree limits file c.args.fit.now is)
+    rw (p.1, p.2) (tree_needs_memory limits file c.args.fit.now is)

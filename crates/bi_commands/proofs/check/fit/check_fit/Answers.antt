@@ -2,9 +2,9 @@ use Rattle.std.proofs.Common.{map, string_bytes, ap, ◌∙◌}
 use Rattle.std.proofs.lemmas.Result.{err_from_is_err_and}
 use Rattle.bi_fit.specs.Judging.{checked_hash_of}
 use Rattle.bi_commands.proofs.CheckedFiles.{payloads_refused, tree_checked}
-use Rattle.bi_commands.proofs.FitListings.{memory_for_tree}
 use Rattle.bi_commands.proofs.TreeLines.{within_bound}
 use Rattle.bi_commands.proofs.check.fit.check_fit.Goals as goal
+use Rattle.bi_commands.proofs.Opened.{tree_needs_memory}
 
 pub returns-in_err-check_payloads-clause-failed : goal.returns-in_err-check_payloads-clause-failed
 returns-in_err-check_payloads-clause-failed c is =
@@ -16,12 +16,12 @@ returns-in_err-check_payloads-clause-failed c is =
 pub returns-in_err-hashes-clause-failed : goal.returns-in_err-hashes-clause-failed
 returns-in_err-hashes-clause-failed c is =
     let p = err_from_is_err_and c.from_residual-in_err-hashes.result c.from_residual-in_err-hashes.ensures.1 in
-    rw (p.1, p.2, c.in_err-hashes.ensures.error) (memory_for_tree c.args.limits c.args.file.now c.args.fit.now is)
+    rw (p.1, p.2, c.in_err-hashes.ensures.error) (tree_needs_memory c.args.limits c.args.file.now c.args.fit.now is)
 
 pub returns-in_err-text-clause-failed : goal.returns-in_err-text-clause-failed
 returns-in_err-text-clause-failed c is =
     let p = err_from_is_err_and c.from_residual-in_err-text.result c.from_residual-in_err-text.ensures.1 in
-    rw (p.1, p.2) (memory_for_tree c.args.limits c.args.file.now c.args.fit.now is)
+    rw (p.1, p.2) (tree_needs_memory c.args.limits c.args.file.now c.args.fit.now is)
 
 pub returns-clause-checked : goal.returns-clause-checked
 returns-clause-checked c is =
