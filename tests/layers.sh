@@ -102,9 +102,9 @@ edit src/document.rt '{ MatchOption result (longest_text < length (text_of self.
             (λ size. (size ≡ length (text_of self.now)) × (size ≤ longest_text)) }' '{ result ≡ result }'
 unprove document/Doc/size
 
-boundary bi_legacy legacy::Legacy::read bi_norm image::BootImage::read returns-in_ok-read-in-Legacy-clause-opened
+boundary bi_legacy legacy::Legacy::read bi_norm image::BootImage::read returns-in_ok-read-in-Legacy-clause-read
 edit src/legacy.rt '{ IfOk result (IsParsedImage limits file.entry.now) }' '{ result ≡ result }'
-unprove legacy/Legacy/read returns-clause-parsed
+unprove legacy/Legacy/read returns-clause-read
 
 boundary bi_fit fit::Fit::to_doc bi_norm normal_form::emit_fit append_document-requires-clause-closed
 edit src/document.rt '{ IfOk result (IsDocument limits form (tree_of self.now)) }' '{ result ≡ result }'

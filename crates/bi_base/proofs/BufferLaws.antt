@@ -1,13 +1,15 @@
 use Rattle.std.proofs.Common.{◌≡◌, ℕ, List, [], ◌++◌, append-nil, sym, ap, ◌∙◌, Result, Ok, Err}
 use Rattle.bi_base.specs.declared.fault.Error.{Error}
-use Rattle.bi_base.specs.BufferedSinks.{Buffered, Holds, Stops}
+use Rattle.bi_base.specs.BufferedSinks.{Buffer, Holds, Stops}
 use Rattle.bi_base.specs.Sinks.{Wrote}
 use Rattle.bi_base.specs.Writing.{WroteAll, WriteStopped}
 
 -- A sink that holds bytes back.
 
 -- Where what was held back and these bytes were written, none are held back.
-pub wrote_through : (old new : Buffered) (bytes : List ℕ) (result : Result (Unit {0}) Error) → Wrote WroteAll WriteStopped old.trace (old.held ++ bytes) result new.trace → new.held ≡ [] → new.borrow ≡ old.borrow → Wrote Holds Stops old bytes result new
+pub wrote_through : (old new : Buffer) (bytes : List ℕ) (result : Result (Unit {0}) Error) →
+    Wrote WroteAll WriteStopped old.trace (old.held ++ bytes) result new.trace → new.held ≡ [] → new.borrow ≡ old.borrow →
+    Wrote Holds Stops old bytes result new
 wrote_through old new bytes (Ok done) wrote none same = record {
   written = old.held ++ bytes;
   wrote = wrote;

@@ -7,7 +7,8 @@ use Rattle.bi_base.specs.declared.fault.Fault.{Fault}
 -- An input that is too long.
 
 -- Where more bytes were read than may be, the input is longer than that.
-pub too_long : (old new : Option (List ℕ)) (most : ℕ) (taken : List ℕ) (fault : Fault) → Consumes old new taken → most < length taken → fault ≡ too_large most → (input : List ℕ) × IsInput old input × (most < length input) × (fault ≡ too_large most)
+pub too_long : (old new : Option (List ℕ)) (most : ℕ) (taken : List ℕ) (fault : Fault) → Consumes old new taken → most < length taken →
+    fault ≡ too_large most → (input : List ℕ) × IsInput old input × (most < length input) × (fault ≡ too_large most)
 too_long None new most taken fault consumed longer is = (taken, tt, longer, is)
 too_long (Some xs) None most taken fault consumed longer is = absurd consumed
 too_long (Some xs) (Some ys) most taken fault consumed longer is =

@@ -91,6 +91,7 @@ each-back P [] ys each = each
 each-back P (first ∷ others) ys each = each-back P others ys each.1
 
 -- What holds of each image holds of the image of each element.
-pub each-map_back : {X Y : Type 0} (P : Y → Type 0) (f : X → Y) (xs : List X) → AllByRecursion P (map f xs) → AllByRecursion (λ x. P (f x)) xs
+pub each-map_back : {X Y : Type 0} (P : Y → Type 0) (f : X → Y) (xs : List X) → AllByRecursion P (map f xs) →
+    AllByRecursion (λ x. P (f x)) xs
 each-map_back P f [] each = each
 each-map_back P f (first ∷ others) each = (each.0, each-map_back P f others each.1)

@@ -19,12 +19,14 @@ list_any-by_place p [] = refl
 list_any-by_place p (x ∷ xs) = let rest = list_any-by_place p xs in grind (arith, common_steps, ltb-after, rest)
 
 -- The elements before a chosen index are the choice of the elements before the index.
-taken_before : (b : Bool) (end : ℕ) (bytes : List ℕ) → option_map (λ place. take place bytes) (cond b (Some end) None) ≡ cond b (Some (take end bytes)) None
+taken_before : (b : Bool) (end : ℕ) (bytes : List ℕ) →
+    option_map (λ place. take place bytes) (cond b (Some end) None) ≡ cond b (Some (take end bytes)) None
 taken_before true end bytes = refl
 taken_before false end bytes = refl
 
 -- The text ends at the first NUL, and there is none where there is no NUL.
-pub text_by_place : (bytes : List ℕ) (place : Option ℕ) → place ≡ position (λ byte. byte == 0) bytes → option_map (λ end. take end bytes) place ≡ text_before_nul bytes
+pub text_by_place : (bytes : List ℕ) (place : Option ℕ) → place ≡ position (λ byte. byte == 0) bytes →
+    option_map (λ end. take end bytes) place ≡ text_before_nul bytes
 unfolding text_before_nul
 text_by_place bytes place e = rw (e, list_any-by_place (λ byte. byte == 0) bytes) (taken_before _ _ bytes)
 

@@ -1,9 +1,10 @@
 use Rattle.std.proofs.Common.{◌≡◌, ◌++◌, ℕ, List, [], Option, Result, Ok, Err, IfErr, refl, sym, ap, ◌∙◌, subst}
 use Rattle.std.proofs.KnownBytes.{Keeps-refl}
 use Rattle.std.specs.Io.KnownBytes.{Keeps}
-use Rattle.bi_base.specs.BufferedSinks.{buffered, BufferAppends, BufferFails}
-use Rattle.bi_base.specs.Commands.{Appended, CommandFailed, CommandPromise, PipeError, PromiseLaws, WasRefused, SinkFailed, OfCommand, InputTooLong, NoMemory, NoRead, NoWrite}
-use Rattle.bi_base.specs.Limits.{Bounds}
+use Rattle.bi_base.specs.BufferedSinks.{state_of, BufferAppends, BufferFails}
+use Rattle.bi_base.specs.Commands.{Appended, CommandFailed, CommandPromise, PipeError, PromiseLaws, WasRefused, SinkFailed, OfCommand}
+use Rattle.bi_base.specs.Commands.{InputTooLong, NoMemory, NoRead, NoWrite}
+use Rattle.bi_base.specs.Limits.{Limits}
 use Rattle.bi_base.specs.Pipes.{IsPiped, IsTracedPipe}
 use Rattle.bi_base.specs.Reading.{IsReadError, ReadWhole}
 use Rattle.bi_base.specs.Sinks.{Wrote}
@@ -19,39 +20,39 @@ use Rattle.bi_base.proofs.TransferLaws.{stopped_writing, finished_after, write_s
 
 -- Where a command failed over a new sink, writing failed.
 pub failed_writing : {T E : Type 0} (trace : T → WriteTrace) (wraps : Error → E) (IsText : List ℕ → Type 0) (HasError : E → Type 0)
-    (old new : BufferedSink T) (error : E) → (buffered trace old).held ≡ []
+    (old new : BufferedSink T) (error : E) → (state_of trace old).held ≡ []
     → CommandFailed (BufferFails trace) wraps IsText HasError old new error
-    → CommandFailed WriteOrFlushStopped wraps IsText HasError (buffered trace old).trace (buffered trace new).trace error
+    → CommandFailed WriteOrFlushStopped wraps IsText HasError (state_of trace old).trace (state_of trace new).trace error
 failed_writing trace wraps IsText HasError old new error none (WasRefused is same) =
-    WasRefused is (ap (λ sink. (buffered trace sink).trace) same)
+    WasRefused is (ap (λ sink. (state_of trace sink).trace) same)
 failed_writing trace wraps IsText HasError old new error none (SinkFailed text cause is stops wrapped) =
     SinkFailed text cause is
-    (stopped_writing (buffered trace old).trace text (buffered trace new).trace cause
-    (subst (λ l. WriteStopped (buffered trace old).trace (l ++ text) (buffered trace new).trace cause) none stops.stopped))
+    (stopped_writing (state_of trace old).trace text (state_of trace new).trace cause
+    (subst (λ l. WriteStopped (state_of trace old).trace (l ++ text) (state_of trace new).trace cause) none stops.stopped))
     wrapped
 
 -- A sink over which a command failed still has its writer.
 pub failed_same_borrow : {T E : Type 0} (trace : T → WriteTrace) (wraps : Error → E) (IsText : List ℕ → Type 0)
     (HasError : E → Type 0) (old new : BufferedSink T) (error : E)
     → CommandFailed (BufferFails trace) wraps IsText HasError old new error → new.target.ghost_name ≡ old.target.ghost_name
-failed_same_borrow trace wraps IsText HasError old new error (WasRefused is same) = ap (λ sink. (buffered trace sink).borrow) same
+failed_same_borrow trace wraps IsText HasError old new error (WasRefused is same) = ap (λ sink. (state_of trace sink).borrow) same
 failed_same_borrow trace wraps IsText HasError old new error (SinkFailed text cause is stops wrapped) = stops.same_borrow
 
 -- Where a new sink took the text, finishing it writes and flushes the text, or that stops.
 pub finished_writing : {T : Type 0} (trace : T → WriteTrace) (IsText : List ℕ → Type 0) (old mid : BufferedSink T)
-    (new : WriteTrace) (result : Result (Unit {0}) Error) → (buffered trace old).held ≡ []
+    (new : WriteTrace) (result : Result (Unit {0}) Error) → (state_of trace old).held ≡ []
     → (appended : Appended (BufferAppends trace) IsText old mid)
-    → Wrote WroteAndFlushed WriteOrFlushStopped (buffered trace mid).trace (buffered trace mid).held result new
-    → Wrote WroteAndFlushed WriteOrFlushStopped (buffered trace old).trace appended.text result new
+    → Wrote WroteAndFlushed WriteOrFlushStopped (state_of trace mid).trace (state_of trace mid).held result new
+    → Wrote WroteAndFlushed WriteOrFlushStopped (state_of trace old).trace appended.text result new
 finished_writing trace IsText old mid new result none appended finished =
-    finished_after (buffered trace old) (buffered trace mid) appended.text new result none appended.appended finished
+    finished_after (state_of trace old) (state_of trace mid) appended.text new result none appended.appended finished
 
 -- A failed write is no failed read.
 write_is_no_read : ¬ (WriteFailed ≡ ReadFailed)
 write_is_no_read e = absurd cc
 
 -- Reading the input failed.
-pub reading_failed : {V E : Type 0} (promise : CommandPromise V E) (limits : Bounds) → PromiseLaws promise
+pub reading_failed : {V E : Type 0} (promise : CommandPromise V E) (limits : Limits) → PromiseLaws promise
     → (source new_source : ReadTrace) (target : WriteTrace) (error : Error)
     → IsReadError source.remaining limits.file (MustStopReading new_source) error
     → TransferFailed source new_source target target promise.is_text (λ input. PipeError promise limits input (promise.wraps error))
@@ -65,7 +66,7 @@ reading_failed promise limits laws source new_source target error is =
     (λ same. laws.wraps_once error ReadFailed same) (λ same. laws.wraps_once error WriteFailed same)
 
 -- After a whole input was read, the command failed, or writing its output did.
-pub piping_failed : {V E : Type 0} (promise : CommandPromise V E) (limits : Bounds) → PromiseLaws promise
+pub piping_failed : {V E : Type 0} (promise : CommandPromise V E) (limits : Limits) → PromiseLaws promise
     → (source new_source : ReadTrace) (target new_target : WriteTrace) (input bytes : List ℕ) (result : Result V E)
     → ReadWhole source.remaining new_source.remaining bytes → input ≡ bytes
     → IfErr result (CommandFailed WriteOrFlushStopped promise.wraps (promise.is_text input) (promise.has_error input) target new_target)
@@ -111,15 +112,15 @@ moving_failed source new_source target new_target IsOutput HasError read_failed 
 }
 
 -- A command that was run over streams whose calls are traced was run over plain ones, where these have what the traces say.
-pub piped : {V E : Type 0} (promise : CommandPromise V E) (limits : Bounds) (source new_source : ReadTrace)
+pub pipe_ends_well : {V E : Type 0} (promise : CommandPromise V E) (limits : Limits) (source new_source : ReadTrace)
     (target new_target : WriteTrace) (remaining new_remaining contents new_contents : Option (List ℕ)) (result : Result V E)
     → source.remaining ≡ remaining → new_source.remaining ≡ new_remaining → target.contents ≡ contents
     → new_target.contents ≡ new_contents → IsTracedPipe promise limits source new_source target new_target result
     → IsPiped promise limits remaining new_remaining contents new_contents result
-piped promise limits source new_source target new_target remaining new_remaining contents new_contents (Ok value) r nr c nc is =
+pipe_ends_well promise limits source new_source target new_target remaining new_remaining contents new_contents (Ok value) r nr c nc is =
     rw (sym r, sym nr, sym c, sym nc)
     record { done = is.done.moved; failed = tt; takes_at_most_one_byte_more = is.takes_at_most_one_byte_more.known }
-piped promise limits source new_source target new_target remaining new_remaining contents new_contents (Err error) r nr c nc is =
+pipe_ends_well promise limits source new_source target new_target remaining new_remaining contents new_contents (Err error) r nr c nc is =
     rw (sym r, sym nr, sym c, sym nc)
     record {
       done = tt;

@@ -8,14 +8,16 @@ use Rattle.bi_base.specs.Errors.{IsRefusal}
 -- Errors that are passed on.
 
 -- A fault is passed on as a refusal.
-pub refused_by : {A : Type 0} (r : Result A Error) (fault : Fault) (P : Fault → Type 0) → IsErrAnd r (λ e. e ≡ error.Refused fault) → P fault → IfErr r (IsRefusal P)
+pub refused_by : {A : Type 0} (r : Result A Error) (fault : Fault) (P : Fault → Type 0) → IsErrAnd r (λ e. e ≡ error.Refused fault) →
+    P fault → IfErr r (IsRefusal P)
 refused_by (Ok a) fault P is holds = absurd is
 refused_by (Err e) fault P is holds = subst (IsRefusal P) (sym is) holds
 
 -- An error is passed on.
-pub passed_on : {A : Type 0} (r : Result A Error) (e : Error) (P Q R : Fault → Type 0) → IsErrAnd r (λ x. x ≡ e) → IsRefusal P e → IsRefusal Q e → ((fault : Fault) → P fault → Q fault → R fault) → IfErr r (IsRefusal R)
-passed_on (Ok a) e P Q R is one other both = absurd is
-passed_on (Err x) e P Q R is one other both = subst (IsRefusal R) (sym is) (by_error e one other) where
+pub refusal_passed_on : {A : Type 0} (r : Result A Error) (e : Error) (P Q R : Fault → Type 0) → IsErrAnd r (λ x. x ≡ e) → IsRefusal P e →
+    IsRefusal Q e → ((fault : Fault) → P fault → Q fault → R fault) → IfErr r (IsRefusal R)
+refusal_passed_on (Ok a) e P Q R is one other both = absurd is
+refusal_passed_on (Err x) e P Q R is one other both = subst (IsRefusal R) (sym is) (by_error e one other) where
   by_error : (e : Error) → IsRefusal P e → IsRefusal Q e → IsRefusal R e
   by_error (error.Refused fault) one other = both fault one other
   by_error error.OutOfMemory one other = tt
@@ -23,7 +25,8 @@ passed_on (Err x) e P Q R is one other both = subst (IsRefusal R) (sym is) (by_e
   by_error error.WriteFailed one other = absurd one
 
 -- A fault is passed on as it is.
-pub fault_passed_on : {A : Type 0} (r : Result A Fault) (fault : Fault) (P : Fault → Type 0) → IsErrAnd r (λ e. e ≡ fault) → P fault → IfErr r P
+pub fault_passed_on : {A : Type 0} (r : Result A Fault) (fault : Fault) (P : Fault → Type 0) → IsErrAnd r (λ e. e ≡ fault) → P fault →
+    IfErr r P
 fault_passed_on (Ok a) fault P is holds = absurd is
 fault_passed_on (Err e) fault P is holds = subst P (sym is) holds
 

@@ -1,4 +1,5 @@
-use Rattle.std.proofs.Common.{◌≡◌, ℕ, ◌+◌, ◌<◌, List, [], ◌++◌, length, take, Option, Some, None, Result, Ok, Err, refl, sym, ap, ◌∙◌, subst, arith}
+use Rattle.std.proofs.Common.{◌≡◌, ℕ, ◌+◌, ◌<◌, List, [], ◌++◌, length, take, Option, Some, None, Result, Ok, Err, refl, sym, ap, ◌∙◌}
+use Rattle.std.proofs.Common.{subst, arith}
 use Rattle.std.proofs.Math.Seq.{take-append-add}
 use Rattle.std.proofs.lemmas.Bool.{false≢true}
 use Rattle.std.proofs.lemmas.List.{length-append}
@@ -6,7 +7,7 @@ use Rattle.std.specs.Io.KnownBytes.{Keeps}
 use Rattle.std.proofs.KnownBytes.{Keeps-refl}
 use Rattle.bi_base.specs.declared.fault.Error.{Error}
 use Rattle.bi_base.specs.declared.fault.Error.TheVariants.{Refused, OutOfMemory, ReadFailed, WriteFailed}
-use Rattle.bi_base.specs.BufferedSinks.{Buffered, Holds, writes_in_turn}
+use Rattle.bi_base.specs.BufferedSinks.{Buffer, Holds, writes_in_turn}
 use Rattle.bi_base.specs.Reading.{IsInput, IsReadError, ReadWhole, too_large}
 use Rattle.bi_base.specs.Sinks.{Wrote}
 use Rattle.bi_base.specs.Traces.{ReadTrace, WriteTrace, MustStopReading}
@@ -21,7 +22,8 @@ some_input None = ([], tt)
 some_input (Some bytes) = (bytes, refl)
 
 -- A failed write is a failed write or flush.
-pub stopped_writing : (old : WriteTrace) (bytes : List ℕ) (new : WriteTrace) (error : Error) → WriteStopped old bytes new error → WriteOrFlushStopped old bytes new error
+pub stopped_writing : (old : WriteTrace) (bytes : List ℕ) (new : WriteTrace) (error : Error) → WriteStopped old bytes new error →
+    WriteOrFlushStopped old bytes new error
 stopped_writing old bytes new error failed = record {
   is = failed.is;
   count = failed.prefix.0;
@@ -34,7 +36,9 @@ stopped_writing old bytes new error failed = record {
 
 -- After a sink that held nothing back took some bytes, what it holds back is written and flushed, or that stops: then these
 -- bytes were written and flushed, or writing them stopped.
-pub finished_after : (old mid : Buffered) (bytes : List ℕ) (new : WriteTrace) (result : Result (Unit {0}) Error) → old.held ≡ [] → Holds old bytes mid → Wrote WroteAndFlushed WriteOrFlushStopped mid.trace mid.held result new → Wrote WroteAndFlushed WriteOrFlushStopped old.trace bytes result new
+pub finished_after : (old mid : Buffer) (bytes : List ℕ) (new : WriteTrace) (result : Result (Unit {0}) Error) → old.held ≡ [] →
+    Holds old bytes mid → Wrote WroteAndFlushed WriteOrFlushStopped mid.trace mid.held result new →
+    Wrote WroteAndFlushed WriteOrFlushStopped old.trace bytes result new
 finished_after old mid bytes new (Ok done) none holds finished =
     let all : bytes ≡ holds.written ++ mid.held = ap (λ held. held ++ bytes) (sym none) ∙ holds.all in
     record {
@@ -62,14 +66,20 @@ finished_after old mid bytes new (Err error) none holds finished =
     }
 
 -- The input was read, and its output was written and flushed.
-pub transferred : (source new_source : ReadTrace) (target new_target : WriteTrace) (IsOutput : List ℕ → List ℕ → Type 0) (input output : List ℕ) → ReadWhole source.remaining new_source.remaining input → IsOutput input output → WroteAndFlushed target output new_target → Transferred source new_source target new_target IsOutput
-transferred source new_source target new_target IsOutput input output read is_output wrote = record {
+pub transfer_ends_well : (source new_source : ReadTrace) (target new_target : WriteTrace) (IsOutput : List ℕ → List ℕ → Type 0)
+    (input output : List ℕ) → ReadWhole source.remaining new_source.remaining input → IsOutput input output →
+    WroteAndFlushed target output new_target → Transferred source new_source target new_target IsOutput
+transfer_ends_well source new_source target new_target IsOutput input output read is_output wrote = record {
   moved = record { input = input; output = output; read = read; written = wrote.written; is_output = is_output };
   flushed = wrote.flushed;
 }
 
 -- The input was read, and writing its output stopped.
-pub write_stopped : (source new_source : ReadTrace) (target new_target : WriteTrace) (IsOutput : List ℕ → List ℕ → Type 0) (HasError : List ℕ → Type 0) (read_failed write_failed : Type 0) (input output : List ℕ) (error : Error) → ReadWhole source.remaining new_source.remaining input → IsOutput input output → HasError input → ¬ read_failed → write_failed → WriteOrFlushStopped target output new_target error → TransferFailed source new_source target new_target IsOutput HasError read_failed write_failed
+pub write_stopped : (source new_source : ReadTrace) (target new_target : WriteTrace) (IsOutput : List ℕ → List ℕ → Type 0)
+    (HasError : List ℕ → Type 0) (read_failed write_failed : Type 0) (input output : List ℕ) (error : Error) →
+    ReadWhole source.remaining new_source.remaining input → IsOutput input output → HasError input → ¬ read_failed → write_failed →
+    WriteOrFlushStopped target output new_target error →
+    TransferFailed source new_source target new_target IsOutput HasError read_failed write_failed
 write_stopped source new_source target new_target IsOutput HasError read_failed write_failed input output error read is_output has_error no_read is_write stopped = record {
   failed = record {
     input = input;
@@ -92,7 +102,11 @@ write_stopped source new_source target new_target IsOutput HasError read_failed 
 }
 
 -- The input was read, and refused, or memory ran out; nothing was written.
-pub refused_after : (source new_source : ReadTrace) (target new_target : WriteTrace) (IsOutput : List ℕ → List ℕ → Type 0) (HasError : List ℕ → Type 0) (read_failed write_failed : Type 0) (input : List ℕ) → ReadWhole source.remaining new_source.remaining input → HasError input → ¬ read_failed → ¬ write_failed → Keeps target.contents new_target.contents → TransferFailed source new_source target new_target IsOutput HasError read_failed write_failed
+pub refused_after : (source new_source : ReadTrace) (target new_target : WriteTrace) (IsOutput : List ℕ → List ℕ → Type 0)
+    (HasError : List ℕ → Type 0) (read_failed write_failed : Type 0) (input : List ℕ) →
+    ReadWhole source.remaining new_source.remaining input → HasError input → ¬ read_failed → ¬ write_failed →
+    Keeps target.contents new_target.contents →
+    TransferFailed source new_source target new_target IsOutput HasError read_failed write_failed
 refused_after source new_source target new_target IsOutput HasError read_failed write_failed input read has_error no_read no_write kept = record {
   failed = record {
     input = input;
@@ -114,7 +128,10 @@ pub record IsErrorOfReading (remaining : Option (List ℕ)) (most : ℕ) (MustSt
   pub why : error ≡ ReadFailed → MustStop
 
 -- Reading failed; nothing was written.
-pub read_stopped : (source new_source : ReadTrace) (target : WriteTrace) (IsOutput : List ℕ → List ℕ → Type 0) (HasError : List ℕ → Type 0) (most : ℕ) (read_failed write_failed : Type 0) (error : Error) → IsErrorOfReading source.remaining most (MustStopReading new_source) HasError error → (read_failed → error ≡ ReadFailed) → (write_failed → error ≡ WriteFailed) → TransferFailed source new_source target target IsOutput HasError read_failed write_failed
+pub read_stopped : (source new_source : ReadTrace) (target : WriteTrace) (IsOutput : List ℕ → List ℕ → Type 0) (HasError : List ℕ → Type 0)
+    (most : ℕ) (read_failed write_failed : Type 0) (error : Error) →
+    IsErrorOfReading source.remaining most (MustStopReading new_source) HasError error → (read_failed → error ≡ ReadFailed) →
+    (write_failed → error ≡ WriteFailed) → TransferFailed source new_source target target IsOutput HasError read_failed write_failed
 read_stopped source new_source target IsOutput HasError most read_failed write_failed error is is_read is_write = record {
   failed = record {
     input = is.input;
@@ -129,7 +146,10 @@ read_stopped source new_source target IsOutput HasError most read_failed write_f
 
 -- An error of reading is one that a call can have for the input, where it can refuse what is too long, run out of memory and
 -- fail to read.
-pub error_of_reading : (remaining : Option (List ℕ)) (most : ℕ) (MustStop : Type 0) (HasError : Error → List ℕ → Type 0) (error : Error) → IsReadError remaining most MustStop error → ((input : List ℕ) → most < length input → HasError (Refused (too_large most)) input) → ((input : List ℕ) → HasError OutOfMemory input) → ((input : List ℕ) → HasError ReadFailed input) → IsErrorOfReading remaining most MustStop (HasError error) error
+pub error_of_reading : (remaining : Option (List ℕ)) (most : ℕ) (MustStop : Type 0) (HasError : Error → List ℕ → Type 0) (error : Error) →
+    IsReadError remaining most MustStop error → ((input : List ℕ) → most < length input → HasError (Refused (too_large most)) input) →
+    ((input : List ℕ) → HasError OutOfMemory input) → ((input : List ℕ) → HasError ReadFailed input) →
+    IsErrorOfReading remaining most MustStop (HasError error) error
 error_of_reading remaining most MustStop HasError (Refused fault) is too_long memory failed = record {
   input = is.0;
   is_input = is.1;

@@ -15,14 +15,14 @@ use Rattle.bi_base.specs.Writing.{Writes, WroteAll, WriteStopped}
 
 -- Which borrow of a writer the sink has, the writer after the calls so far, and the bytes that are
 -- held back.
-pub record Buffered : Type 0 where
+pub record Buffer : Type 0 where
   pub borrow : GName
   pub trace : WriteTrace
   pub held : List ℕ
 
 -- What contracts see of a sink whose writer has this trace.
-abbrev pub buffered : {T : Type 0} → (T → WriteTrace) → BufferedSink T → Buffered
-buffered trace sink = record {
+abbrev pub state_of : {T : Type 0} → (T → WriteTrace) → BufferedSink T → Buffer
+state_of trace sink = record {
   borrow = sink.target.ghost_name;
   trace = trace sink.target.now;
   held = sink.held.items;
@@ -30,25 +30,25 @@ buffered trace sink = record {
 
 -- Some bytes were written, and the others are held back: together they are those held back before,
 -- and these.
-pub record Holds (old : Buffered) (bytes : List ℕ) (new : Buffered) : Type 0 where
+pub record Holds (old : Buffer) (bytes : List ℕ) (new : Buffer) : Type 0 where
   pub written : List ℕ
   pub wrote : WroteAll old.trace written new.trace
   pub all : old.held ++ bytes ≡ written ++ new.held
   pub same_borrow : new.borrow ≡ old.borrow
 
 -- Writing stopped: a prefix of the bytes held back before, and these, was written.
-pub record Stops (old : Buffered) (bytes : List ℕ) (new : Buffered) (error : Error) : Type 0 where
+pub record Stops (old : Buffer) (bytes : List ℕ) (new : Buffer) (error : Error) : Type 0 where
   pub stopped : WriteStopped old.trace (old.held ++ bytes) new.trace error
   pub same_borrow : new.borrow ≡ old.borrow
 
 -- The same for a sink.
 abbrev pub BufferAppends : {T : Type 0} → (T → WriteTrace) → BufferedSink T → List ℕ
     → BufferedSink T → Type 0
-BufferAppends trace old bytes new = Holds (buffered trace old) bytes (buffered trace new)
+BufferAppends trace old bytes new = Holds (state_of trace old) bytes (state_of trace new)
 
 abbrev pub BufferFails : {T : Type 0} → (T → WriteTrace) → BufferedSink T → List ℕ → BufferedSink T
     → Error → Type 0
-BufferFails trace old bytes new error = Stops (buffered trace old) bytes (buffered trace new) error
+BufferFails trace old bytes new error = Stops (state_of trace old) bytes (state_of trace new) error
 
 -- Writing nothing leaves a writer as it is.
 pub wrote_nothing : (trace : WriteTrace) → WroteAll trace [] trace

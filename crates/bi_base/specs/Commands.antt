@@ -2,7 +2,7 @@ use Rattle.std.specs.Prelude.{ℕ, ◌<◌, ◌≡◌, List, length}
 use Rattle.bi_base.specs.declared.fault.Error.{Error}
 use Rattle.bi_base.specs.declared.fault.Error.TheVariants.{Refused, OutOfMemory, ReadFailed}
 use Rattle.bi_base.specs.declared.fault.Error.TheVariants.{WriteFailed}
-use Rattle.bi_base.specs.Limits.{Bounds}
+use Rattle.bi_base.specs.Limits.{Limits}
 use Rattle.bi_base.specs.Reading.{too_large}
 
 -- What commands are: calls that make an output of a whole input (profile of this project).
@@ -76,7 +76,7 @@ AppendFailed fails IsText HasError old new error =
 
 -- The error that a command can have for an input that is read from a reader, with an output that is
 -- written to a writer.
-pub data PipeError {V E : Type 0} (promise : CommandPromise V E) (limits : Bounds)
+pub data PipeError {V E : Type 0} (promise : CommandPromise V E) (limits : Limits)
     (input : List ℕ) (error : E) : Type 0
   where
     OfCommand : promise.has_error input error → PipeError promise limits input error

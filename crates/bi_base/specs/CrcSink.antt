@@ -8,18 +8,18 @@ use Rattle.bi_base.specs.Sinks.{AppendsNothing, AppendsInTurn}
 -- A running CRC-32 as a sink, which keeps no bytes (RFC 1952, chapter 8).
 
 -- Continuing over these bytes leads from one register to the other.
-abbrev pub GoesOn : ℕ → List ℕ → ℕ → Type 0
-GoesOn old bytes new = new ≡ crc_after old bytes
+abbrev pub AddsToCrc : ℕ → List ℕ → ℕ → Type 0
+AddsToCrc old bytes new = new ≡ crc_after old bytes
 
 -- Continuing over no bytes changes nothing.
-pub goes_on_nothing : AppendsNothing GoesOn
+pub adds_nothing_to_crc : AppendsNothing AddsToCrc
 unfolding crc_after
-goes_on_nothing a = refl
+adds_nothing_to_crc a = refl
 
 -- Continuing over two pieces in turn is continuing over both together.
-pub goes_on_in_turn : AppendsInTurn GoesOn
+pub adds_to_crc_in_turn : AppendsInTurn AddsToCrc
 unfolding crc_after
-goes_on_in_turn a b c xs ys first second =
+adds_to_crc_in_turn a b c xs ys first second =
     second ∙ ap (λ register. crc_after register ys) first
     ∙ sym (ap (fold crc_bit a) (flat_map-append (low_bits 8) xs ys)
     ∙ fold-append crc_bit a (message_bits xs) (message_bits ys))

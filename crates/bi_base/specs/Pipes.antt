@@ -1,7 +1,7 @@
 use Rattle.std.specs.Prelude.{ℕ, ◌+◌, ◌≡◌, List, Option, Result, IfOk, IfErr, IsErrOf}
 use Rattle.bi_base.specs.declared.fault.Error.TheVariants.{ReadFailed, WriteFailed}
 use Rattle.bi_base.specs.Commands.{CommandPromise, PipeError}
-use Rattle.bi_base.specs.Limits.{Bounds}
+use Rattle.bi_base.specs.Limits.{Limits}
 use Rattle.bi_base.specs.Reading.{TakesAtMost, TracedTakesAtMost}
 use Rattle.bi_base.specs.Traces.{ReadTrace, WriteTrace, ReadsWell, WritesWell}
 use Rattle.bi_base.specs.Transfers.{Moved, MoveFailed, Transferred, TransferFailed, SameStreams}
@@ -11,7 +11,7 @@ use Rattle.bi_base.specs.Transfers.{Moved, MoveFailed, Transferred, TransferFail
 -- A command with this promise was run within these limits from a reader to a writer, and this is
 -- its result. `remaining` is what the reader has before the call and after it, `contents` what the
 -- writer holds, each if it is known.
-pub record IsPiped {V E : Type 0} (promise : CommandPromise V E) (limits : Bounds)
+pub record IsPiped {V E : Type 0} (promise : CommandPromise V E) (limits : Limits)
     (remaining new_remaining contents new_contents : Option (List ℕ)) (result : Result V E) : Type 0
   where
     -- The whole input was read, and its output was written.
@@ -26,7 +26,7 @@ pub record IsPiped {V E : Type 0} (promise : CommandPromise V E) (limits : Bound
     pub takes_at_most_one_byte_more : TakesAtMost remaining new_remaining (limits.file + 1)
 
 -- The same for a reader and a writer whose calls are traced.
-pub record IsTracedPipe {V E : Type 0} (promise : CommandPromise V E) (limits : Bounds)
+pub record IsTracedPipe {V E : Type 0} (promise : CommandPromise V E) (limits : Limits)
     (source new_source : ReadTrace) (target new_target : WriteTrace) (result : Result V E) : Type 0
   where
     -- The whole input was read, and its output was written and flushed.

@@ -24,13 +24,13 @@ pub struct BufferedSink<'a, T> {
 }
 
 impl<'a, T: TracedWrite> BufferedSink<'a, T> {
-    ghost use Rattle.bi_base.specs.BufferedSinks.{buffered};
+    ghost use Rattle.bi_base.specs.BufferedSinks.{state_of};
 
     /// Returns a sink of this writer that holds nothing back yet.
     pub fn new(target: &'a mut T) -> BufferedSink<'a, T>
-        ensures same_borrow { (buffered T.trace result).borrow ≡ target.entry.ghost_name }
-        ensures same_trace { (buffered T.trace result).trace ≡ T.trace target.old }
-        ensures none_held { (buffered T.trace result).held ≡ [] }
+        ensures same_borrow { (state_of T.trace result).borrow ≡ target.entry.ghost_name }
+        ensures same_trace { (state_of T.trace result).trace ≡ T.trace target.old }
+        ensures none_held { (state_of T.trace result).held ≡ [] }
     {
         BufferedSink {
             target,
@@ -46,12 +46,12 @@ impl<'a, T: TracedWrite> BufferedSink<'a, T> {
     /// interruptions in a row. No failure is ignored. Do not use the sink after an error of `put`
     /// or `finish`.
     pub fn finish(&mut self) -> Result<(), Error>
-        ensures finished { let old = buffered T.trace self.old in
-            let new = buffered T.trace self.new in
+        ensures finished { let old = state_of T.trace self.old in
+            let new = state_of T.trace self.new in
             Wrote WroteAndFlushed WriteOrFlushStopped old.trace old.held result new.trace }
-        ensures none_held { OnOk result ((buffered T.trace self.new).held ≡ []) }
-        ensures same_borrow { (buffered T.trace self.new).borrow
-            ≡ (buffered T.trace self.old).borrow }
+        ensures none_held { OnOk result ((state_of T.trace self.new).held ≡ []) }
+        ensures same_borrow { (state_of T.trace self.new).borrow
+            ≡ (state_of T.trace self.old).borrow }
     {
         write_all(self.target, self.held.as_slice())?;
         self.held.clear();

@@ -3,7 +3,7 @@
 ghost use Rattle.std.specs.Prelude.{◌≡◌, ◌≤◌, length, IfOk, IfErr};
 ghost use Rattle.bi_base.specs.Commands.{Appended, CommandFailed, CommandPromise, PromiseLaws};
 ghost use Rattle.bi_base.specs.declared.fault.Error.{Error as IoError};
-ghost use Rattle.bi_base.specs.Limits.{Bounds};
+ghost use Rattle.bi_base.specs.Limits.{Limits};
 
 use crate::fault::Error;
 use crate::limits::Limits;
@@ -22,7 +22,7 @@ pub trait Command {
     ghost can_run: { Self → Type 0 };
 
     // What the command promises within these limits.
-    ghost promise: { Self → Bounds → CommandPromise Self.Value Self.Failure };
+    ghost promise: { Self → Limits → CommandPromise Self.Value Self.Failure };
 
     /// Appends the output for this input to a sink.
     ///
@@ -44,8 +44,8 @@ pub trait Command {
             ((promise self.now limits).has_error input.now) sink.old sink.new) };
 
     // The failure for an error of a reader, a writer or a sink.
-    ghost wraps_from: { (command : Self) (limits : Bounds) (a : IoError) (b : Self.Failure)
+    ghost wraps_from: { (command : Self) (limits : Limits) (a : IoError) (b : Self.Failure)
         → Self.Failure.from_gives a b → b ≡ (promise command limits).wraps a };
 
-    ghost laws: { (command : Self) (limits : Bounds) → PromiseLaws (promise command limits) };
+    ghost laws: { (command : Self) (limits : Limits) → PromiseLaws (promise command limits) };
 }

@@ -3,7 +3,7 @@
 
 ghost use Rattle.std.specs.Prelude.{◌≡◌, ℕ, ◌-◌};
 ghost use Rattle.bi_base.specs.Crc.{crc_after};
-ghost use Rattle.bi_base.specs.CrcSink.{GoesOn, goes_on_nothing, goes_on_in_turn};
+ghost use Rattle.bi_base.specs.CrcSink.{AddsToCrc, adds_nothing_to_crc, adds_to_crc_in_turn};
 
 use crate::crc_tables::after_bytes;
 use crate::fault::Error;
@@ -53,7 +53,7 @@ impl Crc32 {
 
 /// As a sink, a `Crc32` keeps no bytes: it continues over those that are appended. No call fails.
 impl Sink for Crc32 {
-    ghost appends = { GoesOn };
+    ghost appends = { AddsToCrc };
 
     ghost fails = { λ _ _ _ _. ⊥ };
 
@@ -62,9 +62,9 @@ impl Sink for Crc32 {
         Ok(())
     }
 
-    ghost appends_nothing = { goes_on_nothing };
+    ghost appends_nothing = { adds_nothing_to_crc };
 
-    ghost appends_in_turn = { goes_on_in_turn };
+    ghost appends_in_turn = { adds_to_crc_in_turn };
 
     ghost fails_after = { λ _ _ _ _ _ _ _ failed. failed };
 

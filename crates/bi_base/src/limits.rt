@@ -1,7 +1,7 @@
 //! Limits on the sizes of files and on the depth of trees.
 
 ghost use Rattle.std.specs.Prelude.{◌≡◌, ◌≤◌, ◌↔◌, IsSome, IfSome};
-ghost use Rattle.bi_base.specs.Limits.{Bounds, IsInRange};
+ghost use Rattle.bi_base.specs.Limits.{Limits, IsInRange};
 
 use std::marker::Model;
 
@@ -14,7 +14,7 @@ pub struct Limits {
 }
 
 impl Model for Limits {
-    ghost Value = { Bounds };
+    ghost Value = { Limits };
 
     ghost view = { λ limits. record { file = limits.file; depth = limits.depth } };
 

@@ -1,7 +1,7 @@
 //! Running a command from a reader to a writer.
 
 ghost use Rattle.std.specs.Prelude.{◌≡◌, ◌≤◌, [], length, IfOk, IfErr};
-ghost use Rattle.bi_base.specs.BufferedSinks.{buffered};
+ghost use Rattle.bi_base.specs.BufferedSinks.{state_of};
 ghost use Rattle.bi_base.specs.Commands.{Appended, CommandFailed};
 ghost use Rattle.bi_base.specs.Pipes.{IsPiped, IsTracedPipe};
 ghost use Rattle.bi_base.specs.Writing.{WroteAndFlushed, WriteOrFlushStopped};
@@ -93,15 +93,15 @@ fn run_and_finish<C: Command, T: TracedWrite>(
 ) -> Result<C::Value, C::Failure>
     requires can { C.can_run command.now }
     requires short { length input.now ≤ limits.file }
-    requires none_held { (buffered T.trace sink.now).held ≡ [] }
-    ensures same_borrow { (buffered T.trace sink.new).borrow ≡ (buffered T.trace sink.old).borrow }
+    requires none_held { (state_of T.trace sink.now).held ≡ [] }
+    ensures same_borrow { (state_of T.trace sink.new).borrow ≡ (state_of T.trace sink.old).borrow }
     ensures written { IfOk result (λ value. Appended WroteAndFlushed
         ((C.promise command.now limits).is_output value input.now)
-        (buffered T.trace sink.old).trace (buffered T.trace sink.new).trace) }
+        (state_of T.trace sink.old).trace (state_of T.trace sink.new).trace) }
     ensures failed { let promise = C.promise command.now limits in
         IfErr result (CommandFailed WriteOrFlushStopped promise.wraps (promise.is_text input.now)
         (promise.has_error input.now)
-        (buffered T.trace sink.old).trace (buffered T.trace sink.new).trace) }
+        (state_of T.trace sink.old).trace (state_of T.trace sink.new).trace) }
 {
     let value = command.run(alloc, input, limits, sink)?;
     sink.finish()?;

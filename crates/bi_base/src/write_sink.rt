@@ -36,7 +36,7 @@ impl<'a, W: Write> WriteSink<'a, W> {
     /// ignored. `BufferedSink::finish` promises both.
     pub fn finish(&mut self) -> Result<(), Error>
         ensures nothing { ⟦<WriteSink<'a, W> as Sink>⟧.appends self.old [] self.new }
-        ensures error { IfErr result (λ error. error ≡ WriteFailed) }
+        ensures failed { IfErr result (λ error. error ≡ WriteFailed) }
     {
         let mut target = TracedWriter::new(self.writer);
         flush(&mut target)

@@ -4,10 +4,12 @@ use Rattle.bi_base.specs.Cells.{cell, cell8, u32_at}
 use Rattle.bi_blob.specs.Tokens.{Token, BeginNode, EndNode, Prop, Nop}
 use Rattle.bi_blob.specs.Blob.{tree_blocks}
 use Rattle.bi_blob.specs.KnownBlobs.{file_with_nops, tokens_to_images, FilesAreBlobs, TokensAreNewestFirst}
-use Rattle.bi_blob.proofs.CheckTests.{lacks_byte, is_new, is_property_name, is_child_name}
-use Rattle.bi_blob.proofs.HeaderTests.{test}
-use Rattle.bi_blob.proofs.TokenTests.{may_be_named, are_none, token_test, is_token, is_token_at, is_before_end, are_passed, are_passed_sound}
-use Rattle.bi_blob.proofs.BlobTests.{begins_with, is_encoding, are_encodings, is_name_at, encode_events, are_distinct, are_properties, are_nodes, are_reservations, has_header, has_tree, known_blob}
+use Rattle.bi_blob.proofs.CheckDecisions.{lacks_byte, is_new, is_property_name, is_child_name}
+use Rattle.bi_blob.proofs.HeaderDecisions.{test}
+use Rattle.bi_blob.proofs.TokenDecisions.{may_be_named, are_none, token_test, is_token, is_token_at, is_before_end, are_passed}
+use Rattle.bi_blob.proofs.TokenDecisions.{are_passed_sound}
+use Rattle.bi_blob.proofs.BlobDecisions.{begins_with, is_encoding, are_encodings, is_name_at, encode_events, are_distinct, are_properties}
+use Rattle.bi_blob.proofs.BlobDecisions.{are_nodes, are_reservations, has_header, has_tree, known_blob}
 
 -- Small files that are blobs.
 

@@ -1,10 +1,10 @@
 -- Lemmas on blobs: their names, tokens, trees, faults and texts.
-pub mod Names
+pub mod BytesBeforeZero
 pub mod Cells
 pub mod Tokens
 pub mod TokenEncoding
 pub mod EventEncoding
-pub mod Trees
+pub mod OneTree
 pub mod Reservations
 pub mod OneBlob
 pub mod OpenNodes

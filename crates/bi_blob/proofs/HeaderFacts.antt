@@ -1,11 +1,13 @@
 use Rattle.std.proofs.Common.{◌≡◌, ℕ, zero, suc, ◌+◌, ◌*◌, ◌<◌, refl, lit≤, lit<, arith}
 use Rattle.bi_base.specs.Cells.{cell, u32_at, u64_at}
-use Rattle.bi_blob.specs.BlobFaults.{IsEndPair, InReservations, IsWithinLimit, HasMagicCell, HasMagic, HasHeader, HasVersion, HasCompatibleVersion, TotalHoldsHeader, FileHoldsTotal, PlacesReservations, PlacesStructure, PlacesStrings}
+use Rattle.bi_blob.specs.BlobFaults.{IsEndPair, InReservations, IsWithinLimit, HasMagicCell, HasMagic, HasHeader, HasVersion}
+use Rattle.bi_blob.specs.BlobFaults.{HasCompatibleVersion, TotalHoldsHeader, FileHoldsTotal, PlacesReservations, PlacesStructure}
+use Rattle.bi_blob.specs.BlobFaults.{PlacesStrings}
 use Rattle.bi_blob.specs.KnownTexts.{smallest_text}
 use Rattle.bi_blob.specs.KnownBlobs.{widest, with_cell}
 use Rattle.bi_blob.specs.KnownFaults.{longer_file, HeadersHaveFaults, HeaderChecksHaveOrder, ReservationsHaveFaults}
-use Rattle.bi_blob.proofs.CheckTests.{first_failing}
-use Rattle.bi_blob.proofs.HeaderTests.{test, fine_by_test, in_header}
+use Rattle.bi_blob.proofs.CheckDecisions.{first_failing}
+use Rattle.bi_blob.proofs.HeaderDecisions.{test, fine_by_test, in_header}
 
 -- The faults of small files before their structure blocks.
 

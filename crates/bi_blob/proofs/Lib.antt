@@ -1,8 +1,8 @@
 pub mod TextFacts
-pub mod CheckTests
-pub mod HeaderTests
-pub mod TokenTests
-pub mod BlobTests
+pub mod CheckDecisions
+pub mod HeaderDecisions
+pub mod TokenDecisions
+pub mod BlobDecisions
 pub mod BlobFacts
 pub mod HeaderFacts
 pub mod StructureFacts

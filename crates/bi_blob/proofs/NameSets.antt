@@ -24,7 +24,8 @@ pub HoldsNames-none : (set : BTreeSet (Bor (List ℕ))) → IsEmpty set → Hold
 HoldsNames-none set empty = record { each = λ name. ap (list_any (λ k. is_eq (name_cmp name k))) empty }
 
 -- A set that a name joins has it too.
-pub HoldsNames-insert : (old new : BTreeSet (Bor (List ℕ))) (name : Bor (List ℕ)) (held : List (List ℕ)) → HoldsNames old held → Updates name_cmp old new name true → HoldsNames new (held ++ name.now ∷ [])
+pub HoldsNames-insert : (old new : BTreeSet (Bor (List ℕ))) (name : Bor (List ℕ)) (held : List (List ℕ)) → HoldsNames old held →
+    Updates name_cmp old new name true → HoldsNames new (held ++ name.now ∷ [])
 HoldsNames-insert old new name held holds updates = record {
   each = λ q.
       updates.0 q
@@ -56,14 +57,17 @@ held_by_test name (other ∷ held) e is_new = elim (or_cases (bytes_eq other nam
   | inr later ↦ held_by_test name held later is_new.1
 ]
 
-pub HoldsNames-new : (set : BTreeSet (Bor (List ℕ))) (name : Bor (List ℕ)) (held : List (List ℕ)) → HoldsNames set held → contains name_cmp set name ≡ false → IsNew name.now held
+pub HoldsNames-new : (set : BTreeSet (Bor (List ℕ))) (name : Bor (List ℕ)) (held : List (List ℕ)) → HoldsNames set held →
+    contains name_cmp set name ≡ false → IsNew name.now held
 HoldsNames-new set name held holds lacks = new_by_test name.now held (sym (holds.each name) ∙ lacks)
 
-pub HoldsNames-held : (set : BTreeSet (Bor (List ℕ))) (name : Bor (List ℕ)) (held : List (List ℕ)) → HoldsNames set held → contains name_cmp set name ≡ true → IsNew name.now held → ⊥
+pub HoldsNames-held : (set : BTreeSet (Bor (List ℕ))) (name : Bor (List ℕ)) (held : List (List ℕ)) → HoldsNames set held →
+    contains name_cmp set name ≡ true → IsNew name.now held → ⊥
 HoldsNames-held set name held holds has = held_by_test name.now held (sym (holds.each name) ∙ has)
 
 -- A set is empty exactly where it has no names.
-pub HoldsNames-empty : (set : BTreeSet (Bor (List ℕ))) (held : List (List ℕ)) → HoldsNames set held → (btree_set_len set ≡ 0 → held ≡ []) × (held ≡ [] → btree_set_len set ≡ 0)
+pub HoldsNames-empty : (set : BTreeSet (Bor (List ℕ))) (held : List (List ℕ)) → HoldsNames set held →
+    (btree_set_len set ≡ 0 → held ≡ []) × (held ≡ [] → btree_set_len set ≡ 0)
 HoldsNames-empty set held holds = (to held holds.each, from set.keys holds.each) where
   to : (ns : List (List ℕ)) → ((name : Bor (List ℕ)) → contains name_cmp set name ≡ list_any (λ other. bytes_eq other name.now) ns) → length set.keys ≡ 0 → ns ≡ []
   to [] each none = refl

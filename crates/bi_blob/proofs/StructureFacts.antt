@@ -2,12 +2,15 @@ use Rattle.std.proofs.Common.{List, [], ◌∷◌, refl}
 use Rattle.std.specs.Prelude.{codes}
 use Rattle.bi_base.specs.Cells.{cell, cell8, u32_at, u64_at}
 use Rattle.bi_blob.specs.Tokens.{Token, BeginNode, EndNode, Prop}
-use Rattle.bi_blob.specs.BlobFaults.{HasCompatibleVersion, HasHeader, TotalHoldsHeader, PlacesReservations, PlacesStructure, PlacesStrings, HasTokenNumber, IsExpected, IsWithinDepth, HasNodeName, MayNameNode, IsNewNode, IsBeforeChildren, HasValue, HasPropertyName, MayNameProperty, IsNewProperty}
+use Rattle.bi_blob.specs.BlobFaults.{HasCompatibleVersion, HasHeader, TotalHoldsHeader, PlacesReservations, PlacesStructure, PlacesStrings}
+use Rattle.bi_blob.specs.BlobFaults.{HasTokenNumber, IsExpected, IsWithinDepth, HasNodeName, MayNameNode, IsNewNode, IsBeforeChildren}
+use Rattle.bi_blob.specs.BlobFaults.{HasValue, HasPropertyName, MayNameProperty, IsNewProperty}
 use Rattle.bi_blob.specs.Layout.{text_of_blocks}
 use Rattle.bi_blob.specs.KnownFaults.{TokensHaveFaults, TokenChecksHaveOrder, Version16HasFaults}
-use Rattle.bi_blob.proofs.CheckTests.{first_failing, lacks_byte, is_new, is_property_name, is_child_name}
-use Rattle.bi_blob.proofs.HeaderTests.{test, in_header}
-use Rattle.bi_blob.proofs.TokenTests.{may_be_named, are_none, token_test, is_token, is_token_at, is_before_end, are_passed, has_no_reservations, in_structure}
+use Rattle.bi_blob.proofs.CheckDecisions.{first_failing, lacks_byte, is_new, is_property_name, is_child_name}
+use Rattle.bi_blob.proofs.HeaderDecisions.{test, in_header}
+use Rattle.bi_blob.proofs.TokenDecisions.{may_be_named, are_none, token_test, is_token, is_token_at, is_before_end, are_passed}
+use Rattle.bi_blob.proofs.TokenDecisions.{has_no_reservations, in_structure}
 
 -- The faults of small files in their structure blocks.
 

@@ -2,7 +2,7 @@ use Rattle.std.specs.Prelude.{◌≡◌, ℕ, ◌+◌, ◌-◌, ◌%◌, ◌^◌
 use Rattle.std.specs.Prelude.{zero, suc, List, [], ◌∷◌, ◌++◌, length, flat_map}
 use Rattle.std.specs.List.{AllByRecursion}
 use Rattle.bi_base.specs.Cells.{cell8, slice, u32_at, u64_at, AreBytes}
-use Rattle.bi_base.specs.Limits.{Bounds}
+use Rattle.bi_base.specs.Limits.{Limits}
 use Rattle.bi_blob.specs.Tokens.{Token, End, AreEncodings}
 use Rattle.bi_blob.specs.Tree.{Root, FileNode, IsTree, AreProperties, tree_without_places}
 use Rattle.bi_blob.specs.Tree.{depth_of}
@@ -185,12 +185,12 @@ pub record IsBlob (file : List ℕ) (cpu : ℕ) (reservations : List Reservation
   pub holds : HoldsTree (tree_blocks file) root
 
 -- A file and its tree are no larger than the limits allow (profile of this project).
-pub record IsWithin (bounds : Bounds) (file : List ℕ) (root : Root FileNode) : Type 0 where
+pub record IsWithin (bounds : Limits) (file : List ℕ) (root : Root FileNode) : Type 0 where
   pub short : length file ≤ bounds.file
   pub shallow : depth_of root ≤ bounds.depth
 
 -- The file is a blob within the limits (profile of this project).
-pub record IsBlobWithin (bounds : Bounds) (file : List ℕ) : Type 0 where
+pub record IsBlobWithin (bounds : Limits) (file : List ℕ) : Type 0 where
   pub cpu : ℕ
   pub reservations : List Reservation
   pub root : Root FileNode

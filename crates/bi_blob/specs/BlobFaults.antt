@@ -9,7 +9,7 @@ use Rattle.bi_base.specs.declared.fault.Cause.TheVariants.{DuplicateNode, TooDee
 use Rattle.bi_base.specs.declared.fault.Fault.{Fault}
 use Rattle.bi_base.specs.Cells.{u32_at, u64_at}
 use Rattle.bi_base.specs.Checks.{IsFirstFault, HasNoFault}
-use Rattle.bi_base.specs.Limits.{Bounds}
+use Rattle.bi_base.specs.Limits.{Limits}
 use Rattle.bi_blob.specs.Tokens.{Token, BeginNode, EndNode, Prop, End, width, IsTokenAt, name_from}
 use Rattle.bi_blob.specs.Tokens.{begin_node_number, prop_number}
 use Rattle.bi_blob.specs.Tree.{IsChildName, IsPropertyName, IsNew}
@@ -49,7 +49,7 @@ header_checks =
 
 -- What each of them requires. A check may read cells that a short file does not have; an earlier
 -- check then fails.
-abbrev pub HeaderPasses : Bounds → List ℕ → HeaderCheck → Type 0
+abbrev pub HeaderPasses : Limits → List ℕ → HeaderCheck → Type 0
 HeaderPasses bounds file IsWithinLimit = length file ≤ bounds.file
 HeaderPasses bounds file HasMagicCell = 4 ≤ length file
 HeaderPasses bounds file HasMagic = magic file ≡ blob_magic
@@ -69,7 +69,7 @@ HeaderPasses bounds file PlacesStrings =
     (header_length file ≤ off_dt_strings file) × (strings_end file ≤ totalsize file)
 
 -- The fault of each of them.
-abbrev pub header_fault : Bounds → HeaderCheck → Fault
+abbrev pub header_fault : Limits → HeaderCheck → Fault
 header_fault bounds IsWithinLimit = record { cause = TooLarge; offset = bounds.file }
 header_fault bounds HasMagicCell = record { cause = Truncated; offset = 0 }
 header_fault bounds HasMagic = record { cause = BadMagic; offset = 0 }
@@ -83,11 +83,11 @@ header_fault bounds PlacesStructure = record { cause = BadOffset; offset = 8 }
 header_fault bounds PlacesStrings = record { cause = BadOffset; offset = 12 }
 
 -- Each check of the header passes.
-abbrev pub HasNoHeaderFault : Bounds → List ℕ → Type 0
+abbrev pub HasNoHeaderFault : Limits → List ℕ → Type 0
 HasNoHeaderFault bounds file = HasNoFault (HeaderPasses bounds file) header_checks
 
 -- The first check of the header that fails gives this fault.
-abbrev pub IsHeaderFault : Bounds → List ℕ → Fault → Type 0
+abbrev pub IsHeaderFault : Limits → List ℕ → Fault → Type 0
 IsHeaderFault bounds file fault =
     IsFirstFault (HeaderPasses bounds file) (header_fault bounds) header_checks fault
 
@@ -113,13 +113,13 @@ pub record IsReservationsFault (file : List ℕ) (at total : ℕ) (fault : Fault
   pub is : fault ≡ record { cause = Truncated; offset = at + 16 * index }
 
 -- The header and the reservation block of a file have no fault.
-pub record HasNoFaultBeforeTree (bounds : Bounds) (file : List ℕ) : Type 0 where
+pub record HasNoFaultBeforeTree (bounds : Limits) (file : List ℕ) : Type 0 where
   pub header : HasNoHeaderFault bounds file
   pub count : ℕ
   pub reservations : HasReservations file (off_mem_rsvmap file) (totalsize file) count
 
 -- The fault of a file before its structure block: in the header or in the reservation block.
-abbrev pub IsFaultBeforeTree : Bounds → List ℕ → Fault → Type 0
+abbrev pub IsFaultBeforeTree : Limits → List ℕ → Fault → Type 0
 IsFaultBeforeTree bounds file fault =
     IsHeaderFault bounds file fault
     ⊎ (HasNoHeaderFault bounds file
@@ -259,7 +259,7 @@ pub record IsStructureFault (blocks : TreeBlocks) (depth_limit : ℕ) (fault : F
       fault
 
 -- The fault of a file as a blob within limits.
-pub data IsBlobFault (bounds : Bounds) (file : List ℕ) (fault : Fault) : Type 0 where
+pub data IsBlobFault (bounds : Limits) (file : List ℕ) (fault : Fault) : Type 0 where
   InHeader : IsHeaderFault bounds file fault → IsBlobFault bounds file fault
   InReservations : HasNoHeaderFault bounds file
       → IsReservationsFault file (off_mem_rsvmap file) (totalsize file) fault

@@ -4,7 +4,7 @@ use Rattle.std.specs.List.{slice_get}
 use Rattle.bi_base.specs.declared.fault.Fault.{Fault}
 use Rattle.bi_base.specs.Cells.{AreBytes, slice, u32_at}
 use Rattle.bi_base.specs.Checks.{HasNoFault}
-use Rattle.bi_base.specs.Limits.{Bounds}
+use Rattle.bi_base.specs.Limits.{Limits}
 use Rattle.bi_blob.specs.Tokens.{Token, End, AreEncodings}
 use Rattle.bi_blob.specs.Tree.{Nodes, Root, Property, FileProperty, FileNode, names, AreDistinct}
 use Rattle.bi_blob.specs.Tree.{IsTree, AreProperties, depth_of, node_count_of}
@@ -46,24 +46,24 @@ FewerNodesThanBytes =
 -- A file that is a blob within limits has no fault under them.
 abbrev pub BlobHasNoFault : Type 0
 BlobHasNoFault =
-    (bounds : Bounds) (file : List ℕ) (fault : Fault) → IsBlobWithin bounds file
+    (bounds : Limits) (file : List ℕ) (fault : Fault) → IsBlobWithin bounds file
     → ¬ (IsBlobFault bounds file fault)
 
 -- A file has at most one fault under limits.
 abbrev pub OneBlobFault : Type 0
 OneBlobFault =
-    (bounds : Bounds) (file : List ℕ) (one other : Fault) → IsBlobFault bounds file one
+    (bounds : Limits) (file : List ℕ) (one other : Fault) → IsBlobFault bounds file one
     → IsBlobFault bounds file other → one ≡ other
 
 -- A file of bytes is a blob within limits, or it has a fault under them.
 abbrev pub BlobOrFault : Type 0
 BlobOrFault =
-    (bounds : Bounds) (file : List ℕ) → AreBytes file
+    (bounds : Limits) (file : List ℕ) → AreBytes file
     → IsBlobWithin bounds file ⊎ ((fault : Fault) × IsBlobFault bounds file fault)
 
 -- A file of bytes is a blob within limits exactly if it has no fault under them.
 abbrev pub BlobWhereNoFault : Type 0
-BlobWhereNoFault = (bounds : Bounds) (file : List ℕ) → AreBytes file
+BlobWhereNoFault = (bounds : Limits) (file : List ℕ) → AreBytes file
     → IsBlobWithin bounds file ↔ ((fault : Fault) → ¬ (IsBlobFault bounds file fault))
 
 -- Each of these tokens, the newest first, passes its checks at the offset after those before it,
@@ -107,7 +107,7 @@ ClosedEventsHaveOneTree =
 
 -- A file has a fault before its structure block or none. Such a fault is the fault of the file; and
 -- if there is none, the fault of the file, if it has one, is in the structure block.
-pub record IsDecidedBeforeTree (bounds : Bounds) (file : List ℕ) : Type 0 where
+pub record IsDecidedBeforeTree (bounds : Limits) (file : List ℕ) : Type 0 where
   pub decided :
       HasNoFaultBeforeTree bounds file ⊎ ((fault : Fault) × IsFaultBeforeTree bounds file fault)
   pub apart :
@@ -118,7 +118,7 @@ pub record IsDecidedBeforeTree (bounds : Bounds) (file : List ℕ) : Type 0 wher
 
 -- Faults of the header and of the reservations come before those of the structure block.
 abbrev pub FaultBeforeTreeComesFirst : Type 0
-FaultBeforeTreeComesFirst = (bounds : Bounds) (file : List ℕ) → IsDecidedBeforeTree bounds file
+FaultBeforeTreeComesFirst = (bounds : Limits) (file : List ℕ) → IsDecidedBeforeTree bounds file
 
 -- Each of these nodes is found by its name, and only by its name; the node after it is the first
 -- of its later siblings.

@@ -5,7 +5,7 @@ use Rattle.bi_base.specs.declared.fault.Cause.TheVariants.{BadVersion, BadOffset
 use Rattle.bi_base.specs.declared.fault.Cause.TheVariants.{BadName, BadNameOffset}
 use Rattle.bi_base.specs.declared.fault.Cause.TheVariants.{PropertyAfterChild, DuplicateProperty}
 use Rattle.bi_base.specs.declared.fault.Cause.TheVariants.{DuplicateNode, TooDeep, TooLarge}
-use Rattle.bi_base.specs.Limits.{Bounds}
+use Rattle.bi_base.specs.Limits.{Limits}
 use Rattle.bi_blob.specs.Tokens.{Token, BeginNode, EndNode, Prop, End}
 use Rattle.bi_blob.specs.Blob.{reservation_block}
 use Rattle.bi_blob.specs.BlobFaults.{IsBlobFault}
@@ -74,7 +74,7 @@ abbrev pub header_of_version_16 : List ℕ
 header_of_version_16 = cells (0xd00dfeed ∷ 36 ∷ 0 ∷ 0 ∷ 0 ∷ 16 ∷ 16 ∷ 0 ∷ 0 ∷ [])
 
 -- A file has this fault under these limits.
-abbrev pub HasFault : Bounds → List ℕ → Cause → ℕ → Type 0
+abbrev pub HasFault : Limits → List ℕ → Cause → ℕ → Type 0
 HasFault bounds file cause offset =
     IsBlobFault bounds file (record { cause = cause; offset = offset })
 

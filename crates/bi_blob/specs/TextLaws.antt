@@ -2,7 +2,7 @@ use Rattle.std.specs.Prelude.{◌≡◌, ℕ, ◌+◌, ◌*◌, ◌%◌, ◌≤�
 use Rattle.std.specs.Prelude.{Contains, ◌↔◌}
 use Rattle.bi_base.specs.declared.fault.Fault.{Fault}
 use Rattle.bi_base.specs.Cells.{up4, AreBytes}
-use Rattle.bi_base.specs.Limits.{Bounds}
+use Rattle.bi_base.specs.Limits.{Limits}
 use Rattle.bi_blob.specs.Tokens.{End, AreEncodings, IsNameAt}
 use Rattle.bi_blob.specs.Tree.{Root, Property, PropertyMap, FileNode, HasNoZero, AreDistinct}
 use Rattle.bi_blob.specs.Tree.{IsNormal, tree_without_places, tree_without_order, depth_of}
@@ -109,7 +109,7 @@ TextIsBlob =
     → IsBlobOf (text_of_tree cpu reservations root ++ rest) cpu reservations root
 
 -- A file is a blob of these alone within limits, and has no fault under them.
-pub record IsAccepted (bounds : Bounds) (file : List ℕ) (cpu : ℕ)
+pub record IsAccepted (bounds : Limits) (file : List ℕ) (cpu : ℕ)
     (reservations : List Reservation) (root : Root (List Property)) : Type 0 where
   pub is_blob : IsBlobOf file cpu reservations root
   pub is_within : IsWithin bounds file (tree_with_places reservations root)
@@ -119,7 +119,7 @@ pub record IsAccepted (bounds : Bounds) (file : List ℕ) (cpu : ℕ)
 -- than the length of all of it and the depth of its tree.
 abbrev pub TextIsAccepted : Type 0
 TextIsAccepted =
-    (bounds : Bounds) (cpu : ℕ) (reservations : List Reservation) (root : Root (List Property))
+    (bounds : Limits) (cpu : ℕ) (reservations : List Reservation) (root : Root (List Property))
     (rest : List ℕ)
     → IsContent cpu reservations root
     → length (text_of_tree cpu reservations root) ≤ longest_text → AreBytes rest
@@ -130,7 +130,7 @@ TextIsAccepted =
 -- The same for a normal text.
 abbrev pub NormalTextIsAccepted : Type 0
 NormalTextIsAccepted =
-    (bounds : Bounds) (cpu : ℕ) (reservations : List Reservation) (root : Root (List Property))
+    (bounds : Limits) (cpu : ℕ) (reservations : List Reservation) (root : Root (List Property))
     (text rest : List ℕ)
     → IsContent cpu reservations root → IsNormalText cpu reservations root text
     → length text ≤ longest_text → AreBytes rest

@@ -1,30 +1,35 @@
 use Rattle.std.proofs.Common.{◌≡◌, ◌⊎◌, ℕ, List, Result, Ok, Err, IfOk, IfErr, inl, inr, refl, sym, subst}
 use Rattle.bi_base.specs.declared.fault.Error.TheVariants as error
-use Rattle.bi_base.specs.Limits.{Bounds}
+use Rattle.bi_base.specs.Limits.{Limits}
 use Rattle.bi_fit.specs.declared.configurations.ConfigError.TheVariants as list
 use Rattle.bi_norm.specs.Meaning.{Meaning, Means}
 use Rattle.bi_norm.specs.NormalForm.{NeedsMemory}
 use Rattle.bi_commands.specs.declared.extract.ExtractError.{ExtractError}
 use Rattle.bi_commands.specs.declared.extract.ExtractError.TheVariants.{Failed, WrongKind, NoPart, NoImage, Config, NoIndex, NoPayload}
 use Rattle.bi_commands.specs.declared.extract.Select.{Select}
-use Rattle.bi_commands.specs.Extracting.{Choice, OfOtherKind, NoSuchPart, NoSuchImage, NoSuchConfiguration, NoSuchKey, HasBadList, HasMissingImage, NoSuchEntry, HasNoPayload, MeansSuch, IsReason, choice_of, IsExtractError}
+use Rattle.bi_commands.specs.Extracting.{Choice, OfOtherKind, NoSuchPart, NoSuchImage, NoSuchConfiguration, NoSuchKey, HasBadList}
+use Rattle.bi_commands.specs.Extracting.{HasMissingImage, NoSuchEntry, HasNoPayload, MeansSuch, IsReason, choice_of, IsExtractError}
 use Rattle.bi_c.specs.declared.answer.Answer.{Answer}
 use Rattle.bi_c.specs.declared.failure.Failure.{Failure}
 use Rattle.bi_c.specs.declared.failure.Failure.TheVariants.{WrongArgument, Refused, OutOfMemory, NotFound}
 use Rattle.bi_c.specs.declared.regions.Region.{Region}
 use Rattle.bi_c.specs.Answers.{Answers, Returned, Failed as HasFailed}
-use Rattle.bi_c.specs.Extracting.{IsChosenAt, IsFound, IsReasonNumber, IsSelectFailure, IsExtracted, IsExtractFailure, failure_of_extraction}
+use Rattle.bi_c.specs.Extracting.{IsChosenAt, IsFound, IsReasonNumber, IsSelectFailure, IsExtracted, IsExtractCallFailure}
+use Rattle.bi_c.specs.Extracting.{failure_of_extraction}
 
 -- What calls from C that extract return.
 
 -- What is found of the meaning of a file is found in the file.
-pub found_in_file : (select : Select) (limits : Bounds) (file : List ℕ) (meaning : Meaning) (result : Result Region ExtractError) → Means limits file meaning
-    → IfOk result (λ region. IsChosenAt file (choice_of select meaning) region.size region.offset) → IfOk result (λ region. IsFound limits select file region.size region.offset)
+pub found_in_file : (select : Select) (limits : Limits) (file : List ℕ) (meaning : Meaning) (result : Result Region ExtractError) →
+    Means limits file meaning
+    → IfOk result (λ region. IsChosenAt file (choice_of select meaning) region.size region.offset) →
+    IfOk result (λ region. IsFound limits select file region.size region.offset)
 found_in_file select limits file meaning (Ok region) means is = record { meaning = meaning; means = means; holds = is }
 found_in_file select limits file meaning (Err error) means is = tt
 
 -- The reason for which nothing is found is an error of extracting from the file.
-reason_of_file : (select : Select) (limits : Bounds) (file : List ℕ) (meaning : Meaning) (error : ExtractError) → Means limits file meaning → IsReason error (choice_of select meaning) → IsExtractError select limits file error
+reason_of_file : (select : Select) (limits : Limits) (file : List ℕ) (meaning : Meaning) (error : ExtractError) →
+    Means limits file meaning → IsReason error (choice_of select meaning) → IsExtractError select limits file error
 reason_of_file select limits file meaning (Failed failed) means is = absurd is
 reason_of_file select limits file meaning WrongKind means is = record { meaning = meaning; means = means; holds = is }
 reason_of_file select limits file meaning NoPart means is = record { meaning = meaning; means = means; holds = is }
@@ -33,20 +38,24 @@ reason_of_file select limits file meaning (Config reason) means is = record { me
 reason_of_file select limits file meaning NoIndex means is = record { meaning = meaning; means = means; holds = is }
 reason_of_file select limits file meaning NoPayload means is = record { meaning = meaning; means = means; holds = is }
 
-pub refused_in_file : (select : Select) (limits : Bounds) (file : List ℕ) (meaning : Meaning) (result : Result Region ExtractError) → Means limits file meaning
+pub refused_in_file : (select : Select) (limits : Limits) (file : List ℕ) (meaning : Meaning) (result : Result Region ExtractError) →
+    Means limits file meaning
     → IfErr result (λ error. IsReason error (choice_of select meaning)) → IfErr result (IsExtractError select limits file)
 refused_in_file select limits file meaning (Ok region) means is = tt
 refused_in_file select limits file meaning (Err error) means is = reason_of_file select limits file meaning error means is
 
 -- The same where memory may run out.
-pub failed_in_file : (select : Select) (limits : Bounds) (file : List ℕ) (meaning : Meaning) (result : Result Region ExtractError) → Means limits file meaning → NeedsMemory limits file
-    → IfErr result (λ cause. IsReason cause (choice_of select meaning) ⊎ (cause ≡ Failed error.OutOfMemory)) → IfErr result (IsExtractError select limits file)
+pub failed_in_file : (select : Select) (limits : Limits) (file : List ℕ) (meaning : Meaning) (result : Result Region ExtractError) →
+    Means limits file meaning → NeedsMemory limits file
+    → IfErr result (λ cause. IsReason cause (choice_of select meaning) ⊎ (cause ≡ Failed error.OutOfMemory)) →
+    IfErr result (IsExtractError select limits file)
 failed_in_file select limits file meaning (Ok region) means needs is = tt
 failed_in_file select limits file meaning (Err error) means needs (inl is) = reason_of_file select limits file meaning error means is
 failed_in_file select limits file meaning (Err error) means needs (inr is) = subst (IsExtractError select limits file) (sym is) needs
 
 -- The numbers of the reason for which nothing is found.
-numbered : (select : Select) (limits : Bounds) (file : List ℕ) (choice : Choice) (reason index : ℕ) → MeansSuch limits file (λ meaning. choice_of select meaning ≡ choice) → IsReasonNumber reason index choice
+numbered : (select : Select) (limits : Limits) (file : List ℕ) (choice : Choice) (reason index : ℕ) →
+    MeansSuch limits file (λ meaning. choice_of select meaning ≡ choice) → IsReasonNumber reason index choice
     → MeansSuch limits file (λ meaning. IsReasonNumber reason index (choice_of select meaning))
 numbered select limits file choice reason index is numbers = record {
   meaning = is.meaning;
@@ -55,7 +64,8 @@ numbered select limits file choice reason index is numbers = record {
 }
 
 -- The failure for an error of extracting.
-pub select_failure : (select : Select) (limits : Bounds) (file : List ℕ) (cause : ExtractError) (failure : Failure) → failure ≡ failure_of_extraction cause → IsExtractError select limits file cause → IsSelectFailure limits select file failure
+pub select_failure : (select : Select) (limits : Limits) (file : List ℕ) (cause : ExtractError) (failure : Failure) →
+    failure ≡ failure_of_extraction cause → IsExtractError select limits file cause → IsSelectFailure limits select file failure
 select_failure select limits file cause failure same is = subst (IsSelectFailure limits select file) (sym same) (by cause is)
   where
     by : (cause : ExtractError) → IsExtractError select limits file cause → IsSelectFailure limits select file (failure_of_extraction cause)
@@ -75,19 +85,21 @@ select_failure select limits file cause failure same is = subst (IsSelectFailure
     by NoPayload is = numbered select limits file HasNoPayload 9 0 is (refl, refl)
 
 -- The answer of a call whose arguments are valid.
-pub extracted : (AreValid : Type 0) (limits other_limits : Bounds) (select other : Select) (file : List ℕ) (answer : Answer) (status : ℕ) → AreValid → limits ≡ other_limits → select ≡ other
+pub extract_answers : (AreValid : Type 0) (limits other_limits : Limits) (select other : Select) (file : List ℕ) (answer : Answer)
+    (status : ℕ) →
+    AreValid → limits ≡ other_limits → select ≡ other
     → Answers (IsFound limits select file) (IsSelectFailure limits select file) answer status
-    → Answers (IsExtracted AreValid other_limits other file) (IsExtractFailure AreValid other_limits other file) answer status
-extracted AreValid limits other_limits select other file answer status valid same_limits same_select is =
+    → Answers (IsExtracted AreValid other_limits other file) (IsExtractCallFailure AreValid other_limits other file) answer status
+extract_answers AreValid limits other_limits select other file answer status valid same_limits same_select is =
     by (subst (λ (s : Select). Answers (IsFound other_limits s file) (IsSelectFailure other_limits s file) answer status) same_select
-    (subst (λ (l : Bounds). Answers (IsFound l select file) (IsSelectFailure l select file) answer status) same_limits is))
+    (subst (λ (l : Limits). Answers (IsFound l select file) (IsSelectFailure l select file) answer status) same_limits is))
   where
-    failed : (failure : Failure) → IsSelectFailure other_limits other file failure → IsExtractFailure AreValid other_limits other file failure
+    failed : (failure : Failure) → IsSelectFailure other_limits other file failure → IsExtractCallFailure AreValid other_limits other file failure
     failed WrongArgument is = absurd is
     failed (Refused number fault) is = (valid, is)
     failed OutOfMemory is = (valid, is)
     failed (NotFound reason index) is = (valid, is)
 
-    by : Answers (IsFound other_limits other file) (IsSelectFailure other_limits other file) answer status → Answers (IsExtracted AreValid other_limits other file) (IsExtractFailure AreValid other_limits other file) answer status
+    by : Answers (IsFound other_limits other file) (IsSelectFailure other_limits other file) answer status → Answers (IsExtracted AreValid other_limits other file) (IsExtractCallFailure AreValid other_limits other file) answer status
     by (Returned size value is told is_status) = Returned size value (record { valid = valid; is_found = is }) told is_status
     by (HasFailed failure is told is_status) = HasFailed failure (failed failure is) told is_status

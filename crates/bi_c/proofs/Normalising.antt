@@ -1,5 +1,5 @@
 use Rattle.std.proofs.Common.{◌≡◌, List, ℕ, subst, inl}
-use Rattle.bi_base.specs.Limits.{Bounds}
+use Rattle.bi_base.specs.Limits.{Limits}
 use Rattle.bi_base.specs.declared.fault.Error.{Error}
 use Rattle.bi_base.specs.declared.fault.Error.TheVariants.{Refused, OutOfMemory, ReadFailed, WriteFailed}
 use Rattle.bi_fit.specs.declared.form.Form.{Form}
@@ -12,21 +12,24 @@ use Rattle.bi_c.proofs.Answering.{failed_by}
 
 -- The normal form of a file, by the numbers that C passes.
 
-pub normalised_as : (limit depth number : ℕ) (limits : Bounds) (form : Form) (file : List ℕ) → HasForm limit depth number → limits ≡ bounds limit depth → form ≡ form_of number → (text : List ℕ) (value : ℕ) → Normalised limits form value file text
+pub normalised_as : (limit depth number : ℕ) (limits : Limits) (form : Form) (file : List ℕ) → HasForm limit depth number →
+    limits ≡ bounds limit depth → form ≡ form_of number → (text : List ℕ) (value : ℕ) → Normalised limits form value file text
     → IsNormalised limit depth number file text value
 normalised_as limit depth number limits form file valid same_limits same_form text value is = record {
   arguments = valid;
-  is = subst (λ (f : Form). Normalised (bounds limit depth) f value file text) same_form (subst (λ (l : Bounds). Normalised l form value file text) same_limits is);
+  is = subst (λ (f : Form). Normalised (bounds limit depth) f value file text) same_form (subst (λ (l : Limits). Normalised l form value file text) same_limits is);
 }
 
-pub not_normalised : (limit depth number : ℕ) (limits : Bounds) (form : Form) (file : List ℕ) → HasForm limit depth number → limits ≡ bounds limit depth → form ≡ form_of number → (failure : Failure) → IsFailureBy (IsNormaliseError limits form file) failure
+pub not_normalised : (limit depth number : ℕ) (limits : Limits) (form : Form) (file : List ℕ) → HasForm limit depth number →
+    limits ≡ bounds limit depth → form ≡ form_of number → (failure : Failure) → IsFailureBy (IsNormaliseError limits form file) failure
     → IsNormaliseFailure limit depth number file failure
 not_normalised limit depth number limits form file valid same_limits same_form failure is =
     failed_by (HasForm limit depth number) (IsNormaliseError (bounds limit depth) (form_of number) file) is.cause failure valid is.is_failure (λ no. no) (λ no. no)
-    (subst (λ (f : Form). IsNormaliseError (bounds limit depth) f file is.cause) same_form (subst (λ (l : Bounds). IsNormaliseError l form file is.cause) same_limits is.is_error))
+    (subst (λ (f : Form). IsNormaliseError (bounds limit depth) f file is.cause) same_form (subst (λ (l : Limits). IsNormaliseError l form file is.cause) same_limits is.is_error))
 
 -- An error of reading a file is one of normalising it.
-pub open_error : (limits : Bounds) (form : Form) (file : List ℕ) (error : Error) → IsOpenError limits file error → IsNormaliseError limits form file error
+pub open_error : (limits : Limits) (form : Form) (file : List ℕ) (error : Error) → IsOpenError limits file error →
+    IsNormaliseError limits form file error
 open_error limits form file (Refused fault) is = inl is
 open_error limits form file OutOfMemory is = is
 open_error limits form file ReadFailed is = is

@@ -1,104 +1,120 @@
-use Rattle.std.proofs.Common.{◌≡◌, ◌≤◌, ◌+◌, ◌*◌, ℕ, zero, suc, Bool, true, false, List, [], ◌∷◌, length, map, slice_get, Option, Some, None, Bor, IfOk, IfErr, IfSome, refl, sym, ap, subst, ◌∙◌, arith, if◌then◌else◌, MatchOption}
+use Rattle.std.proofs.Common.{◌≡◌, ◌≤◌, ◌+◌, ◌*◌, ℕ, zero, suc, Bool, true, false, List, [], ◌∷◌, length, map, slice_get, Option, Some}
+use Rattle.std.proofs.Common.{None, Bor, IfOk, IfErr, IfSome, refl, sym, ap, subst, ◌∙◌, arith, if◌then◌else◌, MatchOption}
 use Rattle.std.specs.Option.{option_map, option_and_then, ok_or}
 use Rattle.std.specs.List.{AllZip, AllByRecursion, flat_map}
 use Rattle.std.proofs.lemmas.List.{length-append}
-use Rattle.bi_base.specs.Limits.{Bounds}
+use Rattle.bi_base.specs.Limits.{Limits}
 use Rattle.bi_base.specs.Cells.{up4, cell}
 use Rattle.bi_base.proofs.CellLaws.{length-cell}
 use Rattle.bi_blob.specs.Tree.{Nodes, none, node, FileNode}
 use Rattle.bi_blob.specs.Lookups.{siblings}
 use Rattle.bi_fdt.specs.Content.{root_of}
 use Rattle.bi_fit.specs.declared.image.Place.{Place}
-use Rattle.bi_fit.specs.Content.{FitContent, ReadImage, IsReadImage, IsHeld, index_of, tree_of, place_of, place_or_absent}
+use Rattle.bi_fit.specs.Content.{FitModel, ImageModel, IsReadImage, IsHeld, index_of, tree_of, place_of, place_or_absent}
 use Rattle.bi_fit.specs.ImageTree.{each_own, image_nodes, nodes_or_none}
 use Rattle.bi_fit.specs.Payloads.{PayloadSource, NoSource, Data, DataOffset, DataPosition, source_of, payload_place, IsAt, IsAtPlace}
 use Rattle.bi_fit.specs.Reading.{IsReadFrom}
 use Rattle.bi_fit.proofs.Meanings.{same_in_some}
-use Rattle.bi_fit.proofs.Values.{payloads_are_at_places}
+use Rattle.bi_fit.proofs.FilePayloads.{payloads_are_at_places}
 use Rattle.bi_legacy.specs.Meaning.{LegacyImage}
 use Rattle.bi_legacy.specs.Parts.{parts_start, parts_end_from, part_table}
-use Rattle.bi_legacy.specs.PlacedParts.{PlacedPart, placed_parts_from, AreAtOffsets}
-use Rattle.bi_legacy.specs.Reading.{ParsedImage, IsParsedImage, part_places}
+use Rattle.bi_legacy.specs.PlacedParts.{PartModel, placed_parts_from, AreAtOffsets}
+use Rattle.bi_legacy.specs.Reading.{LegacyModel, IsParsedImage, part_places}
 use Rattle.bi_legacy.specs.Meaning.{has_part_table}
 use Rattle.bi_legacy.proofs.EmitParts.{parts_end_from-grows}
 use Rattle.bi_commands.specs.declared.extract.ExtractError.TheVariants.{NoPart, NoPayload}
 use Rattle.bi_commands.specs.Extracting.{Choice, HasNoPayload, IsReason, choice_of_part, choice_of_payload, choice_by_name}
 use Rattle.bi_commands.proofs.Choices.{choice_at, chosen_by_name}
 use Rattle.bi_c.specs.declared.regions.Region.{Region}
-use Rattle.bi_c.specs.Extracting.{IsChosenAt, ArePlaced, offset_of}
+use Rattle.bi_c.specs.Extracting.{IsChosenAt, ArePlaced, offset_of_place}
 
 -- Where the parts and payloads of images that were read are.
 
 -- The offset of the place of a source is where its payload is.
-offset_of_source : (file : List ℕ) (source : PayloadSource) → offset_of (place_of file source) ≡ payload_place file source
+offset_of_source : (file : List ℕ) (source : PayloadSource) → offset_of_place (place_of file source) ≡ payload_place file source
 offset_of_source file NoSource = refl
 offset_of_source file (Data property) = refl
 offset_of_source file (DataOffset offset size) = refl
 offset_of_source file (DataPosition position size) = refl
 
 -- Images are read from nodes whose payloads are at their places, so those of the images are.
-placed_images : (file : List ℕ) (nodes : Nodes FileNode) (images : List ReadImage) → AllZip (IsReadImage file) (siblings nodes) images
-    → AllZip (λ own payload. IsAtPlace file (payload_place file (source_of own)) payload) (each_own nodes) (map (λ (image : ReadImage). image.payload) images)
-    → AllByRecursion (λ (image : ReadImage). IsAtPlace file (offset_of image.place) image.payload) images
+placed_images : (file : List ℕ) (nodes : Nodes FileNode) (images : List ImageModel) → AllZip (IsReadImage file) (siblings nodes) images
+    → AllZip (λ own payload. IsAtPlace file (payload_place file (source_of own)) payload) (each_own nodes)
+    (map (λ (image : ImageModel). image.payload) images)
+    → AllByRecursion (λ (image : ImageModel). IsAtPlace file (offset_of_place image.place) image.payload) images
 placed_images file none [] read there = tt
 placed_images file none (image ∷ images) read there = absurd read
 placed_images file (node name own children later) [] read there = absurd read
 placed_images file (node name own children later) (image ∷ images) read there = (
-  subst (λ (place : Option ℕ). IsAtPlace file place image.payload) (sym (ap (λ (place : Place). offset_of place) read.0.place ∙ offset_of_source file (source_of own))) there.0,
+  subst (λ (place : Option ℕ). IsAtPlace file place image.payload) (sym (ap (λ (place : Place). offset_of_place place) read.0.place ∙ offset_of_source file (source_of own))) there.0,
   placed_images file later images read.1 there.1,
 )
 
 -- The payload of each image of a file that was read is in it at its place.
-pub are_placed : (limits : Bounds) (file : List ℕ) (content : FitContent) → IsReadFrom limits file content → ArePlaced content
+pub are_placed : (limits : Limits) (file : List ℕ) (content : FitModel) → IsReadFrom limits file content → ArePlaced content
 are_placed limits file content read =
     let is = read.means.is_file in
     let nodes : image_nodes (root_of content.blob) ≡ Some is.images = sym (ap image_nodes read.same_root) ∙ is.has_images in
-    subst (λ (f : List ℕ). AllByRecursion (λ (image : ReadImage). IsAtPlace f (offset_of image.place) image.payload) content.images) (sym read.is_file)
+    subst (λ (f : List ℕ). AllByRecursion (λ (image : ImageModel). IsAtPlace f (offset_of_place image.place) image.payload) content.images) (sym read.is_file)
     (placed_images file is.images content.images
     (subst (λ (f : List ℕ). AllZip (IsReadImage f) (siblings is.images) content.images) read.is_file
     (subst (λ (found : Option (Nodes FileNode)). AllZip (IsReadImage content.blob.file) (siblings (nodes_or_none found)) content.images) nodes read.held.images))
     (payloads_are_at_places file (tree_of content) is))
 
 -- The same of the image at an index, if there is one.
-placed_at : (file : List ℕ) (images : List ReadImage) (index : ℕ) → AllByRecursion (λ (image : ReadImage). IsAtPlace file (offset_of image.place) image.payload) images
-    → IsAtPlace file (offset_of (place_or_absent (slice_get images index))) (option_and_then (λ (image : ReadImage). image.payload) (slice_get images index))
+placed_at : (file : List ℕ) (images : List ImageModel) (index : ℕ) →
+    AllByRecursion (λ (image : ImageModel). IsAtPlace file (offset_of_place image.place) image.payload) images
+    → IsAtPlace file (offset_of_place (place_or_absent (slice_get images index)))
+    (option_and_then (λ (image : ImageModel). image.payload) (slice_get images index))
 placed_at file [] index placed = tt
 placed_at file (image ∷ later) zero placed = placed.0
 placed_at file (image ∷ later) (suc index) placed = placed_at file later index placed.1
 
 -- The same of the payload and the offset that were read.
-pub payload_placed : (content : FitContent) (index : ℕ) (payload : Option (Bor (List ℕ))) (place : Place) (offset : Option ℕ) → ArePlaced content
-    → option_map (λ (bytes : Bor (List ℕ)). bytes.now) payload ≡ option_and_then (λ (image : ReadImage). image.payload) (slice_get content.images index)
-    → place ≡ place_or_absent (slice_get content.images index) → offset ≡ offset_of place
+pub payload_placed : (content : FitModel) (index : ℕ) (payload : Option (Bor (List ℕ))) (place : Place) (offset : Option ℕ) →
+    ArePlaced content
+    → option_map (λ (bytes : Bor (List ℕ)). bytes.now) payload
+    ≡ option_and_then (λ (image : ImageModel). image.payload) (slice_get content.images index)
+    → place ≡ place_or_absent (slice_get content.images index) → offset ≡ offset_of_place place
     → IsAtPlace content.blob.file offset (option_map (λ (bytes : Bor (List ℕ)). bytes.now) payload)
 payload_placed content index payload place offset placed is_payload is_place is_offset =
     subst (λ (at : Option ℕ). IsAtPlace content.blob.file at (option_map (λ (bytes : Bor (List ℕ)). bytes.now) payload))
-    (sym (is_offset ∙ ap (λ (other : Place). offset_of other) is_place))
-    (subst (λ (bytes : Option (List ℕ)). IsAtPlace content.blob.file (offset_of (place_or_absent (slice_get content.images index))) bytes) (sym is_payload)
+    (sym (is_offset ∙ ap (λ (other : Place). offset_of_place other) is_place))
+    (subst (λ (bytes : Option (List ℕ)). IsAtPlace content.blob.file (offset_of_place (place_or_absent (slice_get content.images index))) bytes) (sym is_payload)
     (placed_at content.blob.file content.images index placed))
 
 -- The image of a name that was found has its payload there,
-pub name_found : (content : FitContent) (name : List ℕ) (index : ℕ) (result : Option Region) → IsHeld content → Some index ≡ index_of name content.images
-    → MatchOption result (choice_of_payload (option_and_then (λ (image : ReadImage). image.payload) (slice_get content.images index)) ≡ HasNoPayload)
-    (λ region. IsChosenAt content.blob.file (choice_of_payload (option_and_then (λ (image : ReadImage). image.payload) (slice_get content.images index))) region.size region.offset)
-    → IfOk (ok_or result NoPayload) (λ region. IsChosenAt content.blob.file (choice_by_name (tree_of content) name) region.size region.offset)
-name_found content name index None held found is = tt
-name_found content name index (Some region) held found is =
+pub named_payload_found : (content : FitModel) (name : List ℕ) (index : ℕ) (result : Option Region) → IsHeld content →
+    Some index ≡ index_of name content.images
+    → MatchOption result (choice_of_payload (option_and_then (λ (image : ImageModel). image.payload) (slice_get content.images index))
+    ≡ HasNoPayload)
+    (λ region. IsChosenAt content.blob.file
+    (choice_of_payload (option_and_then (λ (image : ImageModel). image.payload) (slice_get content.images index))) region.size
+    region.offset)
+    → IfOk (ok_or result NoPayload)
+    (λ region. IsChosenAt content.blob.file (choice_by_name (tree_of content) name) region.size region.offset)
+named_payload_found content name index None held found is = tt
+named_payload_found content name index (Some region) held found is =
     subst (λ (choice : Choice). IsChosenAt content.blob.file choice region.size region.offset)
     (sym (chosen_by_name content name held ∙ ap (choice_at content.images) (sym found))) is
 
 -- or it has none.
-pub name_without_payload : (content : FitContent) (name : List ℕ) (index : ℕ) (result : Option Region) → IsHeld content → Some index ≡ index_of name content.images
-    → MatchOption result (choice_of_payload (option_and_then (λ (image : ReadImage). image.payload) (slice_get content.images index)) ≡ HasNoPayload)
-    (λ region. IsChosenAt content.blob.file (choice_of_payload (option_and_then (λ (image : ReadImage). image.payload) (slice_get content.images index))) region.size region.offset)
+pub name_without_payload : (content : FitModel) (name : List ℕ) (index : ℕ) (result : Option Region) → IsHeld content →
+    Some index ≡ index_of name content.images
+    → MatchOption result (choice_of_payload (option_and_then (λ (image : ImageModel). image.payload) (slice_get content.images index))
+    ≡ HasNoPayload)
+    (λ region. IsChosenAt content.blob.file
+    (choice_of_payload (option_and_then (λ (image : ImageModel). image.payload) (slice_get content.images index))) region.size
+    region.offset)
     → IfErr (ok_or result NoPayload) (λ error. IsReason error (choice_by_name (tree_of content) name))
 name_without_payload content name index None held found is = chosen_by_name content name held ∙ ap (choice_at content.images) (sym found) ∙ is
 name_without_payload content name index (Some region) held found is = tt
 
 -- Parts begin at the next multiple of four from an end, and each is in the file at its offset, so one of them is.
-part_there : (file : List ℕ) (end : ℕ) (parts : List (List ℕ)) (index offset : ℕ) (bytes : List ℕ) → AreAtOffsets file (placed_parts_from (up4 end) parts)
+part_there : (file : List ℕ) (end : ℕ) (parts : List (List ℕ)) (index offset : ℕ) (bytes : List ℕ) →
+    AreAtOffsets file (placed_parts_from (up4 end) parts)
     → 64 + parts_end_from end (map length parts) ≤ length file → slice_get parts index ≡ Some bytes
-    → slice_get (map (λ (part : PlacedPart). part.place) (placed_parts_from (up4 end) parts)) index ≡ Some offset → IsAt file offset bytes
+    → slice_get (map (λ (part : PartModel). part.place) (placed_parts_from (up4 end) parts)) index ≡ Some offset → IsAt file offset bytes
 part_there file end [] index offset bytes at fits is_part is_offset = absurd cc
 part_there file end (part ∷ later) zero offset bytes at fits is_part is_offset =
     subst (λ (n : ℕ). IsAt file n bytes) (same_in_some (64 + up4 end) offset is_offset)
@@ -132,7 +148,8 @@ start-aligned image_type parts = by (has_part_table image_type)
     by false = omega arith
 
 -- The part of an image that was read is in the file at its offset.
-pub part_in_file : (limits : Bounds) (file : List ℕ) (value : ParsedImage) (index offset : ℕ) (bytes : List ℕ) → IsParsedImage limits file value → slice_get value.image.parts index ≡ Some bytes
+pub part_in_file : (limits : Limits) (file : List ℕ) (value : LegacyModel) (index offset : ℕ) (bytes : List ℕ) →
+    IsParsedImage limits file value → slice_get value.image.parts index ≡ Some bytes
     → slice_get (part_places value.image) index ≡ Some offset → IsAt file offset bytes
 part_in_file limits file value index offset bytes parsed is_part is_offset =
     let image = value.image in
@@ -141,19 +158,21 @@ part_in_file limits file value index offset bytes parsed is_part is_offset =
     part_there file start image.parts index offset bytes
     (subst (λ (at : ℕ). AreAtOffsets file (placed_parts_from at image.parts)) aligned parsed.at_offsets)
     (omega (arith, parsed.unused)) is_part
-    (subst (λ (at : ℕ). slice_get (map (λ (part : PlacedPart). part.place) (placed_parts_from at image.parts)) index ≡ Some offset) aligned is_offset)
+    (subst (λ (at : ℕ). slice_get (map (λ (part : PartModel). part.place) (placed_parts_from at image.parts)) index ≡ Some offset) aligned is_offset)
 
 -- There is an offset for each part.
-place_of_part : (at : ℕ) (parts : List (List ℕ)) (index : ℕ) → slice_get (map (λ (part : PlacedPart). part.place) (placed_parts_from at parts)) index ≡ None → slice_get parts index ≡ None
+place_of_part : (at : ℕ) (parts : List (List ℕ)) (index : ℕ) →
+    slice_get (map (λ (part : PartModel). part.place) (placed_parts_from at parts)) index ≡ None → slice_get parts index ≡ None
 place_of_part at [] index is = refl
 place_of_part at (part ∷ later) zero is = absurd cc
 place_of_part at (part ∷ later) (suc index) is = place_of_part (up4 (at + length part)) later index is
 
-pub no_part : (image : LegacyImage) (index : ℕ) → slice_get (part_places image) index ≡ None → slice_get image.parts index ≡ None
-no_part image index is = place_of_part (parts_start image.image_type image.parts) image.parts index is
+pub no_part_at : (image : LegacyImage) (index : ℕ) → slice_get (part_places image) index ≡ None → slice_get image.parts index ≡ None
+no_part_at image index is = place_of_part (parts_start image.image_type image.parts) image.parts index is
 
 -- The part that was found is there.
-pub part_found : (file : List ℕ) (parts : List (List ℕ)) (index : ℕ) (result : Option Region) → IfSome result (λ region. IsChosenAt file (choice_of_part (slice_get parts index)) region.size region.offset)
+pub part_found : (file : List ℕ) (parts : List (List ℕ)) (index : ℕ) (result : Option Region) →
+    IfSome result (λ region. IsChosenAt file (choice_of_part (slice_get parts index)) region.size region.offset)
     → IfOk (ok_or result NoPart) (λ region. IsChosenAt file (choice_of_part (slice_get parts index)) region.size region.offset)
 part_found file parts index None is = tt
 part_found file parts index (Some region) is = is

@@ -4,9 +4,9 @@ use Rattle.bi_base.specs.declared.fault.Error.{Error}
 use Rattle.bi_base.specs.Commands.{AppendFailed, WasRefused, SinkFailed}
 use Rattle.bi_base.specs.CountSinks.{Counts}
 use Rattle.bi_base.specs.Sinks.{Wrote}
-use Rattle.bi_base.specs.Limits.{Bounds}
+use Rattle.bi_base.specs.Limits.{Limits}
 use Rattle.bi_blob.specs.Layout.{longest_text}
-use Rattle.bi_legacy.specs.Reading.{ParsedImage, IsParsedImage}
+use Rattle.bi_legacy.specs.Reading.{LegacyModel, IsParsedImage}
 use Rattle.bi_legacy.specs.Text.{legacy_text}
 use Rattle.bi_legacy.proofs.NormalLength.{length-legacy_text}
 use Rattle.bi_c.specs.declared.failure.Failure.{Failure}
@@ -18,30 +18,36 @@ use Rattle.bi_c.specs.SliceSinks.{slice_of, SliceGrows, SliceFails}
 -- Texts that are written to a slice.
 
 -- A text is written to the beginning of a slice,
-pub written : (old new : SliceSink) (text : List ℕ) → old.filled ≡ 0 → length text ≤ length (slice_of old).now → SliceGrows old text new → (slice_of new).now ≡ text ++ drop (length text) (slice_of old).now
+pub written : (old new : SliceSink) (text : List ℕ) → old.filled ≡ 0 → length text ≤ length (slice_of old).now → SliceGrows old text new →
+    (slice_of new).now ≡ text ++ drop (length text) (slice_of old).now
 written old new text empty room grows =
     let bytes = (slice_of old).now in
     (grows.overwrites [] (take (length text) bytes) (drop (length text) bytes) (sym (take-append-drop (length text) bytes)) empty
     (omega (arith, length-take (length text) bytes, room))).is
 
 -- which cannot fail if there is room.
-pub not_full : (old new : SliceSink) (text : List ℕ) (error : Error) → old.filled ≡ 0 → length text ≤ length (slice_of old).now → ¬ (SliceFails old text new error)
+pub not_full : (old new : SliceSink) (text : List ℕ) (error : Error) → old.filled ≡ 0 → length text ≤ length (slice_of old).now →
+    ¬ (SliceFails old text new error)
 not_full old new text error empty room failed = failed.no_room (omega (arith, empty, room))
 
 -- So a call that appends a text to a sink with room did so.
-pub grew : {V : Type 0} (old new : SliceSink) (text : List ℕ) (result : Result V Error) → old.filled ≡ 0 → length text ≤ length (slice_of old).now → Wrote SliceGrows SliceFails old text result new → SliceGrows old text new
+pub grew : {V : Type 0} (old new : SliceSink) (text : List ℕ) (result : Result V Error) → old.filled ≡ 0 →
+    length text ≤ length (slice_of old).now → Wrote SliceGrows SliceFails old text result new → SliceGrows old text new
 grew old new text (Ok value) empty room wrote = wrote
 grew old new text (Err error) empty room wrote = absurd (not_full old new text error empty room wrote)
 
 -- Or it failed before it began.
-pub stayed : (old new : SliceSink) (text : List ℕ) (HasError : Error → Type 0) (error : Error) → old.filled ≡ 0 → length text ≤ length (slice_of old).now → AppendFailed SliceFails (λ other. other ≡ text) HasError old new error → new ≡ old
+pub stayed : (old new : SliceSink) (text : List ℕ) (HasError : Error → Type 0) (error : Error) → old.filled ≡ 0 →
+    length text ≤ length (slice_of old).now → AppendFailed SliceFails (λ other. other ≡ text) HasError old new error → new ≡ old
 stayed old new text HasError error empty room (WasRefused is same) = same
 stayed old new text HasError error empty room (SinkFailed other cause is failed same) =
     absurd (not_full old new text cause empty room (subst (λ (l : List ℕ). SliceFails old l new cause) is failed))
 
 -- A text was written to the beginning of a buffer that a sink had borrowed.
-pub filled_with : (HasFailed : Failure → Type 0) (text : List ℕ) (value : ℕ) (old new : SliceSink) (before after : List ℕ) (name : ℕ) (answer : Answer) → old.filled ≡ 0 → (slice_of old).now ≡ before → (slice_of old).ghost_name ≡ name
-    → length text ≤ length before → SliceGrows old text new → (name ≡ (slice_of new).ghost_name → after ≡ (slice_of new).now) → answer ≡ answer_of (length text) value → Fills (IsJust text value) HasFailed before after answer 0
+pub filled_with : (HasFailed : Failure → Type 0) (text : List ℕ) (value : ℕ) (old new : SliceSink) (before after : List ℕ) (name : ℕ)
+    (answer : Answer) → old.filled ≡ 0 → (slice_of old).now ≡ before → (slice_of old).ghost_name ≡ name
+    → length text ≤ length before → SliceGrows old text new → (name ≡ (slice_of new).ghost_name → after ≡ (slice_of new).now) →
+    answer ≡ answer_of (length text) value → Fills (IsJust text value) HasFailed before after answer 0
 filled_with HasFailed text value old new before after name answer empty is_before is_name room grows is_after told =
     Filled text value (record { is_text = refl; is_number = refl }) room
     (is_after (sym (grows.same_slice ∙ is_name))
@@ -50,26 +56,33 @@ filled_with HasFailed text value old new before after name answer empty is_befor
     told refl
 
 -- The call failed before it began to write.
-pub unfilled : (IsOutput : List ℕ → ℕ → Type 0) (HasFailed : Failure → Type 0) (failure : Failure) (old new : SliceSink) (before after : List ℕ) (name : ℕ) (answer : Answer) (status : ℕ) → HasFailed failure → (slice_of old).now ≡ before → (slice_of old).ghost_name ≡ name
-    → new ≡ old → (name ≡ (slice_of new).ghost_name → after ≡ (slice_of new).now) → answer ≡ answer_of_failure failure → status ≡ status_of failure → Fills IsOutput HasFailed before after answer status
+pub unfilled : (IsOutput : List ℕ → ℕ → Type 0) (HasFailed : Failure → Type 0) (failure : Failure) (old new : SliceSink)
+    (before after : List ℕ) (name : ℕ) (answer : Answer) (status : ℕ) → HasFailed failure → (slice_of old).now ≡ before →
+    (slice_of old).ghost_name ≡ name
+    → new ≡ old → (name ≡ (slice_of new).ghost_name → after ≡ (slice_of new).now) → answer ≡ answer_of_failure failure →
+    status ≡ status_of failure → Fills IsOutput HasFailed before after answer status
 unfilled IsOutput HasFailed failure old new before after name answer status is is_before is_name same is_after told is_status =
     FilledNothing failure is
     (is_after (sym (ap (λ (sink : SliceSink). (slice_of sink).ghost_name) same ∙ is_name)) ∙ ap (λ (sink : SliceSink). (slice_of sink).now) same ∙ is_before)
     told is_status
 
 -- The bytes of a text were counted.
-pub counted : {V : Type 0} (old new : ℕ) (text : List ℕ) (result : Result V Error) → old ≡ 0 → length text ≤ longest_text → Wrote Counts (λ a bytes b error. ⊥) old text result new → new ≡ length text
+pub counted : {V : Type 0} (old new : ℕ) (text : List ℕ) (result : Result V Error) → old ≡ 0 → length text ≤ longest_text →
+    Wrote Counts (λ a bytes b error. ⊥) old text result new → new ≡ length text
 counted old new text (Ok value) none short wrote = omega (arith, none, short, wrote (omega (arith, none)))
 counted old new text (Err error) none short wrote = absurd wrote
 
 -- What a call that fills a buffer promises implies more.
-pub fills_as : (IsOutput IsOther : List ℕ → ℕ → Type 0) (HasFailed HasOther : Failure → Type 0) (before after : List ℕ) (answer : Answer) (status : ℕ) → ((text : List ℕ) (value : ℕ) → IsOutput text value → IsOther text value)
-    → ((failure : Failure) → HasFailed failure → HasOther failure) → Fills IsOutput HasFailed before after answer status → Fills IsOther HasOther before after answer status
+pub fills_as : (IsOutput IsOther : List ℕ → ℕ → Type 0) (HasFailed HasOther : Failure → Type 0) (before after : List ℕ) (answer : Answer)
+    (status : ℕ) → ((text : List ℕ) (value : ℕ) → IsOutput text value → IsOther text value)
+    → ((failure : Failure) → HasFailed failure → HasOther failure) → Fills IsOutput HasFailed before after answer status →
+    Fills IsOther HasOther before after answer status
 fills_as IsOutput IsOther HasFailed HasOther before after answer status output failed (Filled text value is room same told is_status) = Filled text value (output text value is) room same told is_status
 fills_as IsOutput IsOther HasFailed HasOther before after answer status output failed (HadNoRoom text value is none same told is_status) = HadNoRoom text value (output text value is) none same told is_status
 fills_as IsOutput IsOther HasFailed HasOther before after answer status output failed (FilledNothing failure is same told is_status) = FilledNothing failure (failed failure is) same told is_status
 
 -- The normal text of a legacy image is as long as what its parts end before.
-pub legacy_size : (limits : Bounds) (file : List ℕ) (value : ParsedImage) (unused : ℕ) → IsParsedImage limits file value → unused ≡ value.unused → length file - unused ≡ length (legacy_text value.image)
+pub legacy_size : (limits : Limits) (file : List ℕ) (value : LegacyModel) (unused : ℕ) → IsParsedImage limits file value →
+    unused ≡ value.unused → length file - unused ≡ length (legacy_text value.image)
 legacy_size limits file value unused parsed is_unused =
     omega (arith, is_unused, parsed.unused, length-legacy_text value.image parsed.means.is_file.name.is_name)

@@ -1,5 +1,5 @@
 use Rattle.std.specs.Prelude.{ℕ, ◌/◌, ◌%◌, ◌==◌, ◌<◌, Bool, Some, None, if◌then◌else◌}
-use Rattle.bi_base.specs.Limits.{Bounds, IsInRange}
+use Rattle.bi_base.specs.Limits.{Limits, IsInRange}
 use Rattle.bi_commands.specs.declared.check.Allowed.{Allowed}
 use Rattle.bi_fit.specs.declared.changes.Changes.{Changes}
 use Rattle.bi_fit.specs.declared.form.Form.{Form}
@@ -11,7 +11,7 @@ use Rattle.bi_fit.specs.declared.key.Key.TheVariants.{Script}
 -- What the numbers that C passes stand for (profile of this project).
 
 -- The limits of a call.
-abbrev pub bounds : ℕ → ℕ → Bounds
+abbrev pub bounds : ℕ → ℕ → Limits
 bounds limit depth = record { file = limit; depth = depth }
 
 -- The form: 0 for embedded payloads, 1 for external ones.

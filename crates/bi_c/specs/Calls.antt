@@ -3,7 +3,7 @@ use Rattle.std.specs.Prelude.{if◌then◌else◌}
 use Rattle.bi_base.specs.declared.fault.Cause.{Cause}
 use Rattle.bi_base.specs.Causes.{number_of, name_of}
 use Rattle.bi_base.specs.declared.fault.Error.{Error}
-use Rattle.bi_base.specs.Limits.{Bounds, IsInRange}
+use Rattle.bi_base.specs.Limits.{Limits, IsInRange}
 use Rattle.bi_norm.specs.Comparing.{AreCompared}
 use Rattle.bi_norm.specs.declared.kind.Kind.{Kind}
 use Rattle.bi_norm.specs.declared.kind.Kind.TheVariants.{Legacy, Fit}
@@ -110,7 +110,7 @@ pub record IsVersion (text : List ℕ) (value : ℕ) : Type 0 where
   pub no_value : value ≡ 0
 
 -- The output of a call on files whose limits have to be in range, which returns no number.
-pub record IsText (limit depth : ℕ) (Is : Bounds → List ℕ → Type 0) (text : List ℕ) (value : ℕ)
+pub record IsTextOnly (limit depth : ℕ) (Is : Limits → List ℕ → Type 0) (text : List ℕ) (value : ℕ)
     : Type 0
   where
     pub limits : IsInRange limit depth
@@ -118,7 +118,7 @@ pub record IsText (limit depth : ℕ) (Is : Bounds → List ℕ → Type 0) (tex
     pub no_value : value ≡ 0
 
 -- The same with a yes or no as its number.
-pub record IsTextWithFlag (limit depth : ℕ) (Is : Bounds → Bool → List ℕ → Type 0) (text : List ℕ)
+pub record IsTextWithFlag (limit depth : ℕ) (Is : Limits → Bool → List ℕ → Type 0) (text : List ℕ)
     (value : ℕ) : Type 0
   where
     pub limits : IsInRange limit depth
@@ -128,7 +128,7 @@ pub record IsTextWithFlag (limit depth : ℕ) (Is : Bounds → Bool → List ℕ
 
 -- The failure of a call on one file whose limits have to be in range, and whose error is one of
 -- these.
-abbrev pub IsFailureOfOne : (limit depth : ℕ) → (HasError : Bounds → Error → Type 0) → Failure
+abbrev pub IsFailureOfOne : (limit depth : ℕ) → (HasError : Limits → Error → Type 0) → Failure
     → Type 0
 IsFailureOfOne limit depth HasError =
     IsFailure (IsInRange limit depth) (HasError (bounds limit depth))

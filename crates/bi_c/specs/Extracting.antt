@@ -1,8 +1,8 @@
 use Rattle.std.specs.Prelude.{ℕ, ◌≡◌, List, length, Option, None, Some}
 use Rattle.std.specs.List.{AllByRecursion}
 use Rattle.bi_base.specs.declared.fault.Error.TheVariants as error
-use Rattle.bi_base.specs.Limits.{Bounds}
-use Rattle.bi_fit.specs.Content.{FitContent, ReadImage}
+use Rattle.bi_base.specs.Limits.{Limits}
+use Rattle.bi_fit.specs.Content.{FitModel, ImageModel}
 use Rattle.bi_fit.specs.Payloads.{IsAt, IsAtPlace}
 use Rattle.bi_fit.specs.declared.configurations.ConfigError.TheVariants as list
 use Rattle.bi_fit.specs.declared.image.Place.{Place}
@@ -32,7 +32,7 @@ pub record IsChosenAt (file : List ℕ) (choice : Choice) (size offset : ℕ) : 
   pub is_there : IsAt file offset bytes
 
 -- The file means something of which the selection chooses the bytes from this offset on.
-abbrev pub IsFound : Bounds → Select → List ℕ → (size offset : ℕ) → Type 0
+abbrev pub IsFound : Limits → Select → List ℕ → (size offset : ℕ) → Type 0
 IsFound limits select file size offset =
     MeansSuch limits file (λ meaning. IsChosenAt file (choice_of select meaning) size offset)
 
@@ -51,7 +51,7 @@ IsReasonNumber reason index HasNoPayload = (reason ≡ 9) × (index ≡ 0)
 IsReasonNumber reason index (Chosen bytes) = ⊥
 
 -- Why a selection finds nothing in a file.
-abbrev pub IsSelectFailure : Bounds → Select → List ℕ → Failure → Type 0
+abbrev pub IsSelectFailure : Limits → Select → List ℕ → Failure → Type 0
 IsSelectFailure limits select file WrongArgument = ⊥
 IsSelectFailure limits select file (Refused number fault) =
     (number ≡ 1) × IsOpenError limits file (error.Refused fault)
@@ -61,16 +61,16 @@ IsSelectFailure limits select file (NotFound reason index) =
 
 -- The arguments are valid, and the selection finds this many bytes in the file, from this offset
 -- on.
-pub record IsExtracted (AreValid : Type 0) (limits : Bounds) (select : Select) (file : List ℕ)
+pub record IsExtracted (AreValid : Type 0) (limits : Limits) (select : Select) (file : List ℕ)
     (size offset : ℕ) : Type 0
   where
     pub valid : AreValid
     pub is_found : IsFound limits select file size offset
 
 -- Why nothing is extracted.
-abbrev pub IsExtractFailure : (AreValid : Type 0) → Bounds → Select → List ℕ → Failure → Type 0
-IsExtractFailure AreValid limits select file WrongArgument = ¬ AreValid
-IsExtractFailure AreValid limits select file failure =
+abbrev pub IsExtractCallFailure : (AreValid : Type 0) → Limits → Select → List ℕ → Failure → Type 0
+IsExtractCallFailure AreValid limits select file WrongArgument = ¬ AreValid
+IsExtractCallFailure AreValid limits select file failure =
     AreValid × IsSelectFailure limits select file failure
 
 -- The failure for an error of extracting.
@@ -88,15 +88,15 @@ failure_of_extraction extract.NoIndex = NotFound 8 0
 failure_of_extraction extract.NoPayload = NotFound 9 0
 
 -- The offset of a place, if there is a payload.
-abbrev pub offset_of : Place → Option ℕ
-offset_of Absent = None
-offset_of (Data offset) = Some offset
-offset_of (DataOffset offset) = Some offset
-offset_of (DataPosition offset) = Some offset
+abbrev pub offset_of_place : Place → Option ℕ
+offset_of_place Absent = None
+offset_of_place (Data offset) = Some offset
+offset_of_place (DataOffset offset) = Some offset
+offset_of_place (DataPosition offset) = Some offset
 
 -- The payload of each image is in the file at its place.
-abbrev pub ArePlaced : FitContent → Type 0
+abbrev pub ArePlaced : FitModel → Type 0
 ArePlaced content =
     AllByRecursion
-    (λ (image : ReadImage). IsAtPlace content.blob.file (offset_of image.place) image.payload)
+    (λ (image : ImageModel). IsAtPlace content.blob.file (offset_of_place image.place) image.payload)
     content.images

@@ -6,7 +6,8 @@ ghost use Rattle.bi_commands.specs.declared.extract.Select.TheVariants.{Part, Im
 ghost use Rattle.bi_commands.specs.declared.extract.Select.TheVariants.{Default};
 ghost use Rattle.bi_c.specs.Answers.{Answers};
 ghost use Rattle.bi_c.specs.Arguments.{bounds, HasKey, key_of as key_of_number};
-ghost use Rattle.bi_c.specs.Extracting.{IsExtracted, IsExtractFailure, IsFound, IsSelectFailure};
+ghost use Rattle.bi_c.specs.Extracting.{IsExtracted, IsExtractCallFailure, IsFound};
+ghost use Rattle.bi_c.specs.Extracting.{IsSelectFailure};
 ghost use Rattle.bi_c.specs.Extracting.{failure_of_extraction as failure_of_error};
 
 use crate::answer::{Answer, fail, succeed};
@@ -31,7 +32,7 @@ pub extern "C" fn bootimg_extract_part(
 ) -> u32
     ensures { Answers
         (IsExtracted (IsInRange limit depth) (bounds limit depth) (Part index) file.now)
-        (IsExtractFailure (IsInRange limit depth) (bounds limit depth) (Part index) file.now)
+        (IsExtractCallFailure (IsInRange limit depth) (bounds limit depth) (Part index) file.now)
         answer.new result }
 {
     let Some(limits) = limits_of(limit, depth) else {
@@ -52,7 +53,7 @@ pub extern "C" fn bootimg_extract_image(
 ) -> u32
     ensures { Answers
         (IsExtracted (IsInRange limit depth) (bounds limit depth) (Image name.entry) file.now)
-        (IsExtractFailure (IsInRange limit depth) (bounds limit depth) (Image name.entry) file.now)
+        (IsExtractCallFailure (IsInRange limit depth) (bounds limit depth) (Image name.entry) file.now)
         answer.new result }
 {
     let Some(limits) = limits_of(limit, depth) else {
@@ -76,7 +77,7 @@ pub extern "C" fn bootimg_extract_config(
 ) -> u32
     ensures { let select = Config name.entry (key_of_number key) index in Answers
         (IsExtracted (HasKey limit depth key) (bounds limit depth) select file.now)
-        (IsExtractFailure (HasKey limit depth key) (bounds limit depth) select file.now)
+        (IsExtractCallFailure (HasKey limit depth key) (bounds limit depth) select file.now)
         answer.new result }
 {
     let Some(limits) = limits_of(limit, depth) else {
@@ -108,7 +109,7 @@ pub extern "C" fn bootimg_extract_default(
 ) -> u32
     ensures { let select = Default (key_of_number key) index in Answers
         (IsExtracted (HasKey limit depth key) (bounds limit depth) select file.now)
-        (IsExtractFailure (HasKey limit depth key) (bounds limit depth) select file.now)
+        (IsExtractCallFailure (HasKey limit depth key) (bounds limit depth) select file.now)
         answer.new result }
 {
     let Some(limits) = limits_of(limit, depth) else {

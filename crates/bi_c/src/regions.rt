@@ -4,7 +4,7 @@ ghost use Rattle.std.specs.Prelude.{◌≡◌, ◌⊎◌, ℕ, List, None, slice
 ghost use Rattle.std.specs.Prelude.{IfNone, MatchOption};
 ghost use Rattle.std.specs.Option.{option_and_then};
 ghost use Rattle.bi_base.specs.declared.fault.Error.TheVariants.{OutOfMemory};
-ghost use Rattle.bi_base.specs.Limits.{Bounds};
+ghost use Rattle.bi_base.specs.Limits.{Limits};
 ghost use Rattle.bi_fit.specs.Content.{IsHeld, tree_of};
 ghost use Rattle.bi_legacy.specs.Reading.{IsParsedImage};
 ghost use Rattle.bi_norm.specs.Meaning.{OfLegacy, OfFit};
@@ -13,7 +13,7 @@ ghost use Rattle.bi_commands.specs.Extracting.{HasNoPayload, IsExtractError, IsR
 ghost use Rattle.bi_commands.specs.Extracting.{choice_by_configuration, choice_by_default};
 ghost use Rattle.bi_commands.specs.Extracting.{choice_by_name, choice_of_part, choice_of_payload};
 ghost use Rattle.bi_c.specs.Extracting.{ArePlaced, IsChosenAt, IsFound};
-ghost use Rattle.bi_c.specs.Extracting.{offset_of as offset_of_place};
+ghost use Rattle.bi_c.specs.Extracting.{offset_of_place as offset_of_place};
 
 use bi_base::Limits;
 use bi_commands::extract::{ExtractError, Select};
@@ -51,7 +51,7 @@ pub(crate) fn find(
 
 /// Returns where the part of a legacy image is that is selected.
 fn find_part(image: &Legacy<'_>, select: Select) -> Result<Region, ExtractError>
-    ensures found { (limits : Bounds) (file : List ℕ) → IsParsedImage limits file image.now →
+    ensures found { (limits : Limits) (file : List ℕ) → IsParsedImage limits file image.now →
         IfOk result (λ region. IsChosenAt file (choice_of select.entry (OfLegacy image.now.image))
         region.size region.offset) }
     ensures failed { IfErr result (λ error. IsReason error
@@ -65,7 +65,7 @@ fn find_part(image: &Legacy<'_>, select: Select) -> Result<Region, ExtractError>
 
 /// Returns where the part of this index is. None exactly if there is no such part.
 fn part_at(image: &Legacy<'_>, index: usize) -> Option<Region>
-    ensures found { (limits : Bounds) (file : List ℕ) → IsParsedImage limits file image.now →
+    ensures found { (limits : Limits) (file : List ℕ) → IsParsedImage limits file image.now →
         IfSome result (λ region. IsChosenAt file
         (choice_of_part (slice_get image.now.image.parts index)) region.size region.offset) }
     ensures none { IfNone result (slice_get image.now.image.parts index ≡ None) }

@@ -2,7 +2,7 @@
 
 ghost use Rattle.std.specs.Prelude.{IfOk};
 ghost use Rattle.bi_c.specs.Answers.{Fills};
-ghost use Rattle.bi_c.specs.Calls.{IsText, IsTextWithFlag, IsFailureOfOne};
+ghost use Rattle.bi_c.specs.Calls.{IsTextOnly, IsTextWithFlag, IsFailureOfOne};
 ghost use Rattle.bi_commands.specs.Describing.{IsDescription, IsDescribeError};
 ghost use Rattle.bi_commands.specs.Listing.{IsListing};
 ghost use Rattle.bi_commands.specs.Reports.{Verified};
@@ -28,7 +28,7 @@ pub extern "C" fn bootimg_list(
     buffer: &mut [u8],
     answer: &mut Answer,
 ) -> u32
-    ensures { Fills (IsText limit depth (λ limits text. IsListing limits file.now text))
+    ensures { Fills (IsTextOnly limit depth (λ limits text. IsListing limits file.now text))
         (IsFailureOfOne limit depth (λ limits error. IsOpenError limits file.now error))
         buffer.old buffer.new answer.new result }
 {
@@ -51,7 +51,7 @@ pub extern "C" fn bootimg_describe(
     buffer: &mut [u8],
     answer: &mut Answer,
 ) -> u32
-    ensures { Fills (IsText limit depth (λ limits text. IsDescription limits file.now text))
+    ensures { Fills (IsTextOnly limit depth (λ limits text. IsDescription limits file.now text))
         (IsFailureOfOne limit depth (λ limits error. IsDescribeError limits file.now error))
         buffer.old buffer.new answer.new result }
 {
@@ -104,7 +104,7 @@ pub extern "C" fn bootimg_convert(
     buffer: &mut [u8],
     answer: &mut Answer,
 ) -> u32
-    ensures { Fills (IsText limit depth (λ limits text. IsConvertedFile limits file.now text))
+    ensures { Fills (IsTextOnly limit depth (λ limits text. IsConvertedFile limits file.now text))
         (IsFailureOfOne limit depth (λ limits error. IsConvertError limits file.now error))
         buffer.old buffer.new answer.new result }
 {

@@ -5,7 +5,7 @@ ghost use Rattle.bi_blob.specs.Following.{stage_of_events};
 ghost use Rattle.bi_blob.specs.Layout.{longest_text};
 ghost use Rattle.bi_blob.specs.Stages.{AfterRoot};
 ghost use Rattle.bi_lay.specs.Contents.{text_of};
-ghost use Rattle.bi_fit.specs.Additions.{AreWithin, payloads_of};
+ghost use Rattle.bi_fit.specs.NormalNodes.{AreWithin, payloads_of};
 ghost use Rattle.bi_legacy.specs.Meaning.{with_new_time};
 ghost use Rattle.bi_legacy.specs.Reading.{IsParsedImage};
 ghost use Rattle.bi_legacy.specs.Text.{legacy_text};

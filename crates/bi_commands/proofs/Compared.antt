@@ -1,14 +1,15 @@
-use Rattle.std.proofs.Common.{◌≡◌, ◌≢◌, ◌↔◌, ◌⊎◌, ◌∙◌, ℕ, List, [], ◌∷◌, Bool, true, false, IsTrue, Result, Ok, Err, IfOk, IfErr, bytes_eq, if◌then◌else◌, inl, inr, refl, sym, subst}
+use Rattle.std.proofs.Common.{◌≡◌, ◌≢◌, ◌↔◌, ◌⊎◌, ◌∙◌, ℕ, List, [], ◌∷◌, Bool, true, false, IsTrue, Result, Ok, Err, IfOk, IfErr, bytes_eq}
+use Rattle.std.proofs.Common.{if◌then◌else◌, inl, inr, refl, sym, subst}
 use Rattle.bi_base.specs.declared.fault.Error.{Error}
 use Rattle.bi_base.specs.declared.fault.Error.TheVariants.{Refused, OutOfMemory as NoMemory, ReadFailed, WriteFailed}
 use Rattle.bi_base.specs.declared.fault.Fault.{Fault}
-use Rattle.bi_base.specs.Limits.{Bounds}
+use Rattle.bi_base.specs.Limits.{Limits}
 use Rattle.bi_norm.specs.declared.image.BootImage.{BootImage}
 use Rattle.bi_norm.specs.Comparing.{AreCompared}
 use Rattle.bi_norm.specs.Meaning.{Meaning, OfLegacy, OfFit}
 use Rattle.bi_norm.specs.NormalForm.{IsOpenError, NeedsMemory}
 use Rattle.bi_norm.specs.OpenedMeaning.{meaning_of}
-use Rattle.bi_norm.specs.Opening.{IsOpened}
+use Rattle.bi_norm.specs.Opening.{IsBootImage}
 use Rattle.bi_norm.proofs.NormalForms.{needs_memory}
 use Rattle.bi_commands.specs.declared.compare.CompareError.{CompareError}
 use Rattle.bi_commands.specs.declared.compare.CompareError.TheVariants.{OutOfMemory}
@@ -22,13 +23,15 @@ use Rattle.bi_norm.proofs.Comparisons.{opened_means}
 -- Two files that were read and are compared.
 
 -- An error that refuses no file is that memory ran out.
-pub memory_of_reading : (limits : Bounds) (file : List ℕ) (error : Error) → ((fault : Fault) → error ≢ Refused fault) → IsOpenError limits file error → NeedsMemory limits file
+pub memory_of_reading : (limits : Limits) (file : List ℕ) (error : Error) → ((fault : Fault) → error ≢ Refused fault) →
+    IsOpenError limits file error → NeedsMemory limits file
 memory_of_reading limits file (Refused fault) other is = absurd (other fault refl)
 memory_of_reading limits file NoMemory other is = is
 memory_of_reading limits file ReadFailed other is = absurd is
 memory_of_reading limits file WriteFailed other is = absurd is
 
-abbrev pub are_compared : (limits : Bounds) (one other : List ℕ) (image other_image : BootImage) (same : Bool) → IsOpened limits one image → IsOpened limits other other_image → IsTrue same ↔ (meaning_of image ≡ meaning_of other_image)
+abbrev pub are_compared : (limits : Limits) (one other : List ℕ) (image other_image : BootImage) (same : Bool) →
+    IsBootImage limits one image → IsBootImage limits other other_image → IsTrue same ↔ (meaning_of image ≡ meaning_of other_image)
     → AreCompared limits one other same
 are_compared limits one other image other_image same opened other_opened is = record {
   meaning = meaning_of image;
@@ -39,28 +42,34 @@ are_compared limits one other image other_image same opened other_opened is = re
 }
 
 -- Whether the files mean the same, by the result of the comparison.
-pub result_same : (limits : Bounds) (one other : List ℕ) (image other_image : BootImage) (result : Result Bool CompareError) → IsOpened limits one image → IsOpened limits other other_image
+pub result_same : (limits : Limits) (one other : List ℕ) (image other_image : BootImage) (result : Result Bool CompareError) →
+    IsBootImage limits one image → IsBootImage limits other other_image
     → IfOk result (λ same. IsTrue same ↔ (meaning_of image ≡ meaning_of other_image)) → IfOk result (AreCompared limits one other)
 result_same limits one other image other_image (Ok same) opened other_opened is = are_compared limits one other image other_image same opened other_opened is
 result_same limits one other image other_image (Err error) opened other_opened is = tt
 
 -- Memory may run out after the first file was read.
-pub memory_error : (limits : Bounds) (one other : List ℕ) (image : BootImage) (error : CompareError) → IsOpened limits one image → error ≡ OutOfMemory → IsReadingError limits one other error
+pub memory_error : (limits : Limits) (one other : List ℕ) (image : BootImage) (error : CompareError) → IsBootImage limits one image →
+    error ≡ OutOfMemory → IsReadingError limits one other error
 memory_error limits one other image error opened is =
     subst (IsReadingError limits one other) (sym is) (needs_memory limits one (meaning_of image) (opened_means limits one image opened).means)
 
-pub result_memory : (limits : Bounds) (one other : List ℕ) (image : BootImage) (result : Result Bool CompareError) → IsOpened limits one image → IfErr result (λ error. error ≡ OutOfMemory) → IfErr result (IsReadingError limits one other)
+pub result_memory : (limits : Limits) (one other : List ℕ) (image : BootImage) (result : Result Bool CompareError) →
+    IsBootImage limits one image → IfErr result (λ error. error ≡ OutOfMemory) → IfErr result (IsReadingError limits one other)
 result_memory limits one other image (Ok same) opened is = tt
 result_memory limits one other image (Err error) opened is = memory_error limits one other image error opened is
 
 -- The result of comparing two files that do not mean the same.
-false_compared : (limits : Bounds) (one other : List ℕ) (image other_image : BootImage) (same : Bool) → IsOpened limits one image → IsOpened limits other other_image → IsTrue same ↔ (meaning_of image ≡ meaning_of other_image)
+false_compared : (limits : Limits) (one other : List ℕ) (image other_image : BootImage) (same : Bool) → IsBootImage limits one image →
+    IsBootImage limits other other_image → IsTrue same ↔ (meaning_of image ≡ meaning_of other_image)
     → same ≡ false → IsTrue false ↔ (meaning_of image ≡ meaning_of other_image)
 false_compared limits one other image other_image same opened other_opened is is_false = subst (λ b. IsTrue b ↔ (meaning_of image ≡ meaning_of other_image)) is_false is
 
 -- The error of describing one of two files that differ.
-pub describing_error : (limits : Bounds) (one other : List ℕ) (image other_image : BootImage) (same : Bool) (error : CompareError) → IsOpened limits one image → IsOpened limits other other_image → IsTrue same ↔ (meaning_of image ≡ meaning_of other_image)
-    → same ≡ false → (error ≡ OutOfMemory) ⊎ IsDescribingError limits (meaning_of image) (meaning_of other_image) error → IsComparisonError limits one other error
+pub describing_error : (limits : Limits) (one other : List ℕ) (image other_image : BootImage) (same : Bool) (error : CompareError) →
+    IsBootImage limits one image → IsBootImage limits other other_image → IsTrue same ↔ (meaning_of image ≡ meaning_of other_image)
+    → same ≡ false → (error ≡ OutOfMemory) ⊎ IsDescribingError limits (meaning_of image) (meaning_of other_image) error →
+    IsComparisonError limits one other error
 describing_error limits one other image other_image same error opened other_opened is is_false (inl memory) = inl (memory_error limits one other image error opened memory)
 describing_error limits one other image other_image same error opened other_opened is is_false (inr describing) =
     inr (record {
@@ -68,12 +77,13 @@ describing_error limits one other image other_image same error opened other_open
       is_error = describing;
     })
 
-pub error_of_one : (limits : Bounds) (image other_image : BootImage) (error : CompareError) → (error ≡ OutOfMemory) ⊎ ((other : Meaning) → IsDescribingError limits (meaning_of image) other error)
+pub error_of_one : (limits : Limits) (image other_image : BootImage) (error : CompareError) →
+    (error ≡ OutOfMemory) ⊎ ((other : Meaning) → IsDescribingError limits (meaning_of image) other error)
     → (error ≡ OutOfMemory) ⊎ IsDescribingError limits (meaning_of image) (meaning_of other_image) error
 error_of_one limits image other_image error (inl memory) = inl memory
 error_of_one limits image other_image error (inr describing) = inr (describing (meaning_of other_image))
 
-pub error_of_other : (limits : Bounds) (image other_image : BootImage) (error : CompareError) → CanBeDescribed limits (meaning_of image)
+pub error_of_other : (limits : Limits) (image other_image : BootImage) (error : CompareError) → CanBeDescribed limits (meaning_of image)
     → (error ≡ OutOfMemory) ⊎ ((one : Meaning) → CanBeDescribed limits one → IsDescribingError limits one (meaning_of other_image) error)
     → (error ≡ OutOfMemory) ⊎ IsDescribingError limits (meaning_of image) (meaning_of other_image) error
 error_of_other limits image other_image error described (inl memory) = inl memory
@@ -100,7 +110,8 @@ comparison_is_not_empty (OfFit one) (OfFit other) =
     not_empty (differences (description_texts (OfFit one)) (description_texts (OfFit other))) _ (reason_is_not_empty (bytes_eq (description (OfFit one)) (description (OfFit other))))
 
 -- Two files that mean the same have no differences.
-pub compared_same : (limits : Bounds) (one other : List ℕ) (image other_image : BootImage) (same : Bool) (text : List ℕ) → IsOpened limits one image → IsOpened limits other other_image → IsTrue same ↔ (meaning_of image ≡ meaning_of other_image)
+pub compared_same : (limits : Limits) (one other : List ℕ) (image other_image : BootImage) (same : Bool) (text : List ℕ) →
+    IsBootImage limits one image → IsBootImage limits other other_image → IsTrue same ↔ (meaning_of image ≡ meaning_of other_image)
     → same ≡ true → text ≡ [] → IsComparison limits one other true text
 compared_same limits one other image other_image same text opened other_opened is is_true is_empty = record {
   compared = are_compared limits one other image other_image true opened other_opened (subst (λ b. IsTrue b ↔ (meaning_of image ≡ meaning_of other_image)) is_true is);
@@ -109,8 +120,10 @@ compared_same limits one other image other_image same text opened other_opened i
 }
 
 -- The differences of two files that do not mean the same.
-pub compared_different : (limits : Bounds) (one other : List ℕ) (image other_image : BootImage) (same : Bool) (text : List ℕ) → IsOpened limits one image → IsOpened limits other other_image → IsTrue same ↔ (meaning_of image ≡ meaning_of other_image)
-    → same ≡ false → CanBeDescribed limits (meaning_of image) → CanBeDescribed limits (meaning_of other_image) → text ≡ comparison (meaning_of image) (meaning_of other_image) → IsComparison limits one other false text
+pub compared_different : (limits : Limits) (one other : List ℕ) (image other_image : BootImage) (same : Bool) (text : List ℕ) →
+    IsBootImage limits one image → IsBootImage limits other other_image → IsTrue same ↔ (meaning_of image ≡ meaning_of other_image)
+    → same ≡ false → CanBeDescribed limits (meaning_of image) → CanBeDescribed limits (meaning_of other_image) →
+    text ≡ comparison (meaning_of image) (meaning_of other_image) → IsComparison limits one other false text
 compared_different limits one other image other_image same text opened other_opened is is_false described other_described is_text = record {
   compared = are_compared limits one other image other_image false opened other_opened (false_compared limits one other image other_image same opened other_opened is is_false);
   differences = AreDifferent described other_described is_text;

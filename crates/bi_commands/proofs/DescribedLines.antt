@@ -1,4 +1,5 @@
-use Rattle.std.proofs.Common.{◌≡◌, ◌-◌, ◌==◌, ℕ, suc, zero, Bool, true, false, List, [], ◌∷◌, length, map, get_or, refl, ap, ◌∙◌, arith, cond, append_assoc}
+use Rattle.std.proofs.Common.{◌≡◌, ◌-◌, ◌==◌, ℕ, suc, zero, Bool, true, false, List, [], ◌∷◌, length, map, get_or, refl, ap, ◌∙◌, arith}
+use Rattle.std.proofs.Common.{cond, append_assoc}
 use Rattle.std.specs.Prelude.{flat_map}
 use Rattle.std.specs.List.{AllByRecursion, slice_split, onto_first, join_with_byte}
 use Rattle.std.specs.Str.Lines.{lines, lines_of_parts, strip_carriage_return}
@@ -8,7 +9,7 @@ use Rattle.std.proofs.lemmas.List.Splits.{slice_split_at}
 use Rattle.bi_norm.specs.Meaning.{Meaning}
 use Rattle.bi_commands.specs.Descriptions.{Words, description_lines, description, description_texts}
 use Rattle.bi_commands.specs.Shown.{line}
-use Rattle.bi_commands.proofs.PrintableLines.{NoneBelow, AreLines, joined, lines_shown}
+use Rattle.bi_commands.proofs.PrintableLines.{NoneBelow, ArePrintableLines, joined_is_printable, lines_shown}
 
 -- Cutting a description at its newlines.
 
@@ -25,7 +26,8 @@ kept_whole : (bytes : List ℕ) → NoneBelow bytes → strip_carriage_return by
 kept_whole bytes visible = rw (not_return bytes (length bytes - 1) visible) refl
 
 -- Cutting gives a part.
-lines_of_more : (x : List ℕ) (bytes : List ℕ) → lines_of_parts (x ∷ slice_split (λ b. b == 10) bytes) ≡ strip_carriage_return x ∷ lines_of_parts (slice_split (λ b. b == 10) bytes)
+lines_of_more : (x : List ℕ) (bytes : List ℕ) →
+    lines_of_parts (x ∷ slice_split (λ b. b == 10) bytes) ≡ strip_carriage_return x ∷ lines_of_parts (slice_split (λ b. b == 10) bytes)
 lines_of_more x [] = refl
 lines_of_more x (byte ∷ bytes) = of_cond (byte == 10) (slice_split (λ b. b == 10) bytes)
   where
@@ -34,12 +36,12 @@ lines_of_more x (byte ∷ bytes) = of_cond (byte == 10) (slice_split (λ b. b ==
     of_cond false [] = refl
     of_cond false (part ∷ parts) = refl
 
-lines_of_lines : (more : List Words) → AreLines more → lines (flat_map line more) ≡ map (λ words. join_with_byte 32 words) more
+lines_of_lines : (more : List Words) → ArePrintableLines more → lines (flat_map line more) ≡ map (λ words. join_with_byte 32 words) more
 lines_of_lines [] visible = refl
 lines_of_lines (words ∷ more) visible =
     let text = join_with_byte 32 words in
     let rest = flat_map line more in
-    let clean = joined words visible.0 in
+    let clean = joined_is_printable words visible.0 in
     ap lines (append_assoc text (10 ∷ []) rest)
     ∙ ap lines_of_parts (slice_split_at (λ b. b == 10) text 10 rest (All-from_recursion _ text (no_newline text clean)) refl)
     ∙ lines_of_more text rest

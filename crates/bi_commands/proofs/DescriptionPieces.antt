@@ -1,4 +1,5 @@
-use Rattle.std.proofs.Common.{◌≡◌, ℕ, ◌+◌, codes, ◌<◌, ◌≤◌, ◌-◌, false, get_or, take, drop, take_all, List, [], ◌∷◌, ◌++◌, flat_map, length, map, sym, ap, ◌∙◌, arith, append_assoc, Result, Ok, Err, OnOk}
+use Rattle.std.proofs.Common.{◌≡◌, ℕ, ◌+◌, codes, ◌<◌, ◌≤◌, ◌-◌, false, get_or, take, drop, take_all, List, [], ◌∷◌, ◌++◌, flat_map, length}
+use Rattle.std.proofs.Common.{map, sym, ap, ◌∙◌, arith, append_assoc, Result, Ok, Err, OnOk}
 use Rattle.std.specs.Result.{is_err}
 use Rattle.std.specs.Borrow.{Bor}
 use Rattle.std.specs.List.{join_with_byte}
@@ -11,27 +12,28 @@ use Rattle.std.proofs.lemmas.List.{drop_more}
 use Rattle.bi_commands.specs.declared.describe.entries.PayloadDigest as made
 use Rattle.bi_commands.specs.TreeEntries.{digest_made}
 use Rattle.bi_commands.specs.Descriptions.{Words, digest_words, part_words, path}
-use Rattle.bi_commands.specs.Shown.{line, shown}
-use Rattle.bi_commands.specs.WrittenWords.{name_bytes, word_text, words_of}
+use Rattle.bi_commands.specs.Shown.{line, shown_text}
+use Rattle.bi_commands.specs.WrittenWords.{bytes_of_names, word_text, words_of}
 use Rattle.bi_commands.proofs.FitLines.{joined_after}
 
 -- The pieces of which a description is made.
 
 -- A name of a path, after a slash.
 abbrev pub step_of : Bor (List ℕ) → List ℕ
-step_of name = 47 ∷ shown name.now
+step_of name = 47 ∷ shown_text name.now
 
 -- The names of a path, each after a slash.
 abbrev pub steps_of : List (Bor (List ℕ)) → List ℕ
 steps_of names = flat_map step_of names
 
 -- They are the path of a node other than the root.
-pub steps_are_path : (names : List (Bor (List ℕ))) → 0 < length names → steps_of names ≡ path (name_bytes names)
+pub steps_are_path : (names : List (Bor (List ℕ))) → 0 < length names → steps_of names ≡ path (bytes_of_names names)
 steps_are_path [] some = absurd (omega arith)
-steps_are_path (first ∷ names) some = sym (flat_map-map (λ other. 47 ∷ shown other) (λ (name : Bor (List ℕ)). name.now) (first ∷ names))
+steps_are_path (first ∷ names) some = sym (flat_map-map (λ other. 47 ∷ shown_text other) (λ (name : Bor (List ℕ)). name.now) (first ∷ names))
 
 -- The same for words as the code has them.
-pub words_joined : (first : Word) (later : List Word) → join_with_byte 32 (words_of (first ∷ later)) ≡ word_text first ++ flat_map (λ word. 32 ∷ word_text word) later
+pub words_joined : (first : Word) (later : List Word) →
+    join_with_byte 32 (words_of (first ∷ later)) ≡ word_text first ++ flat_map (λ word. 32 ∷ word_text word) later
 words_joined first later =
     joined_after (word_text first) (words_of later)
     ∙ ap (λ bytes. word_text first ++ bytes) (flat_map-map (λ word. 32 ∷ word) word_text later)
@@ -43,18 +45,21 @@ known_ok (Err error) not_err holds = absurd cc
 
 -- The same, where the first and the others are taken from a list.
 pub words_split : (words : List Word) → 1 ≤ length words → join_with_byte 32 (words_of words)
-    ≡ word_text (get_or words 0 (Text (record { ref_ptr = (0, 0); now = [] }))) ++ flat_map (λ word. 32 ∷ word_text word) (take (length words - 1) (drop 1 words))
+    ≡ word_text (get_or words 0 (Text (record { ref_ptr = (0, 0); now = [] })))
+    ++ flat_map (λ word. 32 ∷ word_text word) (take (length words - 1) (drop 1 words))
 words_split [] some = absurd (omega arith)
 words_split (first ∷ later) some =
     words_joined first later
     ∙ ap (λ words. word_text first ++ flat_map (λ word. 32 ∷ word_text word) words) (sym (take_all (length (first ∷ later) - 1) later (omega arith)))
 
 -- The text of lines in three parts: the first,
-pub first_of_three : (first second third : List Words) → flat_map line (first ++ (second ++ third)) ≡ flat_map line first ++ flat_map line (second ++ third)
+pub first_of_three : (first second third : List Words) →
+    flat_map line (first ++ (second ++ third)) ≡ flat_map line first ++ flat_map line (second ++ third)
 first_of_three first second third = flat_map-append line first (second ++ third)
 
 -- and all of them.
-pub three_texts : (first second third : List Words) → flat_map line (first ++ (second ++ third)) ≡ (flat_map line first ++ flat_map line second) ++ flat_map line third
+pub three_texts : (first second third : List Words) →
+    flat_map line (first ++ (second ++ third)) ≡ (flat_map line first ++ flat_map line second) ++ flat_map line third
 three_texts first second third =
     flat_map-append line first (second ++ third)
     ∙ ap (λ later. flat_map line first ++ later) (flat_map-append line second third)
@@ -65,7 +70,8 @@ abbrev pub code_lines_of : (os arch image_type compression : List ℕ) → List 
 code_lines_of os arch image_type compression =
     (codes "os" ∷ os ∷ []) ∷ (codes "arch" ∷ arch ∷ []) ∷ (codes "type" ∷ image_type ∷ []) ∷ (codes "compression" ∷ compression ∷ []) ∷ []
 
-pub four_codes : (os os' arch arch' image_type image_type' compression compression' : List ℕ) → os ≡ os' → arch ≡ arch' → image_type ≡ image_type' → compression ≡ compression'
+pub four_codes : (os os' arch arch' image_type image_type' compression compression' : List ℕ) → os ≡ os' → arch ≡ arch' →
+    image_type ≡ image_type' → compression ≡ compression'
     → code_lines_of os arch image_type compression ≡ code_lines_of os' arch' image_type' compression'
 four_codes os os' arch arch' image_type image_type' compression compression' a b c d =
     ap (λ word. code_lines_of word arch image_type compression) a
@@ -75,5 +81,7 @@ four_codes os os' arch arch' image_type image_type' compression compression' a b
 
 -- The digests of the parts from one on are that of this part and those of the later ones.
 pub parts_from : (parts : List made.PayloadDigest) (index : ℕ) (d : made.PayloadDigest) → index < length parts
-    → part_words index (map digest_made (drop index parts)) ≡ (codes "part" ∷ decimal index ∷ digest_words (digest_made (get_or parts index d))) ∷ part_words (index + 1) (map digest_made (drop (index + 1) parts))
+    → part_words index (map digest_made (drop index parts))
+    ≡ (codes "part" ∷ decimal index ∷ digest_words (digest_made (get_or parts index d)))
+    ∷ part_words (index + 1) (map digest_made (drop (index + 1) parts))
 parts_from parts index d within = ap (λ left. part_words index (map digest_made left)) (drop_more parts index d within)

@@ -1,4 +1,5 @@
-use Rattle.std.proofs.Common.{◌≡◌, ◌+◌, ◌<◌, ◌≤◌, ℕ, List, [], ◌∷◌, ◌++◌, Bor, length, map, take, drop, get_or, refl, sym, ap, subst, ◌∙◌, arith, add-one, append-nil}
+use Rattle.std.proofs.Common.{◌≡◌, ◌+◌, ◌<◌, ◌≤◌, ℕ, List, [], ◌∷◌, ◌++◌, Bor, length, map, take, drop, get_or, refl, sym, ap, subst, ◌∙◌}
+use Rattle.std.proofs.Common.{arith, add-one, append-nil}
 use Rattle.std.specs.List.{AllByRecursion, AllZip, concat, sum, sum_by, slice_range}
 use Rattle.std.proofs.Math.Seq.{drop-cons}
 use Rattle.std.proofs.lemmas.List.{length-map, map-append, take-append-drop, take_all}
@@ -9,7 +10,8 @@ use Rattle.bi_base.specs.declared.fault.Cause.TheVariants.{BadPart}
 use Rattle.bi_legacy.specs.Emitting.{bytes_of}
 use Rattle.bi_norm.specs.Cutting.{IsCut, IsCutFault, TooLong, TooShort}
 use Rattle.bi_norm.proofs.Pieces.{pieces_more}
-use Rattle.bi_commands.specs.Parts.{IsFilled, HasGivenBytes, LengthsAreCut, content_of, input_length_of, lengths_of, parts_of_lengths, pieces_among}
+use Rattle.bi_commands.specs.Parts.{IsFilled, HasGivenBytes, LengthsAreCut, content_of, input_length_of, lengths_of, parts_of_lengths}
+use Rattle.bi_commands.specs.Parts.{pieces_among}
 use Rattle.bi_commands.specs.declared.parts.Part.{Part}
 use Rattle.bi_commands.specs.declared.parts.Part.TheVariants.{Bytes, Length}
 
@@ -46,11 +48,11 @@ first_too_long input before (Length size) later fits longer =
     TooLong (lengths_of before) size (lengths_of later) (lengths-append before (Length size ∷ later)) (omega (arith, same, fits))
     (omega (arith, same, longer)) (ap (λ n. record { cause = BadPart; offset = n }) (sym same))
 
-pub too_long : (input : List ℕ) (parts : List Part) (i : ℕ) (d : Part) → i < length parts
+pub part_too_long : (input : List ℕ) (parts : List Part) (i : ℕ) (d : Part) → i < length parts
     → sum_by input_length_of (take i parts) ≤ length input
     → length input < sum_by input_length_of (take i parts) + input_length_of (get_or parts i d)
     → IsCutFault input (lengths_of parts) (record { cause = BadPart; offset = sum_by input_length_of (take i parts) })
-too_long input parts i d within fits longer =
+part_too_long input parts i d within fits longer =
     let around : parts ≡ take i parts ++ (get_or parts i d ∷ drop (i + 1) parts) =
     sym (take-append-drop i parts) ∙ ap (λ l. take i parts ++ l) (rw add-one (drop-cons parts i d within)) in
     subst (λ all. IsCutFault input (lengths_of all) (record { cause = BadPart; offset = sum_by input_length_of (take i parts) })) (sym around)

@@ -9,23 +9,24 @@ use Rattle.std.proofs.lemmas.List.{append-nil}
 -- The lines of a flattened image tree.
 
 -- Words after a first one, with a space before each.
-pub joined_after : (first : List ℕ) (words : List (List ℕ)) → join_with_byte 32 (first ∷ words) ≡ first ++ flat_map (λ word. 32 ∷ word) words
+pub joined_after : (first : List ℕ) (words : List (List ℕ)) →
+    join_with_byte 32 (first ∷ words) ≡ first ++ flat_map (λ word. 32 ∷ word) words
 joined_after first [] = sym (append-nil first)
 joined_after first (word ∷ words) = ap (λ later. first ++ (32 ∷ later)) (joined_after word words)
 
 -- The lines of one more element of a list.
-pub one_more : {X : Type 0} (f : X → List ℕ) (xs : List X) (d : X) (i : ℕ) (start now next : List ℕ) → i < length xs →
+pub lines_of_one_more : {X : Type 0} (f : X → List ℕ) (xs : List X) (d : X) (i : ℕ) (start now next : List ℕ) → i < length xs →
     now ≡ start ++ flat_map f (take i xs) → next ≡ now ++ f (get_or xs i d) → next ≡ start ++ flat_map f (take (i + 1) xs)
-one_more f xs d i start now next within before more = grind (arith, common_steps)
+lines_of_one_more f xs d i start now next within before more = grind (arith, common_steps)
 
 -- The two numbers of a reservation.
 abbrev pub numbers_of : Reservation → ℕ × ℕ
 numbers_of reservation = (reservation.address, reservation.size)
 
 -- The reservation at an index.
-pub reservation_at : (reservations : List Reservation) (index : ℕ) (found : Option (ℕ × ℕ)) → index < length reservations →
+pub reservation_found : (reservations : List Reservation) (index : ℕ) (found : Option (ℕ × ℕ)) → index < length reservations →
     found ≡ slice_get (map numbers_of reservations) index → found ≡ Some (numbers_of (get_or reservations index end_pair))
-reservation_at reservations index found within is =
+reservation_found reservations index found within is =
     is ∙ slice_get-map numbers_of reservations index ∙ ap (option_map numbers_of) (slice_get-get_or reservations index end_pair within)
 
 -- The reservation of two numbers, where there are any.
@@ -37,7 +38,7 @@ reservation_of (Some numbers) = record { address = numbers.0; size = numbers.1 }
 pub no_more_reservation : {C : Type 0} (reservations : List Reservation) (index : ℕ) (found : Option (ℕ × ℕ)) →
     index < length reservations → found ≡ slice_get (map numbers_of reservations) index → found ≡ None → C
 no_more_reservation reservations index found within is none =
-    let some = reservation_at reservations index found within is in
+    let some = reservation_found reservations index found within is in
     absurd (differ (sym none ∙ some))
   where
     differ : {x : ℕ × ℕ} → ¬ (None ≡ Some x)

@@ -1,12 +1,12 @@
 use Rattle.std.proofs.Common.{◌≡◌, ◌⊎◌, ℕ, List, [], ◌∷◌, ◌++◌, Option, Some, None, map, codes, refl, sym, ap, ap₂, subst, ◌∙◌}
 use Rattle.std.specs.Fmt.{decimal}
 use Rattle.std.specs.List.{AllZip, flat_map}
-use Rattle.bi_base.specs.Limits.{Bounds}
+use Rattle.bi_base.specs.Limits.{Limits}
 use Rattle.bi_blob.specs.Blob.{totalsize}
 use Rattle.bi_blob.specs.Lookups.{siblings}
 use Rattle.bi_blob.specs.Tree.{Nodes, none, node, FileNode}
 use Rattle.bi_fdt.specs.Content.{root_of}
-use Rattle.bi_fit.specs.Content.{FitContent, ReadImage, tree_of, place_of, IsReadImage}
+use Rattle.bi_fit.specs.Content.{FitModel, ImageModel, tree_of, place_of, IsReadImage}
 use Rattle.bi_fit.specs.ImageTree.{image_nodes, nodes_or_none}
 use Rattle.bi_fit.specs.Judgement.{default_of}
 use Rattle.bi_fit.specs.Payloads.{PayloadSource, NoSource, Data, DataOffset, DataPosition, source_of, IsPayload}
@@ -31,14 +31,15 @@ placed_image file name (DataPosition position size) None is = refl
 placed_image file name (DataPosition position size) (Some payload) is = refl
 
 -- The line of an image that was read.
-image_line_of : (file : List ℕ) (name : List ℕ) (source : PayloadSource) (image : ReadImage) → image.name ≡ name →
-    IsPayload file source image.payload → image.place ≡ place_of file source → read_image_line image ≡ image_line file name source image.payload
+image_line_of : (file : List ℕ) (name : List ℕ) (source : PayloadSource) (image : ImageModel) → image.name ≡ name →
+    IsPayload file source image.payload → image.place ≡ place_of file source →
+    read_image_line image ≡ image_line file name source image.payload
 image_line_of file name source image named is placed =
     ap₂ (λ n p. placed_line n image.payload p) named placed ∙ placed_image file name source image.payload is
 
 -- The lines of images that were read.
-lines_of_images : (file : List ℕ) (nodes : Nodes FileNode) (images : List ReadImage) → AllZip (IsReadImage file) (siblings nodes) images →
-    flat_map read_image_line images ≡ image_lines file nodes (map (λ (image : ReadImage). image.payload) images)
+lines_of_images : (file : List ℕ) (nodes : Nodes FileNode) (images : List ImageModel) → AllZip (IsReadImage file) (siblings nodes) images →
+    flat_map read_image_line images ≡ image_lines file nodes (map (λ (image : ImageModel). image.payload) images)
 lines_of_images file none [] is = refl
 lines_of_images file none (image ∷ images) is = absurd is
 lines_of_images file (node name own children later) [] is = refl
@@ -47,7 +48,7 @@ lines_of_images file (node name own children later) (image ∷ images) is =
     (lines_of_images file later images is.1)
 
 -- What was read of a file is listed as the definitions list the file.
-pub listing_of_file : (limits : Bounds) (file : List ℕ) (content : FitContent) (is : IsReadFrom limits file content) →
+pub listing_of_file : (limits : Limits) (file : List ℕ) (content : FitModel) (is : IsReadFrom limits file content) →
     read_listing content ≡ fit_listing file is.means.is_file.images (tree_of content)
 listing_of_file limits file content is =
     let total : content.blob.total_size ≡ totalsize file = is.held.total_size ∙ ap totalsize is.is_file in
@@ -64,6 +65,7 @@ listing_of_file limits file content is =
     total (lines_of_images file is.means.is_file.images content.images images)
 
 -- The listing of what was read of a file is the listing of the file.
-pub tree_listing : (limits : Bounds) (file text : List ℕ) (content : FitContent) → IsReadFrom limits file content → text ≡ read_listing content → IsListing limits file text
+pub tree_listing : (limits : Limits) (file text : List ℕ) (content : FitModel) → IsReadFrom limits file content →
+    text ≡ read_listing content → IsListing limits file text
 tree_listing limits file text content is written =
     OfImageTree (record { tree = tree_of content; means = is.means; is = written ∙ listing_of_file limits file content is })

@@ -2,23 +2,25 @@ use Rattle.std.proofs.Common.{◌≡◌, ◌≤◌, ℕ, List, length, map, sym,
 use Rattle.std.specs.List.{concat, sum}
 use Rattle.std.proofs.lemmas.List.Concat.{concat_is, length-flat_map}
 use Rattle.std.proofs.lemmas.List.Sums.{sum-map}
-use Rattle.bi_base.specs.Limits.{Bounds}
+use Rattle.bi_base.specs.Limits.{Limits}
 use Rattle.bi_base.specs.declared.fault.Error.{Error}
 use Rattle.bi_base.specs.declared.fault.Error.TheVariants.{Refused, OutOfMemory, ReadFailed, WriteFailed}
 use Rattle.bi_fit.specs.declared.form.Form.{Form}
 use Rattle.bi_norm.specs.declared.building.Head.{Head}
 use Rattle.bi_norm.specs.declared.building.ImageSpec.{ImageSpec}
-use Rattle.bi_norm.specs.Building.{IsBuilt, IsBuildError}
+use Rattle.bi_norm.specs.BuildCalls.{IsBuilt, IsBuildError}
 use Rattle.bi_norm.specs.Cutting.{IsCut, IsCutError}
 use Rattle.bi_base.specs.Commands.{Appended, AppendFailed, WasRefused, SinkFailed}
 use Rattle.bi_commands.specs.Parts.{IsFilled, lengths_of, pieces_among}
 use Rattle.bi_commands.specs.declared.parts.Part.{Part}
-use Rattle.bi_commands.specs.Building.{HavePayloads, IsFitOutput, IsFitOutputError, NotCut, NotBuilt}
+use Rattle.bi_commands.specs.BuildCommands.{HavePayloads, IsFitOutput, IsFitOutputError, NotCut, NotBuilt}
 
 -- Flattened image trees that are built of payloads, with an input.
 
 -- An error of cutting the input is one of building from it.
-pub cut_error : (limits : Bounds) (form : Form) (head : Head) (given : List ImageSpec) (parts : List Part) (input : List ℕ) (error : Error) → length input ≤ limits.file → IsCutError input (lengths_of parts) error → IsFitOutputError limits form head given parts input error
+pub cut_error : (limits : Limits) (form : Form) (head : Head) (given : List ImageSpec) (parts : List Part) (input : List ℕ)
+    (error : Error) → length input ≤ limits.file → IsCutError input (lengths_of parts) error →
+    IsFitOutputError limits form head given parts input error
 cut_error limits form head given parts input (Refused fault) short is = NotCut short is
 cut_error limits form head given parts input OutOfMemory short is = is
 cut_error limits form head given parts input ReadFailed short is = is
@@ -32,20 +34,24 @@ pub sum_of_cut : (input lengths : List ℕ) (pieces : List (List ℕ)) → IsCut
 sum_of_cut input lengths pieces cut = ap sum (sym cut.have_lengths) ∙ length_concat pieces ∙ ap length cut.are_whole
 
 -- An input within the limits, payloads with their contents, and the images with these.
-pub record Completed (limits : Bounds) (given : List ImageSpec) (parts : List Part) (input : List ℕ) (contents : List (List ℕ)) (images : List ImageSpec) : Type 0 where
+pub record HasPayloads (limits : Limits) (given : List ImageSpec) (parts : List Part) (input : List ℕ) (contents : List (List ℕ)) (images : List ImageSpec) : Type 0 where
   pub short : length input ≤ limits.file
   pub filled : IsFilled parts input contents
   pub have : HavePayloads given contents images
 
 -- An error of building the images is one of building from the input.
-build_error : (limits : Bounds) (form : Form) (head : Head) (given : List ImageSpec) (parts : List Part) (input : List ℕ) (contents : List (List ℕ)) (images : List ImageSpec) (error : Error) → Completed limits given parts input contents images → IsBuildError limits form head images error → IsFitOutputError limits form head given parts input error
+build_error : (limits : Limits) (form : Form) (head : Head) (given : List ImageSpec) (parts : List Part) (input : List ℕ)
+    (contents : List (List ℕ)) (images : List ImageSpec) (error : Error) → HasPayloads limits given parts input contents images →
+    IsBuildError limits form head images error → IsFitOutputError limits form head given parts input error
 build_error limits form head given parts input contents images (Refused fault) completed is = NotBuilt completed.short contents completed.filled images completed.have is
 build_error limits form head given parts input contents images OutOfMemory completed is = sum_of_cut input (lengths_of parts) (pieces_among parts contents) completed.filled.cut
 build_error limits form head given parts input contents images ReadFailed completed is = is
 build_error limits form head given parts input contents images WriteFailed completed is = is
 
 -- A text that was built is the output.
-is_output : (limits : Bounds) (form : Form) (head : Head) (given : List ImageSpec) (parts : List Part) (input : List ℕ) (contents : List (List ℕ)) (images : List ImageSpec) (text : List ℕ) → Completed limits given parts input contents images → IsBuilt limits form head images text → IsFitOutput limits form head given parts input text
+is_output : (limits : Limits) (form : Form) (head : Head) (given : List ImageSpec) (parts : List Part) (input : List ℕ)
+    (contents : List (List ℕ)) (images : List ImageSpec) (text : List ℕ) → HasPayloads limits given parts input contents images →
+    IsBuilt limits form head images text → IsFitOutput limits form head given parts input text
 is_output limits form head given parts input contents images text completed built = record {
   contents = contents;
   filled = completed.filled;
@@ -55,15 +61,22 @@ is_output limits form head given parts input contents images text completed buil
 }
 
 -- Images that were built are the output.
-pub appended : {S : Type 0} (appends : S → List ℕ → S → Type 0) (limits : Bounds) (form : Form) (head : Head) (given : List ImageSpec) (parts : List Part) (input : List ℕ) (contents : List (List ℕ)) (images : List ImageSpec) (old new : S) → Completed limits given parts input contents images → Appended appends (IsBuilt limits form head images) old new → Appended appends (IsFitOutput limits form head given parts input) old new
-appended appends limits form head given parts input contents images old new completed built = record {
+pub fit_output_appended : {S : Type 0} (appends : S → List ℕ → S → Type 0) (limits : Limits) (form : Form) (head : Head)
+    (given : List ImageSpec) (parts : List Part) (input : List ℕ) (contents : List (List ℕ)) (images : List ImageSpec) (old new : S) →
+    HasPayloads limits given parts input contents images → Appended appends (IsBuilt limits form head images) old new →
+    Appended appends (IsFitOutput limits form head given parts input) old new
+fit_output_appended appends limits form head given parts input contents images old new completed built = record {
   text = built.text;
   is_text = is_output limits form head given parts input contents images built.text completed built.is_text;
   appended = built.appended;
 }
 
 -- Images that were not built were refused, or the sink failed.
-pub not_appended : {S : Type 0} (fails : S → List ℕ → S → Error → Type 0) (limits : Bounds) (form : Form) (head : Head) (given : List ImageSpec) (parts : List Part) (input : List ℕ) (contents : List (List ℕ)) (images : List ImageSpec) (old new : S) (error : Error) → Completed limits given parts input contents images → AppendFailed fails (IsBuilt limits form head images) (IsBuildError limits form head images) old new error → AppendFailed fails (IsFitOutput limits form head given parts input) (IsFitOutputError limits form head given parts input) old new error
+pub not_appended : {S : Type 0} (fails : S → List ℕ → S → Error → Type 0) (limits : Limits) (form : Form) (head : Head)
+    (given : List ImageSpec) (parts : List Part) (input : List ℕ) (contents : List (List ℕ)) (images : List ImageSpec) (old new : S)
+    (error : Error) → HasPayloads limits given parts input contents images →
+    AppendFailed fails (IsBuilt limits form head images) (IsBuildError limits form head images) old new error →
+    AppendFailed fails (IsFitOutput limits form head given parts input) (IsFitOutputError limits form head given parts input) old new error
 not_appended fails limits form head given parts input contents images old new error completed (WasRefused is same) = WasRefused (build_error limits form head given parts input contents images error completed is) same
 not_appended fails limits form head given parts input contents images old new error completed (SinkFailed text cause is failed same) =
     SinkFailed text cause (is_output limits form head given parts input contents images text completed is) failed same

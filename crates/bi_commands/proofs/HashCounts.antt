@@ -1,11 +1,12 @@
-use Rattle.std.proofs.Common.{◌≡◌, ℕ, ◌+◌, ◌-◌, ◌≤◌, min, Bool, true, false, cond, List, length, refl, sym, ap, ◌∙◌, arith, drop-drop, ◌∷◌, ◌++◌, take, drop, append_assoc, Some}
+use Rattle.std.proofs.Common.{◌≡◌, ℕ, ◌+◌, ◌-◌, ◌≤◌, min, Bool, true, false, cond, List, length, refl, sym, ap, ◌∙◌, arith, drop-drop, ◌∷◌}
+use Rattle.std.proofs.Common.{◌++◌, take, drop, append_assoc, Some}
 use Rattle.std.proofs.lemmas.List.{take_all, take_min, drop_min, length-drop}
 use Rattle.bi_blob.specs.Tree.{FileNode}
 use Rattle.bi_blob.specs.Lookups.{Sibling}
 use Rattle.bi_fit.specs.Names.{is_hash_name}
 use Rattle.bi_fit.proofs.NodeEvents.{nodes_from}
 use mir.Val.{bool_byte}
-use Rattle.bi_fit.specs.Content.{ReadImage}
+use Rattle.bi_fit.specs.Content.{ImageModel}
 use Rattle.bi_fit.specs.Judgement.{CheckedHash}
 use Rattle.bi_commands.specs.declared.check.Allowed.{Allowed}
 use Rattle.bi_commands.specs.Checking.{concern_lines, hashed_concerns}
@@ -27,11 +28,13 @@ number_of_bool true = refl
 number_of_bool false = refl
 
 -- Counting one more node up to a number.
-pub counted_first : (count one rest all most next : ℕ) → next ≡ min (count + one) most → min (count + (one + rest)) most ≡ all → min (next + rest) most ≡ all
+pub counted_first : (count one rest all most next : ℕ) → next ≡ min (count + one) most → min (count + (one + rest)) most ≡ all →
+    min (next + rest) most ≡ all
 counted_first count one rest all most next is before = omega (arith, is, before)
 
 -- The lines of an image were appended, and those of the images after it are left.
-pub image_appended : (allowed : Allowed) (start now target : List ℕ) (s : Sibling FileNode) (image : ReadImage) (images : List ReadImage) (hashes : List CheckedHash) →
+pub image_appended : (allowed : Allowed) (start now target : List ℕ) (s : Sibling FileNode) (image : ImageModel) (images : List ImageModel)
+    (hashes : List CheckedHash) →
     start ++ concern_lines allowed (read_images_concerns (nodes_from (Some s)) (image ∷ images) hashes) ≡ target →
     now ≡ start ++ concern_lines allowed (hashed_concerns image.name image.payload (take (hash_count s.children) hashes)) →
     now ++ concern_lines allowed (read_images_concerns s.later images (drop (hash_count s.children) hashes)) ≡ target

@@ -1,7 +1,7 @@
 use Rattle.std.proofs.Common.{◌≡◌, ◌≢◌, ◌^◌, ◌<◌, ◌≤◌, ℕ, List, [], Result, Ok, Err, IfErr, length, refl, subst, sym, inl, inr}
 use Rattle.std.specs.List.{AllByRecursion}
 use Rattle.bi_base.specs.Cells.{AreBytes}
-use Rattle.bi_base.specs.Limits.{Bounds}
+use Rattle.bi_base.specs.Limits.{Limits}
 use Rattle.bi_base.specs.declared.fault.Error.{Error}
 use Rattle.bi_base.specs.declared.fault.Error.TheVariants.{Refused, OutOfMemory, ReadFailed, WriteFailed}
 use Rattle.bi_legacy.specs.declared.fields.Fields.{Fields}
@@ -9,26 +9,26 @@ use Rattle.bi_legacy.specs.Emitting.{WroteImage, HasNoEmitFault}
 use Rattle.bi_legacy.specs.Meaning.{FitsFields, image_of}
 use Rattle.bi_legacy.specs.Text.{legacy_text}
 use Rattle.bi_legacy.proofs.NoEmitFault.{no_emit_fault_image}
-use Rattle.bi_legacy.proofs.TextMeans.{text_means}
+use Rattle.bi_legacy.proofs.TextMeans.{legacy_text_means}
 use Rattle.bi_norm.specs.Cutting.{IsCutError}
 use Rattle.bi_base.specs.Commands.{Appended, AppendFailed, WasRefused, SinkFailed}
-use Rattle.bi_commands.specs.Building.{ArePartsOf, IsPartsError, IsLegacyOutput, IsLegacyOutputError, NotFilled, NotBuilt}
+use Rattle.bi_commands.specs.BuildCommands.{ArePartsOf, IsPartsError, IsLegacyOutput, IsLegacyOutputError, NotFilled, NotBuilt}
 use Rattle.bi_commands.specs.Parts.{lengths_of}
 use Rattle.bi_commands.specs.declared.parts.Part.{Part}
 
 -- Legacy images that are built of parts, with an input.
 
 -- An error of cutting an input is one of getting the contents of the parts.
-pub cut_error : {V : Type 0} (input : List ℕ) (parts : List Part) (result : Result V Error) → parts ≢ []
+pub cut_is_split_error : {V : Type 0} (input : List ℕ) (parts : List Part) (result : Result V Error) → parts ≢ []
     → IfErr result (IsCutError input (lengths_of parts)) → IfErr result (IsPartsError parts input)
-cut_error input parts (Ok value) has is = tt
-cut_error input parts (Err (Refused fault)) has is = record { has_parts = has; is_cut_fault = is }
-cut_error input parts (Err OutOfMemory) has is = λ some. is
-cut_error input parts (Err ReadFailed) has is = is
-cut_error input parts (Err WriteFailed) has is = is
+cut_is_split_error input parts (Ok value) has is = tt
+cut_is_split_error input parts (Err (Refused fault)) has is = record { has_parts = has; is_cut_fault = is }
+cut_is_split_error input parts (Err OutOfMemory) has is = λ some. is
+cut_is_split_error input parts (Err ReadFailed) has is = is
+cut_is_split_error input parts (Err WriteFailed) has is = is
 
 -- Parts with their contents, an input within the limits, and fields to build a legacy image from them.
-pub record Building (limits : Bounds) (fields : Fields) (parts : List Part) (input : List ℕ) (contents : List (List ℕ)) : Type 0 where
+pub record Building (limits : Limits) (fields : Fields) (parts : List Part) (input : List ℕ) (contents : List (List ℕ)) : Type 0 where
   pub are_parts : ArePartsOf parts input contents
   pub are_bytes : AllByRecursion AreBytes contents
   pub name_bytes : AreBytes fields.name.now
@@ -37,7 +37,9 @@ pub record Building (limits : Bounds) (fields : Fields) (parts : List Part) (inp
   pub small : limits.file < 2 ^ 32
 
 -- The text of an image without a fault is the output.
-is_output : (limits : Bounds) (fields : Fields) (parts : List Part) (input : List ℕ) (contents : List (List ℕ)) → Building limits fields parts input contents → HasNoEmitFault limits (image_of fields contents) → IsLegacyOutput limits fields parts input (legacy_text (image_of fields contents))
+is_output : (limits : Limits) (fields : Fields) (parts : List Part) (input : List ℕ) (contents : List (List ℕ)) →
+    Building limits fields parts input contents → HasNoEmitFault limits (image_of fields contents) →
+    IsLegacyOutput limits fields parts input (legacy_text (image_of fields contents))
 is_output limits fields parts input contents building none =
     let image = image_of fields contents in
     record {
@@ -47,15 +49,18 @@ is_output limits fields parts input contents building none =
         no_fault = none;
         is_text = refl;
         accepted = record {
-          is_file = text_means image (no_emit_fault_image image limits building.ranges building.name_bytes building.are_bytes building.small none);
+          is_file = legacy_text_means image (no_emit_fault_image image limits building.ranges building.name_bytes building.are_bytes building.small none);
           short = none.1.1.0;
         };
       };
     }
 
 -- An image that was written is the output.
-pub emitted : {S : Type 0} (appends : S → List ℕ → S → Type 0) (fails : S → List ℕ → S → Error → Type 0) (limits : Bounds) (fields : Fields) (parts : List Part) (input : List ℕ) (contents : List (List ℕ)) (old new : S) → Building limits fields parts input contents → WroteImage appends fails limits (image_of fields contents) old (Ok tt) new → Appended appends (IsLegacyOutput limits fields parts input) old new
-emitted appends fails limits fields parts input contents old new building wrote = elim wrote.refused_or_written [
+pub legacy_output_emitted : {S : Type 0} (appends : S → List ℕ → S → Type 0) (fails : S → List ℕ → S → Error → Type 0) (limits : Limits)
+    (fields : Fields) (parts : List Part) (input : List ℕ) (contents : List (List ℕ)) (old new : S) →
+    Building limits fields parts input contents → WroteImage appends fails limits (image_of fields contents) old (Ok tt) new →
+    Appended appends (IsLegacyOutput limits fields parts input) old new
+legacy_output_emitted appends fails limits fields parts input contents old new building wrote = elim wrote.refused_or_written [
   | inl none ↦ record {
     text = legacy_text (image_of fields contents);
     is_text = is_output limits fields parts input contents building none;
@@ -65,7 +70,10 @@ emitted appends fails limits fields parts input contents old new building wrote 
 ]
 
 -- An image that was not written was refused, or the sink failed.
-pub not_emitted : {S : Type 0} (appends : S → List ℕ → S → Type 0) (fails : S → List ℕ → S → Error → Type 0) (limits : Bounds) (fields : Fields) (parts : List Part) (input : List ℕ) (contents : List (List ℕ)) (old new : S) (error : Error) → Building limits fields parts input contents → WroteImage appends fails limits (image_of fields contents) old (Err error) new → AppendFailed fails (IsLegacyOutput limits fields parts input) (IsLegacyOutputError limits fields parts input) old new error
+pub not_emitted : {S : Type 0} (appends : S → List ℕ → S → Type 0) (fails : S → List ℕ → S → Error → Type 0) (limits : Limits)
+    (fields : Fields) (parts : List Part) (input : List ℕ) (contents : List (List ℕ)) (old new : S) (error : Error) →
+    Building limits fields parts input contents → WroteImage appends fails limits (image_of fields contents) old (Err error) new →
+    AppendFailed fails (IsLegacyOutput limits fields parts input) (IsLegacyOutputError limits fields parts input) old new error
 not_emitted appends fails limits fields parts input contents old new error building wrote = elim wrote.refused_or_written [
   | inl none ↦ SinkFailed (legacy_text (image_of fields contents)) error (is_output limits fields parts input contents building none) (wrote.written none) refl
   | inr some ↦
@@ -76,7 +84,8 @@ not_emitted appends fails limits fields parts input contents old new error build
 ]
 
 -- An error of getting the contents of the parts is one of building.
-pub parts_error : (limits : Bounds) (fields : Fields) (parts : List Part) (input : List ℕ) (error : Error) → length input ≤ limits.file → IsPartsError parts input error → IsLegacyOutputError limits fields parts input error
+pub parts_error : (limits : Limits) (fields : Fields) (parts : List Part) (input : List ℕ) (error : Error) → length input ≤ limits.file →
+    IsPartsError parts input error → IsLegacyOutputError limits fields parts input error
 parts_error limits fields parts input (Refused fault) short is = NotFilled short is
 parts_error limits fields parts input OutOfMemory short is = is
 parts_error limits fields parts input ReadFailed short is = is

@@ -3,7 +3,7 @@ pub mod PrintableLines
 pub mod EntryLines
 pub mod TreeLines
 pub mod QuotedValues
-pub mod SinkChains
+pub mod LineChains
 pub mod DescriptionPieces
 pub mod HashCounts
 pub mod Reported

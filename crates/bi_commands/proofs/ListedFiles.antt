@@ -1,27 +1,28 @@
-use Rattle.std.proofs.Common.{◌≡◌, ℕ, List, [], ◌∷◌, ◌++◌, Result, Ok, Err, OnOk, IfErr, codes, map, refl, sym, ap, ◌∙◌, append_assoc, subst}
+use Rattle.std.proofs.Common.{◌≡◌, ℕ, List, [], ◌∷◌, ◌++◌, Result, Ok, Err, OnOk, IfErr, codes, map, refl, sym, ap, ◌∙◌, append_assoc}
+use Rattle.std.proofs.Common.{subst}
 use Rattle.std.specs.Fmt.{decimal}
 use Rattle.std.specs.List.{flat_map}
 use Rattle.std.proofs.lemmas.List.Folds.{flat_map-map}
 use Rattle.bi_base.specs.Commands.{Appended, AppendFailed, WasRefused, SinkFailed}
 use Rattle.bi_base.specs.declared.fault.Error.{Error}
-use Rattle.bi_base.specs.Limits.{Bounds}
+use Rattle.bi_base.specs.Limits.{Limits}
 use Rattle.bi_base.specs.Sinks.{FailsWithin, Wrote}
 use Rattle.bi_base.specs.VecSinks.{Grows, IsOutOfMemory}
-use Rattle.bi_fdt.specs.Content.{BlobContent}
-use Rattle.bi_fit.specs.Content.{FitContent, ReadImage, tree_of}
+use Rattle.bi_fdt.specs.Content.{Blob}
+use Rattle.bi_fit.specs.Content.{FitModel, ImageModel, tree_of}
 use Rattle.bi_fit.specs.Judgement.{default_of}
 use Rattle.bi_legacy.specs.declared.fields.Fields.{Fields}
 use Rattle.bi_legacy.specs.Codes.{os_names, arch_names, type_names, compression_names}
 use Rattle.bi_legacy.specs.Meaning.{LegacyImage, image_of}
-use Rattle.bi_legacy.specs.Reading.{ParsedImage}
+use Rattle.bi_legacy.specs.Reading.{LegacyModel}
 use Rattle.bi_norm.specs.Meaning.{OfFit}
 use Rattle.bi_norm.specs.NormalForm.{NeedsMemory, ForLegacyImage, IsOpenError}
 use Rattle.bi_norm.proofs.NormalForms.{needs_memory}
 use Rattle.bi_commands.specs.Descriptions.{field_words, code_words, reservation_words}
 use Rattle.bi_commands.specs.FitListing.{default_line, reservation_line}
 use Rattle.bi_commands.specs.Listing.{IsListing, OfLegacyImage, OfImageTree, code_word, legacy_listing, parts_lines}
-use Rattle.bi_commands.specs.ReadListing.{configurations_lines, first_words, read_image_line, read_listing}
-use Rattle.bi_commands.specs.Shown.{line, shown, hexadecimal}
+use Rattle.bi_commands.specs.ReadListing.{configurations_lines, words_of_blob_lines, read_image_line, read_listing}
+use Rattle.bi_commands.specs.Shown.{line, shown_text, hexadecimal}
 
 -- The listing of a file, and the pieces of which it is made.
 
@@ -39,13 +40,14 @@ first_nine : (kind name time load entry os arch image_type compression later : L
 first_nine kind name time load entry os arch image_type compression later = simp append_assoc refl
 
 -- The listing of a legacy image with these fields.
-pub legacy_pieces : (parsed : ParsedImage) (fields : Fields) (unused : ℕ) → image_of fields parsed.image.parts ≡ parsed.image → unused ≡ parsed.unused →
+pub legacy_pieces : (parsed : LegacyModel) (fields : Fields) (unused : ℕ) → image_of fields parsed.image.parts ≡ parsed.image →
+    unused ≡ parsed.unused →
     legacy_listing parsed ≡ flat_map line ((codes "kind" ∷ codes "legacy" ∷ []) ∷ field_words (image_of fields []))
     ++ (flat_map line (code_words (image_of fields [])) ++ (parts_lines parsed.image ++ line (codes "unused" ∷ decimal unused ∷ [])))
 legacy_pieces parsed fields unused is counted =
     let image = parsed.image in
     first_nine (line (codes "kind" ∷ codes "legacy" ∷ []))
-    (line (codes "name" ∷ shown image.name ∷ [])) (line (codes "time" ∷ decimal image.time ∷ []))
+    (line (codes "name" ∷ shown_text image.name ∷ [])) (line (codes "time" ∷ decimal image.time ∷ []))
     (line (codes "load" ∷ hexadecimal image.load ∷ [])) (line (codes "entry" ∷ hexadecimal image.entry ∷ []))
     (line (codes "os" ∷ code_word os_names image.os ∷ [])) (line (codes "arch" ∷ code_word arch_names image.arch ∷ []))
     (line (codes "type" ∷ code_word type_names image.image_type ∷ [])) (line (codes "compression" ∷ code_word compression_names image.compression ∷ []))
@@ -56,8 +58,8 @@ legacy_pieces parsed fields unused is counted =
     ++ (flat_map line (code_words (image_of fields [])) ++ (parts_lines parsed.image ++ line (codes "unused" ∷ decimal number ∷ [])))) (sym counted)
 
 -- The listing of a flattened image tree with this blob and these images.
-pub fit_pieces : (content : FitContent) (blob : BlobContent) (images : List ReadImage) → blob ≡ content.blob → images ≡ content.images →
-    read_listing content ≡ flat_map line (first_words blob)
+pub fit_pieces : (content : FitModel) (blob : Blob) (images : List ImageModel) → blob ≡ content.blob → images ≡ content.images →
+    read_listing content ≡ flat_map line (words_of_blob_lines blob)
     ++ (flat_map line (map reservation_words blob.reservations)
     ++ (flat_map read_image_line images ++ (configurations_lines content ++ default_line (default_of (tree_of content)))))
 fit_pieces content blob images same_blob same_images =
@@ -65,33 +67,37 @@ fit_pieces content blob images same_blob same_images =
     first_three (line (codes "kind" ∷ codes "fit" ∷ [])) (line (codes "boot-cpu" ∷ decimal content.blob.cpu ∷ []))
     (line (codes "total-size" ∷ decimal content.blob.total_size ∷ []))
     (flat_map reservation_line content.blob.reservations ++ (flat_map read_image_line content.images ++ later))
-    ∙ ap (λ text. flat_map line (first_words content.blob) ++ (text ++ (flat_map read_image_line content.images ++ later)))
+    ∙ ap (λ text. flat_map line (words_of_blob_lines content.blob) ++ (text ++ (flat_map read_image_line content.images ++ later)))
     (sym (flat_map-map line reservation_words content.blob.reservations))
-    ∙ ap (λ (other : BlobContent). flat_map line (first_words other) ++ (flat_map line (map reservation_words other.reservations)
+    ∙ ap (λ (other : Blob). flat_map line (words_of_blob_lines other) ++ (flat_map line (map reservation_words other.reservations)
     ++ (flat_map read_image_line content.images ++ later))) (sym same_blob)
-    ∙ ap (λ (others : List ReadImage). flat_map line (first_words blob) ++ (flat_map line (map reservation_words blob.reservations)
+    ∙ ap (λ (others : List ImageModel). flat_map line (words_of_blob_lines blob) ++ (flat_map line (map reservation_words blob.reservations)
     ++ (flat_map read_image_line others ++ later))) (sym same_images)
 
 -- Memory may run out for a file that has a listing.
-pub listing_needs_memory : (limits : Bounds) (file text : List ℕ) → IsListing limits file text → NeedsMemory limits file
+pub listing_needs_memory : (limits : Limits) (file text : List ℕ) → IsListing limits file text → NeedsMemory limits file
 listing_needs_memory limits file text (OfLegacyImage parsed is same) = ForLegacyImage parsed.image is.means
 listing_needs_memory limits file text (OfImageTree is) = needs_memory limits file (OfFit is.tree) is.means
 
 -- A call that appended a text, or failed as the sink does.
-pub appended_text : {S : Type 0} (appends : S → List ℕ → S → Type 0) (fails : S → List ℕ → S → Error → Type 0) (IsText : List ℕ → Type 0) (old new : S)
-    (text : List ℕ) (result : Result (Unit {0}) Error) → IsText text → Wrote appends fails old text result new → OnOk result (Appended appends IsText old new)
+pub appended_text : {S : Type 0} (appends : S → List ℕ → S → Type 0) (fails : S → List ℕ → S → Error → Type 0) (IsText : List ℕ → Type 0)
+    (old new : S)
+    (text : List ℕ) (result : Result (Unit {0}) Error) → IsText text → Wrote appends fails old text result new →
+    OnOk result (Appended appends IsText old new)
 appended_text appends fails IsText old new text (Ok done) is wrote = record { text = text; is_text = is; appended = wrote }
 appended_text appends fails IsText old new text (Err error) is wrote = tt
 
-pub failed_text : {S : Type 0} (appends : S → List ℕ → S → Type 0) (fails : S → List ℕ → S → Error → Type 0) (IsText : List ℕ → Type 0) (HasError : Error → Type 0)
+pub failed_text : {S : Type 0} (appends : S → List ℕ → S → Type 0) (fails : S → List ℕ → S → Error → Type 0) (IsText : List ℕ → Type 0)
+    (HasError : Error → Type 0)
     (old new : S) (text : List ℕ) (result : Result (Unit {0}) Error) → IsText text → Wrote appends fails old text result new →
     IfErr result (AppendFailed fails IsText HasError old new)
 failed_text appends fails IsText HasError old new text (Ok done) is wrote = tt
 failed_text appends fails IsText HasError old new text (Err error) is wrote = SinkFailed text error is wrote refl
 
 -- An error of listing a file to memory.
-pub failed_in_memory : (limits : Bounds) (file old new : List ℕ) (error : Error) →
-    AppendFailed (FailsWithin Grows IsOutOfMemory) (IsListing limits file) (IsOpenError limits file) old new error → IsOpenError limits file error
+pub failed_in_memory : (limits : Limits) (file old new : List ℕ) (error : Error) →
+    AppendFailed (FailsWithin Grows IsOutOfMemory) (IsListing limits file) (IsOpenError limits file) old new error →
+    IsOpenError limits file error
 failed_in_memory limits file old new error (WasRefused is kept) = is
 failed_in_memory limits file old new error (SinkFailed text cause is failed same) =
     subst (IsOpenError limits file) (sym (same ∙ failed.1)) (listing_needs_memory limits file text is)

@@ -1,44 +1,46 @@
-use Rattle.std.proofs.Common.{◌≡◌, ℕ, ◌+◌, List, [], ◌∷◌, ◌++◌, Option, Some, None, option_and_then, slice_get, map, codes, refl, sym, ap, ◌∙◌, append_assoc}
+use Rattle.std.proofs.Common.{◌≡◌, ℕ, ◌+◌, List, [], ◌∷◌, ◌++◌, Option, Some, None, option_and_then, slice_get, map, codes, refl, sym, ap}
+use Rattle.std.proofs.Common.{◌∙◌, append_assoc}
 use Rattle.std.specs.List.{join_with_byte, flat_map}
 use Rattle.std.proofs.lemmas.List.Folds.{flat_map-map}
 use Rattle.std.proofs.lemmas.Option.{same_Some}
 use Rattle.bi_fit.specs.declared.key.Key.{Key}
-use Rattle.bi_fit.specs.Content.{ReadImage, index_of}
-use Rattle.bi_fit.specs.Judgement.{ListedImage, MissingImage, ListedImages, with_image}
+use Rattle.bi_fit.specs.Content.{ImageModel, index_of}
+use Rattle.bi_fit.specs.Judgement.{ListedImage, Missing, ListedImages, with_image}
 use Rattle.bi_fit.specs.Names.{key_name}
-use Rattle.bi_fit.specs.Nodes.{file_list, listed_payload}
-use Rattle.bi_fit.proofs.FileLists.{payload_found, payload_missing}
+use Rattle.bi_fit.specs.HashNodes.{file_list, listed_payload}
+use Rattle.bi_fit.proofs.FileLists.{payload_found, payload_named-missing}
 use Rattle.bi_commands.specs.FitListing.{key_line}
 use Rattle.bi_commands.specs.ReadListing.{missing_from, first_missing}
-use Rattle.bi_commands.specs.Shown.{line, shown}
+use Rattle.bi_commands.specs.Shown.{line, shown_text}
 use Rattle.bi_commands.proofs.FitLines.{joined_after}
 
 -- The names that a key lists.
 
 -- The first name that no image has is the one that is missing.
-pub missing_is : (images : List ReadImage) (index missing : ℕ) (names : List (List ℕ)) → first_missing images index names ≡ Some missing →
-    file_list images index names ≡ MissingImage missing
+pub missing_is : (images : List ImageModel) (index missing : ℕ) (names : List (List ℕ)) → first_missing images index names ≡ Some missing →
+    file_list images index names ≡ Missing missing
 missing_is images index missing [] is = absurd cc
 missing_is images index missing (name ∷ later) is = by_image (index_of name images) refl is (λ is. missing_is images (index + 1) missing later is)
   where
     by_image : (found : Option ℕ) → index_of name images ≡ found → missing_from index found (first_missing images (index + 1) later) ≡ Some missing →
-        (first_missing images (index + 1) later ≡ Some missing → file_list images (index + 1) later ≡ MissingImage missing) →
-        file_list images index (name ∷ later) ≡ MissingImage missing
+        (first_missing images (index + 1) later ≡ Some missing → file_list images (index + 1) later ≡ Missing missing) →
+        file_list images index (name ∷ later) ≡ Missing missing
     by_image None none is rest =
-        ap (λ found. listed_payload index name found (file_list images (index + 1) later)) (payload_missing name images none)
-        ∙ ap MissingImage (same_Some index missing is)
+        ap (λ found. listed_payload index name found (file_list images (index + 1) later)) (payload_named-missing name images none)
+        ∙ ap Missing (same_Some index missing is)
     by_image (Some image) some is rest =
         ap (λ found. listed_payload index name found (file_list images (index + 1) later)) (payload_found name images image some)
         ∙ ap (with_image (record { name = name; payload = option_and_then (λ other. other.payload) (slice_get images image) }))
         (rest is)
 
 -- Images of these names are listed.
-abbrev AreListed : List ReadImage → ℕ → List (List ℕ) → Type 0
+abbrev AreListed : List ImageModel → ℕ → List (List ℕ) → Type 0
 AreListed images index names =
     (listed : List ListedImage) × (file_list images index names ≡ ListedImages listed) × (map (λ (image : ListedImage). image.name) listed ≡ names)
 
 -- They are, if no name is missing.
-names_found : (images : List ReadImage) (index : ℕ) (names : List (List ℕ)) → first_missing images index names ≡ None → AreListed images index names
+names_found : (images : List ImageModel) (index : ℕ) (names : List (List ℕ)) → first_missing images index names ≡ None →
+    AreListed images index names
 names_found images index [] is = ([], refl, refl)
 names_found images index (name ∷ later) is = by_image (index_of name images) refl is (λ is. names_found images (index + 1) later is)
   where
@@ -55,17 +57,20 @@ names_found images index (name ∷ later) is = by_image (index_of name images) r
         )
 
 -- The shown names of images.
-shown_names : (listed : List ListedImage) → map (λ (image : ListedImage). shown image.name) listed ≡ map shown (map (λ (image : ListedImage). image.name) listed)
+shown_names : (listed : List ListedImage) →
+    map (λ (image : ListedImage). shown_text image.name) listed ≡ map shown_text (map (λ (image : ListedImage). image.name) listed)
 shown_names [] = refl
-shown_names (image ∷ later) = ap (λ names. shown image.name ∷ names) (shown_names later)
+shown_names (image ∷ later) = ap (λ names. shown_text image.name ∷ names) (shown_names later)
 
 -- The line of a key that lists these names.
-pub images_line : (configuration : List ℕ) (key : Key) (images : List ReadImage) (names : List (List ℕ)) → first_missing images 0 names ≡ None →
-    key_line configuration key (file_list images 0 names) ≡ line (codes "key" ∷ shown configuration ∷ key_name key ∷ codes "ok" ∷ map shown names)
+pub images_line : (configuration : List ℕ) (key : Key) (images : List ImageModel) (names : List (List ℕ)) →
+    first_missing images 0 names ≡ None →
+    key_line configuration key (file_list images 0 names)
+    ≡ line (codes "key" ∷ shown_text configuration ∷ key_name key ∷ codes "ok" ∷ map shown_text names)
 images_line configuration key images names is =
     let (listed, found, named) = names_found images 0 names is in
     ap (key_line configuration key) found
-    ∙ ap (λ words. line (codes "key" ∷ shown configuration ∷ key_name key ∷ codes "ok" ∷ words)) (shown_names listed ∙ ap (map shown) named)
+    ∙ ap (λ words. line (codes "key" ∷ shown_text configuration ∷ key_name key ∷ codes "ok" ∷ words)) (shown_names listed ∙ ap (map shown_text) named)
 
 -- Words and more of them, with a space before each but the first.
 joined_more : (first : List ℕ) (words more : List (List ℕ)) →
@@ -77,12 +82,13 @@ joined_more first (word ∷ words) more =
 
 -- The line of a key that lists names: its first words, where the name of the key is given as a word, the names, and a newline.
 pub line_of_names : (configuration : List ℕ) (key : Key) (word : List ℕ) (names : List (List ℕ)) → word ≡ key_name key →
-    line (codes "key" ∷ shown configuration ∷ key_name key ∷ codes "ok" ∷ map shown names)
-    ≡ join_with_byte 32 (codes "key" ∷ shown configuration ∷ word ∷ codes "ok" ∷ []) ++ (flat_map (λ name. 32 ∷ shown name) names ++ 10 ∷ [])
+    line (codes "key" ∷ shown_text configuration ∷ key_name key ∷ codes "ok" ∷ map shown_text names)
+    ≡ join_with_byte 32 (codes "key" ∷ shown_text configuration ∷ word ∷ codes "ok" ∷ [])
+    ++ (flat_map (λ name. 32 ∷ shown_text name) names ++ 10 ∷ [])
 line_of_names configuration key word names is =
-    let later : List (List ℕ) = shown configuration ∷ word ∷ codes "ok" ∷ [] in
-    ap (λ other. line (codes "key" ∷ shown configuration ∷ other ∷ codes "ok" ∷ map shown names)) (sym is)
+    let later : List (List ℕ) = shown_text configuration ∷ word ∷ codes "ok" ∷ [] in
+    ap (λ other. line (codes "key" ∷ shown_text configuration ∷ other ∷ codes "ok" ∷ map shown_text names)) (sym is)
     ∙ ap (λ text. text ++ 10 ∷ [])
-    (joined_more (codes "key") later (map shown names)
-    ∙ ap (λ more. join_with_byte 32 (codes "key" ∷ later) ++ more) (flat_map-map (λ word. 32 ∷ word) shown names))
-    ∙ append_assoc (join_with_byte 32 (codes "key" ∷ later)) (flat_map (λ name. 32 ∷ shown name) names) (10 ∷ [])
+    (joined_more (codes "key") later (map shown_text names)
+    ∙ ap (λ more. join_with_byte 32 (codes "key" ∷ later) ++ more) (flat_map-map (λ word. 32 ∷ word) shown_text names))
+    ∙ append_assoc (join_with_byte 32 (codes "key" ∷ later)) (flat_map (λ name. 32 ∷ shown_text name) names) (10 ∷ [])

@@ -1,7 +1,7 @@
 use Rattle.std.proofs.Common.{◌≡◌, ◌+◌, ℕ, List, [], Option, None, Some, Err, refl, arith}
 use Rattle.std.proofs.KnownBytes.{Keeps-refl}
 use Rattle.bi_base.specs.Commands.{NoMemory, unit_promise}
-use Rattle.bi_base.specs.Limits.{Bounds}
+use Rattle.bi_base.specs.Limits.{Limits}
 use Rattle.bi_base.specs.Pipes.{IsPiped}
 use Rattle.bi_base.specs.Reading.{IsInput, TakesAtMost}
 use Rattle.bi_base.specs.declared.fault.Error.{Error}
@@ -26,7 +26,7 @@ memory_is_no_write : ¬ (OutOfMemory ≡ WriteFailed)
 memory_is_no_write e = absurd cc
 
 -- Nothing was read or written.
-pub not_begun : (IsOutput : List ℕ → List ℕ → Type 0) (HasError : List ℕ → Error → Type 0) (limits : Bounds)
+pub not_begun : (IsOutput : List ℕ → List ℕ → Type 0) (HasError : List ℕ → Error → Type 0) (limits : Limits)
     (remaining contents : Option (List ℕ))
     → IsPiped (unit_promise IsOutput HasError) limits remaining remaining contents contents (Err OutOfMemory)
 not_begun IsOutput HasError limits remaining contents = record {

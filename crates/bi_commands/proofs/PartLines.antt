@@ -2,7 +2,7 @@ use Rattle.std.proofs.Common.{◌≡◌, ℕ, suc, ◌+◌, List, [], ◌∷◌,
 use Rattle.bi_base.specs.Cells.{up4}
 use Rattle.bi_legacy.specs.Meaning.{LegacyImage}
 use Rattle.bi_legacy.specs.Parts.{parts_start}
-use Rattle.bi_legacy.specs.PlacedParts.{PlacedPart, placed_parts_from, placed_parts}
+use Rattle.bi_legacy.specs.PlacedParts.{PartModel, placed_parts_from, placed_parts}
 use Rattle.bi_commands.specs.Listing.{part_line, part_lines}
 use Rattle.std.specs.Fmt.{decimal}
 use Rattle.bi_commands.specs.Shown.{line}
@@ -16,7 +16,8 @@ pub length-placed_parts : (image : LegacyImage) → length (placed_parts image) 
 length-placed_parts image = length-placed_parts_from (parts_start image.image_type image.parts) image.parts
 
 -- The lines from a part on are its line and those of the later parts.
-pub lines_from_part : (count next index : ℕ) (source left : List PlacedPart) (part : PlacedPart) → source ≡ part ∷ left → index ≡ count → next ≡ count + 1 →
+pub lines_from_part : (count next index : ℕ) (source left : List PartModel) (part : PartModel) → source ≡ part ∷ left → index ≡ count →
+    next ≡ count + 1 →
     part_line index part ++ part_lines next left ≡ part_lines count source
 lines_from_part count next index source left part first same more =
     ap (λ n. part_line n part ++ part_lines next left) same

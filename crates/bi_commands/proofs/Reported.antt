@@ -1,17 +1,18 @@
-use Rattle.std.proofs.Common.{◌≡◌, ◌↔◌, ℕ, ◌/◌, ◌%◌, ◌<◌, suc, Bool, true, false, List, [], ◌∷◌, ◌++◌, get_or, map, refl, sym, ap, ap₂, subst, ◌∙◌, arith, IsTrue, ◌&&◌, codes, append_assoc, Result, Ok, Err, OnOk}
+use Rattle.std.proofs.Common.{◌≡◌, ◌↔◌, ℕ, ◌/◌, ◌%◌, ◌<◌, suc, Bool, true, false, List, [], ◌∷◌, ◌++◌, get_or, map, refl, sym, ap, ap₂}
+use Rattle.std.proofs.Common.{subst, ◌∙◌, arith, IsTrue, ◌&&◌, codes, append_assoc, Result, Ok, Err, OnOk}
 use Rattle.std.specs.Fmt.{decimal, digit_glyph}
 use Rattle.std.specs.List.{flat_map, slice_index, list_all}
 use Rattle.std.proofs.lemmas.List.Folds.{list_all-map}
 use Rattle.std.proofs.lemmas.List.FromFn.{get_or-map-range_with_len}
-use Rattle.bi_base.specs.Limits.{Bounds}
+use Rattle.bi_base.specs.Limits.{Limits}
 use Rattle.bi_hash.specs.declared.verdicts.Verdict.{Verdict}
 use Rattle.bi_hash.specs.declared.verdicts.Verdict.TheVariants.{Good, Bad, UnknownAlgo, NoPayload, Malformed}
 use Rattle.bi_fit.specs.declared.hashes.Checked.{Checked}
-use Rattle.bi_fit.specs.Content.{FitContent, tree_of}
+use Rattle.bi_fit.specs.Content.{FitModel, tree_of}
 use Rattle.bi_fit.specs.Judgement.{CheckedHash, verdicts_of}
-use Rattle.bi_fit.specs.Judging.{checked_hash_of}
+use Rattle.bi_fit.specs.JudgementCalls.{checked_hash_of}
 use Rattle.bi_fit.specs.Reading.{IsReadFrom}
-use Rattle.bi_legacy.specs.Reading.{ParsedImage, IsParsedImage}
+use Rattle.bi_legacy.specs.Reading.{LegacyModel, IsParsedImage}
 use Rattle.bi_norm.specs.Meaning.{OfLegacy, OfFit}
 use Rattle.hex.specs.Hex.{encode_lower, encode_with, lower_digits}
 use Rattle.bi_commands.specs.Reports.{is_verdict, count_of, AreGood, Verified, legacy_report, hash_line, summary_line}
@@ -62,15 +63,18 @@ all_good (hash ∷ later) = (forth (all_good later).0, back (all_good later).1) 
   back rest good = rw (ap (is_verdict Good) good.0) (rest good.1)
 
 -- The report on a legacy image that was read from a file.
-pub legacy_verified : (limits : Bounds) (file text : List ℕ) (parsed : ParsedImage) → IsParsedImage limits file parsed → text ≡ legacy_report → Verified limits true file text
+pub legacy_verified : (limits : Limits) (file text : List ℕ) (parsed : LegacyModel) → IsParsedImage limits file parsed →
+    text ≡ legacy_report → Verified limits true file text
 legacy_verified limits file text parsed opened is = record {
   report = record { meaning = OfLegacy parsed.image; means = opened.means; is = is };
   all_good = (λ _. tt, λ _. refl);
 }
 
 -- The report on a flattened image tree that was read from a file.
-pub tree_verified : (limits : Bounds) (file text : List ℕ) (content : FitContent) (hashes : List Checked) (good : Bool) → IsReadFrom limits file content →
-    map checked_hash_of hashes ≡ verdicts_of (tree_of content) → text ≡ flat_map hash_line (map checked_hash_of hashes) ++ summary_line (map checked_hash_of hashes) →
+pub tree_verified : (limits : Limits) (file text : List ℕ) (content : FitModel) (hashes : List Checked) (good : Bool) →
+    IsReadFrom limits file content →
+    map checked_hash_of hashes ≡ verdicts_of (tree_of content) →
+    text ≡ flat_map hash_line (map checked_hash_of hashes) ++ summary_line (map checked_hash_of hashes) →
     good ≡ list_all (λ (hash : Checked). is_verdict Good hash.verdict) hashes → Verified limits good file text
 tree_verified limits file text content hashes good is are written tested =
     let test = tested ∙ sym (list_all-map (λ (hash : CheckedHash). is_verdict Good hash.verdict) checked_hash_of hashes)
@@ -94,10 +98,12 @@ summary_words old new good bad unknown none malformed is =
     rw (append_assoc good after_good (10 ∷ []), append_assoc bad after_bad (10 ∷ []), append_assoc unknown after_unknown (10 ∷ []), append_assoc none after_none (10 ∷ [])) is
 
 -- What is written for the number of each verdict.
-pub summary_line_of : {E : Type 0} (result : Result (Unit {0}) E) (old new : List ℕ) (hashes : List CheckedHash) (good bad unknown none malformed : ℕ) →
+pub summary_line_of : {E : Type 0} (result : Result (Unit {0}) E) (old new : List ℕ) (hashes : List CheckedHash)
+    (good bad unknown none malformed : ℕ) →
     good ≡ count_of Good hashes → bad ≡ count_of Bad hashes → unknown ≡ count_of UnknownAlgo hashes → none ≡ count_of NoPayload hashes →
     malformed ≡ count_of Malformed hashes →
-    OnOk result (new ≡ old ++ (codes "summary good " ++ (decimal good ++ (codes " bad " ++ (decimal bad ++ (codes " unknown-algorithm " ++ (decimal unknown
+    OnOk result (new ≡ old ++ (codes "summary good "
+    ++ (decimal good ++ (codes " bad " ++ (decimal bad ++ (codes " unknown-algorithm " ++ (decimal unknown
     ++ (codes " no-payload " ++ (decimal none ++ (codes " malformed " ++ (decimal malformed ++ 10 ∷ []))))))))))) →
     OnOk result (new ≡ old ++ summary_line hashes)
 summary_line_of (Err e) old new hashes good bad unknown none malformed a b c d f is = tt

@@ -1,52 +1,58 @@
-use Rattle.std.proofs.Common.{◌≡◌, ℕ, ◌+◌, ◌-◌, ◌<◌, ◌≤◌, List, [], ◌∷◌, ◌++◌, Option, Some, codes, flat_map, drop, get_or, take, length, map, refl, sym, ap, ◌∙◌, arith, append_assoc, append-nil, length-append}
+use Rattle.std.proofs.Common.{◌≡◌, ℕ, ◌+◌, ◌-◌, ◌<◌, ◌≤◌, List, [], ◌∷◌, ◌++◌, Option, Some, codes, flat_map, drop, get_or, take, length}
+use Rattle.std.proofs.Common.{map, refl, sym, ap, ◌∙◌, arith, append_assoc, append-nil, length-append}
 use Rattle.std.specs.FinMap.{entries}
 use Rattle.std.specs.List.{slice_get}
 use Rattle.std.proofs.lemmas.List.{drop_more, take-append-le}
 use Rattle.std.proofs.Math.Seq.{take-length}
 use Rattle.bi_blob.specs.Blob.{Reservation, end_pair}
 use Rattle.bi_blob.specs.Tree.{Nodes, none, node, Property}
-use Rattle.bi_base.specs.Limits.{Bounds}
-use Rattle.bi_fdt.specs.Content.{BlobContent}
-use Rattle.bi_fit.specs.Additions.{payloads_of}
+use Rattle.bi_base.specs.Limits.{Limits}
+use Rattle.bi_fdt.specs.Content.{Blob}
+use Rattle.bi_fit.specs.NormalNodes.{payloads_of}
 use Rattle.bi_fit.specs.declared.image.Image.{Image}
-use Rattle.bi_fit.specs.Content.{FitContent, ReadImage, read_image, tree_of}
+use Rattle.bi_fit.specs.Content.{FitModel, ImageModel, image_model, tree_of}
 use Rattle.bi_fit.specs.ImageTree.{ImageTree}
 use Rattle.bi_norm.specs.Meaning.{OfFit}
 use Rattle.bi_commands.specs.declared.describe.entries.Entry.{Entry}
-use Rattle.bi_commands.specs.Descriptions.{Words, DescribedNode, NodePayload, NotAnImage, OfImage, described_nodes, node_lines, path, payload_words, property_words, reservation_words, tree_lines, description}
+use Rattle.bi_commands.specs.Descriptions.{Words, DescribedNode, NodePayload, NotAnImage, OfImage, described_nodes, node_lines, path}
+use Rattle.bi_commands.specs.Descriptions.{payload_words, property_words, reservation_words, tree_lines, description}
 use Rattle.bi_commands.specs.PayloadBounds.{IsOverPayloadBound, payloads_length}
 use Rattle.bi_commands.specs.ReadDescription.{head_lines, read_lines, root_lines}
 use Rattle.bi_commands.specs.Shown.{line}
-use Rattle.bi_commands.specs.TreeEntries.{TreeEntry, NodeEnds, PropertyEntry, entry_lines, node_entries, own_entries, payload_entries, tree_entries, tree_entry}
-use Rattle.bi_commands.proofs.FitLines.{numbers_of, reservation_at, reservation_of}
+use Rattle.bi_commands.specs.TreeEntries.{EntryModel, NodeEnds, PropertyEntry, entry_lines, node_entries, own_entries, payload_entries}
+use Rattle.bi_commands.specs.TreeEntries.{tree_entries, as_entry}
+use Rattle.bi_commands.proofs.FitLines.{numbers_of, reservation_found, reservation_of}
 
 -- The lines of a flattened image tree by its entries.
 
 -- The text from the reservation at an index on is its line and those after it.
-pub reservations_from : (reservations : List Reservation) (index : ℕ) (found : Option (ℕ × ℕ)) (numbers : ℕ × ℕ) → index < length reservations → found ≡ slice_get (map numbers_of reservations) index → found ≡ Some numbers
-    → flat_map line (map reservation_words (drop index reservations)) ≡ line (reservation_words (reservation_of (Some numbers))) ++ flat_map line (map reservation_words (drop (index + 1) reservations))
-reservations_from reservations index found numbers within is some =
-    let same : Some numbers ≡ Some (numbers_of (get_or reservations index end_pair)) = sym some ∙ reservation_at reservations index found within is in
+pub reservation_lines_from : (reservations : List Reservation) (index : ℕ) (found : Option (ℕ × ℕ)) (numbers : ℕ × ℕ) →
+    index < length reservations → found ≡ slice_get (map numbers_of reservations) index → found ≡ Some numbers
+    → flat_map line (map reservation_words (drop index reservations))
+    ≡ line (reservation_words (reservation_of (Some numbers))) ++ flat_map line (map reservation_words (drop (index + 1) reservations))
+reservation_lines_from reservations index found numbers within is some =
+    let same : Some numbers ≡ Some (numbers_of (get_or reservations index end_pair)) = sym some ∙ reservation_found reservations index found within is in
     ap (λ left. flat_map line (map reservation_words left)) (drop_more reservations index end_pair within)
     ∙ ap (λ o. line (reservation_words (reservation_of o)) ++ flat_map line (map reservation_words (drop (index + 1) reservations))) (sym same)
 
 -- The lines of properties and of the entries after them.
-property_lines : (names : List (List ℕ)) (properties : List Property) (later : List TreeEntry)
+property_lines : (names : List (List ℕ)) (properties : List Property) (later : List EntryModel)
     → entry_lines names (map PropertyEntry properties ++ later) ≡ map (property_words (path names)) properties ++ entry_lines names later
 property_lines names [] later = refl
 property_lines names (property ∷ properties) later = ap (λ lines. property_words (path names) property ∷ lines) (property_lines names properties later)
 
 -- The lines of a payload and of the entries after it.
-payload_lines : (names : List (List ℕ)) (payload : NodePayload) (later : List TreeEntry)
+payload_lines : (names : List (List ℕ)) (payload : NodePayload) (later : List EntryModel)
     → entry_lines names (payload_entries payload ++ later) ≡ payload_words (path names) payload ++ entry_lines names later
 payload_lines names NotAnImage later = refl
 payload_lines names (OfImage payload) later = refl
 
 -- The lines of what a node has itself, and of the entries after it.
-own_entry_lines : (names : List (List ℕ)) (own : DescribedNode) (later : List TreeEntry)
-    → entry_lines names (own_entries own ++ later) ≡ (payload_words (path names) own.payload ++ map (property_words (path names)) (entries own.properties)) ++ entry_lines names later
+own_entry_lines : (names : List (List ℕ)) (own : DescribedNode) (later : List EntryModel)
+    → entry_lines names (own_entries own ++ later)
+    ≡ (payload_words (path names) own.payload ++ map (property_words (path names)) (entries own.properties)) ++ entry_lines names later
 own_entry_lines names own later =
-    let properties : List TreeEntry = map PropertyEntry (entries own.properties) in
+    let properties : List EntryModel = map PropertyEntry (entries own.properties) in
     ap (entry_lines names) (append_assoc (payload_entries own.payload) properties later)
     ∙ payload_lines names own.payload (properties ++ later)
     ∙ ap (λ lines. payload_words (path names) own.payload ++ lines) (property_lines names (entries own.properties) later)
@@ -61,7 +67,7 @@ closed above name =
     ∙ take-length above
 
 -- The lines of nodes and of the entries after them.
-lines_of_nodes : (above : List (List ℕ)) (nodes : Nodes DescribedNode) (rest : List TreeEntry)
+lines_of_nodes : (above : List (List ℕ)) (nodes : Nodes DescribedNode) (rest : List EntryModel)
     → entry_lines above (node_entries nodes ++ rest) ≡ node_lines above nodes ++ entry_lines above rest
 lines_of_nodes above none rest = refl
 lines_of_nodes above (node name own children later) rest =
@@ -71,7 +77,7 @@ lines_of_nodes above (node name own children later) rest =
     let below : List Words = node_lines inner children in
     let after : List Words = node_lines above later in
     let left : List Words = entry_lines above rest in
-    let after_end : List TreeEntry = NodeEnds ∷ (node_entries later ++ rest) in
+    let after_end : List EntryModel = NodeEnds ∷ (node_entries later ++ rest) in
     ap (λ lines. head ∷ lines)
     (ap (entry_lines inner) (append_assoc (own_entries own) (node_entries children ++ (NodeEnds ∷ node_entries later)) rest
     ∙ ap (λ others. own_entries own ++ others) (append_assoc (node_entries children) (NodeEnds ∷ node_entries later) rest))
@@ -91,16 +97,19 @@ lines_of_tree tree =
     ∙ ap (λ lines. own ++ lines) (ap (entry_lines []) (sym (append-nil (node_entries nodes))) ∙ lines_of_nodes [] nodes [] ∙ append-nil (node_lines [] nodes)))
 
 -- The text that is written for a flattened image tree.
-pub fit_text : (content : FitContent) (blob : BlobContent) (made : List Entry) → blob ≡ content.blob → map tree_entry made ≡ tree_entries (tree_of content)
-    → flat_map line (read_lines blob (map tree_entry made)) ≡ description (OfFit (tree_of content))
-fit_text content blob made is entries_are =
-    ap (λ (other : BlobContent). flat_map line (read_lines other (map tree_entry made))) is
+pub fit_description : (content : FitModel) (blob : Blob) (made : List Entry) → blob ≡ content.blob →
+    map as_entry made ≡ tree_entries (tree_of content)
+    → flat_map line (read_lines blob (map as_entry made)) ≡ description (OfFit (tree_of content))
+fit_description content blob made is entries_are =
+    ap (λ (other : Blob). flat_map line (read_lines other (map as_entry made))) is
     ∙ ap (λ others. flat_map line (read_lines content.blob others)) entries_are
     ∙ ap (λ lines. flat_map line (head_lines content.blob.cpu ++ (map reservation_words content.blob.reservations ++ lines))) (lines_of_tree (tree_of content))
 
 -- Payloads that are no longer than the limit are not over the payload bound.
-pub within_bound : (limits : Bounds) (content : FitContent) (images : List Image) (limit : ℕ) → limit ≡ limits.file → map read_image images ≡ content.images → payloads_length (payloads_of images) ≤ limit → ¬ (IsOverPayloadBound limits (OfFit (tree_of content)))
+pub within_bound : (limits : Limits) (content : FitModel) (images : List Image) (limit : ℕ) → limit ≡ limits.file →
+    map image_model images ≡ content.images → payloads_length (payloads_of images) ≤ limit →
+    ¬ (IsOverPayloadBound limits (OfFit (tree_of content)))
 within_bound limits content images limit is same within over =
-    let lengths : payloads_length (payloads_of images) ≡ payloads_length (tree_of content).payloads = ap (λ (images : List ReadImage). payloads_length (map (λ (image : ReadImage). image.payload) images)) same in
+    let lengths : payloads_length (payloads_of images) ≡ payloads_length (tree_of content).payloads = ap (λ (images : List ImageModel). payloads_length (map (λ (image : ImageModel). image.payload) images)) same in
     let longer : limits.file < payloads_length (tree_of content).payloads = over in
     omega (arith, is, within, lengths, longer)

@@ -1,4 +1,6 @@
-use Rattle.std.proofs.Common.{◌≡◌, ◌≢◌, ◌⊎◌, ℕ, suc, zero, ◌-◌, ◌≤◌, ◌<◌, Bool, true, false, cond, List, [], ◌∷◌, ◌++◌, length, get_or, take, drop, inl, inr, refl, sym, ap, ap₂, subst, append_assoc, ◌∙◌, arith, codes, true≢false, ◌==◌, IfNone, IfSome, Option, None, Some}
+use Rattle.std.proofs.Common.{◌≡◌, ◌≢◌, ◌⊎◌, ℕ, suc, zero, ◌-◌, ◌≤◌, ◌<◌, Bool, true, false, cond, List, [], ◌∷◌, ◌++◌, length, get_or}
+use Rattle.std.proofs.Common.{take, drop, inl, inr, refl, sym, ap, ap₂, subst, append_assoc, ◌∙◌, arith, codes, true≢false, ◌==◌, IfNone}
+use Rattle.std.proofs.Common.{IfSome, Option, None, Some}
 use Rattle.std.proofs.lemmas.Bool.{cases_lt, eqb-true}
 use Rattle.std.proofs.lemmas.List.{append-nil, take_all}
 use Rattle.std.proofs.lemmas.Grind.{flat_map-append}
@@ -6,10 +8,11 @@ use Rattle.std.proofs.Math.Seq.{get_or-append_seam}
 use Rattle.std.specs.Fmt.{digit_glyph}
 use Rattle.std.specs.List.{flat_map}
 use Rattle.bi_base.specs.Cells.{AreBytes}
-use Rattle.bi_commands.specs.Shown.{digits_of_byte, is_plain, shown_byte, shown}
+use Rattle.bi_commands.specs.Shown.{digits_of_byte, is_plain, shown_byte, shown_text}
 use Rattle.bi_commands.specs.Unshown.{IsNameShownAs, IsNoShownBytes, IsShownOfNoBytes}
 use Rattle.bi_commands.proofs.Readable.Cuts.{IsReadBack, nothing_before, first_same, later_same}
-use Rattle.bi_commands.proofs.Readable.ShownNames.{low_glyph, high_glyph, plain_no_percent, read_shown_byte, same_shown, some_shown_byte, ways, ShownName, Nothing, Dash, Others}
+use Rattle.bi_commands.proofs.Readable.ShownNames.{low_glyph, high_glyph, plain_no_percent, read_shown_byte, same_shown, some_shown_byte}
+use Rattle.bi_commands.proofs.Readable.ShownNames.{ways, ShownName, Nothing, Dash, Others}
 
 -- Names are read back from how they are printed.
 
@@ -56,7 +59,8 @@ one_more_byte text name rest later byte begins is =
     ∙ append_assoc (flat_map shown_byte name) (shown_byte byte) later ∙ ap (λ bytes. flat_map shown_byte name ++ bytes) (sym is) ∙ begins
 
 -- A text that is not empty, as its first byte and what follows it.
-pub first_and_rest : (text : List ℕ) (byte : ℕ) → 1 ≤ length text → get_or text 0 0 ≡ byte → text ≡ byte ∷ take (length text - 1) (drop 1 text)
+pub first_and_rest : (text : List ℕ) (byte : ℕ) → 1 ≤ length text → get_or text 0 0 ≡ byte →
+    text ≡ byte ∷ take (length text - 1) (drop 1 text)
 first_and_rest [] byte some first = absurd (omega (arith, some))
 first_and_rest (other ∷ rest) byte some first =
     ap₂ (λ x xs. x ∷ xs) first (sym (take_all (length (other ∷ rest) - 1) rest (omega arith)))
@@ -79,10 +83,10 @@ no_first_byte text rest None is none = λ byte later small same. where_test byte
         none byte later small escaped (later_same shown_is)
 
 -- Bytes that are printed as a text one by one are a name that is printed so, if the text is neither nothing nor that of the empty name.
-pub bytes_are_name : (text name : List ℕ) → text ≢ [] → text ≢ codes "-" → flat_map shown_byte name ≡ text → shown name ≡ text
+pub bytes_are_name : (text name : List ℕ) → text ≢ [] → text ≢ codes "-" → flat_map shown_byte name ≡ text → shown_text name ≡ text
 bytes_are_name text name some other is = where_way (ways name)
   where
-    where_way : ShownName name → shown name ≡ text
+    where_way : ShownName name → shown_text name ≡ text
     where_way (Nothing empty way) = absurd (some (sym is ∙ ap (flat_map shown_byte) empty))
     where_way (Dash dash way) = absurd (other (sym is ∙ ap (flat_map shown_byte) dash))
     where_way (Others not_empty not_dash way) = way ∙ is
@@ -119,5 +123,5 @@ dash_is_bytes = record { each = each }
     each (suc i) = omega arith
 
 -- A name that is printed as a text is the only one.
-pub only_name : (text name : List ℕ) → AreBytes name → shown name ≡ text → IsNameShownAs text name
+pub only_name : (text name : List ℕ) → AreBytes name → shown_text name ≡ text → IsNameShownAs text name
 only_name text name are is = record { bytes = are; is = is; only = λ other same. same_shown other name (same ∙ sym is) }

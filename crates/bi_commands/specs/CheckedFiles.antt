@@ -3,7 +3,7 @@ use Rattle.bi_base.specs.Commands.{CommandPromise, PromiseLaws}
 use Rattle.bi_base.specs.declared.fault.Error.{Error}
 use Rattle.bi_base.specs.declared.fault.Error.TheVariants.{Refused, OutOfMemory, ReadFailed}
 use Rattle.bi_base.specs.declared.fault.Error.TheVariants.{WriteFailed}
-use Rattle.bi_base.specs.Limits.{Bounds}
+use Rattle.bi_base.specs.Limits.{Limits}
 use Rattle.bi_base.specs.Reading.{too_large}
 use Rattle.bi_norm.specs.Comparing.{MeansOnly}
 use Rattle.bi_norm.specs.Meaning.{Meaning, Means}
@@ -16,7 +16,7 @@ use Rattle.bi_commands.specs.PayloadBounds.{IsOverPayloadBound}
 
 -- The text has the lines of the concerns about the file that are not allowed. The file means
 -- something and nothing else, and its payloads are within the payload bound.
-pub record IsChecked (allowed : Allowed) (limits : Bounds) (file text : List ℕ) : Type 0 where
+pub record IsChecked (allowed : Allowed) (limits : Limits) (file text : List ℕ) : Type 0 where
   pub meaning : Meaning
   pub means : MeansOnly limits file meaning
   pub within : ¬ (IsOverPayloadBound limits meaning)
@@ -25,14 +25,14 @@ pub record IsChecked (allowed : Allowed) (limits : Bounds) (file text : List ℕ
   pub is_text : text ≡ concern_lines allowed concerns
 
 -- The file means something whose payloads are over the payload bound.
-pub record HoldsTooMuch (limits : Bounds) (file : List ℕ) : Type 0 where
+pub record HoldsTooMuch (limits : Limits) (file : List ℕ) : Type 0 where
   pub meaning : Meaning
   pub means : Means limits file meaning
   pub is_over : IsOverPayloadBound limits meaning
 
 -- The error that checking a file in memory can have: one of reading it, or TooLarge at the limit
 -- if it means something whose payloads are over the payload bound.
-abbrev pub IsCheckError : Bounds → List ℕ → Error → Type 0
+abbrev pub IsCheckError : Limits → List ℕ → Error → Type 0
 IsCheckError limits file (Refused fault) =
     IsOpenError limits file (Refused fault)
     ⊎ (HoldsTooMuch limits file × (fault ≡ too_large limits.file))
@@ -42,14 +42,14 @@ IsCheckError limits file WriteFailed = ⊥
 
 -- The text has the lines of the concerns about the file that are not allowed, and this is whether
 -- there are none.
-pub record Checked (allowed : Allowed) (limits : Bounds) (clean : Bool) (file text : List ℕ)
+pub record Checked (allowed : Allowed) (limits : Limits) (clean : Bool) (file text : List ℕ)
     : Type 0
   where
     pub checked : IsChecked allowed limits file text
     pub is_empty : IsTrue clean ↔ (text ≡ [])
 
 -- What checking promises as a command.
-abbrev pub check_promise : Allowed → Bounds → CommandPromise Bool Error
+abbrev pub check_promise : Allowed → Limits → CommandPromise Bool Error
 check_promise allowed limits = record {
   is_output = λ clean file text. Checked allowed limits clean file text;
   is_text = IsChecked allowed limits;
@@ -57,7 +57,7 @@ check_promise allowed limits = record {
   wraps = λ error. error;
 }
 
-pub check_laws : (allowed : Allowed) (limits : Bounds) → PromiseLaws (check_promise allowed limits)
+pub check_laws : (allowed : Allowed) (limits : Limits) → PromiseLaws (check_promise allowed limits)
 check_laws allowed limits = record {
   is_text = λ clean file text is. is.checked;
   wraps_once = λ a b same. same;

@@ -3,24 +3,24 @@ use Rattle.std.specs.Prelude.{[], ◌∷◌, ◌++◌, Option, Some, None, lengt
 use Rattle.std.specs.Prelude.{drop, codes, bytes_eq, unwrap_or, if◌then◌else◌}
 use Rattle.std.specs.Fmt.{decimal}
 use Rattle.std.specs.List.{list_all, list_any}
-use Rattle.bi_base.specs.Limits.{Bounds}
+use Rattle.bi_base.specs.Limits.{Limits}
 use Rattle.bi_blob.specs.Blob.{totalsize}
 use Rattle.bi_blob.specs.Tree.{Nodes, node, FileNode, names}
 use Rattle.bi_fit.specs.declared.key.Key.{Key}
 use Rattle.bi_fit.specs.File.{FitMeans}
 use Rattle.bi_fit.specs.ImageTree.{ImageTree}
 use Rattle.bi_fit.specs.Judgement.{Image, images_of, CheckedHash, checked_hash, hash_nodes}
-use Rattle.bi_fit.specs.Judgement.{Listed, NoConfiguration, NoKey, BadList, MissingImage}
+use Rattle.bi_fit.specs.Judgement.{ListResult, NoConfig, NoKey, BadList, Missing}
 use Rattle.bi_fit.specs.Judgement.{ListedImages, configuration_nodes, listed_of, default_of}
 use Rattle.bi_fit.specs.Names.{key_name, all_keys}
 use Rattle.bi_fit.specs.Payloads.{PayloadSource, source_of, payload_place}
 use Rattle.bi_hash.specs.declared.verdicts.Verdict.TheVariants.{Good}
-use Rattle.bi_legacy.specs.Reading.{ParsedImage, IsParsedImage}
+use Rattle.bi_legacy.specs.Reading.{LegacyModel, IsParsedImage}
 use Rattle.bi_commands.specs.declared.check.Allowed.{Allowed}
 use Rattle.bi_commands.specs.declared.check.ConcernKind.{ConcernKind}
 use Rattle.bi_commands.specs.declared.check.ConcernKind.TheVariants as kind
 use Rattle.bi_commands.specs.Reports.{is_verdict, verdict_word, shown_or_none}
-use Rattle.bi_commands.specs.Shown.{line, shown}
+use Rattle.bi_commands.specs.Shown.{line, shown_text}
 
 -- The concerns about a boot image: what in it is not protected (profile of this project).
 
@@ -49,20 +49,20 @@ concern_line concern = line (kind_word concern.kind ∷ concern.words)
 abbrev pub bad_hash : CheckedHash → Concern
 bad_hash hash = record {
   kind = kind.BadHash;
-  words = shown hash.image ∷ shown hash.node_name ∷ shown_or_none hash.algo
+  words = shown_text hash.image ∷ shown_text hash.node_name ∷ shown_or_none hash.algo
       ∷ verdict_word hash.verdict ∷ [];
 }
 
 -- An image with a payload and without a Good verdict.
-abbrev pub unhashed : (image : List ℕ) → Concern
-unhashed image = record { kind = kind.Unhashed; words = shown image ∷ [] }
+abbrev pub unhashed_image : (image : List ℕ) → Concern
+unhashed_image image = record { kind = kind.Unhashed; words = shown_text image ∷ [] }
 
 -- An image with a payload, and with Good verdicts on these hash nodes alone, none of which names a
 -- strong algorithm.
 abbrev pub weak_hash : (image : List ℕ) → (good : List CheckedHash) → Concern
 weak_hash image good = record {
   kind = kind.WeakHash;
-  words = shown image ∷ map (λ hash. shown_or_none hash.algo) good;
+  words = shown_text image ∷ map (λ hash. shown_or_none hash.algo) good;
 }
 
 -- Whether the verdict on a hash node is Good.
@@ -90,7 +90,7 @@ hash_concerns hash = if is_good hash then [] else bad_hash hash ∷ []
 -- that no Good one is of a strong algorithm.
 abbrev pub protection_concerns : (image : List ℕ) → List CheckedHash → List Concern
 protection_concerns image hashes =
-    if not (list_any is_good hashes) then unhashed image ∷ [] else
+    if not (list_any is_good hashes) then unhashed_image image ∷ [] else
     if not (list_any is_strong hashes) then weak_hash image (filter is_good hashes) ∷ [] else []
 
 -- The same for an image that may have no payload.
@@ -117,14 +117,14 @@ image_concerns image = hashed_concerns image.entry.name image.payload (hashes_of
 -- A key of a configuration whose value is no list of names.
 abbrev pub bad_list : (configuration : List ℕ) → Key → Concern
 bad_list configuration key =
-    record { kind = kind.BadList; words = shown configuration ∷ key_name key ∷ [] }
+    record { kind = kind.BadList; words = shown_text configuration ∷ key_name key ∷ [] }
 
 -- A key of a configuration that lists at this index, from 0, a name that no image has. It is the
 -- first such name.
 abbrev pub missing : (configuration : List ℕ) → Key → (index : ℕ) → Concern
 missing configuration key index = record {
   kind = kind.Missing;
-  words = shown configuration ∷ key_name key ∷ decimal index ∷ [];
+  words = shown_text configuration ∷ key_name key ∷ decimal index ∷ [];
 }
 
 -- A default that names no configuration, or is not there.
@@ -132,11 +132,11 @@ abbrev pub bad_default : Option (List ℕ) → Concern
 bad_default default = record { kind = kind.BadDefault; words = shown_or_none default ∷ [] }
 
 -- The concern about what a configuration lists under a key, if that is not images.
-abbrev pub list_concerns : (configuration : List ℕ) → Key → Listed → List Concern
-list_concerns configuration key NoConfiguration = []
+abbrev pub list_concerns : (configuration : List ℕ) → Key → ListResult → List Concern
+list_concerns configuration key NoConfig = []
 list_concerns configuration key NoKey = []
 list_concerns configuration key BadList = bad_list configuration key ∷ []
-list_concerns configuration key (MissingImage index) = missing configuration key index ∷ []
+list_concerns configuration key (Missing index) = missing configuration key index ∷ []
 list_concerns configuration key (ListedImages images) = []
 
 -- The concerns about a configuration, key by key.
@@ -187,8 +187,8 @@ content_end file (node name own children later) (payload ∷ payloads) =
 content_end file nodes payloads = totalsize file
 
 -- These are the concerns about a file, in their order.
-pub data AreConcerns (limits : Bounds) (file : List ℕ) (concerns : List Concern) : Type 0 where
-  OfLegacyImage : (parsed : ParsedImage) → IsParsedImage limits file parsed
+pub data AreConcerns (limits : Limits) (file : List ℕ) (concerns : List Concern) : Type 0 where
+  OfLegacyImage : (parsed : LegacyModel) → IsParsedImage limits file parsed
       → concerns ≡ trailing_concerns (drop (length file - parsed.unused) file)
       → AreConcerns limits file concerns
   OfImageTree : (tree : ImageTree) → (means : FitMeans limits file tree)

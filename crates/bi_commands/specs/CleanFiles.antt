@@ -1,15 +1,15 @@
 use Rattle.std.specs.Prelude.{ℕ, ◌-◌, ◌≡◌, ◌≢◌, ◌↔◌, IsFalse, IsSome, Some, List, []}
 use Rattle.std.specs.Prelude.{drop, length}
 use Rattle.std.specs.List.{AllByRecursion, Contains}
-use Rattle.bi_base.specs.Limits.{Bounds}
+use Rattle.bi_base.specs.Limits.{Limits}
 use Rattle.bi_blob.specs.Tree.{names}
 use Rattle.bi_fit.specs.declared.key.Key.{Key}
 use Rattle.bi_fit.specs.File.{FitMeans}
 use Rattle.bi_fit.specs.ImageTree.{ImageTree}
 use Rattle.bi_fit.specs.Judgement.{Image, images_of, CheckedHash, verdicts_of, BadList}
-use Rattle.bi_fit.specs.Judgement.{MissingImage, configuration_nodes, listed_of, default_of}
+use Rattle.bi_fit.specs.Judgement.{Missing, configuration_nodes, listed_of, default_of}
 use Rattle.bi_hash.specs.declared.verdicts.Verdict.TheVariants.{Good}
-use Rattle.bi_legacy.specs.Reading.{ParsedImage, IsParsedImage}
+use Rattle.bi_legacy.specs.Reading.{LegacyModel, IsParsedImage}
 use Rattle.bi_commands.specs.declared.check.Allowed.{Allowed}
 use Rattle.bi_commands.specs.CheckedFiles.{IsChecked}
 use Rattle.bi_commands.specs.Checking.{hashes_of_image, strong_algorithms, content_end}
@@ -49,7 +49,7 @@ HasNoBadList tree configuration = (key : Key) → listed_of tree configuration k
 -- No key of this configuration lists a name that no image has.
 abbrev pub HasNoMissingImage : ImageTree → (configuration : List ℕ) → Type 0
 HasNoMissingImage tree configuration =
-    (key : Key) (index : ℕ) → listed_of tree configuration key ≢ MissingImage index
+    (key : Key) (index : ℕ) → listed_of tree configuration key ≢ Missing index
 
 -- The default is the name of a configuration.
 pub record NamesConfiguration (tree : ImageTree) : Type 0 where
@@ -78,8 +78,8 @@ AreZeros bytes = AllByRecursion (λ byte. byte ≡ 0) bytes
 
 -- Nothing in a file is a concern, but for what is allowed: it is a legacy image, or a flattened
 -- image tree in which nothing is, and no byte after the image is other than zero.
-pub data IsClean (allowed : Allowed) (limits : Bounds) (file : List ℕ) : Type 0 where
-  CleanLegacyImage : (parsed : ParsedImage) → IsParsedImage limits file parsed
+pub data IsClean (allowed : Allowed) (limits : Limits) (file : List ℕ) : Type 0 where
+  CleanLegacyImage : (parsed : LegacyModel) → IsParsedImage limits file parsed
       → (IsFalse allowed.trailing → AreZeros (drop (length file - parsed.unused) file))
       → IsClean allowed limits file
   CleanImageTree : (tree : ImageTree) → (means : FitMeans limits file tree)
@@ -91,5 +91,5 @@ pub data IsClean (allowed : Allowed) (limits : Bounds) (file : List ℕ) : Type 
 -- The law that checking a file writes nothing exactly if the file is clean.
 abbrev pub EmptyIsClean : Type 0
 EmptyIsClean =
-    (allowed : Allowed) (limits : Bounds) (file text : List ℕ) → IsChecked allowed limits file text
+    (allowed : Allowed) (limits : Limits) (file text : List ℕ) → IsChecked allowed limits file text
     → (text ≡ []) ↔ IsClean allowed limits file

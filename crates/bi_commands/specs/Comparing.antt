@@ -1,7 +1,7 @@
 use Rattle.std.specs.Prelude.{ℕ, ◌≡◌, ◌↔◌, ◌⊎◌, Bool, true, false, IsTrue, List, [], codes}
 use Rattle.std.specs.Prelude.{bytes_eq, if◌then◌else◌}
 use Rattle.bi_base.specs.declared.fault.Error.TheVariants.{Refused}
-use Rattle.bi_base.specs.Limits.{Bounds}
+use Rattle.bi_base.specs.Limits.{Limits}
 use Rattle.bi_base.specs.Reading.{too_large}
 use Rattle.bi_norm.specs.Comparing.{AreCompared, IsErrorOfSecond}
 use Rattle.bi_norm.specs.Meaning.{Meaning, OfLegacy, OfFit}
@@ -41,7 +41,7 @@ comparison one other = differences_or_reason one other
 
 -- The text is what differs between two meanings: nothing if they are the same. If they are not,
 -- both can be described.
-pub data IsTextOfDifferences (limits : Bounds) (one other : Meaning) (text : List ℕ)
+pub data IsTextOfDifferences (limits : Limits) (one other : Meaning) (text : List ℕ)
     : (same : Bool) → Type 0
   where
     AreTheSame : text ≡ [] → IsTextOfDifferences limits one other text true
@@ -50,7 +50,7 @@ pub data IsTextOfDifferences (limits : Bounds) (one other : Meaning) (text : Lis
 
 -- The text is what differs between two files, and `same` is whether they mean the same. The text is
 -- empty exactly if they do.
-pub record IsComparison (limits : Bounds) (one other : List ℕ) (same : Bool) (text : List ℕ)
+pub record IsComparison (limits : Limits) (one other : List ℕ) (same : Bool) (text : List ℕ)
     : Type 0
   where
     pub compared : AreCompared limits one other same
@@ -59,14 +59,14 @@ pub record IsComparison (limits : Bounds) (one other : List ℕ) (same : Bool) (
 
 -- The error that reading two files can have: the fault of the first one, or else of the second one,
 -- or that memory ran out. The error names the file.
-abbrev pub IsReadingError : Bounds → (one other : List ℕ) → CompareError → Type 0
+abbrev pub IsReadingError : Limits → (one other : List ℕ) → CompareError → Type 0
 IsReadingError limits one other (One fault) = IsOpenError limits one (Refused fault)
 IsReadingError limits one other (Other fault) = IsErrorOfSecond limits one other (Refused fault)
 IsReadingError limits one other OutOfMemory = NeedsMemory limits one
 
 -- What keeps the differences of two meanings from being written: the first one is too long to
 -- describe, or else the second one.
-abbrev pub IsDescribingError : Bounds → (one other : Meaning) → CompareError → Type 0
+abbrev pub IsDescribingError : Limits → (one other : Meaning) → CompareError → Type 0
 IsDescribingError limits one other (One fault) =
     IsTooLongToDescribe limits one × (fault ≡ too_large limits.file)
 IsDescribingError limits one other (Other fault) =
@@ -74,13 +74,13 @@ IsDescribingError limits one other (Other fault) =
 IsDescribingError limits one other OutOfMemory = ⊥
 
 -- The error that describing two files can have, which do not mean the same.
-pub record IsErrorOfDescribingBoth (limits : Bounds) (one other : List ℕ) (error : CompareError)
+pub record IsErrorOfDescribingBoth (limits : Limits) (one other : List ℕ) (error : CompareError)
     : Type 0
   where
     pub compared : AreCompared limits one other false
     pub is_error : IsDescribingError limits compared.meaning compared.other_meaning error
 
 -- The error that comparing two files can have.
-abbrev pub IsComparisonError : Bounds → (one other : List ℕ) → CompareError → Type 0
+abbrev pub IsComparisonError : Limits → (one other : List ℕ) → CompareError → Type 0
 IsComparisonError limits one other error =
     IsReadingError limits one other error ⊎ IsErrorOfDescribingBoth limits one other error

@@ -3,7 +3,7 @@ use Rattle.bi_base.specs.Commands.{CommandPromise, PromiseLaws, unit_promise, un
 use Rattle.bi_base.specs.declared.fault.Error.{Error}
 use Rattle.bi_base.specs.declared.fault.Error.TheVariants.{Refused, OutOfMemory, ReadFailed}
 use Rattle.bi_base.specs.declared.fault.Error.TheVariants.{WriteFailed}
-use Rattle.bi_base.specs.Limits.{Bounds}
+use Rattle.bi_base.specs.Limits.{Limits}
 use Rattle.bi_base.specs.Reading.{too_large}
 use Rattle.bi_norm.specs.Comparing.{MeansOnly}
 use Rattle.bi_norm.specs.Meaning.{Meaning, Means}
@@ -15,12 +15,12 @@ use Rattle.bi_commands.specs.PayloadBounds.{IsOverPayloadBound}
 
 -- A meaning can be described within limits: its payloads are within the payload bound, and its
 -- description is no longer than the limit.
-pub record CanBeDescribed (limits : Bounds) (meaning : Meaning) : Type 0 where
+pub record CanBeDescribed (limits : Limits) (meaning : Meaning) : Type 0 where
   pub payloads : ¬ (IsOverPayloadBound limits meaning)
   pub short : length (description meaning) ≤ limits.file
 
 -- The text is the description of what the file means. It means nothing else.
-pub record IsDescription (limits : Bounds) (file text : List ℕ) : Type 0 where
+pub record IsDescription (limits : Limits) (file text : List ℕ) : Type 0 where
   pub meaning : Meaning
   pub means : MeansOnly limits file meaning
   pub within : CanBeDescribed limits meaning
@@ -28,13 +28,13 @@ pub record IsDescription (limits : Bounds) (file text : List ℕ) : Type 0 where
 
 -- The payloads of a meaning are over the payload bound, or its description is longer than the
 -- limit.
-abbrev pub IsTooLongToDescribe : Bounds → Meaning → Type 0
+abbrev pub IsTooLongToDescribe : Limits → Meaning → Type 0
 IsTooLongToDescribe limits meaning =
     IsOverPayloadBound limits meaning ⊎ (limits.file < length (description meaning))
 
 -- The error that describing a meaning can have, whatever file it was read from: TooLarge at the
 -- limit if it is too long to describe, or that memory ran out.
-abbrev pub IsImageError : Bounds → Meaning → Error → Type 0
+abbrev pub IsImageError : Limits → Meaning → Error → Type 0
 IsImageError limits meaning (Refused fault) =
     IsTooLongToDescribe limits meaning × (fault ≡ too_large limits.file)
 IsImageError limits meaning OutOfMemory = ⊤
@@ -42,14 +42,14 @@ IsImageError limits meaning ReadFailed = ⊥
 IsImageError limits meaning WriteFailed = ⊥
 
 -- The file means something that is too long to describe.
-pub record MeansTooMuch (limits : Bounds) (file : List ℕ) : Type 0 where
+pub record MeansTooMuch (limits : Limits) (file : List ℕ) : Type 0 where
   pub meaning : Meaning
   pub means : Means limits file meaning
   pub is_too_long : IsTooLongToDescribe limits meaning
 
 -- The error that describing a file in memory can have: one of reading it, or TooLarge at the limit
 -- if it means something that is too long to describe.
-abbrev pub IsDescribeError : Bounds → List ℕ → Error → Type 0
+abbrev pub IsDescribeError : Limits → List ℕ → Error → Type 0
 IsDescribeError limits file (Refused fault) =
     IsOpenError limits file (Refused fault)
     ⊎ (MeansTooMuch limits file × (fault ≡ too_large limits.file))
@@ -58,10 +58,10 @@ IsDescribeError limits file ReadFailed = ⊥
 IsDescribeError limits file WriteFailed = ⊥
 
 -- What describing promises as a command.
-abbrev pub describe_promise : Bounds → CommandPromise (Unit {0}) Error
+abbrev pub describe_promise : Limits → CommandPromise (Unit {0}) Error
 describe_promise limits = unit_promise (IsDescription limits) (IsDescribeError limits)
 
-pub describe_laws : (limits : Bounds) → PromiseLaws (describe_promise limits)
+pub describe_laws : (limits : Limits) → PromiseLaws (describe_promise limits)
 describe_laws limits =
     unit_laws (IsDescription limits) (IsDescribeError limits)
     (λ input is. is) (λ input is. is)

@@ -1,5 +1,5 @@
 use Rattle.std.specs.Prelude.{ℕ, ◌≡◌, List, map, option_map}
-use Rattle.bi_base.specs.Limits.{Bounds}
+use Rattle.bi_base.specs.Limits.{Limits}
 use Rattle.bi_fit.specs.ImageTree.{ImageTree}
 use Rattle.bi_legacy.specs.Meaning.{LegacyImage}
 use Rattle.bi_norm.specs.Meaning.{Meaning, OfLegacy, OfFit, Means}
@@ -40,6 +40,6 @@ AreSimilar one other = ⊥
 -- length and its SHA-256, whatever the limits.
 abbrev pub SameDescriptionIsSimilar : Type 0
 SameDescriptionIsSimilar =
-    (limits other_limits : Bounds) (file other_file : List ℕ) (one other : Meaning)
+    (limits other_limits : Limits) (file other_file : List ℕ) (one other : Meaning)
     → Means limits file one → Means other_limits other_file other
     → description one ≡ description other → AreSimilar one other

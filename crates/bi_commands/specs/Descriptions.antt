@@ -14,7 +14,7 @@ use Rattle.bi_legacy.specs.Meaning.{LegacyImage}
 use Rattle.bi_norm.specs.Meaning.{Meaning, OfLegacy, OfFit}
 use Rattle.bi_commands.specs.FitListing.{hexadecimal_64}
 use Rattle.bi_commands.specs.Listing.{code_word}
-use Rattle.bi_commands.specs.Shown.{line, hexadecimal, shown}
+use Rattle.bi_commands.specs.Shown.{line, hexadecimal, shown_text}
 use Rattle.bi_commands.specs.ValueTexts.{value_words, hexadecimal_digits}
 
 -- The description of what a boot image means: lines that depend on the meaning alone, and not on
@@ -41,7 +41,7 @@ digest_words digest =
 -- The lines of the name and the numbers of a legacy image.
 abbrev pub field_words : LegacyImage → List Words
 field_words image =
-    (codes "name" ∷ shown image.name ∷ [])
+    (codes "name" ∷ shown_text image.name ∷ [])
     ∷ (codes "time" ∷ decimal image.time ∷ [])
     ∷ (codes "load" ∷ hexadecimal image.load ∷ [])
     ∷ (codes "entry" ∷ hexadecimal image.entry ∷ []) ∷ []
@@ -70,7 +70,7 @@ legacy_lines image =
 -- root, whose list is empty, and for any other node `/` and the shown name of each.
 abbrev pub path : List (List ℕ) → List ℕ
 path [] = codes "/"
-path (name ∷ names) = flat_map (λ other. 47 ∷ shown other) (name ∷ names)
+path (name ∷ names) = flat_map (λ other. 47 ∷ shown_text other) (name ∷ names)
 
 -- Whether a node is an image node, and the payload of an image node, if it has one.
 pub data NodePayload : Type 0 where
@@ -111,7 +111,7 @@ described_nodes (node name own children later) payloads =
 -- The line of a property.
 abbrev pub property_words : (path : List ℕ) → Property → Words
 property_words path property =
-    codes "property" ∷ path ∷ shown property.0 ∷ value_words property.1
+    codes "property" ∷ path ∷ shown_text property.0 ∷ value_words property.1
 
 -- The line of the payload of an image node. Any other node has none.
 abbrev pub payload_words : (path : List ℕ) → NodePayload → List Words

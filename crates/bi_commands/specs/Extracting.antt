@@ -3,13 +3,13 @@ use Rattle.std.proofs.Common.{ap}
 use Rattle.bi_base.specs.declared.fault.Error.TheVariants.{OutOfMemory}
 use Rattle.bi_base.specs.declared.fault.Error.{Error}
 use Rattle.bi_base.specs.Commands.{CommandPromise, PromiseLaws}
-use Rattle.bi_base.specs.Limits.{Bounds}
+use Rattle.bi_base.specs.Limits.{Limits}
 use Rattle.bi_fit.specs.declared.configurations.ConfigError.{ConfigError}
 use Rattle.bi_fit.specs.declared.configurations.ConfigError.TheVariants as list
 use Rattle.bi_fit.specs.declared.key.Key.{Key}
 use Rattle.bi_fit.specs.ImageTree.{ImageTree}
-use Rattle.bi_fit.specs.Judgement.{Image as TreeImage, Listed, NoConfiguration, NoKey, BadList}
-use Rattle.bi_fit.specs.Judgement.{MissingImage, ListedImages, ListedImage}
+use Rattle.bi_fit.specs.Judgement.{Image as TreeImage, ListResult, NoConfig, NoKey, BadList}
+use Rattle.bi_fit.specs.Judgement.{Missing, ListedImages, ListedImage}
 use Rattle.bi_fit.specs.Judgement.{images_of, image_named, listed_of, default_of}
 use Rattle.bi_norm.specs.Meaning.{Meaning, OfLegacy, OfFit, Means}
 use Rattle.bi_norm.specs.NormalForm.{IsOpenError}
@@ -58,11 +58,11 @@ choice_of_entry None = NoSuchEntry
 choice_of_entry (Some image) = choice_of_payload image.payload
 
 -- The payload at this index of what a configuration lists.
-abbrev pub choice_of_listed : Listed → ℕ → Choice
-choice_of_listed NoConfiguration index = NoSuchConfiguration
+abbrev pub choice_of_listed : ListResult → ℕ → Choice
+choice_of_listed NoConfig index = NoSuchConfiguration
 choice_of_listed NoKey index = NoSuchKey
 choice_of_listed BadList index = HasBadList
-choice_of_listed (MissingImage missing) index = HasMissingImage missing
+choice_of_listed (Missing missing) index = HasMissingImage missing
 choice_of_listed (ListedImages images) index = choice_of_entry (slice_get images index)
 
 -- The payload at this index of what the configuration of this name lists under a key.
@@ -94,13 +94,13 @@ choice_of (Default key index) (OfLegacy image) = OfOtherKind
 choice_of (Default key index) (OfFit tree) = choice_by_default tree key index
 
 -- The file means something of which this holds.
-pub record MeansSuch (limits : Bounds) (file : List ℕ) (Holds : Meaning → Type 0) : Type 0 where
+pub record MeansSuch (limits : Limits) (file : List ℕ) (Holds : Meaning → Type 0) : Type 0 where
   pub meaning : Meaning
   pub means : Means limits file meaning
   pub holds : Holds meaning
 
 -- The file means something of which the selection chooses these bytes.
-abbrev pub IsChosen : Select → Bounds → List ℕ → List ℕ → Type 0
+abbrev pub IsChosen : Select → Limits → List ℕ → List ℕ → Type 0
 IsChosen select limits file bytes =
     MeansSuch limits file (λ meaning. choice_of select meaning ≡ Chosen bytes)
 
@@ -120,7 +120,7 @@ IsReason error.NoPayload choice = choice ≡ HasNoPayload
 
 -- The error that extracting from a file in memory can have: one of reading it, or the first reason
 -- why the selection chooses no bytes of what the file means.
-abbrev pub IsExtractError : Select → Bounds → List ℕ → ExtractError → Type 0
+abbrev pub IsExtractError : Select → Limits → List ℕ → ExtractError → Type 0
 IsExtractError select limits file (error.Failed failed) = IsOpenError limits file failed
 IsExtractError select limits file other =
     MeansSuch limits file (λ meaning. IsReason other (choice_of select meaning))
@@ -132,7 +132,7 @@ error_of_listing list.OutOfMemory = error.Failed OutOfMemory
 error_of_listing other = error.Config other
 
 -- What extracting promises as a command.
-abbrev pub extract_promise : Select → Bounds → CommandPromise (Unit {0}) ExtractError
+abbrev pub extract_promise : Select → Limits → CommandPromise (Unit {0}) ExtractError
 extract_promise select limits = record {
   is_output = λ value file bytes. IsChosen select limits file bytes;
   is_text = IsChosen select limits;
@@ -141,14 +141,14 @@ extract_promise select limits = record {
 }
 
 -- The error that an error of extracting has inside.
-abbrev cause_of : ExtractError → Error
-cause_of (error.Failed cause) = cause
-cause_of other = OutOfMemory
+abbrev error_in_extract_error : ExtractError → Error
+error_in_extract_error (error.Failed cause) = cause
+error_in_extract_error other = OutOfMemory
 
-pub extract_laws : (select : Select) (limits : Bounds) → PromiseLaws (extract_promise select limits)
+pub extract_laws : (select : Select) (limits : Limits) → PromiseLaws (extract_promise select limits)
 extract_laws select limits = record {
   is_text = λ value file bytes is. is;
-  wraps_once = λ a b same. ap cause_of same;
+  wraps_once = λ a b same. ap error_in_extract_error same;
   no_read_error = λ file is. is;
   no_write_error = λ file is. is;
 }

@@ -3,18 +3,18 @@ use Rattle.std.specs.Prelude.{flat_map}
 use Rattle.std.specs.Prelude.{codes, unwrap_or, false}
 use Rattle.std.specs.Fmt.{decimal}
 use Rattle.bi_base.specs.Cells.{cell8}
-use Rattle.bi_base.specs.Limits.{Bounds}
+use Rattle.bi_base.specs.Limits.{Limits}
 use Rattle.bi_blob.specs.Blob.{Reservation, totalsize}
 use Rattle.bi_blob.specs.Tree.{Nodes, node, FileNode, names}
 use Rattle.bi_fit.specs.declared.key.Key.{Key}
 use Rattle.bi_fit.specs.File.{FitMeans}
 use Rattle.bi_fit.specs.ImageTree.{ImageTree}
-use Rattle.bi_fit.specs.Judgement.{Listed, NoConfiguration, NoKey, BadList, MissingImage}
+use Rattle.bi_fit.specs.Judgement.{ListResult, NoConfig, NoKey, BadList, Missing}
 use Rattle.bi_fit.specs.Judgement.{ListedImages, configuration_nodes, listed_of, default_of}
 use Rattle.bi_fit.specs.Names.{data_name, data_offset_name, data_position_name, key_name, all_keys}
 use Rattle.bi_fit.specs.Payloads.{PayloadSource, NoSource, Data, DataOffset, DataPosition}
 use Rattle.bi_fit.specs.Payloads.{source_of, payload_place}
-use Rattle.bi_commands.specs.Shown.{line, digits_of_byte, shown}
+use Rattle.bi_commands.specs.Shown.{line, digits_of_byte, shown_text}
 
 -- The text that `list` writes for a flattened image tree (profile of this project).
 
@@ -39,10 +39,11 @@ source_word (DataPosition position size) = data_position_name
 -- The line of an image: its size, the property that gives its payload, and the offset of the
 -- payload in the file, or that it has no payload.
 abbrev pub image_line : List ℕ → (name : List ℕ) → PayloadSource → Option (List ℕ) → List ℕ
-image_line file name payload_source None = line (codes "image" ∷ shown name ∷ codes "none" ∷ [])
+image_line file name payload_source None =
+    line (codes "image" ∷ shown_text name ∷ codes "none" ∷ [])
 image_line file name payload_source (Some payload) =
     line
-    (codes "image" ∷ shown name ∷ codes "size" ∷ decimal (length payload)
+    (codes "image" ∷ shown_text name ∷ codes "size" ∷ decimal (length payload)
     ∷ source_word payload_source ∷ codes "at"
     ∷ decimal (unwrap_or (payload_place file payload_source) 0) ∷ [])
 
@@ -54,28 +55,29 @@ image_lines file nodes payloads = []
 
 -- The line of a key of a configuration: what it lists, or why it lists nothing. There is none if
 -- the configuration has no such key.
-abbrev pub key_line : (configuration : List ℕ) → Key → Listed → List ℕ
-key_line configuration key NoConfiguration = []
+abbrev pub key_line : (configuration : List ℕ) → Key → ListResult → List ℕ
+key_line configuration key NoConfig = []
 key_line configuration key NoKey = []
 key_line configuration key BadList =
-    line (codes "key" ∷ shown configuration ∷ key_name key ∷ codes "bad-list" ∷ [])
-key_line configuration key (MissingImage index) =
-    line (codes "key" ∷ shown configuration ∷ key_name key ∷ codes "missing" ∷ decimal index ∷ [])
+    line (codes "key" ∷ shown_text configuration ∷ key_name key ∷ codes "bad-list" ∷ [])
+key_line configuration key (Missing index) =
+    line (codes "key" ∷ shown_text configuration ∷ key_name key ∷ codes "missing"
+        ∷ decimal index ∷ [])
 key_line configuration key (ListedImages images) =
     line
-    (codes "key" ∷ shown configuration ∷ key_name key ∷ codes "ok"
-    ∷ map (λ image. shown image.name) images)
+    (codes "key" ∷ shown_text configuration ∷ key_name key ∷ codes "ok"
+    ∷ map (λ image. shown_text image.name) images)
 
 -- The lines of a configuration: its name, and its keys in their order.
 abbrev pub configuration_lines : ImageTree → (configuration : List ℕ) → List ℕ
 configuration_lines tree configuration =
-    line (codes "config" ∷ shown configuration ∷ [])
+    line (codes "config" ∷ shown_text configuration ∷ [])
     ++ flat_map (λ key. key_line configuration key (listed_of tree configuration key)) all_keys
 
 -- The line of the default configuration, if one is named.
 abbrev pub default_line : Option (List ℕ) → List ℕ
 default_line None = []
-default_line (Some name) = line (codes "default" ∷ shown name ∷ [])
+default_line (Some name) = line (codes "default" ∷ shown_text name ∷ [])
 
 -- The listing of a flattened image tree that a file with these image nodes means.
 abbrev pub fit_listing : List ℕ → Nodes FileNode → ImageTree → List ℕ
@@ -89,7 +91,7 @@ fit_listing file images tree =
     ++ default_line (default_of tree))))))
 
 -- The text is the listing of the flattened image tree.
-pub record IsFitListing (limits : Bounds) (file text : List ℕ) : Type 0 where
+pub record IsFitListing (limits : Limits) (file text : List ℕ) : Type 0 where
   pub tree : ImageTree
   pub means : FitMeans limits file tree
   pub is : text ≡ fit_listing file means.is_file.images tree

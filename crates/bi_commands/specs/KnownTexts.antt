@@ -6,7 +6,7 @@ use Rattle.bi_blob.specs.Layout.{tree_with_places}
 use Rattle.bi_blob.specs.Tree.{none, node, Root, FileNode, Property}
 use Rattle.bi_fit.specs.declared.key.Key.{Key}
 use Rattle.bi_fit.specs.declared.key.Key.TheVariants.{Kernel, Fdt, Ramdisk, Script}
-use Rattle.bi_fit.specs.KnownFiles.{plain_tree, tree_of_images, region_of}
+use Rattle.bi_fit.specs.KnownFiles.{plain_tree, tree_with_images, region_of}
 use Rattle.bi_fit.specs.KnownFiles.{three_external, three_tree}
 use Rattle.bi_fit.specs.ImageTree.{ImageTree, image_nodes}
 use Rattle.bi_fit.specs.Judgement.{default_of}
@@ -23,24 +23,24 @@ use Rattle.bi_commands.specs.Extracting.{choice_of}
 use Rattle.bi_commands.specs.FitListing.{configuration_lines, default_line, fit_listing}
 use Rattle.bi_commands.specs.Listing.{legacy_listing}
 use Rattle.bi_commands.specs.Reports.{fit_report, legacy_report}
-use Rattle.bi_commands.specs.Shown.{shown}
+use Rattle.bi_commands.specs.Shown.{shown_text}
 
 -- Small boot images with what the commands write of them, by which a reader can judge the
 -- definitions.
 
 -- Names as they are shown.
 pub record NamesAreShown : Type 0 where
-  pub empty : shown [] ≡ codes "-"
-  pub minus : shown (codes "-") ≡ codes "%2D"
-  pub space : shown (codes " ") ≡ codes "%20"
-  pub percent : shown (codes "%") ≡ codes "%25"
-  pub first : shown (0x21 ∷ []) ≡ codes "!"
-  pub before_first : shown (0x1f ∷ []) ≡ codes "%1F"
-  pub last : shown (0x7e ∷ []) ≡ codes "~"
-  pub after_last : shown (0x7f ∷ []) ≡ codes "%7F"
-  pub greatest : shown (0xff ∷ []) ≡ codes "%FF"
-  pub plain : shown (codes "kernel-1") ≡ codes "kernel-1"
-  pub minus_inside : shown (codes "a-b c") ≡ codes "a-b%20c"
+  pub empty : shown_text [] ≡ codes "-"
+  pub minus : shown_text (codes "-") ≡ codes "%2D"
+  pub space : shown_text (codes " ") ≡ codes "%20"
+  pub percent : shown_text (codes "%") ≡ codes "%25"
+  pub first : shown_text (0x21 ∷ []) ≡ codes "!"
+  pub before_first : shown_text (0x1f ∷ []) ≡ codes "%1F"
+  pub last : shown_text (0x7e ∷ []) ≡ codes "~"
+  pub after_last : shown_text (0x7f ∷ []) ≡ codes "%7F"
+  pub greatest : shown_text (0xff ∷ []) ≡ codes "%FF"
+  pub plain : shown_text (codes "kernel-1") ≡ codes "kernel-1"
+  pub minus_inside : shown_text (codes "a-b c") ≡ codes "a-b%20c"
 
 -- Bytes that are lent.
 abbrev pub lent : List ℕ → Bor (List ℕ)
@@ -190,7 +190,7 @@ pub record LegacyListingsAreKnown : Type 0 where
 abbrev pub three_root : Root FileNode
 three_root =
     tree_with_places []
-    (tree_of_images
+    (tree_with_images
     (node (codes "a") (region_of 0 5) none
     (node (codes "b") (region_of 8 0) none
     (node (codes "c") (region_of 8 1) none none))))

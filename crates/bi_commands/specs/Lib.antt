@@ -1,4 +1,4 @@
-pub mod Building
+pub mod BuildCommands
 pub mod CheckedFiles
 pub mod Checking
 pub mod CleanFiles

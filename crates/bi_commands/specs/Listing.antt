@@ -2,15 +2,15 @@ use Rattle.std.specs.Prelude.{ℕ, ◌+◌, ◌≡◌, List, [], ◌∷◌, ◌+
 use Rattle.std.specs.Fmt.{decimal}
 use Rattle.bi_base.specs.Commands.{CommandPromise, PromiseLaws, unit_promise, unit_laws}
 use Rattle.bi_base.specs.declared.fault.Error.{Error}
-use Rattle.bi_base.specs.Limits.{Bounds}
+use Rattle.bi_base.specs.Limits.{Limits}
 use Rattle.bi_legacy.specs.Codes.{CodeName, os_names, arch_names, type_names, compression_names}
 use Rattle.bi_legacy.specs.Codes.{name_of_code}
 use Rattle.bi_legacy.specs.Meaning.{LegacyImage}
-use Rattle.bi_legacy.specs.PlacedParts.{PlacedPart, placed_parts}
-use Rattle.bi_legacy.specs.Reading.{ParsedImage, IsParsedImage}
+use Rattle.bi_legacy.specs.PlacedParts.{PartModel, placed_parts}
+use Rattle.bi_legacy.specs.Reading.{LegacyModel, IsParsedImage}
 use Rattle.bi_norm.specs.NormalForm.{IsOpenError}
 use Rattle.bi_commands.specs.FitListing.{IsFitListing}
-use Rattle.bi_commands.specs.Shown.{line, hexadecimal, shown}
+use Rattle.bi_commands.specs.Shown.{line, hexadecimal, shown_text}
 
 -- The text that `list` writes (profile of this project).
 
@@ -21,7 +21,7 @@ code_word names code = unwrap_or (name_of_code names code) (decimal code)
 -- The lines of the name and the numbers of a header.
 abbrev pub field_lines : LegacyImage → List ℕ
 field_lines image =
-    line (codes "name" ∷ shown image.name ∷ [])
+    line (codes "name" ∷ shown_text image.name ∷ [])
     ++ (line (codes "time" ∷ decimal image.time ∷ [])
     ++ (line (codes "load" ∷ hexadecimal image.load ∷ [])
     ++ line (codes "entry" ∷ hexadecimal image.entry ∷ [])))
@@ -35,13 +35,13 @@ code_lines image =
     ++ line (codes "compression" ∷ code_word compression_names image.compression ∷ [])))
 
 -- The line of a part.
-abbrev pub part_line : ℕ → PlacedPart → List ℕ
+abbrev pub part_line : ℕ → PartModel → List ℕ
 part_line index placed =
     line (codes "part" ∷ decimal index ∷ codes "size" ∷ decimal (length placed.bytes) ∷ codes "at"
     ∷ decimal placed.place ∷ [])
 
 -- The lines of these parts, the first of which is part `index`.
-abbrev pub part_lines : ℕ → List PlacedPart → List ℕ
+abbrev pub part_lines : ℕ → List PartModel → List ℕ
 part_lines index [] = []
 part_lines index (placed ∷ later) = part_line index placed ++ part_lines (index + 1) later
 
@@ -52,7 +52,7 @@ parts_lines image =
     line (codes "parts" ∷ decimal (length image.parts) ∷ []) ++ part_lines 0 (placed_parts image)
 
 -- The listing of a legacy image.
-abbrev pub legacy_listing : ParsedImage → List ℕ
+abbrev pub legacy_listing : LegacyModel → List ℕ
 legacy_listing parsed =
     line (codes "kind" ∷ codes "legacy" ∷ [])
     ++ (field_lines parsed.image
@@ -61,17 +61,17 @@ legacy_listing parsed =
     ++ line (codes "unused" ∷ decimal parsed.unused ∷ []))))
 
 -- The text is the listing of the file, which is a legacy image or a flattened image tree.
-pub data IsListing (limits : Bounds) (file text : List ℕ) : Type 0 where
-  OfLegacyImage : (parsed : ParsedImage) → IsParsedImage limits file parsed
+pub data IsListing (limits : Limits) (file text : List ℕ) : Type 0 where
+  OfLegacyImage : (parsed : LegacyModel) → IsParsedImage limits file parsed
       → text ≡ legacy_listing parsed → IsListing limits file text
   OfImageTree : IsFitListing limits file text → IsListing limits file text
 
 -- What listing promises as a command.
-abbrev pub list_promise : Bounds → CommandPromise (Unit {0}) Error
+abbrev pub list_promise : Limits → CommandPromise (Unit {0}) Error
 list_promise limits =
     unit_promise (IsListing limits) (IsOpenError limits)
 
-pub list_laws : (limits : Bounds) → PromiseLaws (list_promise limits)
+pub list_laws : (limits : Limits) → PromiseLaws (list_promise limits)
 list_laws limits =
     unit_laws (IsListing limits) (IsOpenError limits)
     (λ input is. is) (λ input is. is)

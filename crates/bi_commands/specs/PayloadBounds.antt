@@ -1,5 +1,5 @@
 use Rattle.std.specs.Prelude.{ℕ, ◌<◌, List, Option, Some, None, length, sum, map}
-use Rattle.bi_base.specs.Limits.{Bounds}
+use Rattle.bi_base.specs.Limits.{Limits}
 use Rattle.bi_norm.specs.Meaning.{Meaning, OfLegacy, OfFit}
 
 -- The bound on the payloads that a command hashes (profile of this project).
@@ -16,6 +16,6 @@ payloads_length payloads = sum (map payload_length payloads)
 
 -- The payloads of the image together are longer than the limit for files. The parts of a legacy
 -- image are in its file, one after the other, so together they are never longer than the limit.
-abbrev pub IsOverPayloadBound : Bounds → Meaning → Type 0
+abbrev pub IsOverPayloadBound : Limits → Meaning → Type 0
 IsOverPayloadBound limits (OfLegacy image) = ⊥
 IsOverPayloadBound limits (OfFit tree) = limits.file < payloads_length tree.payloads

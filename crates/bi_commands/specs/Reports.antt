@@ -5,7 +5,7 @@ use Rattle.std.specs.List.{AllByRecursion}
 use Rattle.std.specs.Fmt.{decimal}
 use Rattle.bi_base.specs.Commands.{CommandPromise, PromiseLaws}
 use Rattle.bi_base.specs.declared.fault.Error.{Error}
-use Rattle.bi_base.specs.Limits.{Bounds}
+use Rattle.bi_base.specs.Limits.{Limits}
 use Rattle.bi_fit.specs.ImageTree.{ImageTree}
 use Rattle.bi_fit.specs.Judgement.{CheckedHash, verdicts_of}
 use Rattle.bi_hash.specs.declared.verdicts.Verdict.{Verdict}
@@ -13,7 +13,7 @@ use Rattle.bi_hash.specs.declared.verdicts.Verdict.TheVariants.{Good, Bad, Unkno
 use Rattle.bi_hash.specs.declared.verdicts.Verdict.TheVariants.{Malformed}
 use Rattle.bi_norm.specs.Meaning.{Meaning, OfLegacy, OfFit, Means}
 use Rattle.bi_norm.specs.NormalForm.{IsOpenError}
-use Rattle.bi_commands.specs.Shown.{line, digits_of_byte, shown}
+use Rattle.bi_commands.specs.Shown.{line, digits_of_byte, shown_text}
 
 -- The text of a report on the checksums and digests of a boot image (profile of this project).
 
@@ -28,7 +28,7 @@ verdict_word Malformed = codes "malformed"
 -- A name that may not be there: `-` if it is not.
 abbrev pub shown_or_none : Option (List ℕ) → List ℕ
 shown_or_none None = codes "-"
-shown_or_none (Some name) = shown name
+shown_or_none (Some name) = shown_text name
 
 -- A value in hexadecimal digits of lower case: `-` if it is empty or not there.
 abbrev pub value_word : Option (List ℕ) → List ℕ
@@ -40,7 +40,8 @@ value_word (Some value) =
 abbrev pub hash_line : CheckedHash → List ℕ
 hash_line hash =
     line
-    (shown hash.image ∷ shown hash.node_name ∷ shown_or_none hash.algo ∷ verdict_word hash.verdict
+    (shown_text hash.image ∷ shown_text hash.node_name ∷ shown_or_none hash.algo
+    ∷ verdict_word hash.verdict
     ∷ value_word hash.value ∷ [])
 
 -- Whether a verdict is the wanted one.
@@ -88,7 +89,7 @@ hashes_of (OfLegacy image) = []
 hashes_of (OfFit tree) = verdicts_of tree
 
 -- The text is the report on the file.
-pub record IsReport (limits : Bounds) (file text : List ℕ) : Type 0 where
+pub record IsReport (limits : Limits) (file text : List ℕ) : Type 0 where
   pub meaning : Meaning
   pub means : Means limits file meaning
   pub is : text ≡ report_of meaning
@@ -98,12 +99,12 @@ abbrev pub AreGood : List CheckedHash → Type 0
 AreGood hashes = AllByRecursion (λ hash. hash.verdict ≡ Good) hashes
 
 -- The text is the report on the file, and this is whether no verdict in it is other than Good.
-pub record Verified (limits : Bounds) (good : Bool) (file text : List ℕ) : Type 0 where
+pub record Verified (limits : Limits) (good : Bool) (file text : List ℕ) : Type 0 where
   pub report : IsReport limits file text
   pub all_good : IsTrue good ↔ AreGood (hashes_of report.meaning)
 
 -- What verifying promises as a command.
-abbrev pub verify_promise : Bounds → CommandPromise Bool Error
+abbrev pub verify_promise : Limits → CommandPromise Bool Error
 verify_promise limits = record {
   is_output = λ good file text. Verified limits good file text;
   is_text = IsReport limits;
@@ -111,7 +112,7 @@ verify_promise limits = record {
   wraps = λ error. error;
 }
 
-pub verify_laws : (limits : Bounds) → PromiseLaws (verify_promise limits)
+pub verify_laws : (limits : Limits) → PromiseLaws (verify_promise limits)
 verify_laws limits = record {
   is_text = λ good file text is. is.report;
   wraps_once = λ a b same. same;

@@ -28,7 +28,7 @@ abbrev pub shown_byte : ℕ → List ℕ
 shown_byte byte = if is_plain byte then byte ∷ [] else 37 ∷ digits_of_byte true byte
 
 -- A name as it is printed, byte by byte. The empty name is `-`, so the name `-` is `%2D`.
-abbrev pub shown : List ℕ → List ℕ
-shown name =
+abbrev pub shown_text : List ℕ → List ℕ
+shown_text name =
     if bytes_eq name [] then codes "-" else if bytes_eq name (codes "-") then codes "%2D" else
     flat_map shown_byte name

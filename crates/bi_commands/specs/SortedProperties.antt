@@ -8,13 +8,13 @@ use Rattle.bi_blob.specs.Tree.{Property, PropertyMap}
 -- The properties of a node, as an ordered map of slices has them.
 
 -- The bytes of the names and values.
-abbrev pub properties_in : List (Bor (List ℕ) × Bor (List ℕ)) → List Property
-properties_in entries = map (λ entry. (entry.0.now, entry.1.now)) entries
+abbrev pub properties_of_slices : List (Bor (List ℕ) × Bor (List ℕ)) → List Property
+properties_of_slices entries = map (λ entry. (entry.0.now, entry.1.now)) entries
 
 -- The properties by name.
 abbrev pub by_name : List (Bor (List ℕ) × Bor (List ℕ)) → PropertyMap
-by_name entries = from_sorted (properties_in entries)
+by_name entries = from_sorted (properties_of_slices entries)
 
 -- The names are in byte order, and no two are the same.
 abbrev pub IsSorted : List (Bor (List ℕ) × Bor (List ℕ)) → Type 0
-IsSorted entries = T (is_sorted (slice_cmp nat_cmp) (properties_in entries))
+IsSorted entries = T (is_sorted (slice_cmp nat_cmp) (properties_of_slices entries))

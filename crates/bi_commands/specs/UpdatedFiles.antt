@@ -3,16 +3,17 @@ use Rattle.bi_base.specs.Commands.{CommandPromise, PromiseLaws}
 use Rattle.bi_base.specs.declared.fault.Error.{Error}
 use Rattle.bi_base.specs.declared.fault.Error.TheVariants.{Refused, OutOfMemory, ReadFailed}
 use Rattle.bi_base.specs.declared.fault.Error.TheVariants.{WriteFailed}
-use Rattle.bi_base.specs.Limits.{Bounds}
+use Rattle.bi_base.specs.Limits.{Limits}
 use Rattle.bi_base.specs.Reading.{too_large}
 use Rattle.bi_fit.specs.declared.changes.Changes.{Changes}
 use Rattle.bi_fit.specs.declared.form.Form.{Form}
 use Rattle.bi_fit.specs.ImageTree.{ImageTree}
 use Rattle.bi_fit.specs.NewDigests.{new_digests}
-use Rattle.bi_fit.specs.Updating.{updated, HasUpdatedJudgement}
+use Rattle.bi_fit.specs.Updating.{with_changes, HasUpdatedJudgement}
 use Rattle.bi_legacy.specs.Meaning.{with_new_time}
 use Rattle.bi_norm.specs.Comparing.{MeansOnly}
-use Rattle.bi_norm.specs.Meaning.{Meaning, OfLegacy, OfFit, Means, normal_text, signature_count}
+use Rattle.bi_norm.specs.Meaning.{Meaning, OfLegacy, OfFit, Means, normal_text}
+use Rattle.bi_norm.specs.Meaning.{meaning_signature_count}
 use Rattle.bi_norm.specs.NormalForm.{IsOpenError}
 use Rattle.bi_commands.specs.PayloadBounds.{IsOverPayloadBound}
 
@@ -22,10 +23,10 @@ use Rattle.bi_commands.specs.PayloadBounds.{IsOverPayloadBound}
 abbrev pub updated_meaning : Changes → Meaning → Meaning
 updated_meaning changes (OfLegacy image) =
     OfLegacy (with_new_time (unwrap_or changes.time image.time) image)
-updated_meaning changes (OfFit tree) = OfFit (updated changes tree)
+updated_meaning changes (OfFit tree) = OfFit (with_changes changes tree)
 
 -- The update computes digests, and the payloads of the image are over the payload bound.
-pub record HashesTooMuch (changes : Changes) (limits : Bounds) (meaning : Meaning) : Type 0 where
+pub record HashesTooMuch (changes : Changes) (limits : Limits) (meaning : Meaning) : Type 0 where
   pub hashes : changes.hashes ≡ true
   pub is_over : IsOverPayloadBound limits meaning
 
@@ -36,7 +37,7 @@ UpdatesJudgement changes (OfLegacy image) = ⊤
 UpdatesJudgement changes (OfFit tree) = HasUpdatedJudgement changes tree
 
 -- The text is that of the updated file.
-pub record IsUpdated (changes : Changes) (limits : Bounds) (form : Form) (file text : List ℕ)
+pub record IsUpdated (changes : Changes) (limits : Limits) (form : Form) (file text : List ℕ)
     : Type 0 where
   -- The file means this, and nothing else.
   pub meaning : Meaning
@@ -48,14 +49,14 @@ pub record IsUpdated (changes : Changes) (limits : Bounds) (form : Form) (file t
   pub judgement : UpdatesJudgement changes meaning
 
 -- The text is that of the updated file, and this is the number of its signature nodes.
-pub record Updated (changes : Changes) (limits : Bounds) (form : Form) (count : ℕ)
+pub record Updated (changes : Changes) (limits : Limits) (form : Form) (count : ℕ)
     (file text : List ℕ) : Type 0 where
   pub is : IsUpdated changes limits form file text
-  pub signatures : count ≡ signature_count (updated_meaning changes is.meaning)
+  pub signatures : count ≡ meaning_signature_count (updated_meaning changes is.meaning)
 
 -- The file means something whose payloads are over the payload bound, if the update computes
 -- digests, or whose updated normal text is longer than the limit.
-pub record IsTooLongToUpdate (changes : Changes) (limits : Bounds) (form : Form) (file : List ℕ)
+pub record IsTooLongToUpdate (changes : Changes) (limits : Limits) (form : Form) (file : List ℕ)
     : Type 0 where
   pub meaning : Meaning
   pub means : Means limits file meaning
@@ -63,7 +64,7 @@ pub record IsTooLongToUpdate (changes : Changes) (limits : Bounds) (form : Form)
       ⊎ (limits.file < length (normal_text form (updated_meaning changes meaning)))
 
 -- The error that updating a file in memory can have: one of reading it, or TooLarge at the limit.
-abbrev pub IsUpdateError : Changes → Bounds → Form → List ℕ → Error → Type 0
+abbrev pub IsUpdateError : Changes → Limits → Form → List ℕ → Error → Type 0
 IsUpdateError changes limits form file (Refused fault) =
     IsOpenError limits file (Refused fault)
     ⊎ (IsTooLongToUpdate changes limits form file × (fault ≡ too_large limits.file))
@@ -73,13 +74,13 @@ IsUpdateError changes limits form file WriteFailed = ⊥
 
 -- These are the digests that the hash nodes get, one after another. If there are any, the payloads
 -- are within the payload bound.
-pub record HasNewDigests (changes : Changes) (limits : Bounds) (tree : ImageTree)
+pub record HasNewDigests (changes : Changes) (limits : Limits) (tree : ImageTree)
     (digests : List ℕ) : Type 0 where
   pub are_digests : digests ≡ new_digests changes tree
   pub within : ¬ (HashesTooMuch changes limits (OfFit tree))
 
 -- The error of computing them: TooLarge at the limit, or memory ran out.
-abbrev pub IsDigestsError : Changes → Bounds → ImageTree → Error → Type 0
+abbrev pub IsDigestsError : Changes → Limits → ImageTree → Error → Type 0
 IsDigestsError changes limits tree (Refused fault) =
     HashesTooMuch changes limits (OfFit tree) × (fault ≡ too_large limits.file)
 IsDigestsError changes limits tree OutOfMemory = ⊤
@@ -87,7 +88,7 @@ IsDigestsError changes limits tree ReadFailed = ⊥
 IsDigestsError changes limits tree WriteFailed = ⊥
 
 -- What updating promises as a command.
-abbrev pub update_promise : Changes → Form → Bounds → CommandPromise ℕ Error
+abbrev pub update_promise : Changes → Form → Limits → CommandPromise ℕ Error
 update_promise changes form limits = record {
   is_output = λ count file text. Updated changes limits form count file text;
   is_text = IsUpdated changes limits form;
@@ -95,10 +96,10 @@ update_promise changes form limits = record {
   wraps = λ error. error;
 }
 
-pub update_laws : (changes : Changes) (form : Form) (limits : Bounds)
+pub update_laws : (changes : Changes) (form : Form) (limits : Limits)
     → PromiseLaws (update_promise changes form limits)
 update_laws changes form limits = record {
-  is_text = λ count file text updated. updated.is;
+  is_text = λ count file text with_changes. with_changes.is;
   wraps_once = λ a b same. same;
   no_read_error = λ file is. is;
   no_write_error = λ file is. is;

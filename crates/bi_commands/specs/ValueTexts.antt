@@ -25,8 +25,8 @@ abbrev pub escaped_byte : ℕ → List ℕ
 escaped_byte byte = if byte == 34 || byte == 92 then 92 ∷ byte ∷ [] else byte ∷ []
 
 -- A text in quotes.
-abbrev pub quoted : List ℕ → List ℕ
-quoted text = 34 ∷ (flat_map escaped_byte text ++ 34 ∷ [])
+abbrev pub quoted_text : List ℕ → List ℕ
+quoted_text text = 34 ∷ (flat_map escaped_byte text ++ 34 ∷ [])
 
 -- Two hexadecimal digits in lower case for each byte.
 abbrev pub hexadecimal_digits : List ℕ → List ℕ
@@ -37,5 +37,5 @@ hexadecimal_digits bytes = flat_map (digits_of_byte false) bytes
 abbrev pub value_words : List ℕ → List (List ℕ)
 value_words value =
     if bytes_eq value [] then [] else
-    if are_quotable_texts value then map quoted (listed_names value) else
+    if are_quotable_texts value then map quoted_text (listed_names value) else
     (codes "0x" ++ hexadecimal_digits value) ∷ []

@@ -8,24 +8,24 @@ use Rattle.bi_commands.specs.declared.describe.words.Word.TheVariants.{Hexadecim
 use Rattle.bi_commands.specs.declared.describe.words.Word.TheVariants.{Sha256, Path, Value}
 use Rattle.bi_commands.specs.Descriptions.{Words, path}
 use Rattle.bi_commands.specs.FitListing.{hexadecimal_64}
-use Rattle.bi_commands.specs.Shown.{hexadecimal, shown}
+use Rattle.bi_commands.specs.Shown.{hexadecimal, shown_text}
 use Rattle.bi_commands.specs.ValueTexts.{hexadecimal_digits, value_words}
 
 -- The words of a line, as the code has them.
 
 -- The bytes of names.
-abbrev pub name_bytes : List (Bor (List ℕ)) → List (List ℕ)
-name_bytes names = map (λ name. name.now) names
+abbrev pub bytes_of_names : List (Bor (List ℕ)) → List (List ℕ)
+bytes_of_names names = map (λ name. name.now) names
 
 -- The text of a word. That of a value has all words for it.
 abbrev pub word_text : Word → List ℕ
 word_text (Text text) = text.now
-word_text (Shown name) = shown name.now
+word_text (Shown name) = shown_text name.now
 word_text (Decimal number) = decimal number
 word_text (Hexadecimal number) = hexadecimal number
 word_text (Hexadecimal64 number) = hexadecimal_64 number
 word_text (Sha256 digest) = hexadecimal_digits digest
-word_text (Path names) = path (name_bytes names.now)
+word_text (Path names) = path (bytes_of_names names.now)
 word_text (Value value) = join_with_byte 32 (value_words value.now)
 
 -- The texts of the words of a line.

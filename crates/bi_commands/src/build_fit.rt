@@ -4,8 +4,8 @@ ghost use Rattle.std.specs.Prelude.{◌≡◌, length, IfOk, IfErr};
 ghost use Rattle.bi_base.specs.declared.fault.Error.TheVariants.{OutOfMemory};
 ghost use Rattle.bi_base.specs.Pipes.{IsPiped};
 ghost use Rattle.bi_legacy.specs.Emitting.{bytes_of};
-ghost use Rattle.bi_commands.specs.Building.{HavePayloads};
-ghost use Rattle.bi_commands.specs.Building.{build_fit_promise, build_fit_laws};
+ghost use Rattle.bi_commands.specs.BuildCommands.{HavePayloads};
+ghost use Rattle.bi_commands.specs.BuildCommands.{build_fit_promise, build_fit_laws};
 ghost use Rattle.bi_commands.specs.Parts.{parts_of_lengths};
 
 use crate::parts::{Part, fill, pieces};
@@ -102,7 +102,7 @@ fn with_payloads<'a>(
     requires { length payloads.now ≡ length images.now }
     ensures have { IfOk result (λ complete. HavePayloads images.now (bytes_of payloads.now)
         complete.items) }
-    ensures error { IfErr result (λ error. error ≡ OutOfMemory) }
+    ensures failed { IfErr result (λ error. error ≡ OutOfMemory) }
 {
     let mut complete = Vec::with_capacity(alloc, images.len())?;
     for (image, payload) in images.iter().zip(payloads) {

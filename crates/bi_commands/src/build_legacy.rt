@@ -6,9 +6,9 @@ ghost use Rattle.bi_base.specs.Cells.{AreBytes};
 ghost use Rattle.bi_base.specs.Commands.{Appended, AppendFailed};
 ghost use Rattle.bi_base.specs.Pipes.{IsPiped};
 ghost use Rattle.bi_legacy.specs.Emitting.{bytes_of};
-ghost use Rattle.bi_commands.specs.Building.{ArePartsOf, IsPartsError};
-ghost use Rattle.bi_commands.specs.Building.{IsLegacyOutput, IsLegacyOutputError};
-ghost use Rattle.bi_commands.specs.Building.{build_legacy_promise, build_legacy_laws};
+ghost use Rattle.bi_commands.specs.BuildCommands.{ArePartsOf, IsPartsError};
+ghost use Rattle.bi_commands.specs.BuildCommands.{IsLegacyOutput, IsLegacyOutputError};
+ghost use Rattle.bi_commands.specs.BuildCommands.{build_legacy_promise, build_legacy_laws};
 ghost use Rattle.bi_commands.specs.Parts.{parts_of_lengths};
 
 use crate::parts::{Part, fill, pieces};

@@ -2,7 +2,7 @@
 
 ghost use Rattle.std.specs.Prelude.{⊤};
 ghost use Rattle.bi_base.specs.Pipes.{IsPiped};
-ghost use Rattle.bi_commands.specs.Building.{convert_promise, convert_laws};
+ghost use Rattle.bi_commands.specs.BuildCommands.{convert_promise, convert_laws};
 
 use bi_base::{Command, Error, Limits, Sink, pipe_to};
 use bi_norm::convert_into;

@@ -24,7 +24,7 @@ pub enum Part<'a> {
 /// Returns the parts that are pieces of an input, of these lengths. Fails with OutOfMemory.
 pub(crate) fn pieces<'a>(alloc: Global, lengths: &[u32]) -> Result<Vec<Part<'a>>, Error>
     ensures parts { IfOk result (λ parts. parts.items ≡ parts_of_lengths lengths.now) }
-    ensures error { IfErr result (λ error. error ≡ OutOfMemory) }
+    ensures failed { IfErr result (λ error. error ≡ OutOfMemory) }
 {
     let mut parts = Vec::with_capacity(alloc, lengths.len())?;
     for length in lengths {
@@ -65,8 +65,8 @@ pub(crate) fn fill<'a>(
 /// beginning of the first one that does not fit, or at the end of the last one, if bytes are left.
 fn check_lengths(input: &[u8], parts: &[Part<'_>]) -> Result<(), Fault>
     requires { length input.now ≤ 0x7fffffff }
-    ensures whole { OnOk result (sum (map input_length_of parts.now) ≡ length input.now) }
-    ensures refused { IfErr result (IsCutFault input.now (lengths_of parts.now)) }
+    ensures ok { OnOk result (sum (map input_length_of parts.now) ≡ length input.now) }
+    ensures fault { IfErr result (IsCutFault input.now (lengths_of parts.now)) }
 {
     let mut start = 0;
     for part in parts {

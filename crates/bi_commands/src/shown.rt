@@ -4,7 +4,7 @@ ghost use Rattle.std.specs.Prelude.{◌≡◌, ◌++◌, OnOk, IfOk, string_byte
 ghost use Rattle.std.specs.List.{flat_map};
 ghost use Rattle.std.specs.Option.{option_map};
 ghost use Rattle.bi_commands.specs.Reports.{shown_or_none as shown_or_dash};
-ghost use Rattle.bi_commands.specs.Shown.{shown, shown_byte, is_plain as is_plain_byte};
+ghost use Rattle.bi_commands.specs.Shown.{shown_text, shown_byte, is_plain as is_plain_byte};
 
 use std::alloc::{AllocError, Global};
 use std::fmt::Write;
@@ -15,7 +15,7 @@ use std::fmt::Write;
 ///
 /// Fails only if memory runs out.
 pub fn shown_name(alloc: Global, name: &[u8]) -> Result<String, AllocError>
-    ensures { IfOk result (λ text. string_bytes text ≡ shown name.now) }
+    ensures { IfOk result (λ text. string_bytes text ≡ shown_text name.now) }
 {
     let mut text = String::new(alloc);
     match name {

@@ -1,4 +1,5 @@
-use Rattle.std.proofs.Common.{◌≡◌, ◌≢◌, ℕ, ◌-◌, ◌<◌, ◌≤◌, Option, Some, None, MatchOption, List, length, take, drop, get_or, arith, sym, ap, subst, ◌∙◌}
+use Rattle.std.proofs.Common.{◌≡◌, ◌≢◌, ℕ, ◌-◌, ◌<◌, ◌≤◌, Option, Some, None, MatchOption, List, length, take, drop, get_or, arith, sym, ap}
+use Rattle.std.proofs.Common.{subst, ◌∙◌}
 use Rattle.std.specs.Prelude.{◌==◌}
 use Rattle.std.specs.List.{position_or_len, HoldsAt, AllWithin}
 use Rattle.std.proofs.lemmas.Bool.{eqb-true, eq-eqb, ne_eqb}
@@ -7,7 +8,7 @@ use Rattle.std.proofs.lemmas.List.Sums.{position_or_len_is, passes_at_first}
 use Rattle.bi_blob.specs.Tokens.{name_from}
 use Rattle.bi_blob.specs.Tree.{HasNoZero}
 use Rattle.bi_blob.specs.BlobFaults.{HasName}
-use Rattle.bi_blob.proofs.Blobs.Names.{HasNoZero-before_zero}
+use Rattle.bi_blob.proofs.Blobs.BytesBeforeZero.{HasNoZero-before_zero}
 
 -- Looking for the zero byte that ends a name.
 
@@ -22,7 +23,8 @@ IsFirstZero list found =
     (λ n. (n < length list) × HoldsAt (λ byte. byte ≡ 0) list n × AllWithin (λ byte. byte ≢ 0) list 0 n)
 
 -- A window with a zero has the name before it.
-pub name_found : (bytes rest : List ℕ) (at end n : ℕ) → end ≤ length bytes → at ≤ end → rest ≡ window bytes at end → IsFirstZero rest (Some n) → HasName bytes at end × (take n rest ≡ name_from bytes at)
+pub name_found : (bytes rest : List ℕ) (at end n : ℕ) → end ≤ length bytes → at ≤ end → rest ≡ window bytes at end →
+    IsFirstZero rest (Some n) → HasName bytes at end × (take n rest ≡ name_from bytes at)
 name_found bytes rest at end n fits ordered is first =
     let same : (k : ℕ) → k < end - at → get_or rest k 0 ≡ get_or (drop at bytes) k 0 =
     λ k below. ap (λ l. get_or l k 0) is ∙ get_or-take (end - at) (drop at bytes) k 0 below in
@@ -38,7 +40,8 @@ name_found bytes rest at end n fits ordered is first =
     (omega arith, ap (take n) is ∙ take-take n (end - at) (drop at bytes) (omega arith) ∙ named)
 
 -- A window without a zero has no name.
-pub no_name_found : (bytes rest : List ℕ) (at end : ℕ) → end ≤ length bytes → at ≤ end → rest ≡ window bytes at end → IsFirstZero rest None → HasName bytes at end → ⊥
+pub no_name_found : (bytes rest : List ℕ) (at end : ℕ) → end ≤ length bytes → at ≤ end → rest ≡ window bytes at end →
+    IsFirstZero rest None → HasName bytes at end → ⊥
 no_name_found bytes rest at end fits ordered is nonzero has =
     let n : ℕ = position_or_len (λ byte. byte == 0) (drop at bytes) in
     let dropped : length (drop at bytes) ≡ length bytes - at = length-drop at bytes in

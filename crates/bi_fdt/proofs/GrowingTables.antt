@@ -1,4 +1,5 @@
-use Rattle.std.proofs.Common.{◌≡◌, ℕ, zero, suc, ◌+◌, ◌-◌, ◌<◌, Some, slice_get, List, [], ◌∷◌, ◌++◌, length, map, drop, reverse, refl, sym, ap, subst, ◌∙◌, arith}
+use Rattle.std.proofs.Common.{◌≡◌, ℕ, zero, suc, ◌+◌, ◌-◌, ◌<◌, Some, slice_get, List, [], ◌∷◌, ◌++◌, length, map, drop, reverse, refl, sym}
+use Rattle.std.proofs.Common.{ap, subst, ◌∙◌, arith}
 use Rattle.std.proofs.Math.ListN.{set}
 use Rattle.std.proofs.Math.Seq.{drop-append_seam}
 use Rattle.std.proofs.lemmas.List.{length-append, length-map, map-append, drop-map, append-nil, reverse-append, map_push}
@@ -6,7 +7,8 @@ use Rattle.bi_blob.specs.Tree.{FileProperty, names}
 use Rattle.bi_blob.specs.Events.{FileNodeProperty, FileNodeEnd}
 use Rattle.bi_blob.specs.NameSets.{HoldsNames}
 use Rattle.bi_fdt.specs.PropertySets.{HoldsProperties}
-use Rattle.bi_blob.specs.OpenNodes.{OpenFileNode, new_node, events_of_open_nodes, events_of_open_node, with_one_property, with_one_child, own_of}
+use Rattle.bi_blob.specs.OpenNodes.{OpenFileNode, new_node, events_of_open_nodes, events_of_open_node, with_one_property, with_one_child}
+use Rattle.bi_blob.specs.OpenNodes.{own_of}
 use Rattle.bi_blob.proofs.Blobs.OpenNodes.{events_of_open_nodes-property, events_of_open_nodes-child, names-with_last}
 use Rattle.bi_fdt.specs.declared.growing.Growing.{Growing}
 use Rattle.bi_fdt.specs.declared.growing.OpenNode.{OpenNode}
@@ -14,34 +16,38 @@ use Rattle.bi_fdt.specs.declared.table.Entry.{Entry}
 use Rattle.bi_fdt.specs.declared.table.Entry.TheVariants as entry
 use Rattle.bi_fdt.specs.declared.table.NodeEntry.{NodeEntry}
 use Rattle.bi_fdt.specs.declared.table.Property.{Property}
-use Rattle.bi_fdt.specs.Table.{Item, NodeItem, PropertyItem, count_inside, item_of, items_of, AreLinked}
+use Rattle.bi_fdt.specs.Table.{TableItem, NodeItem, PropertyItem, count_inside, item_of, items_of, AreLinked}
 use Rattle.bi_fdt.specs.Properties.{file_property_of}
 use Rattle.bi_fdt.specs.Growth.{AreOpen, IsGrowing, IsFinished, EndsInside}
 use Rattle.bi_fdt.proofs.Items.{items_of-append, open_items, node_items, items_of-open_nodes, items_of-open, inside-open, childless_items}
-use Rattle.bi_fdt.proofs.Links.{AreLinked-node, AreLinked-property, AreLinked-end, items-set, drop-push, properties_alone, AreProperties}
+use Rattle.bi_fdt.proofs.Links.{AreLinked-node, AreLinked-property, AreLinked-end, items-set, drop-push, properties_alone}
+use Rattle.bi_fdt.proofs.Links.{AreOnlyProperties}
 
 -- What one token does to a growing table.
 
 -- What an open node's entry begins in the items of a growing table.
-pub open_entry : (opened : OpenNode) (later : List OpenNode) (children : List (List ℕ)) (o : OpenFileNode) (outer : List OpenFileNode) → AreOpen (opened ∷ later) children o.name outer → drop opened.entry (items_of 0 (events_of_open_nodes o outer)) ≡ open_items (length outer) o
+pub open_entry : (opened : OpenNode) (later : List OpenNode) (children : List (List ℕ)) (o : OpenFileNode) (outer : List OpenFileNode) →
+    AreOpen (opened ∷ later) children o.name outer →
+    drop opened.entry (items_of 0 (events_of_open_nodes o outer)) ≡ open_items (length outer) o
 open_entry opened [] children o [] are = ap (λ n. drop n (items_of 0 (events_of_open_node o))) are.0 ∙ items_of-open 0 o
 open_entry opened (p ∷ later) children o [] are = absurd are
 open_entry opened later children o (parent ∷ outer) are =
-    let before : List Item = items_of 0 (events_of_open_nodes parent outer) in
+    let before : List TableItem = items_of 0 (events_of_open_nodes parent outer) in
     ap (λ n. drop n (items_of 0 (events_of_open_nodes o (parent ∷ outer)))) are.0
     ∙ ap (drop (length before)) (items_of-open_nodes o parent outer)
     ∙ drop-append_seam before (open_items (length outer + 1) o)
     ∙ ap (λ d. open_items d o) (omega arith)
 
 -- A node's entry where the items have a node.
-pub record IsNodeEntry (entries : List Entry) (index : ℕ) (item : Item) (items : List Item) : Type 0 where
+pub record IsNodeEntry (entries : List Entry) (index : ℕ) (item : TableItem) (items : List TableItem) : Type 0 where
   pub n : NodeEntry
   pub later : List Entry
   pub is_at : drop index entries ≡ entry.Node n ∷ later
   pub is_item : item_of (entry.Node n) ≡ item
   pub are_items : map item_of later ≡ items
 
-pub node_entry : (entries : List Entry) (index depth place : ℕ) (name : List ℕ) (items : List Item) → drop index (map item_of entries) ≡ NodeItem depth place name ∷ items → IsNodeEntry entries index (NodeItem depth place name) items
+pub node_entry : (entries : List Entry) (index depth place : ℕ) (name : List ℕ) (items : List TableItem) →
+    drop index (map item_of entries) ≡ NodeItem depth place name ∷ items → IsNodeEntry entries index (NodeItem depth place name) items
 node_entry entries index depth place name items at = by_rest (drop index entries) refl (sym (drop-map item_of index entries) ∙ at) where
   by_rest : (rest : List Entry) → drop index entries ≡ rest → map item_of rest ≡ NodeItem depth place name ∷ items → IsNodeEntry entries index (NodeItem depth place name) items
   by_rest [] is e = absurd cc
@@ -56,17 +62,19 @@ drop-within (y ∷ xs) later zero x at = let e : suc (length xs) ≡ suc (length
 drop-within (y ∷ xs) later (suc index) x at = let e : index + 1 + length later ≡ length xs = drop-within xs later index x at in omega arith
 
 -- What the innermost open node says after its beginning.
-abbrev pub open_rest : OpenFileNode → List OpenFileNode → List Item
+abbrev pub open_rest : OpenFileNode → List OpenFileNode → List TableItem
 open_rest o outer = map PropertyItem o.properties ++ node_items (length outer + 1) o.children
 
 -- The entry of the innermost open node.
-pub innermost_entry : (growing : Growing) (o : OpenFileNode) (outer : List OpenFileNode) → IsGrowing growing o outer → IsNodeEntry growing.entries.items growing.innermost.entry (NodeItem (length outer) o.place o.name) (open_rest o outer)
+pub innermost_entry : (growing : Growing) (o : OpenFileNode) (outer : List OpenFileNode) → IsGrowing growing o outer →
+    IsNodeEntry growing.entries.items growing.innermost.entry (NodeItem (length outer) o.place o.name) (open_rest o outer)
 innermost_entry growing o outer is =
     node_entry growing.entries.items growing.innermost.entry (length outer) o.place o.name (open_rest o outer)
     (ap (drop growing.innermost.entry) is.items ∙ open_entry growing.innermost (reverse growing.outer.items) (names o.children) o outer is.opened)
 
 -- It is within the table.
-pub innermost_within : (growing : Growing) (o : OpenFileNode) (outer : List OpenFileNode) → IsGrowing growing o outer → growing.innermost.entry < length growing.entries.items
+pub innermost_within : (growing : Growing) (o : OpenFileNode) (outer : List OpenFileNode) → IsGrowing growing o outer →
+    growing.innermost.entry < length growing.entries.items
 innermost_within growing o outer is =
     let e : IsNodeEntry growing.entries.items growing.innermost.entry (NodeItem (length outer) o.place o.name) (open_rest o outer) = innermost_entry growing o outer is in
     let long : growing.innermost.entry + 1 + length e.later ≡ length growing.entries.items = drop-within growing.entries.items e.later growing.innermost.entry (entry.Node e.n) e.is_at in
@@ -80,13 +88,15 @@ get_at (y ∷ xs) later zero x at = cc
 get_at (y ∷ xs) later (suc index) x at = get_at xs later index x at
 
 -- The innermost open node with another set of names.
-AreOpen-first : (a b : OpenNode) (later : List OpenNode) (children more : List (List ℕ)) (name : List ℕ) (outer : List OpenFileNode) → AreOpen (a ∷ later) children name outer → b.entry ≡ a.entry → HoldsNames b.children more → AreOpen (b ∷ later) more name outer
+AreOpen-first : (a b : OpenNode) (later : List OpenNode) (children more : List (List ℕ)) (name : List ℕ) (outer : List OpenFileNode) →
+    AreOpen (a ∷ later) children name outer → b.entry ≡ a.entry → HoldsNames b.children more → AreOpen (b ∷ later) more name outer
 AreOpen-first a b [] children more name [] are same holds = (same ∙ are.0, holds)
 AreOpen-first a b (c ∷ later) children more name [] are same holds = absurd are
 AreOpen-first a b later children more name (parent ∷ outer) are same holds = (same ∙ are.0, holds, are.2)
 
 -- A child begins.
-pub growing_begun : (growing grown : Growing) (o : OpenFileNode) (outer : List OpenFileNode) (name : List ℕ) (place : ℕ) (new : NodeEntry) (parent : OpenNode) → IsGrowing growing o outer
+pub growing_begun : (growing grown : Growing) (o : OpenFileNode) (outer : List OpenFileNode) (name : List ℕ) (place : ℕ) (new : NodeEntry)
+    (parent : OpenNode) → IsGrowing growing o outer
     → grown.entries.items ≡ growing.entries.items ++ entry.Node new ∷ []
     → item_of (entry.Node new) ≡ NodeItem (length outer + 1) place name → new.depth ≡ length outer + 1 → new.property_count ≡ 0
     → grown.innermost.entry ≡ length growing.entries.items → HoldsNames grown.innermost.children []
@@ -112,9 +122,11 @@ growing_begun growing grown o outer name place new parent is entries item deep n
   more n = omega arith
 
 -- A property of the innermost open node, which has no child.
-pub growing_property : (growing grown : Growing) (o : OpenFileNode) (outer : List OpenFileNode) (p : Property) → IsGrowing growing o outer → names o.children ≡ []
+pub growing_property : (growing grown : Growing) (o : OpenFileNode) (outer : List OpenFileNode) (p : Property) → IsGrowing growing o outer →
+    names o.children ≡ []
     → ((n : NodeEntry) → slice_get (growing.entries.items ++ entry.Property p ∷ []) growing.innermost.entry ≡ Some (entry.Node n)
-    → grown.entries.items ≡ set (growing.entries.items ++ entry.Property p ∷ []) growing.innermost.entry (entry.Node (record n { property_count = length (growing.entries.items ++ entry.Property p ∷ []) - growing.innermost.entry - 1 })))
+    → grown.entries.items ≡ set (growing.entries.items ++ entry.Property p ∷ []) growing.innermost.entry
+    (entry.Node (record n { property_count = length (growing.entries.items ++ entry.Property p ∷ []) - growing.innermost.entry - 1 })))
     → grown.innermost ≡ growing.innermost → grown.outer ≡ growing.outer
     → HoldsProperties grown.properties (map (λ (q : FileProperty). q.name) o.properties ++ p.name.now ∷ [])
     → IsGrowing grown (with_one_property o (file_property_of p)) outer
@@ -139,7 +151,7 @@ growing_property growing grown o outer p is childless entries same same_outer ho
           ∙ ap (items_of 0) (sym (events_of_open_nodes-property o outer (file_property_of p) childless));
       linked = subst (AreLinked (length outer + 1) 0) (sym written)
           (AreLinked-property (length outer + 1) 0 growing.entries.items found.later growing.innermost.entry found.n m p found.is_at (ap (λ d. d + 1) deep)
-          (subst AreProperties (sym rest) (properties_alone o.properties)) refl refl (omega arith) is.linked);
+          (subst AreOnlyProperties (sym rest) (properties_alone o.properties)) refl refl (omega arith) is.linked);
       opened = subst (λ a. AreOpen (a ∷ reverse grown.outer.items) (names o.children) o.name outer) (sym same)
           (subst (λ l. AreOpen (growing.innermost ∷ reverse l.items) (names o.children) o.name outer) (sym same_outer) is.opened);
       properties = λ _. subst (HoldsProperties grown.properties) (sym (map_push (λ (q : FileProperty). q.name) o.properties (file_property_of p))) holds;
@@ -150,7 +162,8 @@ growing_property growing grown o outer p is childless entries same same_outer ho
 -- The innermost open node ends.
 pub growing_ended : (growing grown : Growing) (o : OpenFileNode) (outer : List OpenFileNode) (parent : OpenNode) → IsGrowing growing o outer
     → ((n : NodeEntry) → slice_get growing.entries.items growing.innermost.entry ≡ Some (entry.Node n)
-    → grown.entries.items ≡ set growing.entries.items growing.innermost.entry (entry.Node (record n { after = length growing.entries.items })))
+    → grown.entries.items ≡ set growing.entries.items growing.innermost.entry
+    (entry.Node (record n { after = length growing.entries.items })))
     → growing.outer.items ≡ grown.outer.items ++ parent ∷ [] → grown.innermost ≡ parent
     → EndsInside grown o outer
 growing_ended growing grown o [] parent is entries outers same =

@@ -6,7 +6,7 @@ use Rattle.bi_blob.specs.Tree.{Nodes, none, node, FileProperty, FileNode, names}
 use Rattle.bi_blob.specs.Events.{FileEvent, FileNodeStart, FileNodeProperty, FileNodeEnd, file_events}
 use Rattle.bi_blob.specs.OpenNodes.{OpenFileNode, events_of_open_node, events_of_open_nodes}
 use Rattle.bi_blob.proofs.Blobs.OpenNodes.{no_children}
-use Rattle.bi_fdt.specs.Table.{Item, NodeItem, PropertyItem, items_of, count_inside}
+use Rattle.bi_fdt.specs.Table.{TableItem, NodeItem, PropertyItem, items_of, count_inside}
 
 -- The items of trees.
 
@@ -18,7 +18,8 @@ depth_after depth (FileNodeProperty property ∷ later) = depth_after depth late
 depth_after depth (FileNodeEnd ∷ later) = depth_after (depth - 1) later
 
 -- Items of events one after the other.
-pub items_of-append : (depth : ℕ) (es fs : List FileEvent) → items_of depth (es ++ fs) ≡ items_of depth es ++ items_of (depth_after depth es) fs
+pub items_of-append : (depth : ℕ) (es fs : List FileEvent) →
+    items_of depth (es ++ fs) ≡ items_of depth es ++ items_of (depth_after depth es) fs
 items_of-append depth [] fs = refl
 items_of-append depth (FileNodeStart place name ∷ es) fs = ap (λ l. NodeItem depth place name ∷ l) (items_of-append (depth + 1) es fs)
 items_of-append depth (FileNodeProperty property ∷ es) fs = ap (λ l. PropertyItem property ∷ l) (items_of-append depth es fs)
@@ -31,22 +32,25 @@ depth_after-append depth (FileNodeProperty property ∷ es) fs = depth_after-app
 depth_after-append depth (FileNodeEnd ∷ es) fs = depth_after-append (depth - 1) es fs
 
 -- The items of nodes of this depth.
-abbrev pub node_items : ℕ → Nodes FileNode → List Item
+abbrev pub node_items : ℕ → Nodes FileNode → List TableItem
 node_items depth none = []
 node_items depth (node name own children later) =
     NodeItem depth own.place name
     ∷ (map PropertyItem own.properties ++ (node_items (depth + 1) children ++ node_items depth later))
 
-pub items_of-properties : (depth : ℕ) (properties : List FileProperty) (es : List FileEvent) → items_of depth (map FileNodeProperty properties ++ es) ≡ map PropertyItem properties ++ items_of depth es
+pub items_of-properties : (depth : ℕ) (properties : List FileProperty) (es : List FileEvent) →
+    items_of depth (map FileNodeProperty properties ++ es) ≡ map PropertyItem properties ++ items_of depth es
 items_of-properties depth [] es = refl
 items_of-properties depth (p ∷ ps) es = ap (λ l. PropertyItem p ∷ l) (items_of-properties depth ps es)
 
-depth_after-properties : (depth : ℕ) (properties : List FileProperty) (es : List FileEvent) → depth_after depth (map FileNodeProperty properties ++ es) ≡ depth_after depth es
+depth_after-properties : (depth : ℕ) (properties : List FileProperty) (es : List FileEvent) →
+    depth_after depth (map FileNodeProperty properties ++ es) ≡ depth_after depth es
 depth_after-properties depth [] es = refl
 depth_after-properties depth (p ∷ ps) es = depth_after-properties depth ps es
 
 -- What nodes say has their items, and leaves the depth.
-pub items_of-nodes : (depth : ℕ) (nodes : Nodes FileNode) (es : List FileEvent) → items_of depth (file_events nodes ++ es) ≡ node_items depth nodes ++ items_of depth es
+pub items_of-nodes : (depth : ℕ) (nodes : Nodes FileNode) (es : List FileEvent) →
+    items_of depth (file_events nodes ++ es) ≡ node_items depth nodes ++ items_of depth es
 items_of-nodes depth none es = refl
 items_of-nodes depth (node name own children later) es =
     let closed : (depth + 1) - 1 ≡ depth = omega arith in
@@ -61,7 +65,8 @@ items_of-nodes depth (node name own children later) es =
     ∙ sym (append_assoc (node_items (depth + 1) children) (node_items depth later) (items_of depth es)))
     ∙ sym (append_assoc (map PropertyItem own.properties) (node_items (depth + 1) children ++ node_items depth later) (items_of depth es)))
 
-pub depth_after-nodes : (depth : ℕ) (nodes : Nodes FileNode) (es : List FileEvent) → depth_after depth (file_events nodes ++ es) ≡ depth_after depth es
+pub depth_after-nodes : (depth : ℕ) (nodes : Nodes FileNode) (es : List FileEvent) →
+    depth_after depth (file_events nodes ++ es) ≡ depth_after depth es
 depth_after-nodes depth none es = refl
 depth_after-nodes depth (node name own children later) es =
     let closed : (depth + 1) - 1 ≡ depth = omega arith in
@@ -74,7 +79,7 @@ depth_after-nodes depth (node name own children later) es =
     ∙ depth_after-nodes depth later es
 
 -- The items of an open node.
-abbrev pub open_items : ℕ → OpenFileNode → List Item
+abbrev pub open_items : ℕ → OpenFileNode → List TableItem
 open_items depth o = NodeItem depth o.place o.name ∷ (map PropertyItem o.properties ++ node_items (depth + 1) o.children)
 
 pub items_of-open : (depth : ℕ) (o : OpenFileNode) → items_of depth (events_of_open_node o) ≡ open_items depth o
@@ -91,7 +96,8 @@ depth_after-open depth o =
     ∙ depth_after-nodes (depth + 1) o.children []
 
 -- As many nodes are open after what open nodes say.
-pub depth_after-open_nodes : (o : OpenFileNode) (outer : List OpenFileNode) → depth_after 0 (events_of_open_nodes o outer) ≡ length outer + 1
+pub depth_after-open_nodes : (o : OpenFileNode) (outer : List OpenFileNode) →
+    depth_after 0 (events_of_open_nodes o outer) ≡ length outer + 1
 depth_after-open_nodes o [] = depth_after-open 0 o
 depth_after-open_nodes o (parent ∷ outer) =
     depth_after-append 0 (events_of_open_nodes parent outer) (events_of_open_node o)
@@ -100,29 +106,34 @@ depth_after-open_nodes o (parent ∷ outer) =
     ∙ omega arith
 
 -- The items of open nodes are those of the outer ones, and then those of the innermost.
-pub items_of-open_nodes : (o parent : OpenFileNode) (outer : List OpenFileNode) → items_of 0 (events_of_open_nodes o (parent ∷ outer)) ≡ items_of 0 (events_of_open_nodes parent outer) ++ open_items (length outer + 1) o
+pub items_of-open_nodes : (o parent : OpenFileNode) (outer : List OpenFileNode) →
+    items_of 0 (events_of_open_nodes o (parent ∷ outer)) ≡ items_of 0 (events_of_open_nodes parent outer) ++ open_items (length outer + 1) o
 items_of-open_nodes o parent outer =
     items_of-append 0 (events_of_open_nodes parent outer) (events_of_open_node o)
     ∙ ap (λ l. items_of 0 (events_of_open_nodes parent outer) ++ l)
     (ap (λ d. items_of d (events_of_open_node o)) (depth_after-open_nodes parent outer) ∙ items_of-open (length outer + 1) o)
 
 -- Nodes deeper than a depth and all properties are inside it.
-pub inside-properties : (depth : ℕ) (properties : List FileProperty) (items : List Item) → count_inside depth (map PropertyItem properties ++ items) ≡ length properties + count_inside depth items
+pub inside-properties : (depth : ℕ) (properties : List FileProperty) (items : List TableItem) →
+    count_inside depth (map PropertyItem properties ++ items) ≡ length properties + count_inside depth items
 inside-properties depth [] items = omega arith
 inside-properties depth (p ∷ ps) items = let e : count_inside depth (map PropertyItem ps ++ items) ≡ length ps + count_inside depth items = inside-properties depth ps items in omega arith
 
-pub inside-deeper : (depth own place : ℕ) (name : List ℕ) (items : List Item) → depth < own → count_inside depth (NodeItem own place name ∷ items) ≡ count_inside depth items + 1
+pub inside-deeper : (depth own place : ℕ) (name : List ℕ) (items : List TableItem) → depth < own →
+    count_inside depth (NodeItem own place name ∷ items) ≡ count_inside depth items + 1
 inside-deeper depth own place name items deeper = ap (λ b. if b then count_inside depth items + 1 else 0) (lt-ltb depth own deeper)
 
-pub inside-stops : (depth own place : ℕ) (name : List ℕ) (items : List Item) → own ≤ depth → count_inside depth (NodeItem own place name ∷ items) ≡ 0
+pub inside-stops : (depth own place : ℕ) (name : List ℕ) (items : List TableItem) → own ≤ depth →
+    count_inside depth (NodeItem own place name ∷ items) ≡ 0
 inside-stops depth own place name items stops = ap (λ b. if b then count_inside depth items + 1 else 0) (le-ltb depth own stops)
 
-pub inside-nodes : (depth own : ℕ) (nodes : Nodes FileNode) (items : List Item) → depth < own → count_inside depth (node_items own nodes ++ items) ≡ length (node_items own nodes) + count_inside depth items
+pub inside-nodes : (depth own : ℕ) (nodes : Nodes FileNode) (items : List TableItem) → depth < own →
+    count_inside depth (node_items own nodes ++ items) ≡ length (node_items own nodes) + count_inside depth items
 inside-nodes depth own none items deeper = omega arith
 inside-nodes depth own (node name n children later) items deeper =
-    let below : List Item = node_items (own + 1) children in
-    let after : List Item = node_items own later in
-    let properties : List Item = map PropertyItem n.properties in
+    let below : List TableItem = node_items (own + 1) children in
+    let after : List TableItem = node_items own later in
+    let properties : List TableItem = map PropertyItem n.properties in
     let shape : (properties ++ (below ++ after)) ++ items ≡ properties ++ (below ++ (after ++ items)) =
     append_assoc properties (below ++ after) items ∙ ap (λ l. properties ++ l) (append_assoc below after items) in
     let one : count_inside depth (NodeItem own n.place name ∷ ((properties ++ (below ++ after)) ++ items)) ≡ count_inside depth (properties ++ (below ++ (after ++ items))) + 1 =
@@ -136,9 +147,11 @@ inside-nodes depth own (node name n children later) items deeper =
     omega arith
 
 -- All that an open node says after its beginning is inside it.
-pub inside-open : (depth : ℕ) (o : OpenFileNode) → count_inside depth (map PropertyItem o.properties ++ node_items (depth + 1) o.children) ≡ length (map PropertyItem o.properties ++ node_items (depth + 1) o.children)
+pub inside-open : (depth : ℕ) (o : OpenFileNode) →
+    count_inside depth (map PropertyItem o.properties ++ node_items (depth + 1) o.children)
+    ≡ length (map PropertyItem o.properties ++ node_items (depth + 1) o.children)
 inside-open depth o =
-    let below : List Item = node_items (depth + 1) o.children in
+    let below : List TableItem = node_items (depth + 1) o.children in
     let one : count_inside depth (map PropertyItem o.properties ++ below) ≡ length o.properties + count_inside depth below = inside-properties depth o.properties below in
     let two : count_inside depth (below ++ []) ≡ length below + 0 = inside-nodes depth (depth + 1) o.children [] (omega arith) in
     let same : below ++ [] ≡ below = append-nil below in
@@ -147,7 +160,8 @@ inside-open depth o =
     omega arith
 
 -- An open node without children says its properties alone after its beginning.
-pub childless_items : (depth : ℕ) (o : OpenFileNode) → names o.children ≡ [] → map PropertyItem o.properties ++ node_items (depth + 1) o.children ≡ map PropertyItem o.properties
+pub childless_items : (depth : ℕ) (o : OpenFileNode) → names o.children ≡ [] →
+    map PropertyItem o.properties ++ node_items (depth + 1) o.children ≡ map PropertyItem o.properties
 childless_items depth o childless =
     ap (λ nodes. map PropertyItem o.properties ++ node_items (depth + 1) nodes) (no_children o.children childless)
     ∙ append-nil (map PropertyItem o.properties)

@@ -9,6 +9,6 @@ pub mod GrowingTables
 pub mod TokenSteps
 pub mod RootSteps
 pub mod Parsing
-pub mod Contents
+pub mod BlobViews
 pub mod NodeEntries
 pub mod NodeViews

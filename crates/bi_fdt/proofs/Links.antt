@@ -1,4 +1,5 @@
-use Rattle.std.proofs.Common.{◌≡◌, ℕ, zero, suc, ◌+◌, ◌<◌, ◌≤◌, List, [], ◌∷◌, ◌++◌, length, map, drop, get_or, refl, sym, ap, subst, ◌∙◌, inl, inr, arith}
+use Rattle.std.proofs.Common.{◌≡◌, ℕ, zero, suc, ◌+◌, ◌<◌, ◌≤◌, List, [], ◌∷◌, ◌++◌, length, map, drop, get_or, refl, sym, ap, subst, ◌∙◌}
+use Rattle.std.proofs.Common.{inl, inr, arith}
 use Rattle.std.proofs.Math.ListN.{set}
 use Rattle.std.proofs.Math.Seq.{map-set_same}
 use Rattle.std.proofs.lemmas.Bool.{cases_lt}
@@ -8,14 +9,14 @@ use Rattle.bi_fdt.specs.declared.table.Entry.{Entry}
 use Rattle.bi_fdt.specs.declared.table.Entry.TheVariants as entry
 use Rattle.bi_fdt.specs.declared.table.NodeEntry.{NodeEntry}
 use Rattle.bi_fdt.specs.declared.table.Property.{Property}
-use Rattle.bi_fdt.specs.Table.{Item, NodeItem, PropertyItem, first_properties, count_inside, item_of, IsLinked, AreLinked}
+use Rattle.bi_fdt.specs.Table.{TableItem, NodeItem, PropertyItem, first_properties, count_inside, item_of, IsLinked, AreLinked}
 use Rattle.bi_fdt.specs.Properties.{file_property_of}
 use Rattle.bi_fdt.proofs.Items.{inside-deeper, inside-stops}
 
 -- The numbers of the entries of a table while it grows.
 
 -- As many items are inside a depth as there are at most.
-pub inside-most : (depth : ℕ) (items : List Item) → count_inside depth items ≤ length items
+pub inside-most : (depth : ℕ) (items : List TableItem) → count_inside depth items ≤ length items
 inside-most depth [] = omega arith
 inside-most depth (PropertyItem p ∷ items) = let rest : count_inside depth items ≤ length items = inside-most depth items in omega arith
 inside-most depth (NodeItem own place name ∷ items) =
@@ -26,7 +27,8 @@ inside-most depth (NodeItem own place name ∷ items) =
     ]
 
 -- Where some items are not inside, one more item at the end changes nothing.
-pub inside-push : (depth : ℕ) (items : List Item) (item : Item) → count_inside depth items < length items → count_inside depth (items ++ item ∷ []) ≡ count_inside depth items
+pub inside-push : (depth : ℕ) (items : List TableItem) (item : TableItem) → count_inside depth items < length items →
+    count_inside depth (items ++ item ∷ []) ≡ count_inside depth items
 inside-push depth [] item some = absurd (omega arith)
 inside-push depth (PropertyItem p ∷ items) item some = ap (λ n. n + 1) (inside-push depth items item (omega arith))
 inside-push depth (NodeItem own place name ∷ items) item some = elim (cases_lt depth own) [
@@ -38,7 +40,8 @@ inside-push depth (NodeItem own place name ∷ items) item some = elim (cases_lt
 ]
 
 -- Where all items are inside, those of one more item at the end are inside too.
-pub inside-all : (depth : ℕ) (items more : List Item) → count_inside depth items ≡ length items → count_inside depth (items ++ more) ≡ length items + count_inside depth more
+pub inside-all : (depth : ℕ) (items more : List TableItem) → count_inside depth items ≡ length items →
+    count_inside depth (items ++ more) ≡ length items + count_inside depth more
 inside-all depth [] more all = omega arith
 inside-all depth (PropertyItem p ∷ items) more all =
     let e : count_inside depth (items ++ more) ≡ length items + count_inside depth more = inside-all depth items more (omega arith) in omega arith
@@ -52,7 +55,8 @@ inside-all depth (NodeItem own place name ∷ items) more all = elim (cases_lt d
 ]
 
 -- Items that have a node no deeper than a depth are not all inside.
-pub inside-some : (depth own place : ℕ) (name : List ℕ) (index : ℕ) (items later : List Item) → drop index items ≡ NodeItem own place name ∷ later → own ≤ depth → count_inside depth items < length items
+pub inside-some : (depth own place : ℕ) (name : List ℕ) (index : ℕ) (items later : List TableItem) →
+    drop index items ≡ NodeItem own place name ∷ later → own ≤ depth → count_inside depth items < length items
 inside-some depth own place name index [] later at stops = absurd (by_index index at) where
   by_index : (i : ℕ) → drop i [] ≡ NodeItem own place name ∷ later → ⊥
   by_index zero e = cc
@@ -70,13 +74,15 @@ inside-some depth own place name (suc index) (NodeItem other other_place other_n
     ]
 
 -- A node at the end is no first property.
-first-node : (items : List Item) (depth place : ℕ) (name : List ℕ) → first_properties (items ++ NodeItem depth place name ∷ []) ≡ first_properties items
+first-node : (items : List TableItem) (depth place : ℕ) (name : List ℕ) →
+    first_properties (items ++ NodeItem depth place name ∷ []) ≡ first_properties items
 first-node [] depth place name = refl
 first-node (PropertyItem p ∷ items) depth place name = ap (λ l. p ∷ l) (first-node items depth place name)
 first-node (NodeItem own own_place own_name ∷ items) depth place name = refl
 
 -- A property after a node is none of the first.
-first-after_node : (items later : List Item) (index own place : ℕ) (name : List ℕ) (p : FileProperty) → drop index items ≡ NodeItem own place name ∷ later → first_properties (items ++ PropertyItem p ∷ []) ≡ first_properties items
+first-after_node : (items later : List TableItem) (index own place : ℕ) (name : List ℕ) (p : FileProperty) →
+    drop index items ≡ NodeItem own place name ∷ later → first_properties (items ++ PropertyItem p ∷ []) ≡ first_properties items
 first-after_node [] later index own place name p at = absurd (by_index index at) where
   by_index : (i : ℕ) → drop i [] ≡ NodeItem own place name ∷ later → ⊥
   by_index zero e = cc
@@ -86,51 +92,57 @@ first-after_node (PropertyItem q ∷ items) later zero own place name p at = abs
 first-after_node (PropertyItem q ∷ items) later (suc index) own place name p at = ap (λ l. q ∷ l) (first-after_node items later index own place name p at)
 
 -- Properties alone.
-abbrev pub AreProperties : List Item → Type 0
-AreProperties items = length (first_properties items) ≡ length items
+abbrev pub AreOnlyProperties : List TableItem → Type 0
+AreOnlyProperties items = length (first_properties items) ≡ length items
 
-pub properties_alone : (properties : List FileProperty) → AreProperties (map PropertyItem properties)
+pub properties_alone : (properties : List FileProperty) → AreOnlyProperties (map PropertyItem properties)
 properties_alone [] = refl
 properties_alone (p ∷ properties) = ap suc (properties_alone properties)
 
-first-property : (items : List Item) (p : FileProperty) → AreProperties items → length (first_properties (items ++ PropertyItem p ∷ [])) ≡ length items + 1
+first-property : (items : List TableItem) (p : FileProperty) → AreOnlyProperties items →
+    length (first_properties (items ++ PropertyItem p ∷ [])) ≡ length items + 1
 first-property [] p all = refl
 first-property (PropertyItem q ∷ items) p all =
     let rest : length (first_properties (items ++ PropertyItem p ∷ [])) ≡ length items + 1 = first-property items p (omega arith) in omega arith
 first-property (NodeItem own place name ∷ items) p all = absurd (omega arith)
 
-inside-properties_all : (depth : ℕ) (items : List Item) → AreProperties items → count_inside depth items ≡ length items
+inside-properties_all : (depth : ℕ) (items : List TableItem) → AreOnlyProperties items → count_inside depth items ≡ length items
 inside-properties_all depth [] all = refl
 inside-properties_all depth (PropertyItem q ∷ items) all =
     let rest : count_inside depth items ≡ length items = inside-properties_all depth items (omega arith) in omega arith
 inside-properties_all depth (NodeItem own place name ∷ items) all = absurd (omega arith)
 
-AreLinked-properties : (opened at : ℕ) (entries : List Entry) → AreProperties (map item_of entries) → AreLinked opened at entries
+AreLinked-properties : (opened at : ℕ) (entries : List Entry) → AreOnlyProperties (map item_of entries) → AreLinked opened at entries
 AreLinked-properties opened at [] all = tt
 AreLinked-properties opened at (entry.Property p ∷ entries) all = AreLinked-properties opened (at + 1) entries (omega arith)
 AreLinked-properties opened at (entry.Node n ∷ entries) all = absurd (omega arith)
 
 -- What follows an entry after one more at the end.
-pub drop-push : (entries later : List Entry) (index : ℕ) (n : NodeEntry) (new : Entry) → drop index entries ≡ entry.Node n ∷ later → drop index (entries ++ new ∷ []) ≡ entry.Node n ∷ (later ++ new ∷ [])
+pub drop-push : (entries later : List Entry) (index : ℕ) (n : NodeEntry) (new : Entry) → drop index entries ≡ entry.Node n ∷ later →
+    drop index (entries ++ new ∷ []) ≡ entry.Node n ∷ (later ++ new ∷ [])
 drop-push [] later zero n new at = absurd cc
 drop-push [] later (suc index) n new at = absurd cc
 drop-push (e ∷ entries) later zero n new at = ap (λ l. l ++ new ∷ []) at
 drop-push (e ∷ entries) later (suc index) n new at = drop-push entries later index n new at
 
 -- An item where a list begins with it.
-item-at : (entries later : List Entry) (index : ℕ) (n : NodeEntry) (d : Entry) → drop index entries ≡ entry.Node n ∷ later → get_or entries index d ≡ entry.Node n
+item-at : (entries later : List Entry) (index : ℕ) (n : NodeEntry) (d : Entry) → drop index entries ≡ entry.Node n ∷ later →
+    get_or entries index d ≡ entry.Node n
 item-at [] later zero n d at = absurd cc
 item-at [] later (suc index) n d at = absurd cc
 item-at (e ∷ entries) later zero n d at = cc
 item-at (e ∷ entries) later (suc index) n d at = item-at entries later index n d at
 
 -- Another number in a node's entry changes no item.
-pub items-set : (entries later : List Entry) (index : ℕ) (n m : NodeEntry) → drop index entries ≡ entry.Node n ∷ later → item_of (entry.Node m) ≡ item_of (entry.Node n) → map item_of (set entries index (entry.Node m)) ≡ map item_of entries
+pub items-set : (entries later : List Entry) (index : ℕ) (n m : NodeEntry) → drop index entries ≡ entry.Node n ∷ later →
+    item_of (entry.Node m) ≡ item_of (entry.Node n) → map item_of (set entries index (entry.Node m)) ≡ map item_of entries
 items-set entries later index n m at same =
     map-set_same item_of entries index (entry.Node m) (entry.Node m) (same ∙ sym (ap item_of (item-at entries later index n (entry.Node m) at)))
 
 -- The numbers of a node fit still after one more item that is neither its property nor inside it.
-link-same : (opened at : ℕ) (n : NodeEntry) (items : List Item) (item : Item) → first_properties (items ++ item ∷ []) ≡ first_properties items → count_inside n.depth items < length items → IsLinked opened at n items → IsLinked opened at n (items ++ item ∷ [])
+link-same : (opened at : ℕ) (n : NodeEntry) (items : List TableItem) (item : TableItem) →
+    first_properties (items ++ item ∷ []) ≡ first_properties items → count_inside n.depth items < length items →
+    IsLinked opened at n items → IsLinked opened at n (items ++ item ∷ [])
 link-same opened at n items item first some linked =
     let inside : count_inside n.depth (items ++ item ∷ []) ≡ count_inside n.depth items = inside-push n.depth items item some in
     let after : n.after ≡ at + 1 + count_inside n.depth items = linked.before_end some in
@@ -141,9 +153,10 @@ link-same opened at n items item first some linked =
     }
 
 -- The numbers of a node fit still after a node at the end that opens.
-link-node : (opened at : ℕ) (n : NodeEntry) (items : List Item) (place : ℕ) (name : List ℕ) → IsLinked opened at n items → IsLinked (opened + 1) at n (items ++ NodeItem opened place name ∷ [])
+link-node : (opened at : ℕ) (n : NodeEntry) (items : List TableItem) (place : ℕ) (name : List ℕ) → IsLinked opened at n items →
+    IsLinked (opened + 1) at n (items ++ NodeItem opened place name ∷ [])
 link-node opened at n items place name linked =
-    let new : Item = NodeItem opened place name in
+    let new : TableItem = NodeItem opened place name in
     let most : count_inside n.depth items ≤ length items = inside-most n.depth items in
     let longer : length (items ++ new ∷ []) ≡ length items + 1 = length-append items (new ∷ []) in
     elim (cases_lt (count_inside n.depth items) (length items)) [
@@ -165,7 +178,8 @@ link-node opened at n items place name linked =
     ]
 
 -- The numbers of a table fit still after a node at the end that opens.
-pub AreLinked-node : (opened at : ℕ) (entries : List Entry) (new : NodeEntry) → new.depth ≡ opened → new.property_count ≡ 0 → AreLinked opened at entries → AreLinked (opened + 1) at (entries ++ entry.Node new ∷ [])
+pub AreLinked-node : (opened at : ℕ) (entries : List Entry) (new : NodeEntry) → new.depth ≡ opened → new.property_count ≡ 0 →
+    AreLinked opened at entries → AreLinked (opened + 1) at (entries ++ entry.Node new ∷ [])
 AreLinked-node opened at [] new deep none linked = (
   record { count = none; before_end = λ (within : 0 < 0). absurd (omega arith); at_end = λ closed. absurd (omega arith) },
   tt,
@@ -180,7 +194,10 @@ AreLinked-node opened at (entry.Node n ∷ entries) new deep none linked = (
 
 -- The numbers of a table fit still after one more property of its innermost open node, which has no child, where this is
 -- counted.
-pub AreLinked-property : (opened at : ℕ) (entries later : List Entry) (index : ℕ) (n m : NodeEntry) (p : Property) → drop index entries ≡ entry.Node n ∷ later → n.depth + 1 ≡ opened → AreProperties (map item_of later) → m.depth ≡ n.depth → item_of (entry.Node m) ≡ item_of (entry.Node n) → m.property_count ≡ length later + 1 → AreLinked opened at entries → AreLinked opened at (set (entries ++ entry.Property p ∷ []) index (entry.Node m))
+pub AreLinked-property : (opened at : ℕ) (entries later : List Entry) (index : ℕ) (n m : NodeEntry) (p : Property) →
+    drop index entries ≡ entry.Node n ∷ later → n.depth + 1 ≡ opened → AreOnlyProperties (map item_of later) → m.depth ≡ n.depth →
+    item_of (entry.Node m) ≡ item_of (entry.Node n) → m.property_count ≡ length later + 1 → AreLinked opened at entries →
+    AreLinked opened at (set (entries ++ entry.Property p ∷ []) index (entry.Node m))
 AreLinked-property opened at [] later zero n m p here deep all same same_item counted linked = absurd cc
 AreLinked-property opened at [] later (suc index) n m p here deep all same same_item counted linked = absurd cc
 AreLinked-property opened at (e ∷ entries) later zero n m p here deep all same same_item counted linked =
@@ -192,7 +209,7 @@ AreLinked-property opened at (e ∷ entries) later zero n m p here deep all same
     first-property (map item_of later) (file_property_of p) all in
     let longer : length (map item_of later ++ PropertyItem (file_property_of p) ∷ []) ≡ length (map item_of later) + 1 =
     length-append (map item_of later) (PropertyItem (file_property_of p) ∷ []) in
-    let every : AreProperties (map item_of later ++ PropertyItem (file_property_of p) ∷ []) = omega arith in
+    let every : AreOnlyProperties (map item_of later ++ PropertyItem (file_property_of p) ∷ []) = omega arith in
     let inside : count_inside m.depth (map item_of later ++ PropertyItem (file_property_of p) ∷ []) ≡ length (map item_of later ++ PropertyItem (file_property_of p) ∷ []) =
     inside-properties_all m.depth (map item_of later ++ PropertyItem (file_property_of p) ∷ []) every in (
       subst (IsLinked opened at m) (sym pushed) (record {
@@ -200,12 +217,12 @@ AreLinked-property opened at (e ∷ entries) later zero n m p here deep all same
         before_end = λ within. absurd (omega arith);
         at_end = λ closed. absurd (omega arith);
       }),
-      AreLinked-properties opened (at + 1) (entries ++ entry.Property p ∷ []) (subst AreProperties (sym pushed) every),
+      AreLinked-properties opened (at + 1) (entries ++ entry.Property p ∷ []) (subst AreOnlyProperties (sym pushed) every),
     )
 AreLinked-property opened at (entry.Property q ∷ entries) later (suc index) n m p here deep all same same_item counted linked =
     AreLinked-property opened (at + 1) entries later index n m p here deep all same same_item counted linked
 AreLinked-property opened at (entry.Node o ∷ entries) later (suc index) n m p here deep all same same_item counted linked =
-    let new : Item = PropertyItem (file_property_of p) in
+    let new : TableItem = PropertyItem (file_property_of p) in
     let there : drop index (map item_of entries) ≡ NodeItem n.depth n.place n.name.now ∷ map item_of later =
     drop-map item_of index entries ∙ ap (map item_of) here in
     let inner : drop index (entries ++ entry.Property p ∷ []) ≡ entry.Node n ∷ (later ++ entry.Property p ∷ []) = drop-push entries later index n (entry.Property p) here in
@@ -216,7 +233,7 @@ AreLinked-property opened at (entry.Node o ∷ entries) later (suc index) n m p 
       subst (IsLinked opened at o) (sym items) (by_end (map item_of entries) (map item_of later) index linked.0 first there),
       AreLinked-property opened (at + 1) entries later index n m p here deep all same same_item counted linked.1,
     ) where
-      by_end : (items later : List Item) (index : ℕ) → IsLinked opened at o items → first_properties (items ++ PropertyItem (file_property_of p) ∷ []) ≡ first_properties items → drop index items ≡ NodeItem n.depth n.place n.name.now ∷ later → IsLinked opened at o (items ++ PropertyItem (file_property_of p) ∷ [])
+      by_end : (items later : List TableItem) (index : ℕ) → IsLinked opened at o items → first_properties (items ++ PropertyItem (file_property_of p) ∷ []) ≡ first_properties items → drop index items ≡ NodeItem n.depth n.place n.name.now ∷ later → IsLinked opened at o (items ++ PropertyItem (file_property_of p) ∷ [])
       by_end items later index linked first there =
           let most : count_inside o.depth items ≤ length items = inside-most o.depth items in
           let longer : length (items ++ PropertyItem (file_property_of p) ∷ []) ≡ length items + 1 = length-append items (PropertyItem (file_property_of p) ∷ []) in
@@ -233,7 +250,8 @@ AreLinked-property opened at (entry.Node o ∷ entries) later (suc index) n m p 
           ]
 
 -- Where all entries are deeper than a depth, their numbers fit with one open node fewer.
-lower : (depth at : ℕ) (entries : List Entry) → count_inside depth (map item_of entries) ≡ length (map item_of entries) → AreLinked (depth + 1) at entries → AreLinked depth at entries
+lower : (depth at : ℕ) (entries : List Entry) → count_inside depth (map item_of entries) ≡ length (map item_of entries) →
+    AreLinked (depth + 1) at entries → AreLinked depth at entries
 lower depth at [] all linked = tt
 lower depth at (entry.Property p ∷ entries) all linked = lower depth (at + 1) entries (omega arith) linked
 lower depth at (entry.Node n ∷ entries) all linked =
@@ -246,7 +264,10 @@ lower depth at (entry.Node n ∷ entries) all linked =
     ]
 
 -- The numbers of a table fit still after its innermost open node has ended.
-pub AreLinked-end : (opened at total : ℕ) (entries later : List Entry) (index : ℕ) (n m : NodeEntry) → drop index entries ≡ entry.Node n ∷ later → n.depth ≡ opened → count_inside n.depth (map item_of later) ≡ length (map item_of later) → m.depth ≡ n.depth → item_of (entry.Node m) ≡ item_of (entry.Node n) → m.property_count ≡ n.property_count → m.after ≡ total → total ≡ at + length entries → AreLinked (opened + 1) at entries → AreLinked opened at (set entries index (entry.Node m))
+pub AreLinked-end : (opened at total : ℕ) (entries later : List Entry) (index : ℕ) (n m : NodeEntry) →
+    drop index entries ≡ entry.Node n ∷ later → n.depth ≡ opened → count_inside n.depth (map item_of later) ≡ length (map item_of later) →
+    m.depth ≡ n.depth → item_of (entry.Node m) ≡ item_of (entry.Node n) → m.property_count ≡ n.property_count → m.after ≡ total →
+    total ≡ at + length entries → AreLinked (opened + 1) at entries → AreLinked opened at (set entries index (entry.Node m))
 AreLinked-end opened at total [] later zero n m here deep all same same_item same_count after end linked = absurd cc
 AreLinked-end opened at total [] later (suc index) n m here deep all same same_item same_count after end linked = absurd cc
 AreLinked-end opened at total (e ∷ entries) later zero n m here deep all same same_item same_count after end linked =

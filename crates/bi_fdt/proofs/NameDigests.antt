@@ -1,17 +1,19 @@
-use Rattle.std.proofs.Common.{◌≡◌, ℕ, zero, suc, ◌+◌, ◌-◌, ◌*◌, ◌/◌, ◌%◌, ◌++◌, inl, inr, ◌<◌, ◌≤◌, Bool, true, false, cond, List, [], ◌∷◌, length, take, drop, replicate, slice_index_or, refl, sym, ap, subst, ◌∙◌, arith}
+use Rattle.std.proofs.Common.{◌≡◌, ℕ, zero, suc, ◌+◌, ◌-◌, ◌*◌, ◌/◌, ◌%◌, ◌++◌, inl, inr, ◌<◌, ◌≤◌, Bool, true, false, cond, List, [], ◌∷◌}
+use Rattle.std.proofs.Common.{length, take, drop, replicate, slice_index_or, refl, sym, ap, subst, ◌∙◌, arith}
 use Rattle.std.specs.Prelude.{◌==◌}
 use Rattle.std.proofs.Math.Nat.{eq-or-lt_of_le}
 use Rattle.std.proofs.lemmas.List.{length-drop, get_or_append_left, get_or-append_right}
 use Rattle.sha2.specs.Sha256.{sha256}
 use Rattle.bi_blob.specs.Tokens.{name_from}
-use Rattle.bi_blob.proofs.Blobs.Names.{before_zero, before_zero-cons, length_before_zero}
-use Rattle.bi_fdt.specs.Digests.{digest_of_blocks, digest_of}
+use Rattle.bi_blob.proofs.Blobs.BytesBeforeZero.{before_zero, before_zero-cons, length_before_zero}
+use Rattle.bi_fdt.specs.Digests.{digest_of_blocks, digest_of_name}
 use Rattle.bi_fdt.proofs.NameEnds.{drop_again}
 
 -- Digests of names.
 
 -- The last blocks of a name are those of a later end of it.
-pub digest_of_blocks-drop : (count skipped : ℕ) (name : List ℕ) → 64 * count + skipped ≤ length name → digest_of_blocks count (drop skipped name) ≡ digest_of_blocks count name
+pub digest_of_blocks-drop : (count skipped : ℕ) (name : List ℕ) → 64 * count + skipped ≤ length name →
+    digest_of_blocks count (drop skipped name) ≡ digest_of_blocks count name
 digest_of_blocks-drop zero skipped name within = refl
 digest_of_blocks-drop (suc count) skipped name within =
     let shorter : length (drop skipped name) ≡ length name - skipped = length-drop skipped name in
@@ -20,21 +22,23 @@ digest_of_blocks-drop (suc count) skipped name within =
     ∙ ap (λ d. sha256 (take 64 (drop (length name - 64 * (count + 1)) name) ++ d)) (digest_of_blocks-drop count skipped name (omega arith))
 
 -- A name without a whole block has no digest.
-pub digest_of-short : (name : List ℕ) → length name < 64 → digest_of name ≡ replicate 32 0
+pub digest_of-short : (name : List ℕ) → length name < 64 → digest_of_name name ≡ replicate 32 0
 digest_of-short name short = ap (λ count. digest_of_blocks count name) none where
   none : length name / 64 ≡ 0
   none = omega arith
 
 -- The digest of a name with as many whole blocks as a later end of it.
-pub digest_of-same : (skipped : ℕ) (name : List ℕ) → skipped ≤ length name → (length name - skipped) / 64 ≡ length name / 64 → digest_of (drop skipped name) ≡ digest_of name
+pub digest_of-same : (skipped : ℕ) (name : List ℕ) → skipped ≤ length name → (length name - skipped) / 64 ≡ length name / 64 →
+    digest_of_name (drop skipped name) ≡ digest_of_name name
 digest_of-same skipped name within same =
     ap (λ count. digest_of_blocks count (drop skipped name)) (ap (λ n. n / 64) (length-drop skipped name) ∙ same)
     ∙ digest_of_blocks-drop (length name / 64) skipped name (omega arith)
 
 -- The digest of a name with a block more than a later end of it.
-pub digest_of-more : (skipped begin n : ℕ) (name digest : List ℕ) → 64 ≤ length name → 1 ≤ skipped → skipped ≤ 64 → ¬ ((length name - skipped) / 64 ≡ length name / 64)
-    → begin ≡ length name % 64 → n ≡ 64 → digest ≡ digest_of (drop skipped name)
-    → sha256 (take n (drop begin name) ++ digest) ≡ digest_of name
+pub digest_of-more : (skipped begin n : ℕ) (name digest : List ℕ) → 64 ≤ length name → 1 ≤ skipped → skipped ≤ 64 →
+    ¬ ((length name - skipped) / 64 ≡ length name / 64)
+    → begin ≡ length name % 64 → n ≡ 64 → digest ≡ digest_of_name (drop skipped name)
+    → sha256 (take n (drop begin name) ++ digest) ≡ digest_of_name name
 digest_of-more skipped begin n name digest long least most differs at whole is =
     let count : ℕ = (length name - skipped) / 64 in
     let one_more : length name / 64 ≡ suc count = omega (arith, differs) in
@@ -71,13 +75,13 @@ name_within bytes at =
 
 -- One more digest, of the name at a lower multiple of 64.
 pub digests_more : (bytes : List ℕ) (digests more : List (List ℕ)) (count n : ℕ) (digest : List ℕ) → length digests ≡ n
-    → ((index : ℕ) (d : List ℕ) → index < n → slice_index_or digests index d ≡ digest_of (name_from bytes (64 * (count - 1 - index))))
-    → digest ≡ digest_of (name_from bytes (64 * (count - 1 - n))) → more ≡ digests ++ digest ∷ []
-    → (index : ℕ) (d : List ℕ) → index < n + 1 → slice_index_or more index d ≡ digest_of (name_from bytes (64 * (count - 1 - index)))
+    → ((index : ℕ) (d : List ℕ) → index < n → slice_index_or digests index d ≡ digest_of_name (name_from bytes (64 * (count - 1 - index))))
+    → digest ≡ digest_of_name (name_from bytes (64 * (count - 1 - n))) → more ≡ digests ++ digest ∷ []
+    → (index : ℕ) (d : List ℕ) → index < n + 1 → slice_index_or more index d ≡ digest_of_name (name_from bytes (64 * (count - 1 - index)))
 digests_more bytes digests more count n digest long each is pushed index d within =
     ap (λ l. slice_index_or l index d) pushed ∙ elim (eq-or-lt_of_le {n = index} {m = n} (omega arith)) [
       | inl same ↦ get_or-append_right digests (digest ∷ []) n index d long (omega arith)
-          ∙ ap (λ k. slice_index_or (digest ∷ []) k d) (first same) ∙ is ∙ ap (λ k. digest_of (name_from bytes (64 * (count - 1 - k)))) (sym same)
+          ∙ ap (λ k. slice_index_or (digest ∷ []) k d) (first same) ∙ is ∙ ap (λ k. digest_of_name (name_from bytes (64 * (count - 1 - k)))) (sym same)
       | inr below ↦ get_or_append_left digests (digest ∷ []) d index (omega arith) ∙ each index d below
     ] where
       first : index ≡ n → index - n ≡ 0

@@ -1,17 +1,19 @@
-use Rattle.std.proofs.Common.{◌≡◌, ℕ, zero, suc, ◌+◌, ◌-◌, ◌*◌, ◌++◌, inl, inr, ◌<◌, ◌≤◌, Bool, true, false, cond, List, [], ◌∷◌, length, take, drop, slice_index_or, refl, sym, ap, subst, ◌∙◌, arith}
+use Rattle.std.proofs.Common.{◌≡◌, ℕ, zero, suc, ◌+◌, ◌-◌, ◌*◌, ◌++◌, inl, inr, ◌<◌, ◌≤◌, Bool, true, false, cond, List, [], ◌∷◌, length}
+use Rattle.std.proofs.Common.{take, drop, slice_index_or, refl, sym, ap, subst, ◌∙◌, arith}
 use Rattle.std.specs.Prelude.{◌==◌}
 use Rattle.std.proofs.Math.Nat.{eq-or-lt_of_le}
 use Rattle.std.proofs.Math.Seq.{drop-nil}
 use Rattle.std.proofs.lemmas.List.{length-drop, get_or_append_left, get_or-append_right}
 use Rattle.bi_blob.specs.Tokens.{name_from}
 use Rattle.bi_blob.specs.BlobFaults.{HasName}
-use Rattle.bi_blob.proofs.Blobs.Names.{before_zero, before_zero-cons, length_before_zero}
+use Rattle.bi_blob.proofs.Blobs.BytesBeforeZero.{before_zero, before_zero-cons, length_before_zero}
 use Rattle.bi_fdt.specs.Strings.{end_of}
 
 -- Where names end.
 
 -- Bytes after the beginning of a name have its rest before their first zero byte.
-before_zero-drop : (n : ℕ) (bytes : List ℕ) → n ≤ length (before_zero bytes) → n + length (before_zero (drop n bytes)) ≡ length (before_zero bytes)
+before_zero-drop : (n : ℕ) (bytes : List ℕ) → n ≤ length (before_zero bytes) →
+    n + length (before_zero (drop n bytes)) ≡ length (before_zero bytes)
 before_zero-drop zero bytes within = omega arith
 before_zero-drop (suc n) [] within = absurd (omega arith)
 before_zero-drop (suc n) (byte ∷ rest) within =
@@ -41,8 +43,8 @@ later_end bytes at later ordered within =
     omega arith
 
 -- A name ends within the bytes.
-pub end_within : (bytes : List ℕ) (at : ℕ) → at ≤ length bytes → end_of bytes at ≤ length bytes
-end_within bytes at within =
+pub name_end_within : (bytes : List ℕ) (at : ℕ) → at ≤ length bytes → end_of bytes at ≤ length bytes
+name_end_within bytes at within =
     let most : length (name_from bytes at) ≤ length (drop at bytes) = length_before_zero (drop at bytes) in
     let long : length (drop at bytes) ≡ length bytes - at = length-drop at bytes in
     omega arith

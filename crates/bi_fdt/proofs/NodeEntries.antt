@@ -1,4 +1,5 @@
-use Rattle.std.proofs.Common.{◌≡◌, ℕ, zero, suc, ◌+◌, ◌-◌, ◌<◌, ◌≤◌, List, [], ◌∷◌, length, map, drop, take, get_or, Some, None, slice_get, refl, sym, ap, subst, ◌∙◌, inl, inr, arith}
+use Rattle.std.proofs.Common.{◌≡◌, ℕ, zero, suc, ◌+◌, ◌-◌, ◌<◌, ◌≤◌, List, [], ◌∷◌, length, map, drop, take, get_or, Some, None, slice_get}
+use Rattle.std.proofs.Common.{refl, sym, ap, subst, ◌∙◌, inl, inr, arith}
 use Rattle.std.specs.Prelude.{IsTrue}
 use Rattle.std.proofs.Math.Seq.{drop-cons}
 use Rattle.std.proofs.lemmas.Bool.{false≢true, cases_lt}
@@ -9,7 +10,8 @@ use Rattle.bi_fdt.specs.declared.table.Entry.{Entry}
 use Rattle.bi_fdt.specs.declared.table.Entry.TheVariants as entry
 use Rattle.bi_fdt.specs.declared.table.NodeEntry.{NodeEntry}
 use Rattle.bi_fdt.specs.declared.table.Property.{Property}
-use Rattle.bi_fdt.specs.Table.{Item, NodeItem, PropertyItem, first_properties, nodes_of, items_of, count_inside, item_of, IsLinked, AreLinked}
+use Rattle.bi_fdt.specs.Table.{TableItem, NodeItem, PropertyItem, first_properties, nodes_of, items_of, count_inside, item_of, IsLinked}
+use Rattle.bi_fdt.specs.Table.{AreLinked}
 use Rattle.bi_fdt.specs.Content.{begins_with_node}
 use Rattle.bi_fdt.specs.Fields.{IsNodeOf}
 use Rattle.bi_fdt.proofs.Parsing.{nodes-deeper}
@@ -18,19 +20,23 @@ use Rattle.bi_fdt.proofs.Items.{inside-deeper, inside-stops}
 -- The entries of nodes in a table.
 
 -- An entry, and those after it.
-pub entry_here : (entries : List Entry) (index : ℕ) (e d : Entry) → index < length entries → get_or entries index d ≡ e → drop index entries ≡ e ∷ drop (suc index) entries
+pub entry_here : (entries : List Entry) (index : ℕ) (e d : Entry) → index < length entries → get_or entries index d ≡ e →
+    drop index entries ≡ e ∷ drop (suc index) entries
 entry_here entries index e d within is = drop-cons entries index d within ∙ ap (λ x. x ∷ drop (suc index) entries) is
 
-pub items_here : (entries : List Entry) (index : ℕ) (e d : Entry) → index < length entries → get_or entries index d ≡ e → drop index (map item_of entries) ≡ item_of e ∷ map item_of (drop (suc index) entries)
+pub items_here : (entries : List Entry) (index : ℕ) (e d : Entry) → index < length entries → get_or entries index d ≡ e →
+    drop index (map item_of entries) ≡ item_of e ∷ map item_of (drop (suc index) entries)
 items_here entries index e d within is = drop-map item_of index entries ∙ ap (map item_of) (entry_here entries index e d within is)
 
 -- A property is no node.
-pub no_property : (entries : List Entry) (table : List Item) (index : ℕ) (p : Property) (d : Entry) → map item_of entries ≡ table → IsTrue (begins_with_node (drop index table)) → index < length entries → get_or entries index d ≡ entry.Property p → ⊥
+pub no_property : (entries : List Entry) (table : List TableItem) (index : ℕ) (p : Property) (d : Entry) → map item_of entries ≡ table →
+    IsTrue (begins_with_node (drop index table)) → index < length entries → get_or entries index d ≡ entry.Property p → ⊥
 no_property entries table index p d same is_node within is =
     false≢true (sym (ap begins_with_node (ap (drop index) (sym same) ∙ items_here entries index (entry.Property p) d within is)) ∙ is_node)
 
 -- The numbers of one entry of a table fit.
-pub linked_at : (at : ℕ) (entries later : List Entry) (index : ℕ) (n : NodeEntry) → AreLinked 0 at entries → drop index entries ≡ entry.Node n ∷ later → IsLinked 0 (at + index) n (map item_of later)
+pub linked_at : (at : ℕ) (entries later : List Entry) (index : ℕ) (n : NodeEntry) → AreLinked 0 at entries →
+    drop index entries ≡ entry.Node n ∷ later → IsLinked 0 (at + index) n (map item_of later)
 linked_at at [] later zero n linked here = absurd cc
 linked_at at [] later (suc index) n linked here = absurd cc
 linked_at at (e ∷ entries) later zero n linked here =
@@ -41,21 +47,22 @@ linked_at at (entry.Node m ∷ entries) later (suc index) n linked here =
     subst (λ k. IsLinked 0 k n (map item_of later)) (omega arith) (linked_at (at + 1) entries later index n linked.1 here)
 
 -- After the node that begins at an index come the items of events, one deeper.
-pub record AreBelow (depth : ℕ) (items : List Item) : Type 0 where
+pub record AreBelow (depth : ℕ) (items : List TableItem) : Type 0 where
   pub events : List FileEvent
   pub is : items ≡ items_of (depth + 1) events
 
-pub items_below : (first : ℕ) (es : List FileEvent) (index depth place : ℕ) (name : List ℕ) (later : List Item) → drop index (items_of first es) ≡ NodeItem depth place name ∷ later → AreBelow depth later
+pub items_below : (first : ℕ) (es : List FileEvent) (index depth place : ℕ) (name : List ℕ) (later : List TableItem) →
+    drop index (items_of first es) ≡ NodeItem depth place name ∷ later → AreBelow depth later
 items_below first [] zero depth place name later at = absurd cc
 items_below first [] (suc index) depth place name later at = absurd cc
 items_below first (FileNodeStart other_place other_name ∷ es) zero depth place name later at =
     let same : first ≡ depth = node_depth at in
     let rest : items_of (first + 1) es ≡ later = node_rest at in
     record { events = es; is = sym rest ∙ ap (λ d. items_of (d + 1) es) same } where
-      node_depth : {a b x y : ℕ} {k l : List ℕ} {u v : List Item} → NodeItem a x k ∷ u ≡ NodeItem b y l ∷ v → a ≡ b
+      node_depth : {a b x y : ℕ} {k l : List ℕ} {u v : List TableItem} → NodeItem a x k ∷ u ≡ NodeItem b y l ∷ v → a ≡ b
       node_depth e = cc
 
-      node_rest : {a b x y : ℕ} {k l : List ℕ} {u v : List Item} → NodeItem a x k ∷ u ≡ NodeItem b y l ∷ v → u ≡ v
+      node_rest : {a b x y : ℕ} {k l : List ℕ} {u v : List TableItem} → NodeItem a x k ∷ u ≡ NodeItem b y l ∷ v → u ≡ v
       node_rest e = cc
 items_below first (FileNodeStart other_place other_name ∷ es) (suc index) depth place name later at = items_below (first + 1) es index depth place name later at
 items_below first (FileNodeProperty property ∷ es) zero depth place name later at = absurd cc
@@ -63,34 +70,38 @@ items_below first (FileNodeProperty property ∷ es) (suc index) depth place nam
 items_below first (FileNodeEnd ∷ es) index depth place name later at = items_below (first - 1) es index depth place name later at
 
 -- The first node after properties is no deeper than where the events begin.
-pub first_depth : (depth : ℕ) (es : List FileEvent) (own place : ℕ) (name : List ℕ) (rest : List Item) → drop (length (first_properties (items_of depth es))) (items_of depth es) ≡ NodeItem own place name ∷ rest → own ≤ depth
+pub first_depth : (depth : ℕ) (es : List FileEvent) (own place : ℕ) (name : List ℕ) (rest : List TableItem) →
+    drop (length (first_properties (items_of depth es))) (items_of depth es) ≡ NodeItem own place name ∷ rest → own ≤ depth
 first_depth depth [] own place name rest at = absurd cc
 first_depth depth (FileNodeStart other_place other_name ∷ es) own place name rest at = let same : depth ≡ own = node_depth at in omega arith where
-  node_depth : {a b x y : ℕ} {k l : List ℕ} {u v : List Item} → NodeItem a x k ∷ u ≡ NodeItem b y l ∷ v → a ≡ b
+  node_depth : {a b x y : ℕ} {k l : List ℕ} {u v : List TableItem} → NodeItem a x k ∷ u ≡ NodeItem b y l ∷ v → a ≡ b
   node_depth e = cc
 first_depth depth (FileNodeProperty property ∷ es) own place name rest at = first_depth depth es own place name rest at
 first_depth depth (FileNodeEnd ∷ es) own place name rest at =
     let least : own ≤ depth - 1 = first_depth (depth - 1) es own place name rest at in omega arith
 
 -- After their first properties items are none or begin with a node.
-pub first_rest : (items : List Item) (p : FileProperty) (rest : List Item) → drop (length (first_properties items)) items ≡ PropertyItem p ∷ rest → ⊥
+pub first_rest : (items : List TableItem) (p : FileProperty) (rest : List TableItem) →
+    drop (length (first_properties items)) items ≡ PropertyItem p ∷ rest → ⊥
 first_rest [] p rest at = cc
 first_rest (PropertyItem q ∷ items) p rest at = first_rest items p rest at
 first_rest (NodeItem own place name ∷ items) p rest at = cc
 
 -- The first properties make no difference to the nodes.
-pub nodes-past_properties : (depth : ℕ) (items : List Item) → nodes_of depth items ≡ nodes_of depth (drop (length (first_properties items)) items)
+pub nodes-past_properties : (depth : ℕ) (items : List TableItem) →
+    nodes_of depth items ≡ nodes_of depth (drop (length (first_properties items)) items)
 nodes-past_properties depth [] = refl
 nodes-past_properties depth (PropertyItem p ∷ items) = nodes-past_properties depth items
 nodes-past_properties depth (NodeItem own place name ∷ items) = refl
 
-pub inside-past_properties : (depth : ℕ) (items : List Item) → count_inside depth items ≡ length (first_properties items) + count_inside depth (drop (length (first_properties items)) items)
+pub inside-past_properties : (depth : ℕ) (items : List TableItem) →
+    count_inside depth items ≡ length (first_properties items) + count_inside depth (drop (length (first_properties items)) items)
 inside-past_properties depth [] = refl
 inside-past_properties depth (PropertyItem p ∷ items) = let e : count_inside depth items ≡ length (first_properties items) + count_inside depth (drop (length (first_properties items)) items) = inside-past_properties depth items in omega arith
 inside-past_properties depth (NodeItem own place name ∷ items) = omega arith
 
 -- What is inside makes no difference to the nodes at a depth.
-pub nodes-past_inside : (depth : ℕ) (items : List Item) → nodes_of depth items ≡ nodes_of depth (drop (count_inside depth items) items)
+pub nodes-past_inside : (depth : ℕ) (items : List TableItem) → nodes_of depth items ≡ nodes_of depth (drop (count_inside depth items) items)
 nodes-past_inside depth [] = refl
 nodes-past_inside depth (PropertyItem p ∷ items) = nodes-past_inside depth items ∙ ap (λ n. nodes_of depth (drop n (PropertyItem p ∷ items))) (one_more (count_inside depth items)) where
   one_more : (n : ℕ) → suc n ≡ n + 1
@@ -104,7 +115,8 @@ nodes-past_inside depth (NodeItem own place name ∷ items) = elim (cases_lt dep
   one_more n = omega arith
 
 -- What comes after it is a node no deeper, if anything.
-pub after_inside : (depth : ℕ) (items rest : List Item) (item : Item) → drop (count_inside depth items) items ≡ item ∷ rest → (own : ℕ) × (place : ℕ) × (name : List ℕ) × (item ≡ NodeItem own place name) × (own ≤ depth)
+pub after_inside : (depth : ℕ) (items rest : List TableItem) (item : TableItem) → drop (count_inside depth items) items ≡ item ∷ rest →
+    (own : ℕ) × (place : ℕ) × (name : List ℕ) × (item ≡ NodeItem own place name) × (own ≤ depth)
 after_inside depth [] rest item at = absurd cc
 after_inside depth (PropertyItem p ∷ items) rest item at =
     after_inside depth items rest item (ap (λ n. drop n (PropertyItem p ∷ items)) (one_more (count_inside depth items)) ∙ at) where
@@ -118,11 +130,12 @@ after_inside depth (NodeItem own place name ∷ items) rest item at = elim (case
   one_more : (n : ℕ) → suc n ≡ n + 1
   one_more n = omega arith
 
-  first : {a b : Item} {u v : List Item} → a ∷ u ≡ b ∷ v → b ≡ a
+  first : {a b : TableItem} {u v : List TableItem} → a ∷ u ≡ b ∷ v → b ≡ a
   first e = cc
 
 -- Where items have a node at an index, the entries go that far.
-pub node_within : (entries : List Entry) (table : List Item) (index : ℕ) → map item_of entries ≡ table → IsTrue (begins_with_node (drop index table)) → index < length entries
+pub node_within : (entries : List Entry) (table : List TableItem) (index : ℕ) → map item_of entries ≡ table →
+    IsTrue (begins_with_node (drop index table)) → index < length entries
 node_within entries table index same is_node =
     by_entries entries index (subst (λ t. IsTrue (begins_with_node (drop index t))) (sym same) is_node) where
       by_entries : (es : List Entry) (i : ℕ) → IsTrue (begins_with_node (drop i (map item_of es))) → i < length es
@@ -132,7 +145,9 @@ node_within entries table index same is_node =
       by_entries (e ∷ es) (suc i) is = let rest : i < length es = by_entries es i is in omega arith
 
 -- The entry of a node in a table.
-pub node_of_table : (entries : List Entry) (table : List Item) (es : List FileEvent) (index : ℕ) (n : NodeEntry) (d : Entry) → map item_of entries ≡ table → map item_of entries ≡ items_of 0 es → AreLinked 0 0 entries → IsTrue (begins_with_node (drop index table)) → get_or entries index d ≡ entry.Node n → IsNodeOf table index n
+pub node_of_table : (entries : List Entry) (table : List TableItem) (es : List FileEvent) (index : ℕ) (n : NodeEntry) (d : Entry) →
+    map item_of entries ≡ table → map item_of entries ≡ items_of 0 es → AreLinked 0 0 entries →
+    IsTrue (begins_with_node (drop index table)) → get_or entries index d ≡ entry.Node n → IsNodeOf table index n
 node_of_table entries table es index n d same events linked is_node is =
     let within : index < length entries = node_within entries table index same is_node in
     let later : List Entry = drop (suc index) entries in
@@ -149,32 +164,33 @@ node_of_table entries table es index n d same events linked is_node is =
     }
 
 -- Where a list goes on after an index, the next goes on there.
-pub drop-next : {X : Type 0} (xs later : List X) (index more : ℕ) (x : X) → drop index xs ≡ x ∷ later → drop (index + 1 + more) xs ≡ drop more later
+pub drop-next : {X : Type 0} (xs later : List X) (index more : ℕ) (x : X) → drop index xs ≡ x ∷ later →
+    drop (index + 1 + more) xs ≡ drop more later
 drop-next xs later index more x at =
     ap (λ n. drop n xs) (turned index more) ∙ sym (drop-drop (suc more) index xs) ∙ ap (drop (suc more)) at where
       turned : (i m : ℕ) → i + 1 + m ≡ i + suc m
       turned i m = omega arith
 
 -- No more first properties than items.
-pub first_most : (items : List Item) → length (first_properties items) ≤ length items
+pub first_most : (items : List TableItem) → length (first_properties items) ≤ length items
 first_most [] = omega arith
 first_most (PropertyItem p ∷ items) = let rest : length (first_properties items) ≤ length items = first_most items in omega arith
 first_most (NodeItem own place name ∷ items) = omega arith
 
 -- As many items as there are first properties have them all.
-pub first_take : (items : List Item) → first_properties (take (length (first_properties items)) items) ≡ first_properties items
+pub first_take : (items : List TableItem) → first_properties (take (length (first_properties items)) items) ≡ first_properties items
 first_take [] = refl
 first_take (PropertyItem p ∷ items) = ap (λ l. p ∷ l) (first_take items)
 first_take (NodeItem own place name ∷ items) = refl
 
 -- A first property at an index.
-pub record IsFirstAt (items : List Item) (index : ℕ) : Type 0 where
+pub record IsFirstAt (items : List TableItem) (index : ℕ) : Type 0 where
   pub property : FileProperty
-  pub rest : List Item
+  pub rest : List TableItem
   pub is_at : drop index items ≡ PropertyItem property ∷ rest
   pub is_got : slice_get (first_properties items) index ≡ Some property
 
-pub first_at : (items : List Item) (index : ℕ) → index < length (first_properties items) → IsFirstAt items index
+pub first_at : (items : List TableItem) (index : ℕ) → index < length (first_properties items) → IsFirstAt items index
 first_at [] index within = absurd (omega arith)
 first_at (PropertyItem p ∷ items) zero within = record { property = p; rest = items; is_at = refl; is_got = refl }
 first_at (PropertyItem p ∷ items) (suc index) within =
@@ -188,7 +204,8 @@ get_past [] index past = refl
 get_past (x ∷ xs) zero past = absurd (omega arith)
 get_past (x ∷ xs) (suc index) past = get_past xs index (omega arith)
 
-pub get_map : {X Y : Type 0} (f : X → Y) (xs : List X) (index : ℕ) (x : X) → slice_get xs index ≡ Some x → slice_get (map f xs) index ≡ Some (f x)
+pub get_map : {X Y : Type 0} (f : X → Y) (xs : List X) (index : ℕ) (x : X) → slice_get xs index ≡ Some x →
+    slice_get (map f xs) index ≡ Some (f x)
 get_map f [] index x got = absurd cc
 get_map f (y ∷ xs) zero x got = let e : y ≡ x = cc in ap (λ z. Some (f z)) e
 get_map f (y ∷ xs) (suc index) x got = get_map f xs index x got

@@ -1,4 +1,5 @@
-use Rattle.std.proofs.Common.{◌≡◌, ℕ, zero, suc, ◌+◌, ◌<◌, ◌≤◌, Bool, true, false, List, [], ◌∷◌, length, map, drop, take, get_or, Some, None, slice_get, refl, sym, ap, subst, ◌∙◌, inl, inr, arith}
+use Rattle.std.proofs.Common.{◌≡◌, ℕ, zero, suc, ◌+◌, ◌<◌, ◌≤◌, Bool, true, false, List, [], ◌∷◌, length, map, drop, take, get_or, Some}
+use Rattle.std.proofs.Common.{None, slice_get, refl, sym, ap, subst, ◌∙◌, inl, inr, arith}
 use Rattle.std.specs.Prelude.{IsTrue, bytes_eq, cond}
 use Rattle.std.specs.Map.{lookup}
 use Rattle.std.proofs.lemmas.Bool.{cases_lt, cases_order}
@@ -10,18 +11,19 @@ use Rattle.bi_fdt.specs.declared.table.Entry.{Entry}
 use Rattle.bi_fdt.specs.declared.table.Entry.TheVariants as entry
 use Rattle.bi_fdt.specs.declared.table.NodeEntry.{NodeEntry}
 use Rattle.bi_fdt.specs.declared.table.Property.{Property as PropertyEntry}
-use Rattle.bi_fdt.specs.Table.{Item, NodeItem, PropertyItem, first_properties, nodes_of, count_inside, item_of}
+use Rattle.bi_fdt.specs.Table.{TableItem, NodeItem, PropertyItem, first_properties, nodes_of, count_inside, item_of}
 use Rattle.bi_fdt.specs.Properties.{file_property_of}
 use Rattle.bi_fdt.specs.Content.{begins_with_node, first_sibling, table_of}
 use Rattle.bi_fdt.specs.Fields.{IsNodeOf}
 use Rattle.bi_fdt.proofs.Parsing.{nodes-same, nodes-above, nodes-deeper, nodes-table}
 use Rattle.bi_fdt.proofs.Items.{inside-deeper, inside-stops}
 use Rattle.bi_fdt.proofs.GrowingTables.{drop-within}
-use Rattle.bi_fdt.proofs.NodeEntries.{IsFirstAt, first_at, items_here, drop-next, first_most, first_take, first_depth, first_rest, nodes-past_properties, inside-past_properties, nodes-past_inside, after_inside}
+use Rattle.bi_fdt.proofs.NodeEntries.{IsFirstAt, first_at, items_here, drop-next, first_most, first_take, first_depth, first_rest}
+use Rattle.bi_fdt.proofs.NodeEntries.{nodes-past_properties, inside-past_properties, nodes-past_inside, after_inside}
 
 -- What the getters of a node give.
 
-module _ (table : List Item) (index : ℕ) (n : NodeEntry) (there : IsNodeOf table index n) where
+module _ (table : List TableItem) (index : ℕ) (n : NodeEntry) (there : IsNodeOf table index n) where
   -- Its properties are within the table.
   pub properties_within : index + 1 + n.property_count ≤ length table
   properties_within =
@@ -34,7 +36,8 @@ module _ (table : List Item) (index : ℕ) (n : NodeEntry) (there : IsNodeOf tab
   after_node more = drop-next table there.later index more (NodeItem n.depth n.place n.name.now) there.is_at
 
   -- The entries after it as many as it has properties are these.
-  pub properties_there : (entries : List Entry) → map item_of entries ≡ table → first_properties (map item_of (take n.property_count (drop (index + 1) entries))) ≡ (first_sibling (drop index table)).own.properties
+  pub properties_there : (entries : List Entry) → map item_of entries ≡ table →
+      first_properties (map item_of (take n.property_count (drop (index + 1) entries))) ≡ (first_sibling (drop index table)).own.properties
   properties_there entries same =
       ap first_properties (sym (take-map item_of n.property_count (drop (index + 1) entries)) ∙ ap (take n.property_count) (sym (drop-map item_of (index + 1) entries) ∙ ap (drop (index + 1)) same ∙ ap (λ k. drop k table) (omega arith) ∙ after_node 0))
       ∙ ap (λ k. first_properties (take k there.later)) there.linked.count
@@ -42,7 +45,7 @@ module _ (table : List Item) (index : ℕ) (n : NodeEntry) (there : IsNodeOf tab
       ∙ ap (λ items. (first_sibling items).own.properties) (sym there.is_at)
 
   -- What comes after the properties.
-  abbrev rest : List Item
+  abbrev rest : List TableItem
   rest = drop (length (first_properties there.later)) there.later
 
   rest_there : drop (index + 1 + n.property_count) table ≡ rest
@@ -68,7 +71,7 @@ module _ (table : List Item) (index : ℕ) (n : NodeEntry) (there : IsNodeOf tab
         let b : count_inside n.depth there.later ≡ n.property_count + count_inside n.depth rest = inside_is in
         omega arith
 
-    by_rest : (items : List Item) → ((p : FileProperty) (more : List Item) → items ≡ PropertyItem p ∷ more → ⊥) → count_inside n.depth items ≡ 0 → nodes_of (n.depth + 1) items ≡ none
+    by_rest : (items : List TableItem) → ((p : FileProperty) (more : List TableItem) → items ≡ PropertyItem p ∷ more → ⊥) → count_inside n.depth items ≡ 0 → nodes_of (n.depth + 1) items ≡ none
     by_rest [] no_property empty = refl
     by_rest (PropertyItem p ∷ items) no_property empty = absurd (no_property p items refl)
     by_rest (NodeItem own place name ∷ items) no_property empty = elim (cases_lt n.depth own) [
@@ -77,7 +80,9 @@ module _ (table : List Item) (index : ℕ) (n : NodeEntry) (there : IsNodeOf tab
     ]
 
   -- Else the first child comes after the properties.
-  pub first_child_there : ¬ (index + 1 + n.property_count ≡ n.after) → IsTrue (begins_with_node (drop (index + 1 + n.property_count) table)) × (Some (first_sibling (drop (index + 1 + n.property_count) table)) ≡ node_at (first_sibling (drop index table)).children 0)
+  pub first_child_there : ¬ (index + 1 + n.property_count ≡ n.after) →
+      IsTrue (begins_with_node (drop (index + 1 + n.property_count) table))
+      × (Some (first_sibling (drop (index + 1 + n.property_count) table)) ≡ node_at (first_sibling (drop index table)).children 0)
   first_child_there more =
       let found : IsTrue (begins_with_node rest) × (Some (first_sibling rest) ≡ node_at (nodes_of (n.depth + 1) rest) 0) =
       by_rest rest (first_rest there.later) least something in (
@@ -90,13 +95,13 @@ module _ (table : List Item) (index : ℕ) (n : NodeEntry) (there : IsNodeOf tab
             let b : count_inside n.depth there.later ≡ n.property_count + count_inside n.depth rest = inside_is in
             more (omega arith)
 
-        least : (own place : ℕ) (name : List ℕ) (items : List Item) → rest ≡ NodeItem own place name ∷ items → own ≤ n.depth + 1
+        least : (own place : ℕ) (name : List ℕ) (items : List TableItem) → rest ≡ NodeItem own place name ∷ items → own ≤ n.depth + 1
         least own place name items at =
             first_depth (n.depth + 1) there.below.0 own place name items
             (ap (λ l. drop (length (first_properties l)) l) (sym there.below.1) ∙ at)
 
-        by_rest : (items : List Item) → ((p : FileProperty) (more : List Item) → items ≡ PropertyItem p ∷ more → ⊥)
-            → ((own place : ℕ) (name : List ℕ) (later : List Item) → items ≡ NodeItem own place name ∷ later → own ≤ n.depth + 1)
+        by_rest : (items : List TableItem) → ((p : FileProperty) (more : List TableItem) → items ≡ PropertyItem p ∷ more → ⊥)
+            → ((own place : ℕ) (name : List ℕ) (later : List TableItem) → items ≡ NodeItem own place name ∷ later → own ≤ n.depth + 1)
             → ¬ (count_inside n.depth items ≡ 0) → IsTrue (begins_with_node items) × (Some (first_sibling items) ≡ node_at (nodes_of (n.depth + 1) items) 0)
         by_rest [] no_property least some = absurd (some refl)
         by_rest (PropertyItem p ∷ items) no_property least some = absurd (no_property p items refl)
@@ -109,7 +114,7 @@ module _ (table : List Item) (index : ℕ) (n : NodeEntry) (there : IsNodeOf tab
             ]
 
   -- What comes after the last descendant.
-  abbrev beyond : List Item
+  abbrev beyond : List TableItem
   beyond = drop (count_inside n.depth there.later) there.later
 
   beyond_there : drop n.after table ≡ beyond
@@ -123,13 +128,14 @@ module _ (table : List Item) (index : ℕ) (n : NodeEntry) (there : IsNodeOf tab
   nothing_later end = later_are ∙ ap (nodes_of n.depth) (sym beyond_there ∙ end)
 
   -- No property comes there.
-  pub no_property_later : (p : FileProperty) (items : List Item) → drop n.after table ≡ PropertyItem p ∷ items → ⊥
+  pub no_property_later : (p : FileProperty) (items : List TableItem) → drop n.after table ≡ PropertyItem p ∷ items → ⊥
   no_property_later p items at = not_node (after_inside n.depth there.later items (PropertyItem p) (sym beyond_there ∙ at)) where
     not_node : ((own : ℕ) × (place : ℕ) × (name : List ℕ) × (PropertyItem p ≡ NodeItem own place name) × (own ≤ n.depth)) → ⊥
     not_node found = (let e = found.3 in cc)
 
   -- A node of another depth is no sibling.
-  pub other_later : (own place : ℕ) (name : List ℕ) (items : List Item) → drop n.after table ≡ NodeItem own place name ∷ items → ¬ (own ≡ n.depth) → (first_sibling (drop index table)).later ≡ none
+  pub other_later : (own place : ℕ) (name : List ℕ) (items : List TableItem) → drop n.after table ≡ NodeItem own place name ∷ items →
+      ¬ (own ≡ n.depth) → (first_sibling (drop index table)).later ≡ none
   other_later own place name items at other =
       let most : own ≤ n.depth = no_deeper (after_inside n.depth there.later items (NodeItem own place name) (sym beyond_there ∙ at)) in
       later_are ∙ ap (nodes_of n.depth) (sym beyond_there ∙ at) ∙ nodes-above n.depth own place name items (omega arith) where
@@ -140,7 +146,9 @@ module _ (table : List Item) (index : ℕ) (n : NodeEntry) (there : IsNodeOf tab
               item_depth e = cc
 
   -- A node of its depth is the next sibling.
-  pub next_later : (own place : ℕ) (name : List ℕ) (items : List Item) → drop n.after table ≡ NodeItem own place name ∷ items → own ≡ n.depth → IsTrue (begins_with_node (drop n.after table)) × (Some (first_sibling (drop n.after table)) ≡ node_at (first_sibling (drop index table)).later 0)
+  pub next_later : (own place : ℕ) (name : List ℕ) (items : List TableItem) → drop n.after table ≡ NodeItem own place name ∷ items →
+      own ≡ n.depth → IsTrue (begins_with_node (drop n.after table))
+      × (Some (first_sibling (drop n.after table)) ≡ node_at (first_sibling (drop index table)).later 0)
   next_later own place name items at same = (
     ap begins_with_node at,
     ap (λ l. Some (first_sibling l)) at
@@ -156,7 +164,7 @@ root_there root = ap head_of (nodes-table root) where
   head_of (node name own children later) = record { name = name; own = own; children = children; later = later }
 
 -- The siblings of a node are within the table.
-pub siblings_few : (depth : ℕ) (items : List Item) → length (siblings (nodes_of depth items)) ≤ length items
+pub siblings_few : (depth : ℕ) (items : List TableItem) → length (siblings (nodes_of depth items)) ≤ length items
 siblings_few depth [] = omega arith
 siblings_few depth (PropertyItem p ∷ items) = let e : length (siblings (nodes_of depth items)) ≤ length items = siblings_few depth items in omega arith
 siblings_few depth (NodeItem own place name ∷ items) =
@@ -170,13 +178,14 @@ siblings_few depth (NodeItem own place name ∷ items) =
     ]
 
 -- So are the children of the node that items begin with.
-pub children_few : (items : List Item) → length (siblings (first_sibling items).children) ≤ length items
+pub children_few : (items : List TableItem) → length (siblings (first_sibling items).children) ≤ length items
 children_few [] = omega arith
 children_few (PropertyItem p ∷ items) = omega arith
 children_few (NodeItem depth place name ∷ items) = let e : length (siblings (nodes_of (depth + 1) items)) ≤ length items = siblings_few (depth + 1) items in omega arith
 
 -- The next sibling of a child is the next child.
-pub next_child_at : (nodes : Nodes FileNode) (index : ℕ) (child : Sibling FileNode) → Some child ≡ node_at nodes index → node_at child.later 0 ≡ node_at nodes (index + 1)
+pub next_child_at : (nodes : Nodes FileNode) (index : ℕ) (child : Sibling FileNode) → Some child ≡ node_at nodes index →
+    node_at child.later 0 ≡ node_at nodes (index + 1)
 next_child_at none zero child at = absurd cc
 next_child_at none (suc index) child at = absurd cc
 next_child_at (node name own children later) zero child at =
@@ -200,7 +209,7 @@ no_child_past (node name own children later) (suc index) zero gone past = absurd
 no_child_past (node name own children later) (suc index) (suc more) gone past = no_child_past later index more gone (omega arith)
 
 -- A property of a node by its index.
-module _ (entries : List Entry) (table : List Item) (index : ℕ) (n : NodeEntry) (same : map item_of entries ≡ table) (there : IsNodeOf table index n) (i : ℕ) (within : i < length (first_sibling (drop index table)).own.properties) where
+module _ (entries : List Entry) (table : List TableItem) (index : ℕ) (n : NodeEntry) (same : map item_of entries ≡ table) (there : IsNodeOf table index n) (i : ℕ) (within : i < length (first_sibling (drop index table)).own.properties) where
   few : i < length (first_properties there.later)
   few = subst (λ items. i < length (first_sibling items).own.properties) there.is_at within
 
@@ -213,38 +222,46 @@ module _ (entries : List Entry) (table : List Item) (index : ℕ) (n : NodeEntry
       omega arith
 
   -- The items from it on.
-  property_item : (e d : Entry) → get_or entries (index + 1 + i) d ≡ e → item_of e ∷ map item_of (drop (suc (index + 1 + i)) entries) ≡ PropertyItem (first_at there.later i few).property ∷ (first_at there.later i few).rest
+  property_item : (e d : Entry) → get_or entries (index + 1 + i) d ≡ e →
+      item_of e ∷ map item_of (drop (suc (index + 1 + i)) entries)
+      ≡ PropertyItem (first_at there.later i few).property ∷ (first_at there.later i few).rest
   property_item e d is =
       sym (items_here entries (index + 1 + i) e d property_within is) ∙ ap (drop (index + 1 + i)) same ∙ after_node table index n there i ∙ (first_at there.later i few).is_at
 
   pub no_node_there : (m : NodeEntry) (d : Entry) → get_or entries (index + 1 + i) d ≡ entry.Node m → ⊥
   no_node_there m d is = let e = property_item (entry.Node m) d is in cc
 
-  pub property_there : (p : PropertyEntry) (d : Entry) → get_or entries (index + 1 + i) d ≡ entry.Property p → slice_get (first_sibling (drop index table)).own.properties i ≡ Some (file_property_of p)
+  pub property_there : (p : PropertyEntry) (d : Entry) → get_or entries (index + 1 + i) d ≡ entry.Property p →
+      slice_get (first_sibling (drop index table)).own.properties i ≡ Some (file_property_of p)
   property_there p d is =
       let f : IsFirstAt there.later i = first_at there.later i few in
       let e : PropertyItem (file_property_of p) ∷ map item_of (drop (suc (index + 1 + i)) entries) ≡ PropertyItem f.property ∷ f.rest = property_item (entry.Property p) d is in
       let same_property : file_property_of p ≡ f.property = first_item e in
       ap (λ items. slice_get (first_sibling items).own.properties i) there.is_at ∙ f.is_got ∙ ap (λ q. Some q) (sym same_property) where
-        first_item : {a b : FileProperty} {u v : List Item} → PropertyItem a ∷ u ≡ PropertyItem b ∷ v → a ≡ b
+        first_item : {a b : FileProperty} {u v : List TableItem} → PropertyItem a ∷ u ≡ PropertyItem b ∷ v → a ≡ b
         first_item e = cc
 
 -- A node has as many properties as its entry says.
-pub count_is : (table : List Item) (index : ℕ) (n : NodeEntry) → IsNodeOf table index n → n.property_count ≡ length (first_sibling (drop index table)).own.properties
-count_is table index n there = there.linked.count ∙ ap (λ items. length (first_sibling items).own.properties) (sym there.is_at)
+pub property_count_is : (table : List TableItem) (index : ℕ) (n : NodeEntry) → IsNodeOf table index n →
+    n.property_count ≡ length (first_sibling (drop index table)).own.properties
+property_count_is table index n there = there.linked.count ∙ ap (λ items. length (first_sibling items).own.properties) (sym there.is_at)
 
 -- A look-up passes over a node of another name.
-pub lookup_passes : (name : List ℕ) (child : Sibling FileNode) (later : List (Sibling FileNode)) → bytes_eq child.name name ≡ false → lookup (λ other. bytes_eq other name) (map (λ sibling. (sibling.name, sibling)) (child ∷ later)) ≡ lookup (λ other. bytes_eq other name) (map (λ sibling. (sibling.name, sibling)) later)
+pub lookup_passes : (name : List ℕ) (child : Sibling FileNode) (later : List (Sibling FileNode)) → bytes_eq child.name name ≡ false →
+    lookup (λ other. bytes_eq other name) (map (λ sibling. (sibling.name, sibling)) (child ∷ later))
+    ≡ lookup (λ other. bytes_eq other name) (map (λ sibling. (sibling.name, sibling)) later)
 lookup_passes name child later other =
     ap (λ b. cond b (Some child) (lookup (λ o. bytes_eq o name) (map (λ (sibling : Sibling FileNode). (sibling.name, sibling)) later))) other
 
 -- It finds one of the name.
-pub lookup_finds : (name : List ℕ) (child : Sibling FileNode) (later : List (Sibling FileNode)) → bytes_eq child.name name ≡ true → lookup (λ other. bytes_eq other name) (map (λ sibling. (sibling.name, sibling)) (child ∷ later)) ≡ Some child
+pub lookup_finds : (name : List ℕ) (child : Sibling FileNode) (later : List (Sibling FileNode)) → bytes_eq child.name name ≡ true →
+    lookup (λ other. bytes_eq other name) (map (λ sibling. (sibling.name, sibling)) (child ∷ later)) ≡ Some child
 lookup_finds name child later same =
     ap (λ b. cond b (Some child) (lookup (λ o. bytes_eq o name) (map (λ (sibling : Sibling FileNode). (sibling.name, sibling)) later))) same
 
 -- The value of a property of a name.
-pub value_found : (properties : List FileProperty) (name : List ℕ) → value_named (map property_of properties) name ≡ option_map (λ property. property.value) (property_named properties name)
+pub value_found : (properties : List FileProperty) (name : List ℕ) →
+    value_named (map property_of properties) name ≡ option_map (λ property. property.value) (property_named properties name)
 value_found [] name = refl
 value_found (p ∷ properties) name = by_test (bytes_eq p.name name) (value_found properties name) where
   by_test : (b : Bool) → value_named (map property_of properties) name ≡ option_map (λ (property : FileProperty). property.value) (property_named properties name)

@@ -8,7 +8,8 @@ use Rattle.bi_fdt.specs.Growth.{AreOpen}
 -- The open nodes of a growing table.
 
 -- There is one for each open node.
-pub AreOpen-length : (opened : List OpenNode) (children : List (List ℕ)) (name : List ℕ) (outer : List OpenFileNode) → AreOpen opened children name outer → length opened ≡ length outer + 1
+pub AreOpen-length : (opened : List OpenNode) (children : List (List ℕ)) (name : List ℕ) (outer : List OpenFileNode) →
+    AreOpen opened children name outer → length opened ≡ length outer + 1
 AreOpen-length [] children name outer are = absurd are
 AreOpen-length (o ∷ []) children name [] are = omega arith
 AreOpen-length (o ∷ p ∷ later) children name [] are = absurd are
@@ -17,7 +18,8 @@ AreOpen-length (o ∷ later) children name (parent ∷ outer) are =
     omega arith
 
 -- The innermost has the names of its children.
-pub AreOpen-held : (innermost : OpenNode) (later : List OpenNode) (children : List (List ℕ)) (name : List ℕ) (outer : List OpenFileNode) → AreOpen (innermost ∷ later) children name outer → HoldsNames innermost.children children
+pub AreOpen-held : (innermost : OpenNode) (later : List OpenNode) (children : List (List ℕ)) (name : List ℕ) (outer : List OpenFileNode) →
+    AreOpen (innermost ∷ later) children name outer → HoldsNames innermost.children children
 AreOpen-held innermost [] children name [] are = are.1
 AreOpen-held innermost (o ∷ later) children name [] are = absurd are
 AreOpen-held innermost later children name (parent ∷ outer) are = are.1

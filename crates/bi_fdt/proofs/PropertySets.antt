@@ -14,7 +14,7 @@ use Rattle.std.proofs.lemmas.Map.Lookups.{exact_bytes}
 use Rattle.std.proofs.lemmas.Map.Text.{is_eq-slice_cmp}
 use Rattle.bi_blob.specs.Tree.{IsNew}
 use Rattle.bi_blob.proofs.NameSets.{name_cmp, new_by_test, held_by_test}
-use Rattle.bi_fdt.specs.Digests.{digest_of}
+use Rattle.bi_fdt.specs.Digests.{digest_of_name}
 use Rattle.bi_fdt.specs.declared.property_names.PropertyNames.{PropertyNames}
 use Rattle.bi_fdt.specs.PropertySets.{by_digest, HoldsProperties}
 
@@ -22,15 +22,16 @@ use Rattle.bi_fdt.specs.PropertySets.{by_digest, HoldsProperties}
 
 -- The order of what comes before two names.
 abbrev before_names : List ℕ → List ℕ → Ordering
-before_names a b = ordering_then (nat_cmp (length a) (length b)) (slice_cmp nat_cmp (digest_of a) (digest_of b))
+before_names a b = ordering_then (nat_cmp (length a) (length b)) (slice_cmp nat_cmp (digest_of_name a) (digest_of_name b))
 
 before_itself : (name : List ℕ) → before_names name name ≡ Equal
 before_itself name =
-    ap (λ o. ordering_then o (slice_cmp nat_cmp (digest_of name) (digest_of name))) (tied_itself nat_cmp_total (length name))
-    ∙ tied_itself (lists_total nat_cmp_total) (digest_of name)
+    ap (λ o. ordering_then o (slice_cmp nat_cmp (digest_of_name name) (digest_of_name name))) (tied_itself nat_cmp_total (length name))
+    ∙ tied_itself (lists_total nat_cmp_total) (digest_of_name name)
 
 -- Names with their lengths and digests are the same where the names are.
-is_eq-by_digest : (m n : Bor (List ℕ)) → is_eq (by_digest (length m.now, digest_of m.now, m) (length n.now, digest_of n.now, n)) ≡ bytes_eq m.now n.now
+is_eq-by_digest : (m n : Bor (List ℕ)) →
+    is_eq (by_digest (length m.now, digest_of_name m.now, m) (length n.now, digest_of_name n.now, n)) ≡ bytes_eq m.now n.now
 is_eq-by_digest m n = by_order (slice_cmp nat_cmp m.now n.now) refl ∙ is_eq-slice_cmp m.now n.now where
   unequal : (a : Ordering) → is_eq (ordering_then a Less) ≡ false
   unequal Less = refl
@@ -56,7 +57,8 @@ bytes_eq-lengths a b differ = by_test (bytes_eq a b) refl where
   by_test false other = other
 
 -- Whether a name is among some and one more.
-list_any-more : (held : List (List ℕ)) (name other : List ℕ) → list_any (λ n. bytes_eq n other) (held ++ name ∷ []) ≡ cond (bytes_eq name other) true (list_any (λ n. bytes_eq n other) held)
+list_any-more : (held : List (List ℕ)) (name other : List ℕ) →
+    list_any (λ n. bytes_eq n other) (held ++ name ∷ []) ≡ cond (bytes_eq name other) true (list_any (λ n. bytes_eq n other) held)
 list_any-more held name other =
     list_any-append (λ n. bytes_eq n other) held (name ∷ [])
     ∙ joined (bytes_eq name other) (list_any (λ n. bytes_eq n other) held) where
@@ -67,7 +69,8 @@ list_any-more held name other =
       joined false false = refl
 
 -- Whether a name is among some is the same with one more of another length.
-list_any-other : (held : List (List ℕ)) (name other : List ℕ) → (length name ≡ length other → ⊥) → list_any (λ n. bytes_eq n other) (held ++ name ∷ []) ≡ list_any (λ n. bytes_eq n other) held
+list_any-other : (held : List (List ℕ)) (name other : List ℕ) → (length name ≡ length other → ⊥) →
+    list_any (λ n. bytes_eq n other) (held ++ name ∷ []) ≡ list_any (λ n. bytes_eq n other) held
 list_any-other held name other differ =
     list_any-more held name other ∙ ap (λ b. cond b true (list_any (λ n. bytes_eq n other) held)) (bytes_eq-lengths name other differ)
 
@@ -75,11 +78,12 @@ list_any-other held name other differ =
 pub HoldsProperties-none : (properties : PropertyNames) → IsEmpty properties.short → IsEmpty properties.long → HoldsProperties properties []
 HoldsProperties-none properties short long = record {
   short = λ name _. ap (list_any (λ k. is_eq (name_cmp name k))) short;
-  long = λ name _. ap (list_any (λ k. is_eq (by_digest (length name.now, digest_of name.now, name) k))) long;
+  long = λ name _. ap (list_any (λ k. is_eq (by_digest (length name.now, digest_of_name name.now, name) k))) long;
 }
 
 -- A short name joins.
-pub HoldsProperties-short : (old new : PropertyNames) (name : Bor (List ℕ)) (held : List (List ℕ)) → length name.now < 64 → HoldsProperties old held
+pub HoldsProperties-short : (old new : PropertyNames) (name : Bor (List ℕ)) (held : List (List ℕ)) → length name.now < 64 →
+    HoldsProperties old held
     → Updates name_cmp old.short new.short name true → new.long ≡ old.long → HoldsProperties new (held ++ name.now ∷ [])
 HoldsProperties-short old new name held within holds updates same = record {
   short = λ q short.
@@ -88,28 +92,31 @@ HoldsProperties-short old new name held within holds updates same = record {
       ∙ ap (cond (bytes_eq name.now q.now) true) (holds.short q short)
       ∙ sym (list_any-more held name.now q.now);
   long = λ q long.
-      ap (λ set. contains by_digest set (length q.now, digest_of q.now, q)) same
+      ap (λ set. contains by_digest set (length q.now, digest_of_name q.now, q)) same
       ∙ holds.long q long
       ∙ sym (list_any-other held name.now q.now (λ e. omega (arith, e)));
 }
 
 -- A long name joins.
-pub HoldsProperties-long : (old new : PropertyNames) (name : Bor (List ℕ)) (held : List (List ℕ)) → 64 ≤ length name.now → HoldsProperties old held
-    → Updates by_digest old.long new.long (length name.now, digest_of name.now, name) true → new.short ≡ old.short → HoldsProperties new (held ++ name.now ∷ [])
+pub HoldsProperties-long : (old new : PropertyNames) (name : Bor (List ℕ)) (held : List (List ℕ)) → 64 ≤ length name.now →
+    HoldsProperties old held
+    → Updates by_digest old.long new.long (length name.now, digest_of_name name.now, name) true → new.short ≡ old.short →
+    HoldsProperties new (held ++ name.now ∷ [])
 HoldsProperties-long old new name held within holds updates same = record {
   short = λ q short.
       ap (λ set. contains name_cmp set q) same
       ∙ holds.short q short
       ∙ sym (list_any-other held name.now q.now (λ e. omega (arith, e)));
   long = λ q long.
-      updates.0 (length q.now, digest_of q.now, q)
-      ∙ ap (λ b. cond b true (contains by_digest old.long (length q.now, digest_of q.now, q))) (is_eq-by_digest name q)
+      updates.0 (length q.now, digest_of_name q.now, q)
+      ∙ ap (λ b. cond b true (contains by_digest old.long (length q.now, digest_of_name q.now, q))) (is_eq-by_digest name q)
       ∙ ap (cond (bytes_eq name.now q.now) true) (holds.long q long)
       ∙ sym (list_any-more held name.now q.now);
 }
 
 -- A name is new exactly if it is not among those that are held.
-pub new_if_not_held : (is_new has : Bool) (name : List ℕ) (held : List (List ℕ)) → is_new ≡ not has → has ≡ list_any (λ other. bytes_eq other name) held
+pub new_if_not_held : (is_new has : Bool) (name : List ℕ) (held : List (List ℕ)) → is_new ≡ not has →
+    has ≡ list_any (λ other. bytes_eq other name) held
     → (is_new ≡ true → IsNew name held) × (IsNew name held → is_new ≡ true)
 new_if_not_held is_new true name held is among =
     (λ e. absurd (false≢true (sym is ∙ e)), λ new. absurd (held_by_test name held (sym among) new))

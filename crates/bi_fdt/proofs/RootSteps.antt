@@ -20,7 +20,8 @@ use Rattle.bi_fdt.proofs.TokenSteps.{width-nop, width-begin}
 
 module _ (blocks : TreeBlocks) (depth_limit place : ℕ) (so_far : TreeSoFar) (position : IsOpenAt blocks depth_limit place so_far) where
   -- FDT_NOP.
-  pub past_nop : IsNumberAt blocks place nop_number → IsTrue (is_expected (stage_of so_far) nop_number) → IsOpenAt blocks depth_limit (place + 4) so_far
+  pub past_nop : IsNumberAt blocks place nop_number → IsTrue (is_expected (stage_of so_far) nop_number) →
+      IsOpenAt blocks depth_limit (place + 4) so_far
   past_nop number may =
       subst (λ w. IsOpenAt blocks depth_limit (place + w) so_far) width-nop
       (next_nop blocks depth_limit place so_far position (record {
@@ -29,11 +30,15 @@ module _ (blocks : TreeBlocks) (depth_limit place : ℕ) (so_far : TreeSoFar) (p
       }))
 
   -- The block ends before the number of a token.
-  pub no_number : (fault : Fault) → blocks.end + 1 ≤ place + 4 → fault ≡ token_fault place HasTokenNumber → IsStructureFault blocks depth_limit fault
+  pub no_number : (fault : Fault) → blocks.end + 1 ≤ place + 4 → fault ≡ token_fault place HasTokenNumber →
+      IsStructureFault blocks depth_limit fault
   no_number fault past is = fault_there blocks depth_limit place so_far fault position (inl ((λ (within : place + 4 ≤ blocks.end). omega arith), is))
 
 -- FDT_BEGIN_NODE of the root.
-pub past_root : (blocks : TreeBlocks) (depth_limit place : ℕ) (name : List ℕ) → IsOpenAt blocks depth_limit place NoTree → IsNumberAt blocks place begin_node_number → name ≡ name_from blocks.file (place + 4) → HasNoFault (TokenPasses blocks depth_limit place BeforeRoot) begin_checks → IsOpenAt blocks depth_limit (place + up4 (length name + 5)) (OpenTree (new_node name place) [])
+pub past_root : (blocks : TreeBlocks) (depth_limit place : ℕ) (name : List ℕ) → IsOpenAt blocks depth_limit place NoTree →
+    IsNumberAt blocks place begin_node_number → name ≡ name_from blocks.file (place + 4) →
+    HasNoFault (TokenPasses blocks depth_limit place BeforeRoot) begin_checks →
+    IsOpenAt blocks depth_limit (place + up4 (length name + 5)) (OpenTree (new_node name place) [])
 past_root blocks depth_limit place name position number is passes =
     subst (λ w. IsOpenAt blocks depth_limit (place + w) (OpenTree (new_node name place) [])) (width-begin name)
     (subst (λ n. IsOpenAt blocks depth_limit (place + width (BeginNode n)) (OpenTree (new_node n place) [])) (sym is)
@@ -42,14 +47,18 @@ past_root blocks depth_limit place name position number is passes =
       passes = (number.within, (subst (λ n. IsTrue (is_expected BeforeRoot n)) (sym number.is_number) refl, passes));
     })))
 
-pub root_fault : (blocks : TreeBlocks) (depth_limit place : ℕ) (fault : Fault) → IsOpenAt blocks depth_limit place NoTree → IsNumberAt blocks place begin_node_number → IsFirstFault (TokenPasses blocks depth_limit place BeforeRoot) (token_fault place) begin_checks fault → IsStructureFault blocks depth_limit fault
+pub root_fault : (blocks : TreeBlocks) (depth_limit place : ℕ) (fault : Fault) → IsOpenAt blocks depth_limit place NoTree →
+    IsNumberAt blocks place begin_node_number →
+    IsFirstFault (TokenPasses blocks depth_limit place BeforeRoot) (token_fault place) begin_checks fault →
+    IsStructureFault blocks depth_limit fault
 root_fault blocks depth_limit place fault position number first =
     fault_there blocks depth_limit place NoTree fault position
     (subst (λ n. IsFirstFault (TokenPasses blocks depth_limit place BeforeRoot) (token_fault place) (token_checks n) fault) (sym number.is_number)
     (inr (number.within, inr (subst (λ n. IsTrue (is_expected BeforeRoot n)) (sym number.is_number) refl, first))))
 
 -- FDT_END after the root.
-pub past_end : (blocks : TreeBlocks) (depth_limit place : ℕ) (root : Root FileNode) → IsOpenAt blocks depth_limit place (WholeTree root) → IsNumberAt blocks place end_number → HoldsTree blocks root × (depth_of root ≤ depth_limit)
+pub past_end : (blocks : TreeBlocks) (depth_limit place : ℕ) (root : Root FileNode) → IsOpenAt blocks depth_limit place (WholeTree root) →
+    IsNumberAt blocks place end_number → HoldsTree blocks root × (depth_of root ≤ depth_limit)
 past_end blocks depth_limit place root position number =
     last_token blocks depth_limit place root position (record {
       is_number = number.is_number;
@@ -57,7 +66,9 @@ past_end blocks depth_limit place root position number =
     })
 
 -- A token that is not expected.
-pub bad_token : (blocks : TreeBlocks) (depth_limit place : ℕ) (so_far : TreeSoFar) (number : ℕ) → IsOpenAt blocks depth_limit place so_far → IsNumberAt blocks place number → is_expected (stage_of so_far) number ≡ false → IsStructureFault blocks depth_limit (token_fault place IsExpected)
+pub bad_token : (blocks : TreeBlocks) (depth_limit place : ℕ) (so_far : TreeSoFar) (number : ℕ) → IsOpenAt blocks depth_limit place so_far →
+    IsNumberAt blocks place number → is_expected (stage_of so_far) number ≡ false →
+    IsStructureFault blocks depth_limit (token_fault place IsExpected)
 bad_token blocks depth_limit place so_far number position is_number unexpected =
     fault_there blocks depth_limit place so_far (token_fault place IsExpected) position
     (inr (is_number.within, inl ((λ may. false≢true (sym unexpected ∙ ap (is_expected (stage_of so_far)) (sym is_number.is_number) ∙ may)), refl)))

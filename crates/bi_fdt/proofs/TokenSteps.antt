@@ -5,17 +5,20 @@ use Rattle.bi_base.specs.declared.fault.Fault.{Fault}
 use Rattle.bi_base.specs.Cells.{u32_at, up4}
 use Rattle.bi_base.specs.Checks.{IsFirstFault, HasNoFault}
 use Rattle.bi_base.proofs.CellLaws.{length-cell}
-use Rattle.bi_blob.specs.Tokens.{BeginNode, EndNode, Prop, Nop, width, name_from, begin_node_number, end_node_number, prop_number, nop_number}
+use Rattle.bi_blob.specs.Tokens.{BeginNode, EndNode, Prop, Nop, width, name_from, begin_node_number, end_node_number, prop_number}
+use Rattle.bi_blob.specs.Tokens.{nop_number}
 use Rattle.bi_blob.specs.Tree.{FileProperty, IsNew, names}
 use Rattle.bi_blob.specs.Events.{FileNodeEnd}
 use Rattle.bi_blob.specs.Stages.{is_expected}
 use Rattle.bi_blob.specs.Blob.{TreeBlocks}
-use Rattle.bi_blob.specs.BlobFaults.{TokenPasses, IsNewNode, IsNewProperty, token_checks, token_fault, begin_checks, property_checks, IsStructureFault}
-use Rattle.bi_blob.specs.OpenNodes.{OpenFileNode, IsOpenAt, OpenTree, WholeTree, new_node, with_one_property, with_one_child, stage_of, events_of_open_node}
-use Rattle.bi_blob.proofs.Blobs.OpenNodes.{root_of, events_of_open_nodes-root}
+use Rattle.bi_blob.specs.BlobFaults.{TokenPasses, IsNewNode, IsNewProperty, token_checks, token_fault, begin_checks, property_checks}
+use Rattle.bi_blob.specs.BlobFaults.{IsStructureFault}
+use Rattle.bi_blob.specs.OpenNodes.{OpenFileNode, IsOpenAt, OpenTree, WholeTree, new_node, with_one_property, with_one_child, stage_of}
+use Rattle.bi_blob.specs.OpenNodes.{events_of_open_node}
+use Rattle.bi_blob.proofs.Blobs.OpenNodes.{ended_root, events_of_open_nodes-root}
 use Rattle.bi_blob.proofs.Blobs.Tokens.{length-token_bytes}
 use Rattle.bi_blob.proofs.Blobs.Passing.{length-Prop}
-use Rattle.bi_blob.proofs.Blobs.Steps.{IsNext, next_nop, next_child, next_property, next_end, next_last, property_at}
+use Rattle.bi_blob.proofs.Blobs.Steps.{IsNext, next_nop, next_child, next_property, next_end_of_child, next_last, property_at}
 use Rattle.bi_blob.proofs.Blobs.Whole.{fault_there}
 use Rattle.bi_fdt.specs.declared.growing.Growing as table
 use Rattle.bi_fdt.specs.declared.growing.Ending.TheVariants as ending
@@ -48,30 +51,41 @@ up4-within n = (omega arith, omega arith)
 
 module _ (blocks : TreeBlocks) (depth_limit place : ℕ) (o : OpenFileNode) (outer : List OpenFileNode) (position : IsOpenAt blocks depth_limit place (OpenTree o outer)) where
   -- The token of this number is expected inside the root.
-  expected : (number : ℕ) → u32_at blocks.file place ≡ number → IsTrue (is_expected (stage_of (OpenTree o outer)) number) → IsTrue (is_expected (stage_of (OpenTree o outer)) (u32_at blocks.file place))
+  expected : (number : ℕ) → u32_at blocks.file place ≡ number → IsTrue (is_expected (stage_of (OpenTree o outer)) number) →
+      IsTrue (is_expected (stage_of (OpenTree o outer)) (u32_at blocks.file place))
   expected number is may = subst (λ n. IsTrue (is_expected (stage_of (OpenTree o outer)) n)) (sym is) may
 
   -- A fault of FDT_BEGIN_NODE.
-  pub begin_fault : (fault : Fault) → IsNumberAt blocks place begin_node_number → IsFirstFault (TokenPasses blocks depth_limit place (stage_of (OpenTree o outer))) (token_fault place) begin_checks fault → IsStructureFault blocks depth_limit fault
+  pub begin_fault : (fault : Fault) → IsNumberAt blocks place begin_node_number →
+      IsFirstFault (TokenPasses blocks depth_limit place (stage_of (OpenTree o outer))) (token_fault place) begin_checks fault →
+      IsStructureFault blocks depth_limit fault
   begin_fault fault number first =
       fault_there blocks depth_limit place (OpenTree o outer) fault position
       (subst (λ n. IsFirstFault (TokenPasses blocks depth_limit place (stage_of (OpenTree o outer))) (token_fault place) (token_checks n) fault) (sym number.is_number)
       (inr (number.within, inr (expected begin_node_number number.is_number refl, first))))
 
   -- A fault of FDT_PROP.
-  pub property_fault : (fault : Fault) → IsNumberAt blocks place prop_number → IsFirstFault (TokenPasses blocks depth_limit place (stage_of (OpenTree o outer))) (token_fault place) property_checks fault → IsStructureFault blocks depth_limit fault
+  pub property_fault : (fault : Fault) → IsNumberAt blocks place prop_number →
+      IsFirstFault (TokenPasses blocks depth_limit place (stage_of (OpenTree o outer))) (token_fault place) property_checks fault →
+      IsStructureFault blocks depth_limit fault
   property_fault fault number first =
       fault_there blocks depth_limit place (OpenTree o outer) fault position
       (subst (λ n. IsFirstFault (TokenPasses blocks depth_limit place (stage_of (OpenTree o outer))) (token_fault place) (token_checks n) fault) (sym number.is_number)
       (inr (number.within, inr (expected prop_number number.is_number refl, first))))
 
   -- A child of a name that another child has.
-  pub duplicate_node : (name : List ℕ) (fault : Fault) → IsNumberAt blocks place begin_node_number → name ≡ name_from blocks.file (place + 4) → HasNoFault (TokenPasses blocks depth_limit place (stage_of (OpenTree o outer))) node_name_checks → fault ≡ token_fault place IsNewNode → ¬ (IsNew name (names o.children)) → IsStructureFault blocks depth_limit fault
+  pub duplicate_node : (name : List ℕ) (fault : Fault) → IsNumberAt blocks place begin_node_number →
+      name ≡ name_from blocks.file (place + 4) →
+      HasNoFault (TokenPasses blocks depth_limit place (stage_of (OpenTree o outer))) node_name_checks →
+      fault ≡ token_fault place IsNewNode → ¬ (IsNew name (names o.children)) → IsStructureFault blocks depth_limit fault
   duplicate_node name fault number is passes is_fault old =
       begin_fault fault number (inr (passes.0, inr (passes.1.0, inr (passes.1.1.0, inl ((λ new. old (subst (λ n. IsNew n (names o.children)) (sym is) new)), is_fault)))))
 
   -- A property of a name that another property has.
-  pub duplicate_property : (name : List ℕ) (fault : Fault) → IsNumberAt blocks place prop_number → name ≡ name_from blocks.strings (u32_at blocks.file (place + 8)) → HasNoFault (TokenPasses blocks depth_limit place (stage_of (OpenTree o outer))) property_token_checks → fault ≡ token_fault place IsNewProperty → ¬ (IsNew name (map (λ p. p.name) o.properties)) → IsStructureFault blocks depth_limit fault
+  pub duplicate_property : (name : List ℕ) (fault : Fault) → IsNumberAt blocks place prop_number →
+      name ≡ name_from blocks.strings (u32_at blocks.file (place + 8)) →
+      HasNoFault (TokenPasses blocks depth_limit place (stage_of (OpenTree o outer))) property_token_checks →
+      fault ≡ token_fault place IsNewProperty → ¬ (IsNew name (map (λ p. p.name) o.properties)) → IsStructureFault blocks depth_limit fault
   duplicate_property name fault number is passes is_fault old =
       property_fault fault number (inr (passes.0, inr (passes.1.0, inr (passes.1.1.0, inr (passes.1.1.1.0, inl ((λ new. old (subst (λ n. IsNew n (map (λ (p : FileProperty). p.name) o.properties)) (sym is) new)), is_fault))))))
 
@@ -83,7 +97,9 @@ module _ (blocks : TreeBlocks) (depth_limit place : ℕ) (o : OpenFileNode) (out
       (record { is_number = number.is_number; passes = (number.within, (expected nop_number number.is_number refl, tt)) }))
 
   -- FDT_BEGIN_NODE of a child.
-  pub after_begin : (name : List ℕ) → IsNumberAt blocks place begin_node_number → name ≡ name_from blocks.file (place + 4) → HasNoFault (TokenPasses blocks depth_limit place (stage_of (OpenTree o outer))) node_name_checks → IsNew name (names o.children) → IsOpenAt blocks depth_limit (place + up4 (length name + 5)) (OpenTree (new_node name place) (o ∷ outer))
+  pub after_begin : (name : List ℕ) → IsNumberAt blocks place begin_node_number → name ≡ name_from blocks.file (place + 4) →
+      HasNoFault (TokenPasses blocks depth_limit place (stage_of (OpenTree o outer))) node_name_checks → IsNew name (names o.children) →
+      IsOpenAt blocks depth_limit (place + up4 (length name + 5)) (OpenTree (new_node name place) (o ∷ outer))
   after_begin name number is passes new =
       subst (λ w. IsOpenAt blocks depth_limit (place + w) (OpenTree (new_node name place) (o ∷ outer))) (width-begin name)
       (subst (λ n. IsOpenAt blocks depth_limit (place + width (BeginNode n)) (OpenTree (new_node n place) (o ∷ outer))) (sym is)
@@ -93,7 +109,10 @@ module _ (blocks : TreeBlocks) (depth_limit place : ℕ) (o : OpenFileNode) (out
       })))
 
   -- FDT_PROP.
-  pub after_property : (p : FileProperty) → IsNumberAt blocks place prop_number → p ≡ property_at blocks place → HasNoFault (TokenPasses blocks depth_limit place (stage_of (OpenTree o outer))) property_token_checks → IsNew p.name (map (λ q. q.name) o.properties) → IsOpenAt blocks depth_limit (place + up4 (length p.value + 12)) (OpenTree (with_one_property o p) outer)
+  pub after_property : (p : FileProperty) → IsNumberAt blocks place prop_number → p ≡ property_at blocks place →
+      HasNoFault (TokenPasses blocks depth_limit place (stage_of (OpenTree o outer))) property_token_checks →
+      IsNew p.name (map (λ q. q.name) o.properties) →
+      IsOpenAt blocks depth_limit (place + up4 (length p.value + 12)) (OpenTree (with_one_property o p) outer)
   after_property p number is passes new =
       subst (λ q. IsOpenAt blocks depth_limit (place + up4 (length q.value + 12)) (OpenTree (with_one_property o q) outer)) (sym is)
       (subst (λ w. IsOpenAt blocks depth_limit (place + w) (OpenTree (with_one_property o (property_at blocks place)) outer)) (width-property (u32_at blocks.file (place + 8)) (property_at blocks place).value)
@@ -106,19 +125,22 @@ module _ (blocks : TreeBlocks) (depth_limit place : ℕ) (o : OpenFileNode) (out
   end_is_next number = record { is_number = number.is_number; passes = (number.within, (expected end_node_number number.is_number refl, tt)) }
 
 -- FDT_END_NODE of a child.
-pub after_child : (blocks : TreeBlocks) (depth_limit place : ℕ) (o parent : OpenFileNode) (outer : List OpenFileNode) → IsOpenAt blocks depth_limit place (OpenTree o (parent ∷ outer)) → IsNumberAt blocks place end_node_number → IsOpenAt blocks depth_limit (place + 4) (OpenTree (with_one_child parent o) outer)
+pub after_child : (blocks : TreeBlocks) (depth_limit place : ℕ) (o parent : OpenFileNode) (outer : List OpenFileNode) →
+    IsOpenAt blocks depth_limit place (OpenTree o (parent ∷ outer)) → IsNumberAt blocks place end_node_number →
+    IsOpenAt blocks depth_limit (place + 4) (OpenTree (with_one_child parent o) outer)
 after_child blocks depth_limit place o parent outer position number =
     subst (λ w. IsOpenAt blocks depth_limit (place + w) (OpenTree (with_one_child parent o) outer)) width-end_node
-    (next_end blocks depth_limit place o parent outer position (end_is_next blocks depth_limit place o (parent ∷ outer) position number))
+    (next_end_of_child blocks depth_limit place o parent outer position (end_is_next blocks depth_limit place o (parent ∷ outer) position number))
 
 -- FDT_END_NODE of the root.
-pub after_root : (blocks : TreeBlocks) (depth_limit place : ℕ) (o : OpenFileNode) → IsOpenAt blocks depth_limit place (OpenTree o []) → IsNumberAt blocks place end_node_number → IsOpenAt blocks depth_limit (place + 4) (WholeTree (root_of o))
+pub after_root : (blocks : TreeBlocks) (depth_limit place : ℕ) (o : OpenFileNode) → IsOpenAt blocks depth_limit place (OpenTree o []) →
+    IsNumberAt blocks place end_node_number → IsOpenAt blocks depth_limit (place + 4) (WholeTree (ended_root o))
 after_root blocks depth_limit place o position number =
-    subst (λ w. IsOpenAt blocks depth_limit (place + w) (WholeTree (root_of o))) width-end_node
+    subst (λ w. IsOpenAt blocks depth_limit (place + w) (WholeTree (ended_root o))) width-end_node
     (next_last blocks depth_limit place o position (end_is_next blocks depth_limit place o [] position number))
 
 -- The table of a root that has ended is that of its tree.
-pub finished_table : (entries : List Entry) (o : OpenFileNode) → o.name ≡ [] → IsFinished entries o → IsTable entries (root_of o)
+pub finished_table : (entries : List Entry) (o : OpenFileNode) → o.name ≡ [] → IsFinished entries o → IsTable entries (ended_root o)
 finished_table entries o unnamed finished = record {
   items = finished.items ∙ sym (append-nil (items_of 0 (events_of_open_node o)))
       ∙ sym (items_of-append 0 (events_of_open_node o) (FileNodeEnd ∷ []))
@@ -127,7 +149,9 @@ finished_table entries o unnamed finished = record {
 }
 
 -- A reader after FDT_END_NODE of a child.
-pub after_end_inside : (blocks : TreeBlocks) (depth_limit : ℕ) (reading : Reading) (grown : table.Growing) → IsReading blocks depth_limit reading → IsNumberAt blocks reading.place end_node_number → IsEnding reading.growing (ending.Inside grown) → IsReading blocks depth_limit (record { place = reading.place + 4; growing = grown })
+pub after_end_inside : (blocks : TreeBlocks) (depth_limit : ℕ) (reading : Reading) (grown : table.Growing) →
+    IsReading blocks depth_limit reading → IsNumberAt blocks reading.place end_node_number →
+    IsEnding reading.growing (ending.Inside grown) → IsReading blocks depth_limit (record { place = reading.place + 4; growing = grown })
 after_end_inside blocks depth_limit reading grown r number ended = by_outer r.innermost r.outer r.position (ended r.innermost r.outer r.growing) where
   by_outer : (o : OpenFileNode) (outer : List OpenFileNode) → IsOpenAt blocks depth_limit reading.place (OpenTree o outer) → EndsInside grown o outer → IsReading blocks depth_limit (record { place = reading.place + 4; growing = grown })
   by_outer o [] position ended = absurd ended
@@ -140,7 +164,10 @@ after_end_inside blocks depth_limit reading grown r number ended = by_outer r.in
   }
 
 -- A reader after FDT_END_NODE of the root.
-pub after_end_root : (blocks : TreeBlocks) (depth_limit : ℕ) (reading : Reading) (entries : List Entry) → IsReading blocks depth_limit reading → IsNumberAt blocks reading.place end_node_number → ((o : OpenFileNode) (outer : List OpenFileNode) → IsGrowing reading.growing o outer → (outer ≡ []) × IsFinished entries o) → IsAfter blocks depth_limit (reading.place + 4) entries
+pub after_end_root : (blocks : TreeBlocks) (depth_limit : ℕ) (reading : Reading) (entries : List Entry) →
+    IsReading blocks depth_limit reading → IsNumberAt blocks reading.place end_node_number →
+    ((o : OpenFileNode) (outer : List OpenFileNode) → IsGrowing reading.growing o outer → (outer ≡ []) × IsFinished entries o) →
+    IsAfter blocks depth_limit (reading.place + 4) entries
 after_end_root blocks depth_limit reading entries r number ended =
     by_outer r.outer r.position (ended r.innermost r.outer r.growing) where
       by_outer : (outer : List OpenFileNode) → IsOpenAt blocks depth_limit reading.place (OpenTree r.innermost outer) → (outer ≡ []) × IsFinished entries r.innermost → IsAfter blocks depth_limit (reading.place + 4) entries
@@ -148,7 +175,7 @@ after_end_root blocks depth_limit reading entries r number ended =
         one_more : parent ∷ outer ≡ [] → ⊥
         one_more e = cc
       by_outer [] position whole = record {
-        root = root_of r.innermost;
+        root = ended_root r.innermost;
         position = after_root blocks depth_limit reading.place r.innermost position number;
         is_table = finished_table entries r.innermost position.is_tree_so_far.1 whole.1;
         within = (let within : reading.place + 4 ≤ blocks.end = number.within in omega arith);

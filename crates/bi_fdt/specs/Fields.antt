@@ -4,7 +4,7 @@ use Rattle.bi_blob.specs.BlobFaults.{HasReservations}
 use Rattle.bi_blob.specs.Events.{FileEvent}
 use Rattle.bi_fdt.specs.declared.table.Entry.{Entry}
 use Rattle.bi_fdt.specs.declared.table.NodeEntry.{NodeEntry}
-use Rattle.bi_fdt.specs.Table.{Item, NodeItem, item_of, items_of, IsLinked}
+use Rattle.bi_fdt.specs.Table.{TableItem, NodeItem, item_of, items_of, IsLinked}
 use Rattle.bi_fdt.specs.Reading.{IsTable}
 use Rattle.bi_fdt.specs.Content.{root_in}
 
@@ -18,8 +18,8 @@ pub record IsBlobHeld (file : List ℕ) (reservation_count : ℕ) (entries : Lis
   pub is_table : IsTable entries (root_in (map item_of entries))
 
 -- The entry of the node at this index of a table, and the items after it.
-pub record IsNodeOf (table : List Item) (index : ℕ) (node_entry : NodeEntry) : Type 0 where
-  pub later : List Item
+pub record IsNodeOf (table : List TableItem) (index : ℕ) (node_entry : NodeEntry) : Type 0 where
+  pub later : List TableItem
   pub is_at : drop index table
       ≡ NodeItem node_entry.depth node_entry.place node_entry.name.now ∷ later
   pub linked : IsLinked 0 index node_entry later

@@ -5,7 +5,7 @@ use Rattle.std.specs.Ordering.{nat_cmp, ordering_then}
 use Rattle.std.specs.Cmp.Lexicographic.{slice_cmp}
 use Rattle.std.specs.BTreeSet.{contains}
 use denote.Ref.{Bor}
-use Rattle.bi_fdt.specs.Digests.{digest_of}
+use Rattle.bi_fdt.specs.Digests.{digest_of_name}
 use Rattle.bi_fdt.specs.declared.property_names.PropertyNames.{PropertyNames}
 
 -- The names of the properties of a node, in two sets: that of the names of less than 64 bytes, and
@@ -23,5 +23,5 @@ pub record HoldsProperties (properties : PropertyNames) (held : List (List ℕ))
       → contains (λ x y. slice_cmp nat_cmp x.now y.now) properties.short name
       ≡ list_any (λ other. bytes_eq other name.now) held
   pub long : (name : Bor (List ℕ)) → 64 ≤ length name.now
-      → contains by_digest properties.long (length name.now, digest_of name.now, name)
+      → contains by_digest properties.long (length name.now, digest_of_name name.now, name)
       ≡ list_any (λ other. bytes_eq other name.now) held

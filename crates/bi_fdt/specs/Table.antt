@@ -10,18 +10,18 @@ use Rattle.bi_fdt.specs.Properties.{file_property_of}
 -- The table of a tree: its nodes and properties in the order of their tokens in the file.
 
 -- One entry of a table: a node of this depth, or a property of the last node before it.
-pub data Item : Type 0 where
-  NodeItem : (depth place : ℕ) → (name : List ℕ) → Item
-  PropertyItem : (property : FileProperty) → Item
+pub data TableItem : Type 0 where
+  NodeItem : (depth place : ℕ) → (name : List ℕ) → TableItem
+  PropertyItem : (property : FileProperty) → TableItem
 
 -- The properties that items begin with.
-abbrev pub first_properties : List Item → List FileProperty
+abbrev pub first_properties : List TableItem → List FileProperty
 first_properties [] = []
 first_properties (PropertyItem property ∷ later) = property ∷ first_properties later
 first_properties (NodeItem depth place name ∷ later) = []
 
 -- The nodes of this depth among items, up to the first node that is less deep.
-abbrev pub nodes_of : ℕ → List Item → Nodes FileNode
+abbrev pub nodes_of : ℕ → List TableItem → Nodes FileNode
 nodes_of depth [] = none
 nodes_of depth (PropertyItem property ∷ later) = nodes_of depth later
 nodes_of depth (NodeItem own_depth place name ∷ later) =
@@ -31,7 +31,7 @@ nodes_of depth (NodeItem own_depth place name ∷ later) =
     else if nat_lt depth own_depth then nodes_of depth later else none
 
 -- The items of these events, if a node that begins first has this depth.
-abbrev pub items_of : ℕ → List FileEvent → List Item
+abbrev pub items_of : ℕ → List FileEvent → List TableItem
 items_of depth [] = []
 items_of depth (FileNodeStart place name ∷ later) =
     NodeItem depth place name ∷ items_of (depth + 1) later
@@ -39,20 +39,20 @@ items_of depth (FileNodeProperty property ∷ later) = PropertyItem property ∷
 items_of depth (FileNodeEnd ∷ later) = items_of (depth - 1) later
 
 -- How many items come before the first node that is not deeper than this.
-abbrev pub count_inside : ℕ → List Item → ℕ
+abbrev pub count_inside : ℕ → List TableItem → ℕ
 count_inside depth [] = 0
 count_inside depth (PropertyItem property ∷ later) = count_inside depth later + 1
 count_inside depth (NodeItem own_depth place name ∷ later) =
     if nat_lt depth own_depth then count_inside depth later + 1 else 0
 
 -- The item of an entry.
-abbrev pub item_of : Entry → Item
+abbrev pub item_of : Entry → TableItem
 item_of (entry.Node node_entry) = NodeItem node_entry.depth node_entry.place node_entry.name.now
 item_of (entry.Property property) = PropertyItem (file_property_of property)
 
 -- The numbers of the entry of a node at index `at` fit the items after it. While the node is open,
 -- `opened` being the number of the open nodes, nothing is required of its last descendant.
-pub record IsLinked (opened at : ℕ) (node_entry : NodeEntry) (later : List Item) : Type 0 where
+pub record IsLinked (opened at : ℕ) (node_entry : NodeEntry) (later : List TableItem) : Type 0 where
   pub count : node_entry.property_count ≡ length (first_properties later)
   pub before_end : count_inside node_entry.depth later < length later → node_entry.after
       ≡ at + 1 + count_inside node_entry.depth later

@@ -45,10 +45,10 @@ impl<'a> Model for Blob<'a> {
     ghost use Rattle.bi_blob.specs.Blob as header;
     ghost use Rattle.bi_blob.specs.Blob.{reservations_at};
     ghost use Rattle.bi_fdt.specs.Table.{item_of};
-    ghost use Rattle.bi_fdt.specs.Content.{BlobContent};
+    ghost use Rattle.bi_fdt.specs.Content.{Blob};
     ghost use Rattle.bi_fdt.specs.Fields.{IsBlobHeld};
 
-    ghost Value = { BlobContent };
+    ghost Value = { Blob };
 
     ghost view = { λ blob. record {
       file = blob.file.now;
@@ -96,7 +96,7 @@ impl<'a> Blob<'a> {
             → ¬ (IsBlobFault limits file.entry.now fault)) }
         ensures file { IfOk result (λ blob. (blob.file ≡ file.entry.now)
             × (blob.total_size ≡ header.totalsize file.entry.now)) }
-        ensures refused { IfErr result (IsRefused limits file.entry.now) }
+        ensures failed { IfErr result (IsRefused limits file.entry.now) }
     {
         let reservation_count = check_before_tree(file, limits)?;
         let strings = Strings::new(alloc, strings_block(file))?;

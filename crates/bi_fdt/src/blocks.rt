@@ -10,7 +10,7 @@ ghost use Rattle.bi_blob.specs.BlobFaults.{TokenPasses, token_fault, HasTokenNum
 ghost use Rattle.bi_blob.specs.BlobFaults.{property_checks};
 ghost use Rattle.bi_fdt.specs.Blocks.{blocks_of, AreBlocks, node_name_checks};
 ghost use Rattle.bi_fdt.specs.Blocks.{property_token_checks};
-ghost use Rattle.bi_fdt.specs.Digests.{digest_of};
+ghost use Rattle.bi_fdt.specs.Digests.{digest_of_name};
 
 use crate::names::name_at;
 use crate::strings::Strings;
@@ -35,7 +35,7 @@ pub(crate) fn number_at(blocks: Blocks, place: usize) -> Result<u32, Fault>
     requires within { place ≤ blocks.end + 3 }
     ensures within { OnOk result (place + 4 ≤ blocks.entry.end) }
     ensures number { IfOk result (λ number. number ≡ u32_at blocks.entry.file.now place) }
-    ensures truncated { IfErr result (λ fault. (blocks.entry.end + 1 ≤ place + 4)
+    ensures fault { IfErr result (λ fault. (blocks.entry.end + 1 ≤ place + 4)
         × (fault ≡ token_fault place HasTokenNumber)) }
 {
     if place + 4 > blocks.end {
@@ -152,7 +152,7 @@ pub(crate) fn name_digest(blocks: Blocks, place: usize, name: &[u8]) -> [u8; 32]
     requires blocks { AreBlocks (blocks_of blocks) }
     requires within { place + 12 ≤ blocks.end }
     requires name { name.now ≡ name_from blocks.strings.now (u32_at blocks.file.now (place + 8)) }
-    ensures { result ≡ digest_of name.now }
+    ensures { result ≡ digest_of_name name.now }
 {
     let offset = cell_at(blocks.file, place + 8) as usize;
     blocks.strings.digest_at(offset, name)

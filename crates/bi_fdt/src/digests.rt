@@ -7,7 +7,7 @@ ghost use Rattle.std.specs.Prelude.{◌≡◌, ◌<◌, ◌≤◌, ◌/◌, ◌+
 ghost use Rattle.std.specs.Prelude.{slice_index_or, IfOk};
 ghost use Rattle.sha2.specs.Sha256.{sha256};
 ghost use Rattle.bi_blob.specs.Tokens.{name_from};
-ghost use Rattle.bi_fdt.specs.Digests.{digest_of, AreDigests};
+ghost use Rattle.bi_fdt.specs.Digests.{digest_of_name, AreDigests};
 ghost use Rattle.bi_fdt.specs.Strings.{end_of, AreEnds};
 
 use crate::strings::STRIDE;
@@ -32,8 +32,8 @@ pub(crate) fn longer_digest(name: &[u8], skipped: usize, later: [u8; 32]) -> [u8
     requires long { 64 ≤ length name.now }
     requires least { 1 ≤ skipped }
     requires most { skipped ≤ 64 }
-    requires later { later ≡ digest_of (drop skipped name.now) }
-    ensures { result ≡ digest_of name.now }
+    requires later { later ≡ digest_of_name (drop skipped name.now) }
+    ensures { result ≡ digest_of_name name.now }
 {
     if (name.len() - skipped) / STRIDE == name.len() / STRIDE {
         return later;
@@ -47,8 +47,8 @@ fn digest_before(bytes: &[u8], at: usize, end: usize, later: [u8; 32]) -> [u8; 3
     requires at { at ≤ length bytes.now }
     requires end { end ≡ end_of bytes.now at }
     requires later { at + 64 ≤ length bytes.now →
-        later ≡ digest_of (name_from bytes.now (at + 64)) }
-    ensures { result ≡ digest_of (name_from bytes.now at) }
+        later ≡ digest_of_name (name_from bytes.now (at + 64)) }
+    ensures { result ≡ digest_of_name (name_from bytes.now at) }
 {
     if end - at < STRIDE {
         return NO_DIGEST;

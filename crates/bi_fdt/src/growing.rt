@@ -6,7 +6,7 @@ ghost use Rattle.bi_base.specs.Errors.{IsRefusal};
 ghost use Rattle.bi_blob.specs.Tree.{names, IsNew};
 ghost use Rattle.bi_blob.specs.BlobFaults.{token_fault, IsNewNode, IsNewProperty};
 ghost use Rattle.bi_blob.specs.OpenNodes.{OpenFileNode, new_node, with_one_property};
-ghost use Rattle.bi_fdt.specs.Digests.{digest_of};
+ghost use Rattle.bi_fdt.specs.Digests.{digest_of_name};
 ghost use Rattle.bi_fdt.specs.Properties.{file_property_of};
 ghost use Rattle.bi_fdt.specs.Growth.{IsGrowing, IsGrown, IsEnding};
 
@@ -48,7 +48,7 @@ impl<'a> Growing<'a> {
     /// A tree whose root has started at `place`.
     pub(crate) fn new(alloc: Global, name: &'a [u8], place: u32) -> Result<Growing<'a>, Error>
         ensures ok { IfOk result (λ growing. IsGrowing growing (new_node name.entry.now place) []) }
-        ensures error { IfErr result (IsRefusal (λ _. ⊥)) }
+        ensures failed { IfErr result (IsRefusal (λ _. ⊥)) }
     {
         let mut entries = Vec::new(alloc);
         entries.push(Entry::Node(NodeEntry {
@@ -145,7 +145,7 @@ impl<'a> Growing<'a> {
         digest: [u8; 32],
     ) -> Result<Growing<'a>, Error>
         requires grown { IsGrown self }
-        requires digest { digest ≡ digest_of property.name.now }
+        requires digest { digest ≡ digest_of_name property.name.now }
         ensures new { OnOk result ((innermost : OpenFileNode) (outer : List OpenFileNode)
             → IsGrowing self.entry innermost outer
             → names innermost.children ≡ []

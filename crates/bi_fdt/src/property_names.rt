@@ -2,7 +2,7 @@
 
 ghost use Rattle.std.specs.Prelude.{◌≡◌, ◌++◌, ◌∷◌, ◌↔◌, ℕ, List, [], IsTrue, IfOk, OnOk};
 ghost use Rattle.bi_blob.specs.Tree.{IsNew};
-ghost use Rattle.bi_fdt.specs.Digests.{digest_of};
+ghost use Rattle.bi_fdt.specs.Digests.{digest_of_name};
 ghost use Rattle.bi_fdt.specs.PropertySets.{HoldsProperties};
 
 use crate::strings::STRIDE;
@@ -42,7 +42,7 @@ impl<'a> PropertyNames<'a> {
     /// Adds a name, which has this digest, and returns whether it is new. It takes log n
     /// comparisons, for n names.
     pub(crate) fn insert(&mut self, name: &'a [u8], digest: [u8; 32]) -> Result<bool, AllocError>
-        requires { digest ≡ digest_of name.now }
+        requires { digest ≡ digest_of_name name.now }
         ensures added { OnOk result ((held : List (List ℕ)) → HoldsProperties self.old held
             → HoldsProperties self.new (held ++ name.entry.now ∷ [])) }
         ensures new { IfOk result (λ is_new. (held : List (List ℕ))

@@ -4,7 +4,7 @@ ghost use Rattle.std.specs.Prelude.{◌≡◌, ◌+◌, ◌/◌, ◌≤◌, ◌�
 ghost use Rattle.bi_blob.specs.Tokens.{name_from};
 ghost use Rattle.bi_blob.specs.Tree.{HasNoZero};
 ghost use Rattle.bi_blob.specs.BlobFaults.{HasName};
-ghost use Rattle.bi_fdt.specs.Digests.{digest_of};
+ghost use Rattle.bi_fdt.specs.Digests.{digest_of_name};
 ghost use Rattle.bi_fdt.specs.Strings.{AreEnds};
 
 use crate::digests::{NO_DIGEST, digests_of_names, longer_digest};
@@ -74,7 +74,7 @@ impl<'a> Strings<'a> {
     /// The digest of the name at offset `at`.
     pub(crate) fn digest_at(&self, at: usize, name: &[u8]) -> [u8; 32]
         requires { name.now ≡ name_from self.now at }
-        ensures { result ≡ digest_of name.now }
+        ensures { result ≡ digest_of_name name.now }
     {
         if name.len() < STRIDE {
             return NO_DIGEST;

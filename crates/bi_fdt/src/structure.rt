@@ -30,7 +30,7 @@ pub(crate) fn read_tree<'a>(
     requires depth { 1 ≤ depth_limit }
     ensures ok { IfOk result (λ entries. HasTable
         (blocks_of blocks.entry) depth_limit entries.items) }
-    ensures fault { IfErr result (IsRefusal
+    ensures failed { IfErr result (IsRefusal
         (IsStructureFault (blocks_of blocks.entry) depth_limit)) }
 {
     let place = skip_to_root(blocks)?;
@@ -76,7 +76,7 @@ fn begin_root<'a>(
     requires number { IsNumberAt (blocks_of blocks) place begin_node_number }
     requires position { IsOpenAt (blocks_of blocks) depth_limit place NoTree }
     ensures ok { IfOk result (IsReading (blocks_of blocks.entry) depth_limit) }
-    ensures fault { IfErr result (IsRefusal
+    ensures failed { IfErr result (IsRefusal
         (IsStructureFault (blocks_of blocks.entry) depth_limit)) }
 {
     let name = root_name(blocks, place, depth_limit)?;
@@ -98,7 +98,7 @@ fn read_root<'a>(
     requires reading { IsReading (blocks_of blocks) depth_limit begun }
     ensures ok { IfOk result (λ after. IsAfter (blocks_of blocks.entry)
         depth_limit after.0 after.1.items) }
-    ensures fault { IfErr result (IsRefusal
+    ensures failed { IfErr result (IsRefusal
         (IsStructureFault (blocks_of blocks.entry) depth_limit)) }
 {
     let mut reading = begun;

@@ -41,7 +41,7 @@ pub(crate) fn step<'a>(
     requires blocks { AreBlocks (blocks_of blocks) }
     requires reading { IsReading (blocks_of blocks) depth_limit reading }
     ensures ok { IfOk result (IsAhead (blocks_of blocks.entry) depth_limit reading.entry.place) }
-    ensures fault { IfErr result (IsRefusal
+    ensures failed { IfErr result (IsRefusal
         (IsStructureFault (blocks_of blocks.entry) depth_limit)) }
 {
     let number = number_at(blocks, reading.place)?;
@@ -79,7 +79,7 @@ fn begin_node<'a>(
     requires reading { IsReading (blocks_of blocks) depth_limit reading }
     requires number { IsNumberAt (blocks_of blocks) reading.place begin_node_number }
     ensures ok { IfOk result (IsAhead (blocks_of blocks.entry) depth_limit reading.entry.place) }
-    ensures fault { IfErr result (IsRefusal
+    ensures failed { IfErr result (IsRefusal
         (IsStructureFault (blocks_of blocks.entry) depth_limit)) }
 {
     let Reading { place, growing } = reading;
@@ -101,8 +101,8 @@ fn add_property<'a>(
     requires blocks { AreBlocks (blocks_of blocks) }
     requires reading { IsReading (blocks_of blocks) depth_limit reading }
     requires number { IsNumberAt (blocks_of blocks) reading.place prop_number }
-    ensures ok { IfOk result (IsAhead (blocks_of blocks.entry) depth_limit reading.entry.place) }
-    ensures fault { IfErr result (IsRefusal
+    ensures added { IfOk result (IsAhead (blocks_of blocks.entry) depth_limit reading.entry.place) }
+    ensures failed { IfErr result (IsRefusal
         (IsStructureFault (blocks_of blocks.entry) depth_limit)) }
 {
     let Reading { place, growing } = reading;

@@ -12,7 +12,8 @@ use Rattle.bi_hash.proofs.DigestBytes.{length-digest_of}
 use Rattle.bi_fit.specs.declared.form.Form.TheVariants.{Embedded}
 use Rattle.bi_fit.specs.Names.{data_name, default_name}
 use Rattle.bi_fit.specs.Text.{normal_tree}
-use Rattle.bi_fit.specs.Building.{text_value, root_properties, image_properties, hash_properties, configuration_name, configuration_properties, built}
+use Rattle.bi_fit.specs.Building.{text_value, root_properties, built_image_properties, hash_properties, configuration_name}
+use Rattle.bi_fit.specs.Building.{configuration_properties, built_tree}
 use Rattle.bi_fit.specs.KnownBuilds.{known_head, known_kernel, known_ramdisk, known_tree, known_text, BuiltIsKnown, EachKeyIsKnown}
 use Rattle.bi_fit.proofs.FileFacts.{no_entries}
 
@@ -37,14 +38,14 @@ hello_digest = digest_of Sha256 (codes "hello")
 abbrev abc_digest : List ℕ
 abc_digest = digest_of Sha256 (codes "abc")
 
-known_is_tree : normal_tree Embedded (built known_head (known_kernel ∷ known_ramdisk ∷ [])) ≡ known_tree hello_digest abc_digest
+known_is_tree : normal_tree Embedded (built_tree known_head (known_kernel ∷ known_ramdisk ∷ [])) ≡ known_tree hello_digest abc_digest
 known_is_tree =
     λ i. record {
       own = in_order (root_properties known_head) i;
       children = node (codes "images") (no_entries i)
-          (node (codes "kernel-1") (in_order ((data_name, codes "hello") ∷ image_properties known_head known_kernel) i)
+          (node (codes "kernel-1") (in_order ((data_name, codes "hello") ∷ built_image_properties known_head known_kernel) i)
           (node (codes "hash-1") (in_order (hash_properties (codes "hello")) i) none none)
-          (node (codes "ramdisk-1") (in_order ((data_name, codes "abc") ∷ image_properties known_head known_ramdisk) i)
+          (node (codes "ramdisk-1") (in_order ((data_name, codes "abc") ∷ built_image_properties known_head known_ramdisk) i)
           (node (codes "hash-1") (in_order (hash_properties (codes "abc")) i) none none)
           none))
           (node (codes "configurations") (in_order ((default_name, text_value configuration_name) ∷ []) i)

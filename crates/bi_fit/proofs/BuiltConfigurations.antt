@@ -1,4 +1,5 @@
-use Rattle.std.proofs.Common.{◌≡◌, ℕ, ◌+◌, Bool, true, false, not, List, [], ◌∷◌, ◌++◌, map, flat_map, filter, Option, Some, None, bytes_eq, codes, refl, sym, ap, ◌∙◌, nat_cmp, option_and_then, append-nil}
+use Rattle.std.proofs.Common.{◌≡◌, ℕ, ◌+◌, Bool, true, false, not, List, [], ◌∷◌, ◌++◌, map, flat_map, filter, Option, Some, None, bytes_eq}
+use Rattle.std.proofs.Common.{codes, refl, sym, ap, ◌∙◌, nat_cmp, option_and_then, append-nil}
 use Rattle.std.specs.Prelude.{nat_eq}
 use Rattle.std.specs.List.{AllByRecursion, list_all, ends_with}
 use Rattle.std.specs.Cmp.Lexicographic.{slice_cmp}
@@ -16,8 +17,10 @@ use Rattle.bi_fit.specs.declared.key.Key.{Key}
 use Rattle.bi_fit.specs.declared.key.Key.TheVariants.{Kernel, Fdt, Ramdisk, Firmware, Loadables, Script}
 use Rattle.bi_fit.specs.Names.{key_name, all_keys, default_name}
 use Rattle.bi_fit.specs.Judgement.{Image, images_with, ListedImages, image_named, list_images, listed_at}
-use Rattle.bi_fit.specs.Building.{FitHead, ImageSpecification, text_value, image_properties, hash_properties, hash_node_name, built_images, is_under, names_under, list_property, configuration_name, configuration_properties, IsSpecification}
-use Rattle.bi_fit.specs.Laws.{list_of, BuiltHasConfiguration}
+use Rattle.bi_fit.specs.Building.{HeadModel, ImageSpecModel, text_value, built_image_properties, hash_properties, hash_node_name}
+use Rattle.bi_fit.specs.Building.{built_images, is_under, names_under, list_property, configuration_name, configuration_properties}
+use Rattle.bi_fit.specs.Building.{IsImageSpec}
+use Rattle.bi_fit.specs.Laws.{list_of_built, BuiltHasConfiguration}
 use Rattle.bi_fit.proofs.NameLists.{ends_later, names_listed}
 
 -- What the configuration of a built tree lists.
@@ -28,7 +31,8 @@ first_byte [] names = (0, strings_of names, refl)
 first_byte (byte ∷ name) names = (byte, (name ++ 0 ∷ []) ++ strings_of names, refl)
 
 -- A value ends as the last part of it does.
-ends_as_last : (front : List ℕ) (byte : ℕ) (later : List ℕ) → ends_with nat_eq (front ++ byte ∷ later) (0 ∷ []) ≡ ends_with nat_eq (byte ∷ later) (0 ∷ [])
+ends_as_last : (front : List ℕ) (byte : ℕ) (later : List ℕ) →
+    ends_with nat_eq (front ++ byte ∷ later) (0 ∷ []) ≡ ends_with nat_eq (byte ∷ later) (0 ∷ [])
 ends_as_last [] byte later = refl
 ends_as_last (first ∷ []) byte later = ends_later first byte later
 ends_as_last (first ∷ second ∷ front) byte later =
@@ -51,23 +55,26 @@ list_value [] = None
 list_value (name ∷ later) = Some (strings_of (name ∷ later))
 
 -- The property of another key is not found under this one.
-skip : (key other : Key) → bytes_eq (key_name key) (key_name other) ≡ false → (names : List (List ℕ)) (rest : List Property) → find (slice_cmp nat_cmp) (key_name key) (list_property other names ++ rest) ≡ find (slice_cmp nat_cmp) (key_name key) rest
+skip : (key other : Key) → bytes_eq (key_name key) (key_name other) ≡ false → (names : List (List ℕ)) (rest : List Property) →
+    find (slice_cmp nat_cmp) (key_name key) (list_property other names ++ rest) ≡ find (slice_cmp nat_cmp) (key_name key) rest
 skip key other differ [] rest = refl
 skip key other differ (name ∷ later) rest = rw (is_eq-slice_cmp (key_name key) (key_name other), differ) refl
 
 -- The property of a key is found under it.
-hit : (key : Key) (names : List (List ℕ)) (rest : List Property) → find (slice_cmp nat_cmp) (key_name key) rest ≡ None → find (slice_cmp nat_cmp) (key_name key) (list_property key names ++ rest) ≡ list_value names
+hit : (key : Key) (names : List (List ℕ)) (rest : List Property) → find (slice_cmp nat_cmp) (key_name key) rest ≡ None →
+    find (slice_cmp nat_cmp) (key_name key) (list_property key names ++ rest) ≡ list_value names
 hit key [] rest nothing = nothing
 hit key (name ∷ later) rest nothing =
     rw (is_eq-slice_cmp (key_name key) (key_name key), (bytes_eq-Decides (key_name key) (key_name key)).1 refl) refl
 
-module _ (images : List ImageSpecification) where
+module _ (images : List ImageSpecModel) where
   -- The properties of these keys.
   abbrev lists_of : List Key → List Property
   lists_of keys = flat_map (λ key. list_property key (names_under key images)) keys
 
   -- No property of other keys is found under a key.
-  none_of : (key : Key) (keys : List Key) → list_all (λ other. not (bytes_eq (key_name key) (key_name other))) keys ≡ true → find (slice_cmp nat_cmp) (key_name key) (lists_of keys) ≡ None
+  none_of : (key : Key) (keys : List Key) → list_all (λ other. not (bytes_eq (key_name key) (key_name other))) keys ≡ true →
+      find (slice_cmp nat_cmp) (key_name key) (lists_of keys) ≡ None
   none_of key [] differ = refl
   none_of key (other ∷ later) differ =
       let both = and_parts (not (bytes_eq (key_name key) (key_name other))) (list_all (λ other. not (bytes_eq (key_name key) (key_name other))) later) differ in
@@ -104,11 +111,12 @@ module _ (images : List ImageSpecification) where
       ∙ hit Script (names_under Script images) (lists_of []) refl
 
 -- The properties of the configuration by name.
-abbrev configuration_by_name : FitHead → List ImageSpecification → PropertyMap
+abbrev configuration_by_name : HeadModel → List ImageSpecModel → PropertyMap
 configuration_by_name head images = from_entries (configuration_properties head images)
 
 -- The description is no list.
-after_description : (key : Key) (value : List ℕ) (rest : List Property) → find (slice_cmp nat_cmp) (key_name key) ((codes "description", value) ∷ rest) ≡ find (slice_cmp nat_cmp) (key_name key) rest
+after_description : (key : Key) (value : List ℕ) (rest : List Property) →
+    find (slice_cmp nat_cmp) (key_name key) ((codes "description", value) ∷ rest) ≡ find (slice_cmp nat_cmp) (key_name key) rest
 after_description Kernel value rest = refl
 after_description Fdt value rest = refl
 after_description Ramdisk value rest = refl
@@ -117,22 +125,25 @@ after_description Loadables value rest = refl
 after_description Script value rest = refl
 
 -- What the configuration has under a key.
-has_under : (head : FitHead) (images : List ImageSpecification) (key : Key) → get (configuration_by_name head images) (key_name key) ≡ list_value (names_under key images)
+has_under : (head : HeadModel) (images : List ImageSpecModel) (key : Key) →
+    get (configuration_by_name head images) (key_name key) ≡ list_value (names_under key images)
 has_under head images key =
     get-from_entries nat_list_cmp_total (configuration_properties head images) (key_name key)
     ∙ after_description key (text_value head.description) (lists_of images all_keys)
     ∙ found_key images key
 
 -- The images of a built tree.
-abbrev images_in : FitHead → List ImageSpecification → List Image
+abbrev images_in : HeadModel → List ImageSpecModel → List Image
 images_in head images = images_with (siblings (built_images head images)) (map (λ image. Some image.payload) images)
 
 -- An image is found by its name, with its payload.
-abbrev IsFoundIn : List Image → ImageSpecification → Type 0
+abbrev IsFoundIn : List Image → ImageSpecModel → Type 0
 IsFoundIn images image = (found : Image) × (image_named image.name images ≡ Some found) × (found.payload ≡ Some image.payload)
 
 -- What is found among later images is found among all, where the first has another name.
-found_later : (head : FitHead) (image : ImageSpecification) (later some : List ImageSpecification) → AllByRecursion (IsFoundIn (images_in head later)) some → IsNew image.name (map (λ image. image.name) some) → AllByRecursion (IsFoundIn (images_in head (image ∷ later))) some
+found_later : (head : HeadModel) (image : ImageSpecModel) (later some : List ImageSpecModel) →
+    AllByRecursion (IsFoundIn (images_in head later)) some → IsNew image.name (map (λ image. image.name) some) →
+    AllByRecursion (IsFoundIn (images_in head (image ∷ later))) some
 found_later head image later [] found new = tt
 found_later head image later (other ∷ some) found new = (
   (found.0.0, rw differ found.0.1, found.0.2),
@@ -147,11 +158,11 @@ found_later head image later (other ∷ some) found new = (
         where_same false is = is
 
 -- The first image of a built tree.
-abbrev first_image : FitHead → ImageSpecification → List ImageSpecification → Image
+abbrev first_image : HeadModel → ImageSpecModel → List ImageSpecModel → Image
 first_image head image later = record {
   entry = record {
     name = image.name;
-    own = from_entries (image_properties head image);
+    own = from_entries (built_image_properties head image);
     children = node hash_node_name (from_entries (hash_properties image.payload)) none none;
     later = built_images head later;
   };
@@ -159,7 +170,8 @@ first_image head image later = record {
 }
 
 -- Images with distinct names are all found.
-all_found : (head : FitHead) (images : List ImageSpecification) → AreDistinct (map (λ image. image.name) images) → AllByRecursion (IsFoundIn (images_in head images)) images
+all_found : (head : HeadModel) (images : List ImageSpecModel) → AreDistinct (map (λ image. image.name) images) →
+    AllByRecursion (IsFoundIn (images_in head images)) images
 all_found head [] distinct = tt
 all_found head (image ∷ later) distinct = (
   (first_image head image later, rw ((bytes_eq-Decides image.name image.name).1 refl) refl, refl),
@@ -167,14 +179,18 @@ all_found head (image ∷ later) distinct = (
 )
 
 -- The images of names that are found are listed.
-images_listed : (images : List Image) (index : ℕ) (some : List ImageSpecification) → AllByRecursion (IsFoundIn images) some → list_images images index (map (λ image. image.name) some) ≡ ListedImages (map (λ image. record { name = image.name; payload = Some image.payload }) some)
+images_listed : (images : List Image) (index : ℕ) (some : List ImageSpecModel) → AllByRecursion (IsFoundIn images) some →
+    list_images images index (map (λ image. image.name) some)
+    ≡ ListedImages (map (λ image. record { name = image.name; payload = Some image.payload }) some)
 images_listed images index [] found = refl
 images_listed images index (image ∷ some) found =
     rw (found.0.1, images_listed images (index + 1) some found.1)
     (ap (λ payload. ListedImages (record { name = image.name; payload = payload } ∷ map (λ image. record { name = image.name; payload = Some image.payload }) some)) found.0.2)
 
 -- What the value of a key lists.
-value_lists : (images : List Image) (some : List ImageSpecification) → AllByRecursion (IsFoundIn images) some → AllByRecursion HasNoZero (map (λ image. image.name) some) → listed_at images (list_value (map (λ image. image.name) some)) ≡ list_of some
+value_lists : (images : List Image) (some : List ImageSpecModel) → AllByRecursion (IsFoundIn images) some →
+    AllByRecursion HasNoZero (map (λ image. image.name) some) →
+    listed_at images (list_value (map (λ image. image.name) some)) ≡ list_of_built some
 value_lists images [] found no_zero = refl
 value_lists images (image ∷ some) found no_zero =
     rw (ends_with_zero image.name (map (λ image. image.name) some), names_listed (image.name ∷ map (λ image. image.name) some) no_zero)
@@ -189,7 +205,7 @@ built_has_configuration head images can = record {
       (each-filter (IsFoundIn (images_in head images)) (λ image. is_under key image.key) images (all_found head images can.distinct))
       (each-map HasNoZero (λ image. image.name) (filter (λ image. is_under key image.key) images)
       (each-filter (λ image. HasNoZero image.name) (λ image. is_under key image.key) images
-      (each-weaker IsSpecification (λ image. HasNoZero image.name) (λ image is. is.is_name.no_zero) images can.each)));
+      (each-weaker IsImageSpec (λ image. HasNoZero image.name) (λ image is. is.is_name.no_zero) images can.each)));
   default = ap (option_and_then text_before_nul) (default_is);
 }
   where

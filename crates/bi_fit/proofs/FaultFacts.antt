@@ -11,24 +11,29 @@ use Rattle.bi_blob.specs.Layout.{text_of_tree, text_of_events, text_of_blocks, t
 use Rattle.bi_blob.specs.KnownFaults.{widest}
 use Rattle.bi_fit.specs.Names.{images_name, data_offset_name, data_position_name, data_size_name}
 use Rattle.bi_fit.specs.Faults.{FitPasses, fit_fault, fit_checks, IsFitFault, InBlob, InTree}
-use Rattle.bi_fit.specs.KnownFiles.{tree_of_images, region_of, shared_region}
+use Rattle.bi_fit.specs.KnownFiles.{tree_with_images, region_of, shared_region}
 use Rattle.bi_fit.specs.KnownFaults.{WithoutImages, RegionsHaveFaults, FirstFaultCounts}
-use Rattle.bi_fit.proofs.Tested.{is_tree}
+use Rattle.bi_fit.proofs.TestedTrees.{is_tree}
 use Rattle.bi_fit.proofs.FileFacts.{blob_by_test}
 
 -- The faults of small files.
 
 -- The file of a tested tree, within the widest limits, has the first fault of its checks.
-in_tree : (root : Root (List Property)) (rest : List ℕ) (fault : Fault) → is_tree root ≡ true → list_all (λ byte. ltb byte 256) rest ≡ true → length (text_of_tree 0 [] root) ≤ longest_text → length (text_of_tree 0 [] root ++ rest) ≤ longest_text → depth_of (tree_with_places [] root) ≤ 64 → IsFirstFault (FitPasses (text_of_tree 0 [] root ++ rest)) fit_fault (fit_checks (text_of_tree 0 [] root ++ rest) (tree_with_places [] root)) fault → IsFitFault widest (text_of_tree 0 [] root ++ rest) fault
+in_tree : (root : Root (List Property)) (rest : List ℕ) (fault : Fault) → is_tree root ≡ true →
+    list_all (λ byte. ltb byte 256) rest ≡ true → length (text_of_tree 0 [] root) ≤ longest_text →
+    length (text_of_tree 0 [] root ++ rest) ≤ longest_text → depth_of (tree_with_places [] root) ≤ 64 →
+    IsFirstFault (FitPasses (text_of_tree 0 [] root ++ rest)) fit_fault
+    (fit_checks (text_of_tree 0 [] root ++ rest) (tree_with_places [] root)) fault →
+    IsFitFault widest (text_of_tree 0 [] root ++ rest) fault
 in_tree root rest fault tree bytes short fits shallow first =
     InTree 0 [] (tree_with_places [] root) (blob_by_test root rest tree bytes short) (record { short = fits; shallow = shallow }) first
 
 -- The tree with one image node, and with two.
 abbrev one_image : List Property → Root (List Property)
-one_image properties = tree_of_images (node (codes "a") properties none none)
+one_image properties = tree_with_images (node (codes "a") properties none none)
 
 abbrev two_images : (first second : List Property) → Root (List Property)
-two_images first second = tree_of_images (node (codes "a") first none (node (codes "b") second none none))
+two_images first second = tree_with_images (node (codes "a") first none (node (codes "b") second none none))
 
 -- What ends after the file is not in it.
 past : (end size : ℕ) → ltb size end ≡ true → ¬ (end ≤ size)
@@ -53,7 +58,7 @@ regions_have_faults = record {
       (inr (refl, inr (refl, inl (false≢true, refl))));
   size_no_cell = in_tree (one_image ((data_offset_name, cell 0) ∷ (data_size_name, codes "abc") ∷ [])) [] _ refl refl (lit≤ tt) (lit≤ tt) (lit≤ tt)
       (inr (refl, inr (refl, inr (refl, inl (eqb-false 3 4 refl, refl)))));
-  offset_outside = in_tree (tree_of_images (node (codes "a") (region_of 0 1001) none (node (codes "b") (region_of 0 1000) none (node (codes "c") (region_of 0 1000) none none)))) shared_region _ refl refl (lit≤ tt) (lit≤ tt) (lit≤ tt)
+  offset_outside = in_tree (tree_with_images (node (codes "a") (region_of 0 1001) none (node (codes "b") (region_of 0 1000) none (node (codes "c") (region_of 0 1000) none none)))) shared_region _ refl refl (lit≤ tt) (lit≤ tt) (lit≤ tt)
       (inr (refl, inr (refl, inr (refl, inr (refl, inl (past _ _ refl, refl))))));
   position_outside = in_tree (one_image ((data_position_name, cell 172) ∷ (data_size_name, cell 1) ∷ [])) [] _ refl refl (lit≤ tt) (lit≤ tt) (lit≤ tt)
       (inr (refl, inr (refl, inr (refl, inr (refl, inl (past _ _ refl, refl))))));

@@ -5,7 +5,7 @@ use Rattle.std.proofs.lemmas.Bool.{cases_eq, false≢true}
 use Rattle.bi_base.specs.declared.fault.Fault.{Fault}
 use Rattle.bi_base.specs.Cells.{slice}
 use Rattle.bi_base.specs.Checks.{IsFirstFault, HasNoFault}
-use Rattle.bi_base.specs.Limits.{Bounds}
+use Rattle.bi_base.specs.Limits.{Limits}
 use Rattle.bi_base.proofs.FirstFault as first
 use Rattle.bi_base.proofs.ListMembers.{each-append, each-front, each-back}
 use Rattle.bi_blob.specs.Tree.{Nodes, none, node, Root, FileProperty, FileNode, tree_without_places, tree_without_order}
@@ -15,9 +15,11 @@ use Rattle.bi_blob.proofs.Blobs.Decided.{le_decided}
 use Rattle.bi_blob.proofs.Blobs.OneBlob.{one_blob}
 use Rattle.bi_blob.proofs.Blobs.Faults.{blob_has_no_fault, one_blob_fault, blob_or_fault}
 use Rattle.bi_fit.specs.ImageTree.{ImageTree, image_nodes, each_own, tree_without_payloads}
-use Rattle.bi_fit.specs.Payloads.{PayloadSource, NoSource, Data, DataOffset, DataPosition, source_of, number_of, external_base, IsSizedRegion, IsPayload, HasPayload}
+use Rattle.bi_fit.specs.Payloads.{PayloadSource, NoSource, Data, DataOffset, DataPosition, source_of, cell_number, external_base}
+use Rattle.bi_fit.specs.Payloads.{IsSizedRegion, IsPayload, HasPayload}
 use Rattle.bi_fit.specs.File.{IsFitFile, FitMeans}
-use Rattle.bi_fit.specs.Faults.{FitCheck, HasImages, HasBeginCell, HasSize, HasSizeCell, IsInFile, FitPasses, fit_fault, region_checks, source_checks, image_checks, images_checks, fit_checks, IsFitFault, InBlob, InTree}
+use Rattle.bi_fit.specs.Faults.{FitCheck, HasImages, HasBeginCell, HasSize, HasSizeCell, IsInFile, FitPasses, fit_fault, region_checks}
+use Rattle.bi_fit.specs.Faults.{source_checks, image_checks, images_checks, fit_checks, IsFitFault, InBlob, InTree}
 use Rattle.bi_fit.specs.Laws.{FitHasNoFault, OneFitFault, FitMeaningOrFault, FitMeaningWhereNoFault}
 
 -- A file has a meaning exactly where it has no fault, and one fault at most.
@@ -37,19 +39,22 @@ decided file (IsInFile end begin_place) = le_decided end (length file)
 
 module _ (file : List ℕ) where
   -- The checks of a region that is a payload pass.
-  region_passes : (base : ℕ) (begin : FileProperty) (size : Option FileProperty) (payload : Option (List ℕ)) → IsSizedRegion file base begin size payload → HasNoFault (FitPasses file) (region_checks base begin size)
+  region_passes : (base : ℕ) (begin : FileProperty) (size : Option FileProperty) (payload : Option (List ℕ)) →
+      IsSizedRegion file base begin size payload → HasNoFault (FitPasses file) (region_checks base begin size)
   region_passes base begin None payload is = absurd is
   region_passes base begin (Some size) payload is = (is.begin_cell, (refl, (is.size_cell, (is.in_file, tt))))
 
   -- The checks of a source that has a payload pass.
-  pub source_passes : (source : PayloadSource) (payload : Option (List ℕ)) → IsPayload file source payload → HasNoFault (FitPasses file) (source_checks file source)
+  pub source_passes : (source : PayloadSource) (payload : Option (List ℕ)) → IsPayload file source payload →
+      HasNoFault (FitPasses file) (source_checks file source)
   source_passes NoSource payload is = tt
   source_passes (Data value) payload is = tt
   source_passes (DataOffset offset size) payload is = region_passes (external_base file) offset size payload is
   source_passes (DataPosition position size) payload is = region_passes 0 position size payload is
 
   -- The checks of image nodes with payloads pass.
-  images_pass : (nodes : Nodes FileNode) (payloads : List (Option (List ℕ))) → AllZip (HasPayload file) (each_own nodes) payloads → HasNoFault (FitPasses file) (image_checks file nodes)
+  images_pass : (nodes : Nodes FileNode) (payloads : List (Option (List ℕ))) → AllZip (HasPayload file) (each_own nodes) payloads →
+      HasNoFault (FitPasses file) (image_checks file nodes)
   images_pass none payloads have = tt
   images_pass (node name own children later) [] have = absurd have
   images_pass (node name own children later) (payload ∷ payloads) have =
@@ -57,22 +62,25 @@ module _ (file : List ℕ) where
       (source_passes (source_of own) payload have.0) (images_pass later payloads have.1)
 
   -- A region whose checks pass is a payload.
-  region_has_payload : (base : ℕ) (begin : FileProperty) (size : Option FileProperty) → HasNoFault (FitPasses file) (region_checks base begin size) → (payload : Option (List ℕ)) × IsSizedRegion file base begin size payload
+  region_has_payload : (base : ℕ) (begin : FileProperty) (size : Option FileProperty) →
+      HasNoFault (FitPasses file) (region_checks base begin size) → (payload : Option (List ℕ)) × IsSizedRegion file base begin size payload
   region_has_payload base begin None fine = absurd (false≢true fine.1.0)
   region_has_payload base begin (Some size) fine = (
-    Some (slice file (base + number_of begin) (number_of size)),
+    Some (slice file (base + cell_number begin) (cell_number size)),
     record { begin_cell = fine.0; size_cell = fine.1.1.0; in_file = fine.1.1.1.0; is_slice = refl },
   )
 
   -- A source whose checks pass has a payload, or none.
-  source_has_payload : (source : PayloadSource) → HasNoFault (FitPasses file) (source_checks file source) → (payload : Option (List ℕ)) × IsPayload file source payload
+  source_has_payload : (source : PayloadSource) → HasNoFault (FitPasses file) (source_checks file source) →
+      (payload : Option (List ℕ)) × IsPayload file source payload
   source_has_payload NoSource fine = (None, refl)
   source_has_payload (Data value) fine = (Some value.value, refl)
   source_has_payload (DataOffset offset size) fine = region_has_payload (external_base file) offset size fine
   source_has_payload (DataPosition position size) fine = region_has_payload 0 position size fine
 
   -- Image nodes whose checks pass have payloads.
-  images_have_payloads : (nodes : Nodes FileNode) → HasNoFault (FitPasses file) (image_checks file nodes) → (payloads : List (Option (List ℕ))) × AllZip (HasPayload file) (each_own nodes) payloads
+  images_have_payloads : (nodes : Nodes FileNode) → HasNoFault (FitPasses file) (image_checks file nodes) →
+      (payloads : List (Option (List ℕ))) × AllZip (HasPayload file) (each_own nodes) payloads
   images_have_payloads none fine = ([], tt)
   images_have_payloads (node name own children later) fine =
       let first_payload = source_has_payload (source_of own) (each-front (FitPasses file) (source_checks file (source_of own)) (image_checks file later) fine) in
@@ -85,7 +93,9 @@ module _ (file : List ℕ) where
       (rw is.has_images refl, rw is.has_images (images_pass is.images tree.payloads is.payloads))
 
   -- A blob whose checks pass has a meaning.
-  tree_has_meaning : (cpu : ℕ) (reservations : List Reservation) (root : Root FileNode) → IsBlob file cpu reservations root → (images : Option (Nodes FileNode)) → image_nodes root ≡ images → IsSome images → HasNoFault (FitPasses file) (images_checks file images) → (tree : ImageTree) × (is : IsFitFile file tree) × (is.root ≡ root)
+  tree_has_meaning : (cpu : ℕ) (reservations : List Reservation) (root : Root FileNode) → IsBlob file cpu reservations root →
+      (images : Option (Nodes FileNode)) → image_nodes root ≡ images → IsSome images →
+      HasNoFault (FitPasses file) (images_checks file images) → (tree : ImageTree) × (is : IsFitFile file tree) × (is.root ≡ root)
   tree_has_meaning cpu reservations root blob None has some fine = absurd cc
   tree_has_meaning cpu reservations root blob (Some images) has some fine =
       let payloads = images_have_payloads images fine in (
@@ -99,8 +109,8 @@ module _ (file : List ℕ) where
         refl,
       )
 
-pub meaning_has_no_fault : FitHasNoFault
-meaning_has_no_fault bounds file tree fault means (InBlob faulty) =
+pub fit_has_no_fault : FitHasNoFault
+fit_has_no_fault bounds file tree fault means (InBlob faulty) =
     blob_has_no_fault bounds file fault
     (record {
       cpu = tree.cpu;
@@ -110,25 +120,26 @@ meaning_has_no_fault bounds file tree fault means (InBlob faulty) =
       within = means.within;
     })
     faulty
-meaning_has_no_fault bounds file tree fault means (InTree cpu reservations root blob within faulty) =
+fit_has_no_fault bounds file tree fault means (InTree cpu reservations root blob within faulty) =
     let same = one_blob file tree.cpu cpu tree.reservations reservations means.is_file.root root means.is_file.blob blob in
     first.not_both (FitPasses file) fit_fault (fit_checks file root) fault
     (subst (λ root. HasNoFault (FitPasses file) (fit_checks file root)) same.same_root (tree_passes file tree means.is_file))
     faulty
 
-pub one_fault : OneFitFault
-one_fault bounds file one other (InBlob a) (InBlob b) = one_blob_fault bounds file one other a b
-one_fault bounds file one other (InBlob a) (InTree cpu reservations root blob within b) =
+pub one_fit_fault : OneFitFault
+one_fit_fault bounds file one other (InBlob a) (InBlob b) = one_blob_fault bounds file one other a b
+one_fit_fault bounds file one other (InBlob a) (InTree cpu reservations root blob within b) =
     absurd (blob_has_no_fault bounds file one (record { cpu = cpu; reservations = reservations; root = root; blob = blob; within = within }) a)
-one_fault bounds file one other (InTree cpu reservations root blob within a) (InBlob b) =
+one_fit_fault bounds file one other (InTree cpu reservations root blob within a) (InBlob b) =
     absurd (blob_has_no_fault bounds file other (record { cpu = cpu; reservations = reservations; root = root; blob = blob; within = within }) b)
-one_fault bounds file one other (InTree cpu reservations root blob within a) (InTree cpu_too reservations_too root_too blob_too within_too b) =
+one_fit_fault bounds file one other (InTree cpu reservations root blob within a) (InTree cpu_too reservations_too root_too blob_too within_too b) =
     let same = one_blob file cpu cpu_too reservations reservations_too root root_too blob blob_too in
     first.one_fault (FitPasses file) fit_fault (fit_checks file root) one other a
     (subst (λ root. IsFirstFault (FitPasses file) fit_fault (fit_checks file root) other) (sym same.same_root) b)
 
 -- A blob within limits has a meaning or a fault.
-in_blob : (bounds : Bounds) (file : List ℕ) → IsBlobWithin bounds file → ((tree : ImageTree) × FitMeans bounds file tree) ⊎ ((fault : Fault) × IsFitFault bounds file fault)
+in_blob : (bounds : Limits) (file : List ℕ) → IsBlobWithin bounds file →
+    ((tree : ImageTree) × FitMeans bounds file tree) ⊎ ((fault : Fault) × IsFitFault bounds file fault)
 in_blob bounds file is = by_checks (first.fault_or_none (FitPasses file) fit_fault (decided file) (fit_checks file is.root))
   where
     Outcome : Type 0
@@ -140,15 +151,15 @@ in_blob bounds file is = by_checks (first.fault_or_none (FitPasses file) fit_fau
         inl (found.0, record { is_file = found.1; within = subst (λ root. IsWithin bounds file root) (sym found.2) is.within })
     by_checks (inr faulty) = inr (faulty.0, InTree is.cpu is.reservations is.root is.blob is.within faulty.1)
 
-pub meaning_or_fault : FitMeaningOrFault
-meaning_or_fault bounds file bytes = by_blob (blob_or_fault bounds file bytes)
+pub fit_meaning_or_fault : FitMeaningOrFault
+fit_meaning_or_fault bounds file bytes = by_blob (blob_or_fault bounds file bytes)
   where
     by_blob : IsBlobWithin bounds file ⊎ ((fault : Fault) × IsBlobFault bounds file fault) → ((tree : ImageTree) × FitMeans bounds file tree) ⊎ ((fault : Fault) × IsFitFault bounds file fault)
     by_blob (inl is) = in_blob bounds file is
     by_blob (inr faulty) = inr (faulty.0, InBlob faulty.1)
 
-pub meaning_where_no_fault : FitMeaningWhereNoFault
-meaning_where_no_fault bounds file bytes = (
-  (λ means fault faulty. meaning_has_no_fault bounds file means.0 fault means.1 faulty),
-  (λ fine. elim (meaning_or_fault bounds file bytes) [ inl means ↦ means | inr faulty ↦ absurd (fine faulty.0 faulty.1) ]),
+pub fit_meaning_where_no_fault : FitMeaningWhereNoFault
+fit_meaning_where_no_fault bounds file bytes = (
+  (λ means fault faulty. fit_has_no_fault bounds file means.0 fault means.1 faulty),
+  (λ fine. elim (fit_meaning_or_fault bounds file bytes) [ inl means ↦ means | inr faulty ↦ absurd (fine faulty.0 faulty.1) ]),
 )

@@ -1,4 +1,5 @@
-use Rattle.std.proofs.Common.{◌≡◌, ℕ, ◌≤◌, true, false, not, List, [], ◌∷◌, ◌++◌, length, codes, Option, Some, None, refl, sym, ap, ap₂, ◌∙◌, nat_cmp, lit≤, arith}
+use Rattle.std.proofs.Common.{◌≡◌, ℕ, ◌≤◌, true, false, not, List, [], ◌∷◌, ◌++◌, length, codes, Option, Some, None, refl, sym, ap, ap₂}
+use Rattle.std.proofs.Common.{◌∙◌, nat_cmp, lit≤, arith}
 use Rattle.std.specs.Prelude.{ltb}
 use Rattle.std.specs.List.{AllByRecursion, list_all}
 use Rattle.std.specs.Cmp.Lexicographic.{slice_cmp}
@@ -11,7 +12,7 @@ use Rattle.bi_blob.specs.Layout.{text_of_tree, text_of_events, text_of_blocks, t
 use Rattle.bi_blob.specs.Events.{events_of}
 use Rattle.bi_blob.specs.KnownFaults.{widest}
 use Rattle.bi_blob.specs.KnownTexts.{smallest_tree}
-use Rattle.bi_blob.proofs.HeaderTests.{test, fine_by_test}
+use Rattle.bi_blob.proofs.HeaderDecisions.{test, fine_by_test}
 use Rattle.bi_blob.proofs.Blobs.Headers.{HasNoHeaderFault-Header}
 use Rattle.bi_blob.proofs.Texts.Structure.{says_tree}
 use Rattle.bi_blob.proofs.Texts.TextBlob.{text_blob}
@@ -20,10 +21,13 @@ use Rattle.bi_fit.specs.declared.form.Form.TheVariants.{Embedded, External}
 use Rattle.bi_fit.specs.Names.{is_payload_name, images_name, data_name, data_offset_name, data_position_name, data_size_name}
 use Rattle.bi_fit.specs.ImageTree.{without_payload, without_payloads}
 use Rattle.bi_fit.specs.Text.{with_payload, with_payloads, end_after, normal_tree, blob_of, after_blob, fit_text}
-use Rattle.bi_fit.specs.KnownFiles.{tree_of_images, file_of_images, plain_images, plain_tree, SmallestIsFit, NoneIsNotEmpty, only_data, nested_tree, nested_image_tree, OnlyImagesHavePayloads, UnusedHaveNoMeaning, region_of, shared_region, SharedRegionIsRepeated, ThreeImagesHaveTexts, ChildrenKeepOrder, PositionIsBeforeData, OffsetIsBeforeData, PositionIsBeforeOffset, PayloadsAreAligned, offset_file, OffsetIsFromAlignedEnd}
-use Rattle.bi_fit.proofs.Maps.{taken_out}
+use Rattle.bi_fit.specs.KnownFiles.{tree_with_images, file_of_images, plain_images, plain_tree, SmallestIsFit, NoneIsNotEmpty, only_data}
+use Rattle.bi_fit.specs.KnownFiles.{nested_tree, nested_image_tree, OnlyImagesHavePayloads, UnusedHaveNoMeaning, region_of, shared_region}
+use Rattle.bi_fit.specs.KnownFiles.{SharedRegionIsRepeated, ThreeImagesHaveTexts, ChildrenKeepOrder, PositionIsBeforeData}
+use Rattle.bi_fit.specs.KnownFiles.{OffsetIsBeforeData, PositionIsBeforeOffset, PayloadsAreAligned, offset_file, OffsetIsFromAlignedEnd}
+use Rattle.bi_fit.proofs.PayloadProperties.{taken_out}
 use Rattle.bi_fit.proofs.BuiltTrees.{none_found}
-use Rattle.bi_fit.proofs.Tested.{is_tree, content_by_test}
+use Rattle.bi_fit.proofs.TestedTrees.{is_tree, content_by_test}
 use Rattle.bi_base.proofs.ByteLists.{bytes_by_test}
 
 -- What the definitions compute for small files.
@@ -37,11 +41,13 @@ no_entries = by_length (entries empty) (sym (len-entries empty) ∙ len-empty (s
     by_length (property ∷ later) e = absurd (omega arith)
 
 -- The text of a tested tree, with bytes after it, is a blob of it.
-pub blob_by_test : (root : Root (List Property)) (rest : List ℕ) → is_tree root ≡ true → list_all (λ byte. ltb byte 256) rest ≡ true → length (text_of_tree 0 [] root) ≤ longest_text → IsBlob (text_of_tree 0 [] root ++ rest) 0 [] (tree_with_places [] root)
+pub blob_by_test : (root : Root (List Property)) (rest : List ℕ) → is_tree root ≡ true → list_all (λ byte. ltb byte 256) rest ≡ true →
+    length (text_of_tree 0 [] root) ≤ longest_text → IsBlob (text_of_tree 0 [] root ++ rest) 0 [] (tree_with_places [] root)
 blob_by_test root rest tree bytes short = text_blob 0 [] root rest (content_by_test root tree) short (bytes_by_test rest bytes)
 
 -- Properties of payloads alone leave none.
-all_taken_out : (properties : List Property) → AllByRecursion (λ property. not (is_payload_name property.0) ≡ false) properties → without_payload (from_entries properties) ≡ empty
+all_taken_out : (properties : List Property) → AllByRecursion (λ property. not (is_payload_name property.0) ≡ false) properties →
+    without_payload (from_entries properties) ≡ empty
 all_taken_out properties are =
     taken_out by_name empty (λ name is. get-empty (slice_cmp nat_cmp) name)
     (λ name is.
@@ -58,7 +64,8 @@ listed_properties form begin None = []
 listed_properties Embedded begin (Some payload) = (data_name, payload) ∷ []
 listed_properties External begin (Some payload) = (data_offset_name, cell begin) ∷ (data_size_name, cell (length payload)) ∷ []
 
-entries_listed : (form : Form) (begin : ℕ) (payload : Option (List ℕ)) → entries (with_payload form begin payload empty) ≡ listed_properties form begin payload
+entries_listed : (form : Form) (begin : ℕ) (payload : Option (List ℕ)) →
+    entries (with_payload form begin payload empty) ≡ listed_properties form begin payload
 entries_listed form begin None = no_entries
 entries_listed Embedded begin (Some payload) =
     entries-insert nat_list_cmp_total empty data_name payload ∙ ap (put (slice_cmp nat_cmp) data_name payload) no_entries
@@ -75,7 +82,8 @@ listed_images form end (payload ∷ payloads) [] = none
 listed_images form end (payload ∷ payloads) (name ∷ names) =
     node name (listed_properties form (up4 end) payload) none (listed_images form (end_after end payload) payloads names)
 
-images_listed : (form : Form) (end : ℕ) (payloads : List (Option (List ℕ))) (names : List (List ℕ)) → with_each entries (with_payloads form end payloads (plain_images names)) ≡ listed_images form end payloads names
+images_listed : (form : Form) (end : ℕ) (payloads : List (Option (List ℕ))) (names : List (List ℕ)) →
+    with_each entries (with_payloads form end payloads (plain_images names)) ≡ listed_images form end payloads names
 images_listed form end [] [] = refl
 images_listed form end [] (name ∷ names) =
     ap₂ (λ own later. node name own none later) no_entries (images_listed form end [] names)
@@ -84,13 +92,16 @@ images_listed form end (payload ∷ payloads) (name ∷ names) =
     ap₂ (λ own later. node name own none later) (entries_listed form (up4 end) payload) (images_listed form (end_after end payload) payloads names)
 
 -- The blob of image nodes that have no other properties.
-plain_blob : (form : Form) (names : List (List ℕ)) (payloads : List (Option (List ℕ))) → blob_of form (plain_tree names payloads) ≡ text_of_tree 0 [] (tree_of_images (listed_images form 0 payloads names))
+plain_blob : (form : Form) (names : List (List ℕ)) (payloads : List (Option (List ℕ))) →
+    blob_of form (plain_tree names payloads) ≡ text_of_tree 0 [] (tree_with_images (listed_images form 0 payloads names))
 plain_blob form names payloads =
     ap₂ (λ own images. text_of_tree 0 [] (record { own = own; children = node images_name own images none }))
     no_entries (images_listed form 0 payloads names)
 
 -- The text of image nodes that have no other properties.
-plain_text : (form : Form) (names : List (List ℕ)) (payloads : List (Option (List ℕ))) → fit_text form (plain_tree names payloads) ≡ file_of_images (listed_images form 0 payloads names) (after_blob form (plain_tree names payloads))
+plain_text : (form : Form) (names : List (List ℕ)) (payloads : List (Option (List ℕ))) →
+    fit_text form (plain_tree names payloads)
+    ≡ file_of_images (listed_images form 0 payloads names) (after_blob form (plain_tree names payloads))
 plain_text form names payloads = ap (λ blob. blob ++ after_blob form (plain_tree names payloads)) (plain_blob form names payloads)
 
 pub smallest_is_fit : SmallestIsFit
@@ -112,16 +123,16 @@ pub none_is_not_empty : NoneIsNotEmpty
 unfolding text_of_events text_of_blocks cell cell8 u32_at
 none_is_not_empty = record {
   bare_means = record {
-    root = tree_with_places [] (tree_of_images (node (codes "a") [] none none));
-    blob = blob_by_test (tree_of_images (node (codes "a") [] none none)) [] refl refl (lit≤ tt);
+    root = tree_with_places [] (tree_with_images (node (codes "a") [] none none));
+    blob = blob_by_test (tree_with_images (node (codes "a") [] none none)) [] refl refl (lit≤ tt);
     images = _;
     has_images = refl;
     payloads = (refl, tt);
     is_root = ap one_image (sym (all_taken_out [] tt));
   };
   empty_means = record {
-    root = tree_with_places [] (tree_of_images (node (codes "a") ((data_name, []) ∷ []) none none));
-    blob = blob_by_test (tree_of_images (node (codes "a") ((data_name, []) ∷ []) none none)) [] refl refl (lit≤ tt);
+    root = tree_with_places [] (tree_with_images (node (codes "a") ((data_name, []) ∷ []) none none));
+    blob = blob_by_test (tree_with_images (node (codes "a") ((data_name, []) ∷ []) none none)) [] refl refl (lit≤ tt);
     images = _;
     has_images = refl;
     payloads = (refl, tt);
@@ -146,7 +157,11 @@ abbrev three_nodes : (List Property) → (List Property) → (List Property) →
 three_nodes a b c = node (codes "a") a none (node (codes "b") b none (node (codes "c") c none none))
 
 -- Three image nodes without the properties that give their payloads are plain ones.
-three_plain : (a b c : List Property) → AllByRecursion (λ property. not (is_payload_name property.0) ≡ false) a → AllByRecursion (λ property. not (is_payload_name property.0) ≡ false) b → AllByRecursion (λ property. not (is_payload_name property.0) ≡ false) c → root_of_images (plain_images (codes "a" ∷ codes "b" ∷ codes "c" ∷ [])) ≡ root_of_images (without_payloads (with_each from_entries (three_nodes a b c)))
+three_plain : (a b c : List Property) → AllByRecursion (λ property. not (is_payload_name property.0) ≡ false) a →
+    AllByRecursion (λ property. not (is_payload_name property.0) ≡ false) b →
+    AllByRecursion (λ property. not (is_payload_name property.0) ≡ false) c →
+    root_of_images (plain_images (codes "a" ∷ codes "b" ∷ codes "c" ∷ []))
+    ≡ root_of_images (without_payloads (with_each from_entries (three_nodes a b c)))
 three_plain a b c are_a are_b are_c =
     λ i. root_of_images
     (node (codes "a") (sym (all_taken_out a are_a) i) none
@@ -157,16 +172,16 @@ pub three_images_have_texts : ThreeImagesHaveTexts
 unfolding text_of_events text_of_blocks cell cell8 u32_at
 three_images_have_texts = record {
   embedded_means = record {
-    root = tree_with_places [] (tree_of_images (three_nodes ((data_name, codes "hello") ∷ []) ((data_name, []) ∷ []) ((data_name, codes "x") ∷ [])));
-    blob = blob_by_test (tree_of_images (three_nodes ((data_name, codes "hello") ∷ []) ((data_name, []) ∷ []) ((data_name, codes "x") ∷ []))) [] refl refl (lit≤ tt);
+    root = tree_with_places [] (tree_with_images (three_nodes ((data_name, codes "hello") ∷ []) ((data_name, []) ∷ []) ((data_name, codes "x") ∷ [])));
+    blob = blob_by_test (tree_with_images (three_nodes ((data_name, codes "hello") ∷ []) ((data_name, []) ∷ []) ((data_name, codes "x") ∷ []))) [] refl refl (lit≤ tt);
     images = _;
     has_images = refl;
     payloads = (refl, (refl, (refl, tt)));
     is_root = three_plain ((data_name, codes "hello") ∷ []) ((data_name, []) ∷ []) ((data_name, codes "x") ∷ []) (refl, tt) (refl, tt) (refl, tt);
   };
   external_means = record {
-    root = tree_with_places [] (tree_of_images (three_nodes (region_of 0 5) (region_of 8 0) (region_of 8 1)));
-    blob = blob_by_test (tree_of_images (three_nodes (region_of 0 5) (region_of 8 0) (region_of 8 1))) (codes "hello" ++ 0 ∷ 0 ∷ 0 ∷ codes "x") refl refl (lit≤ tt);
+    root = tree_with_places [] (tree_with_images (three_nodes (region_of 0 5) (region_of 8 0) (region_of 8 1)));
+    blob = blob_by_test (tree_with_images (three_nodes (region_of 0 5) (region_of 8 0) (region_of 8 1))) (codes "hello" ++ 0 ∷ 0 ∷ 0 ∷ codes "x") refl refl (lit≤ tt);
     images = _;
     has_images = refl;
     payloads = (
@@ -190,8 +205,8 @@ pub payloads_are_aligned : PayloadsAreAligned
 unfolding text_of_events text_of_blocks cell cell8 u32_at
 payloads_are_aligned = record {
   means = record {
-    root = tree_with_places [] (tree_of_images (three_nodes (region_of 0 1) (region_of 4 0) (region_of 4 1)));
-    blob = blob_by_test (tree_of_images (three_nodes (region_of 0 1) (region_of 4 0) (region_of 4 1))) (codes "x" ++ 0 ∷ 0 ∷ 0 ∷ codes "y") refl refl (lit≤ tt);
+    root = tree_with_places [] (tree_with_images (three_nodes (region_of 0 1) (region_of 4 0) (region_of 4 1)));
+    blob = blob_by_test (tree_with_images (three_nodes (region_of 0 1) (region_of 4 0) (region_of 4 1))) (codes "x" ++ 0 ∷ 0 ∷ 0 ∷ codes "y") refl refl (lit≤ tt);
     images = _;
     has_images = refl;
     payloads = (
@@ -210,21 +225,25 @@ payloads_are_aligned = record {
 }
 
 -- Two image nodes without the properties that give their payloads are plain ones.
-two_plain : (first second : List ℕ) (a b : List Property) → AllByRecursion (λ property. not (is_payload_name property.0) ≡ false) a → AllByRecursion (λ property. not (is_payload_name property.0) ≡ false) b → root_of_images (plain_images (first ∷ second ∷ [])) ≡ root_of_images (without_payloads (with_each from_entries (node first a none (node second b none none))))
+two_plain : (first second : List ℕ) (a b : List Property) → AllByRecursion (λ property. not (is_payload_name property.0) ≡ false) a →
+    AllByRecursion (λ property. not (is_payload_name property.0) ≡ false) b →
+    root_of_images (plain_images (first ∷ second ∷ []))
+    ≡ root_of_images (without_payloads (with_each from_entries (node first a none (node second b none none))))
 two_plain first second a b are_a are_b =
     λ i. root_of_images
     (node first (sym (all_taken_out a are_a) i) none (node second (sym (all_taken_out b are_b) i) none none))
 
 -- One image node without the properties that give its payload is a plain one.
-one_plain : (name : List ℕ) (a : List Property) → AllByRecursion (λ property. not (is_payload_name property.0) ≡ false) a → root_of_images (plain_images (name ∷ [])) ≡ root_of_images (without_payloads (with_each from_entries (node name a none none)))
+one_plain : (name : List ℕ) (a : List Property) → AllByRecursion (λ property. not (is_payload_name property.0) ≡ false) a →
+    root_of_images (plain_images (name ∷ [])) ≡ root_of_images (without_payloads (with_each from_entries (node name a none none)))
 one_plain name a are = λ i. root_of_images (node name (sym (all_taken_out a are) i) none none)
 
 pub children_keep_order : ChildrenKeepOrder
 unfolding text_of_events text_of_blocks cell cell8 u32_at
 children_keep_order = record {
   means = record {
-    root = tree_with_places [] (tree_of_images (node (codes "b") ((data_name, codes "x") ∷ []) none (node (codes "a") ((data_name, codes "y") ∷ []) none none)));
-    blob = blob_by_test (tree_of_images (node (codes "b") ((data_name, codes "x") ∷ []) none (node (codes "a") ((data_name, codes "y") ∷ []) none none))) [] refl refl (lit≤ tt);
+    root = tree_with_places [] (tree_with_images (node (codes "b") ((data_name, codes "x") ∷ []) none (node (codes "a") ((data_name, codes "y") ∷ []) none none)));
+    blob = blob_by_test (tree_with_images (node (codes "b") ((data_name, codes "x") ∷ []) none (node (codes "a") ((data_name, codes "y") ∷ []) none none))) [] refl refl (lit≤ tt);
     images = _;
     has_images = refl;
     payloads = (refl, (refl, tt));
@@ -241,8 +260,8 @@ pub position_is_before_data : PositionIsBeforeData
 unfolding text_of_events text_of_blocks cell cell8 u32_at
 position_is_before_data = record {
   means = record {
-    root = tree_with_places [] (tree_of_images (node (codes "a") position_properties none none));
-    blob = blob_by_test (tree_of_images (node (codes "a") position_properties none none)) (codes "new") refl refl (lit≤ tt);
+    root = tree_with_places [] (tree_with_images (node (codes "a") position_properties none none));
+    blob = blob_by_test (tree_with_images (node (codes "a") position_properties none none)) (codes "new") refl refl (lit≤ tt);
     images = _;
     has_images = refl;
     payloads = (record { begin_cell = refl; size_cell = refl; in_file = lit≤ tt; is_slice = refl }, tt);
@@ -260,8 +279,8 @@ pub offset_is_before_data : OffsetIsBeforeData
 unfolding text_of_events text_of_blocks cell cell8 u32_at
 offset_is_before_data = record {
   means = record {
-    root = tree_with_places [] (tree_of_images (node (codes "a") offset_properties none none));
-    blob = blob_by_test (tree_of_images (node (codes "a") offset_properties none none)) (codes "new") refl refl (lit≤ tt);
+    root = tree_with_places [] (tree_with_images (node (codes "a") offset_properties none none));
+    blob = blob_by_test (tree_with_images (node (codes "a") offset_properties none none)) (codes "new") refl refl (lit≤ tt);
     images = _;
     has_images = refl;
     payloads = (record { begin_cell = refl; size_cell = refl; in_file = lit≤ tt; is_slice = refl }, tt);
@@ -277,8 +296,8 @@ pub position_is_before_offset : PositionIsBeforeOffset
 unfolding text_of_events text_of_blocks cell cell8 u32_at
 position_is_before_offset = record {
   means = record {
-    root = tree_with_places [] (tree_of_images (node (codes "a") all_properties none none));
-    blob = blob_by_test (tree_of_images (node (codes "a") all_properties none none)) (codes "last") refl refl (lit≤ tt);
+    root = tree_with_places [] (tree_with_images (node (codes "a") all_properties none none));
+    blob = blob_by_test (tree_with_images (node (codes "a") all_properties none none)) (codes "last") refl refl (lit≤ tt);
     images = _;
     has_images = refl;
     payloads = (record { begin_cell = refl; size_cell = refl; in_file = lit≤ tt; is_slice = refl }, tt);
@@ -288,7 +307,7 @@ position_is_before_offset = record {
 
 -- The tree of the file whose blob does not end at a multiple of four.
 abbrev offset_root : Root (List Property)
-offset_root = tree_of_images (node (codes "a") (region_of 0 3) none none)
+offset_root = tree_with_images (node (codes "a") (region_of 0 3) none none)
 
 -- This file is a blob of it.
 offset_blob : IsBlob offset_file 0 [] (tree_with_places [] offset_root)
@@ -328,7 +347,7 @@ offset_is_from_aligned_end = record {
 
 -- The tree of a file whose images share a region, where the first has its own.
 abbrev shared_root : (offset size : ℕ) → Root (List Property)
-shared_root offset size = tree_of_images (three_nodes (region_of offset size) (region_of 0 1000) (region_of 0 1000))
+shared_root offset size = tree_with_images (three_nodes (region_of offset size) (region_of 0 1000) (region_of 0 1000))
 
 pub shared_region_is_repeated : SharedRegionIsRepeated
 unfolding text_of_events text_of_blocks cell cell8 u32_at
@@ -407,16 +426,16 @@ pub unused_have_no_meaning : UnusedHaveNoMeaning
 unfolding text_of_events text_of_blocks cell cell8 u32_at
 unused_have_no_meaning = record {
   size = record {
-    root = tree_with_places [] (tree_of_images (node (codes "a") ((data_name, codes "abc") ∷ (data_size_name, codes "s") ∷ []) none none));
-    blob = blob_by_test (tree_of_images (node (codes "a") ((data_name, codes "abc") ∷ (data_size_name, codes "s") ∷ []) none none)) [] refl refl (lit≤ tt);
+    root = tree_with_places [] (tree_with_images (node (codes "a") ((data_name, codes "abc") ∷ (data_size_name, codes "s") ∷ []) none none));
+    blob = blob_by_test (tree_with_images (node (codes "a") ((data_name, codes "abc") ∷ (data_size_name, codes "s") ∷ []) none none)) [] refl refl (lit≤ tt);
     images = _;
     has_images = refl;
     payloads = (refl, tt);
     is_root = one_plain (codes "a") ((data_name, codes "abc") ∷ (data_size_name, codes "s") ∷ []) (refl, (refl, tt));
   };
   offset = record {
-    root = tree_with_places [] (tree_of_images (node (codes "a") ((data_offset_name, codes "o") ∷ (data_position_name, cell 0) ∷ (data_size_name, cell 4) ∷ []) none none));
-    blob = blob_by_test (tree_of_images (node (codes "a") ((data_offset_name, codes "o") ∷ (data_position_name, cell 0) ∷ (data_size_name, cell 4) ∷ []) none none)) [] refl refl (lit≤ tt);
+    root = tree_with_places [] (tree_with_images (node (codes "a") ((data_offset_name, codes "o") ∷ (data_position_name, cell 0) ∷ (data_size_name, cell 4) ∷ []) none none));
+    blob = blob_by_test (tree_with_images (node (codes "a") ((data_offset_name, codes "o") ∷ (data_position_name, cell 0) ∷ (data_size_name, cell 4) ∷ []) none none)) [] refl refl (lit≤ tt);
     images = _;
     has_images = refl;
     payloads = (record { begin_cell = refl; size_cell = refl; in_file = lit≤ tt; is_slice = refl }, tt);

@@ -1,4 +1,6 @@
-use Rattle.std.proofs.Common.{◌≡◌, ℕ, suc, ◌+◌, ◌≤◌, Bool, true, false, cond, ◌==◌, List, [], ◌∷◌, ◌++◌, length, drop, map, Option, Some, None, option_and_then, slice_get, bytes_eq, nat_eq, refl, sym, ap, ap₂, subst, ◌∙◌, arith, one-add, if◌then◌else◌, take, ◌-◌}
+use Rattle.std.proofs.Common.{◌≡◌, ℕ, suc, ◌+◌, ◌≤◌, Bool, true, false, cond, ◌==◌, List, [], ◌∷◌, ◌++◌, length, drop, map, Option, Some}
+use Rattle.std.proofs.Common.{None, option_and_then, slice_get, bytes_eq, nat_eq, refl, sym, ap, ap₂, subst, ◌∙◌, arith, one-add}
+use Rattle.std.proofs.Common.{if◌then◌else◌, take, ◌-◌}
 use Rattle.std.proofs.lemmas.List.{length-drop, take_rest}
 use Rattle.std.specs.Prelude.{Result, Ok, Err, IfErr}
 use Rattle.std.specs.Result.{IsErrAnd}
@@ -10,12 +12,15 @@ use Rattle.bi_blob.specs.Tree.{Nodes, FileNode, PropertyMap, properties_of}
 use Rattle.bi_blob.specs.Lookups.{Sibling, siblings, node_named, value_named}
 use Rattle.bi_fit.specs.declared.key.Key.{Key}
 use Rattle.bi_fit.specs.Names.{key_name}
-use Rattle.bi_fit.specs.Content.{FitContent, ReadImage, IsReadImage, IsHeld, tree_of, index_from, index_of}
-use Rattle.bi_fit.specs.Judgement.{Image, images_with, images_of, image_named, ListedImage, Listed, NoConfiguration, NoKey, BadList, MissingImage, ListedImages, with_byte, with_image, listed_names, listed_from, list_images, listed_at, listed_under, listed_of, configuration_nodes}
+use Rattle.bi_fit.specs.Content.{FitModel, ImageModel, IsReadImage, IsHeld, tree_of, index_from, index_of}
+use Rattle.bi_fit.specs.Judgement.{Image, images_with, images_of, image_named, ListedImage, ListResult, NoConfig, NoKey, BadList, Missing}
+use Rattle.bi_fit.specs.Judgement.{ListedImages, with_byte, with_image, listed_names, listed_from, list_images, listed_at, listed_under}
+use Rattle.bi_fit.specs.Judgement.{listed_of, configuration_nodes}
 use Rattle.bi_fit.specs.declared.configurations.ConfigError.{ConfigError}
 use Rattle.bi_fit.specs.declared.configurations.ConfigError.TheVariants.{OutOfMemory}
-use Rattle.bi_fit.specs.Judging.{NeedsMemory, IsListError}
-use Rattle.bi_fit.specs.Nodes.{file_images, file_configurations, payload_named, listed_payload, file_list, BeginsWithName, file_listed_at, file_listed, with_images}
+use Rattle.bi_fit.specs.JudgementCalls.{ListNeedsMemory, IsListError}
+use Rattle.bi_fit.specs.HashNodes.{file_images, file_configurations, payload_named, listed_payload, file_list, BeginsWithName}
+use Rattle.bi_fit.specs.HashNodes.{file_listed_at, file_listed, with_images}
 use Rattle.bi_fit.proofs.FileNodes.{bare_image, sibling_by_name, get-by_name, named-by_name, image_siblings, configuration_nodes_are}
 
 -- What a configuration of an image tree that was read lists.
@@ -25,7 +30,8 @@ abbrev is_zero : ℕ → Bool
 is_zero byte = byte == 0
 
 -- A value with a zero lists the name before the first one, and what follows it.
-first_name : (value : List ℕ) → list_any is_zero value ≡ true → listed_names value ≡ before_first is_zero value ∷ listed_names (drop (suc (length (before_first is_zero value))) value)
+first_name : (value : List ℕ) → list_any is_zero value ≡ true →
+    listed_names value ≡ before_first is_zero value ∷ listed_names (drop (suc (length (before_first is_zero value))) value)
 first_name [] some = absurd cc
 first_name (byte ∷ later) some = where_first (is_zero byte) refl some (λ some. first_name later some)
   where
@@ -53,7 +59,8 @@ shorter (byte ∷ later) some = where_first (is_zero byte) refl some (λ some. s
         let few : length (before_first is_zero later) + 1 ≤ length later = rest (rw is at some) in
         rw (is, one-add) (omega arith)
 
-pub next_name : (value name : List ℕ) → text_before_nul value ≡ Some name → listed_names value ≡ name ∷ listed_names (drop (length name + 1) value)
+pub next_name : (value name : List ℕ) → text_before_nul value ≡ Some name →
+    listed_names value ≡ name ∷ listed_names (drop (length name + 1) value)
 unfolding text_before_nul
 next_name value name is =
     let there = cond_some (list_any is_zero value) (before_first is_zero value) name is in
@@ -63,9 +70,9 @@ next_name value name is =
     one : (n : ℕ) → suc n ≡ n + 1
     one n = omega arith
 
-pub no_name : (value : List ℕ) → text_before_nul value ≡ None → listed_names value ≡ []
+pub no_listed_name : (value : List ℕ) → text_before_nul value ≡ None → listed_names value ≡ []
 unfolding text_before_nul
-no_name value is = by_test (list_any is_zero value) refl
+no_listed_name value is = by_test (list_any is_zero value) refl
   where
     by_test : (b : Bool) → list_any is_zero value ≡ b → listed_names value ≡ []
     by_test true some = absurd (let e : Some (before_first is_zero value) ≡ None = sym (ap (λ b. cond b (Some (before_first is_zero value)) None) some) ∙ is in cc)
@@ -78,22 +85,24 @@ name_is_shorter value name is =
     subst (λ (text : List ℕ). length text + 1 ≤ length value) there.1 (shorter value there.0)
 
 -- A value begins with its first name.
-pub begins_with_name : (value name : List ℕ) → text_before_nul value ≡ Some name → BeginsWithName value name (take (length value - (length name + 1)) (drop (length name + 1) value))
+pub begins_with_name : (value name : List ℕ) → text_before_nul value ≡ Some name →
+    BeginsWithName value name (take (length value - (length name + 1)) (drop (length name + 1) value))
 begins_with_name value name is =
     let few : length name + 1 ≤ length value = name_is_shorter value name is in
     rw take_rest (record { listed = next_name value name is; shorter = simp length-drop (omega arith) })
 
 -- The payload at an index of images that were read.
-abbrev payload_at : List ReadImage → ℕ → Option (List ℕ)
+abbrev payload_at : List ImageModel → ℕ → Option (List ℕ)
 payload_at images index = option_and_then (λ image. image.payload) (slice_get images index)
 
 module _ (name : List ℕ) where
   -- The image at the index that is found for a name is the one of this name.
-  found_from : (base : ℕ) (images : List ReadImage) (index : ℕ) → index_from base name images ≡ Some index → (k : ℕ) × (index ≡ base + k) × (payload_named name images ≡ Some (payload_at images k))
+  found_from : (base : ℕ) (images : List ImageModel) (index : ℕ) → index_from base name images ≡ Some index →
+      (k : ℕ) × (index ≡ base + k) × (payload_named name images ≡ Some (payload_at images k))
   found_from base [] index is = absurd cc
   found_from base (image ∷ later) index is = where_first (bytes_eq image.name name) refl is (λ is. found_from (base + 1) later index is)
     where
-      Found : ℕ → List ReadImage → Type 0
+      Found : ℕ → List ImageModel → Type 0
       Found base images = (k : ℕ) × (index ≡ base + k) × (payload_named name images ≡ Some (payload_at images k))
 
       where_first : (b : Bool) → bytes_eq image.name name ≡ b → index_from base name (image ∷ later) ≡ Some index → (index_from (base + 1) name later ≡ Some index → Found (base + 1) later) → Found base (image ∷ later)
@@ -107,7 +116,7 @@ module _ (name : List ℕ) where
           (suc found.0, omega arith, rw other found.2)
 
   -- If none is found, no image has the name.
-  missing_from : (base : ℕ) (images : List ReadImage) → index_from base name images ≡ None → payload_named name images ≡ None
+  missing_from : (base : ℕ) (images : List ImageModel) → index_from base name images ≡ None → payload_named name images ≡ None
   missing_from base [] is = refl
   missing_from base (image ∷ later) is = where_first (bytes_eq image.name name) refl is (λ is. missing_from (base + 1) later is)
     where
@@ -115,22 +124,24 @@ module _ (name : List ℕ) where
       where_first true same is rest = absurd (let e : Some base ≡ None = rw same at is in cc)
       where_first false other is rest = rw other (rest (rw other at is))
 
-pub payload_found : (name : List ℕ) (images : List ReadImage) (index : ℕ) → index_of name images ≡ Some index → payload_named name images ≡ Some (payload_at images index)
+pub payload_found : (name : List ℕ) (images : List ImageModel) (index : ℕ) → index_of name images ≡ Some index →
+    payload_named name images ≡ Some (payload_at images index)
 payload_found name images index is =
     let found = found_from name 0 images index is in
     let at : found.0 ≡ index = (let e : index ≡ 0 + found.0 = found.1 in omega arith) in
     found.2 ∙ ap (λ k. Some (payload_at images k)) at
 
-pub payload_missing : (name : List ℕ) (images : List ReadImage) → index_of name images ≡ None → payload_named name images ≡ None
-payload_missing name images is = missing_from name 0 images is
+pub payload_named-missing : (name : List ℕ) (images : List ImageModel) → index_of name images ≡ None → payload_named name images ≡ None
+payload_named-missing name images is = missing_from name 0 images is
 
 -- One more image after others that are listed.
-pub with_one_more : (images : List ListedImage) (image : ListedImage) (listed : Listed) → with_images (images ++ image ∷ []) listed ≡ with_images images (with_image image listed)
+pub with_one_more : (images : List ListedImage) (image : ListedImage) (listed : ListResult) →
+    with_images (images ++ image ∷ []) listed ≡ with_images images (with_image image listed)
 with_one_more [] image listed = refl
 with_one_more (first ∷ later) image listed = ap (with_image first) (with_one_more later image listed)
 
 -- After images that are listed comes a missing one.
-pub missing_after : (images : List ListedImage) (index : ℕ) → with_images images (MissingImage index) ≡ MissingImage index
+pub missing_after : (images : List ListedImage) (index : ℕ) → with_images images (Missing index) ≡ Missing index
 missing_after [] index = refl
 missing_after (first ∷ later) index = ap (with_image first) (missing_after later index)
 
@@ -140,33 +151,37 @@ listed_all [] = refl
 listed_all (first ∷ later) = ap (with_image first) (listed_all later)
 
 -- A list of names is found in memory.
-pub needs_memory : (images : List ReadImage) (index : ℕ) (names : List (List ℕ)) → NeedsMemory (file_list images index names)
-needs_memory images index [] = tt
-needs_memory images index (name ∷ later) = by_payload (payload_named name images) (needs_memory images (index + 1) later)
+pub list_needs_memory : (images : List ImageModel) (index : ℕ) (names : List (List ℕ)) → ListNeedsMemory (file_list images index names)
+list_needs_memory images index [] = tt
+list_needs_memory images index (name ∷ later) = by_payload (payload_named name images) (list_needs_memory images (index + 1) later)
   where
-    by_listed : (image : ListedImage) (listed : Listed) → NeedsMemory listed → NeedsMemory (with_image image listed)
-    by_listed image NoConfiguration needs = needs
+    by_listed : (image : ListedImage) (listed : ListResult) → ListNeedsMemory listed → ListNeedsMemory (with_image image listed)
+    by_listed image NoConfig needs = needs
     by_listed image NoKey needs = needs
     by_listed image BadList needs = needs
-    by_listed image (MissingImage index) needs = needs
+    by_listed image (Missing index) needs = needs
     by_listed image (ListedImages images) needs = tt
 
-    by_payload : (found : Option (Option (List ℕ))) → NeedsMemory (file_list images (index + 1) later) → NeedsMemory (listed_payload index name found (file_list images (index + 1) later))
+    by_payload : (found : Option (Option (List ℕ))) → ListNeedsMemory (file_list images (index + 1) later) → ListNeedsMemory (listed_payload index name found (file_list images (index + 1) later))
     by_payload None needs = tt
     by_payload (Some payload) needs = by_listed (record { name = name; payload = payload }) (file_list images (index + 1) later) needs
 
 -- What a value lists where these images were found, and the names in `rest` are left.
-module _ (images : List ReadImage) (value rest : List ℕ) (done : List ListedImage) (index : ℕ) (so_far : file_list images 0 (listed_names value) ≡ with_images done (file_list images index (listed_names rest))) where
+module _ (images : List ImageModel) (value rest : List ℕ) (done : List ListedImage) (index : ℕ) (so_far : file_list images 0 (listed_names value) ≡ with_images done (file_list images index (listed_names rest))) where
   -- The next name is one that no image has.
-  pub next_is_missing : (name later : List ℕ) → BeginsWithName rest name later → index_of name images ≡ None → file_list images 0 (listed_names value) ≡ MissingImage index
+  pub next_is_missing : (name later : List ℕ) → BeginsWithName rest name later → index_of name images ≡ None →
+      file_list images 0 (listed_names value) ≡ Missing index
   next_is_missing name later begins none =
       so_far
       ∙ ap (λ names. with_images done (file_list images index names)) begins.listed
-      ∙ ap (λ found. with_images done (listed_payload index name found (file_list images (index + 1) (listed_names later)))) (payload_missing name images none)
+      ∙ ap (λ found. with_images done (listed_payload index name found (file_list images (index + 1) (listed_names later)))) (payload_named-missing name images none)
       ∙ missing_after done index
 
   -- The next image is found.
-  pub next_is_found : (name later : List ℕ) (found : ℕ) (payload : Option (List ℕ)) → BeginsWithName rest name later → index_of name images ≡ Some found → payload ≡ payload_at images found → file_list images 0 (listed_names value) ≡ with_images (done ++ record { name = name; payload = payload } ∷ []) (file_list images (index + 1) (listed_names later))
+  pub next_is_found : (name later : List ℕ) (found : ℕ) (payload : Option (List ℕ)) → BeginsWithName rest name later →
+      index_of name images ≡ Some found → payload ≡ payload_at images found →
+      file_list images 0 (listed_names value)
+      ≡ with_images (done ++ record { name = name; payload = payload } ∷ []) (file_list images (index + 1) (listed_names later))
   next_is_found name later found payload begins there is =
       so_far
       ∙ ap (λ names. with_images done (file_list images index names)) begins.listed
@@ -179,13 +194,17 @@ module _ (images : List ReadImage) (value rest : List ℕ) (done : List ListedIm
       so_far ∙ ap (λ names. with_images done (file_list images index names)) none ∙ listed_all done
 
 -- Memory runs out only where a list was read.
-pub out_of_memory : {T : Type 0} (result : Result T ConfigError) (images : List ReadImage) (names : List (List ℕ)) → IsErrAnd result (λ error. error ≡ OutOfMemory) → IfErr result (IsListError (file_list images 0 names))
-out_of_memory (Ok listed) images names is = tt
-out_of_memory (Err error) images names is =
-    subst (IsListError (file_list images 0 names)) (sym is) (needs_memory images 0 names)
+pub list_out_of_memory : {T : Type 0} (result : Result T ConfigError) (images : List ImageModel) (names : List (List ℕ)) →
+    IsErrAnd result (λ error. error ≡ OutOfMemory) → IfErr result (IsListError (file_list images 0 names))
+list_out_of_memory (Ok listed) images names is = tt
+list_out_of_memory (Err error) images names is =
+    subst (IsListError (file_list images 0 names)) (sym is) (list_needs_memory images 0 names)
 
 -- The image of a name has the same payload in the tree.
-payload_same : (name file : List ℕ) (entries : List (Sibling FileNode)) (images : List ReadImage) → AllZip (IsReadImage file) entries images → option_map (λ image. image.payload) (image_named name (images_with (map bare_image entries) (map (λ image. image.payload) images))) ≡ payload_named name images
+payload_same : (name file : List ℕ) (entries : List (Sibling FileNode)) (images : List ImageModel) →
+    AllZip (IsReadImage file) entries images →
+    option_map (λ image. image.payload) (image_named name (images_with (map bare_image entries) (map (λ image. image.payload) images)))
+    ≡ payload_named name images
 payload_same name file [] [] read = refl
 payload_same name file [] (image ∷ images) read = absurd read
 payload_same name file (entry ∷ entries) [] read = absurd read
@@ -196,14 +215,16 @@ payload_same name file (entry ∷ entries) (image ∷ images) read =
     where_first true same rest = rw (read.0.name, same) refl
     where_first false other rest = rw (read.0.name, other) rest
 
-module _ (content : FitContent) (held : IsHeld content) where
-  payload_in_tree : (name : List ℕ) → option_map (λ image. image.payload) (image_named name (images_of (tree_of content))) ≡ payload_named name content.images
+module _ (content : FitModel) (held : IsHeld content) where
+  payload_in_tree : (name : List ℕ) →
+      option_map (λ image. image.payload) (image_named name (images_of (tree_of content))) ≡ payload_named name content.images
   payload_in_tree name =
       ap (λ (entries : List (Sibling PropertyMap)). option_map (λ image. image.payload) (image_named name (images_with entries (map (λ image. image.payload) content.images)))) (image_siblings content)
       ∙ payload_same name content.blob.file (siblings (file_images content.blob)) content.images held.images
 
   -- So names list the same images.
-  list_in_tree : (index : ℕ) (names : List (List ℕ)) → list_images (images_of (tree_of content)) index names ≡ file_list content.images index names
+  list_in_tree : (index : ℕ) (names : List (List ℕ)) →
+      list_images (images_of (tree_of content)) index names ≡ file_list content.images index names
   list_in_tree index [] = refl
   list_in_tree index (name ∷ later) =
       by_image (image_named name (images_of (tree_of content)))
@@ -217,22 +238,26 @@ module _ (content : FitContent) (held : IsHeld content) where
   value_in_tree : (value : Option (List ℕ)) → listed_at (images_of (tree_of content)) value ≡ file_listed_at content.images value
   value_in_tree None = refl
   value_in_tree (Some value) =
-      ap (λ (listed : Listed). if ends_with nat_eq value (0 ∷ []) then listed else BadList) (list_in_tree 0 (listed_names value))
+      ap (λ (listed : ListResult). if ends_with nat_eq value (0 ∷ []) then listed else BadList) (list_in_tree 0 (listed_names value))
 
   -- The node of a name in the tree.
-  named_in_tree : (name : List ℕ) → node_named (configuration_nodes (tree_of content)) name ≡ option_map sibling_by_name (node_named (file_configurations content.blob) name)
+  named_in_tree : (name : List ℕ) →
+      node_named (configuration_nodes (tree_of content)) name
+      ≡ option_map sibling_by_name (node_named (file_configurations content.blob) name)
   named_in_tree name =
       ap (λ (nodes : Nodes PropertyMap). node_named nodes name) (configuration_nodes_are content)
       ∙ named-by_name (file_configurations content.blob) name
 
   -- What a configuration lists under a key.
-  pub listed_is : (name : List ℕ) (entry : Sibling FileNode) (key : Key) → node_named (file_configurations content.blob) name ≡ Some entry → listed_of (tree_of content) name key ≡ file_listed content.images entry key
+  pub listed_is : (name : List ℕ) (entry : Sibling FileNode) (key : Key) → node_named (file_configurations content.blob) name ≡ Some entry →
+      listed_of (tree_of content) name key ≡ file_listed content.images entry key
   listed_is name entry key there =
       ap (λ found. listed_under (images_of (tree_of content)) found key) (named_in_tree name ∙ ap (option_map sibling_by_name) there)
       ∙ ap (listed_at (images_of (tree_of content))) (get-by_name (properties_of entry.own) (key_name key))
       ∙ value_in_tree (value_named (properties_of entry.own) (key_name key))
 
   -- No configuration has another name.
-  pub nothing_listed : (name : List ℕ) (key : Key) → node_named (file_configurations content.blob) name ≡ None → listed_of (tree_of content) name key ≡ NoConfiguration
+  pub nothing_listed : (name : List ℕ) (key : Key) → node_named (file_configurations content.blob) name ≡ None →
+      listed_of (tree_of content) name key ≡ NoConfig
   nothing_listed name key none =
       ap (λ found. listed_under (images_of (tree_of content)) found key) (named_in_tree name ∙ ap (option_map sibling_by_name) none)

@@ -10,10 +10,10 @@ use Rattle.bi_blob.specs.Lookups.{Sibling, siblings, node_named, value_named}
 use Rattle.bi_fdt.specs.Content.{root_of}
 use Rattle.bi_fit.specs.Names.{images_name, configurations_name}
 use Rattle.bi_fit.specs.ImageTree.{children_of, with_children_of, nodes_or_none, image_nodes, without_payload, without_payloads}
-use Rattle.bi_fit.specs.Content.{FitContent, tree_of}
+use Rattle.bi_fit.specs.Content.{FitModel, tree_of}
 use Rattle.bi_fit.specs.Judgement.{configuration_nodes}
-use Rattle.bi_fit.specs.Nodes.{file_images, file_configurations}
-use Rattle.bi_fit.specs.Additions.{properties_by_name, nodes_by_name}
+use Rattle.bi_fit.specs.HashNodes.{file_images, file_configurations}
+use Rattle.bi_fit.specs.NormalNodes.{properties_by_name, nodes_by_name}
 
 -- The nodes of an image tree that was read, and those of its blob.
 
@@ -36,7 +36,8 @@ bare_image sibling = record {
 }
 
 -- The value of a property in a map is that in the list of which it was made.
-pub get-by_name : (properties : List Property) (name : List ℕ) → get (from_entries {R = slice_cmp nat_cmp} properties) name ≡ value_named properties name
+pub get-by_name : (properties : List Property) (name : List ℕ) →
+    get (from_entries {R = slice_cmp nat_cmp} properties) name ≡ value_named properties name
 get-by_name properties name = get-from_entries nat_list_cmp_total properties name ∙ in_list properties
   where
     in_list : (properties : List Property) → find (slice_cmp nat_cmp) name properties ≡ value_named properties name
@@ -65,7 +66,8 @@ names-by_name none = refl
 names-by_name (node name own children later) = ap (λ l. name ∷ l) (names-by_name later)
 
 -- A node is found by its name as before.
-pub named-by_name : (nodes : Nodes FileNode) (wanted : List ℕ) → node_named (nodes_by_name nodes) wanted ≡ option_map sibling_by_name (node_named nodes wanted)
+pub named-by_name : (nodes : Nodes FileNode) (wanted : List ℕ) →
+    node_named (nodes_by_name nodes) wanted ≡ option_map sibling_by_name (node_named nodes wanted)
 named-by_name none wanted = refl
 named-by_name (node name own children later) wanted = where_first (bytes_eq name wanted) refl (named-by_name later wanted)
   where
@@ -74,29 +76,34 @@ named-by_name (node name own children later) wanted = where_first (bytes_eq name
     where_first false is rest = rw is rest
 
 -- What a node has itself, and its children.
-abbrev pub parts_of : {Own : Type 0} → Sibling Own → Own × Nodes Own
-parts_of sibling = (sibling.own, sibling.children)
+abbrev pub own_and_children : {Own : Type 0} → Sibling Own → Own × Nodes Own
+own_and_children sibling = (sibling.own, sibling.children)
 
 -- Other children of a node of another name make no difference to a node.
-named-other : {Own : Type 0} (changed wanted : List ℕ) (change : Nodes Own → Nodes Own) → ((name : List ℕ) → bytes_eq name wanted ≡ true → bytes_eq name changed ≡ false) → (nodes : Nodes Own) → option_map parts_of (node_named (with_children_of changed change nodes) wanted) ≡ option_map parts_of (node_named nodes wanted)
+named-other : {Own : Type 0} (changed wanted : List ℕ) (change : Nodes Own → Nodes Own) →
+    ((name : List ℕ) → bytes_eq name wanted ≡ true → bytes_eq name changed ≡ false) → (nodes : Nodes Own) →
+    option_map own_and_children (node_named (with_children_of changed change nodes) wanted)
+    ≡ option_map own_and_children (node_named nodes wanted)
 named-other changed wanted change differ none = refl
 named-other {Own = Own} changed wanted change differ (node name own children later) =
     where_changed (bytes_eq name changed) refl (named-other changed wanted change differ later)
   where
-    where_wanted : (b : Bool) → bytes_eq name wanted ≡ b → option_map parts_of (node_named (with_children_of changed change later) wanted) ≡ option_map parts_of (node_named later wanted) → option_map parts_of (node_named (node name own children (with_children_of changed change later)) wanted) ≡ option_map parts_of (node_named (node name own children later) wanted)
+    where_wanted : (b : Bool) → bytes_eq name wanted ≡ b → option_map own_and_children (node_named (with_children_of changed change later) wanted) ≡ option_map own_and_children (node_named later wanted) → option_map own_and_children (node_named (node name own children (with_children_of changed change later)) wanted) ≡ option_map own_and_children (node_named (node name own children later) wanted)
     where_wanted true is rest = rw is refl
     where_wanted false is rest = rw is rest
 
-    where_other : (b : Bool) → bytes_eq name wanted ≡ b → bytes_eq name changed ≡ true → option_map parts_of (node_named (node name own (change children) later) wanted) ≡ option_map parts_of (node_named (node name own children later) wanted)
+    where_other : (b : Bool) → bytes_eq name wanted ≡ b → bytes_eq name changed ≡ true → option_map own_and_children (node_named (node name own (change children) later) wanted) ≡ option_map own_and_children (node_named (node name own children later) wanted)
     where_other true is is_changed = absurd (let e : bytes_eq name changed ≡ false = differ name is in let f : true ≡ false = sym is_changed ∙ e in cc)
     where_other false is is_changed = rw is refl
 
-    where_changed : (b : Bool) → bytes_eq name changed ≡ b → option_map parts_of (node_named (with_children_of changed change later) wanted) ≡ option_map parts_of (node_named later wanted) → option_map parts_of (node_named (with_children_of changed change (node name own children later)) wanted) ≡ option_map parts_of (node_named (node name own children later) wanted)
+    where_changed : (b : Bool) → bytes_eq name changed ≡ b → option_map own_and_children (node_named (with_children_of changed change later) wanted) ≡ option_map own_and_children (node_named later wanted) → option_map own_and_children (node_named (with_children_of changed change (node name own children later)) wanted) ≡ option_map own_and_children (node_named (node name own children later) wanted)
     where_changed true is rest = rw is (where_other (bytes_eq name wanted) refl is)
     where_changed false is rest = rw is (where_wanted (bytes_eq name wanted) refl rest)
 
 -- The image nodes of the tree.
-pub image_nodes_named : (nodes : Nodes FileNode) → nodes_or_none (children_of images_name (with_children_of images_name without_payloads (nodes_by_name nodes))) ≡ without_payloads (nodes_by_name (nodes_or_none (children_of images_name nodes)))
+pub image_nodes_named : (nodes : Nodes FileNode) →
+    nodes_or_none (children_of images_name (with_children_of images_name without_payloads (nodes_by_name nodes)))
+    ≡ without_payloads (nodes_by_name (nodes_or_none (children_of images_name nodes)))
 image_nodes_named none = refl
 image_nodes_named (node name own children later) = where_first (bytes_eq name images_name) refl (image_nodes_named later)
   where
@@ -104,35 +111,39 @@ image_nodes_named (node name own children later) = where_first (bytes_eq name im
     where_first true is rest = rw (is, is) refl
     where_first false is rest = rw (is, is) rest
 
-pub image_siblings : (content : FitContent) → siblings (nodes_or_none (image_nodes (tree_of content).root)) ≡ map bare_image (siblings (file_images content.blob))
+pub image_siblings : (content : FitModel) →
+    siblings (nodes_or_none (image_nodes (tree_of content).root)) ≡ map bare_image (siblings (file_images content.blob))
 image_siblings content =
     ap siblings (image_nodes_named (root_of content.blob).children) ∙ siblings-bare (file_images content.blob)
 
 -- The node of the configurations in the tree.
-pub configurations_parts : (content : FitContent) → option_map parts_of (node_named (tree_of content).root.children configurations_name) ≡ option_map (λ sibling. parts_of (sibling_by_name sibling)) (node_named (root_of content.blob).children configurations_name)
+pub configurations_parts : (content : FitModel) →
+    option_map own_and_children (node_named (tree_of content).root.children configurations_name)
+    ≡ option_map (λ sibling. own_and_children (sibling_by_name sibling)) (node_named (root_of content.blob).children configurations_name)
 configurations_parts content =
     named-other images_name configurations_name without_payloads differ (nodes_by_name (root_of content.blob).children)
-    ∙ ap (option_map parts_of) (named-by_name (root_of content.blob).children configurations_name)
+    ∙ ap (option_map own_and_children) (named-by_name (root_of content.blob).children configurations_name)
     ∙ twice (node_named (root_of content.blob).children configurations_name)
   where
     differ : (name : List ℕ) → bytes_eq name configurations_name ≡ true → bytes_eq name images_name ≡ false
     differ name is = ap (λ l. bytes_eq l images_name) ((bytes_eq-Decides name configurations_name).0 is)
 
-    twice : (found : Option (Sibling FileNode)) → option_map parts_of (option_map sibling_by_name found) ≡ option_map (λ sibling. parts_of (sibling_by_name sibling)) found
+    twice : (found : Option (Sibling FileNode)) → option_map own_and_children (option_map sibling_by_name found) ≡ option_map (λ sibling. own_and_children (sibling_by_name sibling)) found
     twice None = refl
     twice (Some sibling) = refl
 
 -- The configuration nodes of the tree.
-pub configuration_nodes_are : (content : FitContent) → configuration_nodes (tree_of content) ≡ nodes_by_name (file_configurations content.blob)
+pub configuration_nodes_are : (content : FitModel) →
+    configuration_nodes (tree_of content) ≡ nodes_by_name (file_configurations content.blob)
 configuration_nodes_are content =
     of_parts (node_named (tree_of content).root.children configurations_name)
     ∙ ap (λ (o : Option (PropertyMap × Nodes PropertyMap)). nodes_or_none (option_map (λ parts. parts.1) o)) (configurations_parts content)
     ∙ of_file (node_named (root_of content.blob).children configurations_name)
   where
-    of_parts : (found : Option (Sibling PropertyMap)) → nodes_or_none (option_map (λ sibling. sibling.children) found) ≡ nodes_or_none (option_map (λ parts. parts.1) (option_map parts_of found))
+    of_parts : (found : Option (Sibling PropertyMap)) → nodes_or_none (option_map (λ sibling. sibling.children) found) ≡ nodes_or_none (option_map (λ parts. parts.1) (option_map own_and_children found))
     of_parts None = refl
     of_parts (Some sibling) = refl
 
-    of_file : (found : Option (Sibling FileNode)) → nodes_or_none (option_map (λ parts. parts.1) (option_map (λ sibling. parts_of (sibling_by_name sibling)) found)) ≡ nodes_by_name (nodes_or_none (option_map (λ sibling. sibling.children) found))
+    of_file : (found : Option (Sibling FileNode)) → nodes_or_none (option_map (λ parts. parts.1) (option_map (λ sibling. own_and_children (sibling_by_name sibling)) found)) ≡ nodes_by_name (nodes_or_none (option_map (λ sibling. sibling.children) found))
     of_file None = refl
     of_file (Some sibling) = refl

@@ -1,18 +1,20 @@
-use Rattle.std.proofs.Common.{◌≡◌, ℕ, Bool, true, false, List, [], ◌∷◌, ◌++◌, map, flat_map, filter, Option, option_and_then, refl, ap, ap₂, ◌∙◌, ◌⊎◌, inl, inr, append-nil}
+use Rattle.std.proofs.Common.{◌≡◌, ℕ, Bool, true, false, List, [], ◌∷◌, ◌++◌, map, flat_map, filter, Option, option_and_then, refl, ap, ap₂}
+use Rattle.std.proofs.Common.{◌∙◌, ◌⊎◌, inl, inr, append-nil}
 use Rattle.bi_base.specs.Strings.{text_before_nul}
 use Rattle.bi_blob.specs.Tree.{FileNode, PropertyMap, properties_of}
 use Rattle.bi_blob.specs.Lookups.{Sibling, siblings}
 use Rattle.bi_hash.specs.Verdicts.{verdict_of}
 use Rattle.bi_fit.specs.Names.{algo_name, value_name, is_hash_name}
-use Rattle.bi_fit.specs.Content.{FitContent, ReadImage, tree_of}
+use Rattle.bi_fit.specs.Content.{FitModel, ImageModel, tree_of}
 use Rattle.bi_fit.specs.Judgement.{Image, images_with, CheckedHash, checked_hash, hash_nodes, verdicts_of}
-use Rattle.bi_fit.specs.Nodes.{file_images, file_hash, file_hashes, file_verdicts}
+use Rattle.bi_fit.specs.HashNodes.{file_images, file_hash, file_hashes, file_verdicts}
 use Rattle.bi_fit.proofs.FileNodes.{sibling_by_name, bare_image, get-by_name, siblings-by_name, image_siblings}
 
 -- The verdicts of an image tree that was read.
 
 -- A hash node has the same verdict in the tree.
-hash_is : (image : Image) (hash : Sibling FileNode) → checked_hash image (sibling_by_name hash) ≡ file_hash image.entry.name image.payload hash
+hash_is : (image : Image) (hash : Sibling FileNode) →
+    checked_hash image (sibling_by_name hash) ≡ file_hash image.entry.name image.payload hash
 hash_is image hash =
     ap₂ (λ (algo value : Option (List ℕ)). record {
       image = image.entry.name;
@@ -23,7 +25,9 @@ hash_is image hash =
     }) (get-by_name (properties_of hash.own) algo_name) (get-by_name (properties_of hash.own) value_name)
 
 -- So have hash nodes among children.
-hashes_are : (image : Image) (children : List (Sibling FileNode)) → map (checked_hash image) (filter (λ child. is_hash_name child.name) (map sibling_by_name children)) ≡ file_hashes image.entry.name image.payload children
+hashes_are : (image : Image) (children : List (Sibling FileNode)) →
+    map (checked_hash image) (filter (λ child. is_hash_name child.name) (map sibling_by_name children))
+    ≡ file_hashes image.entry.name image.payload children
 hashes_are image [] = refl
 hashes_are image (child ∷ later) = where_first (is_hash_name child.name) refl (hashes_are image later)
   where
@@ -32,7 +36,9 @@ hashes_are image (child ∷ later) = where_first (is_hash_name child.name) refl 
     where_first false is rest = rw is rest
 
 -- And those of all images.
-verdicts_with : (entries : List (Sibling FileNode)) (images : List ReadImage) → flat_map (λ image. map (checked_hash image) (hash_nodes image)) (images_with (map bare_image entries) (map (λ image. image.payload) images)) ≡ file_verdicts entries images
+verdicts_with : (entries : List (Sibling FileNode)) (images : List ImageModel) →
+    flat_map (λ image. map (checked_hash image) (hash_nodes image))
+    (images_with (map bare_image entries) (map (λ image. image.payload) images)) ≡ file_verdicts entries images
 verdicts_with [] images = refl
 verdicts_with (entry ∷ entries) [] = refl
 verdicts_with (entry ∷ entries) (image ∷ images) =
@@ -41,13 +47,14 @@ verdicts_with (entry ∷ entries) (image ∷ images) =
     ∙ hashes_are (record { entry = bare_image entry; payload = image.payload }) (siblings entry.children))
     (verdicts_with entries images)
 
-pub verdicts_are : (content : FitContent) → verdicts_of (tree_of content) ≡ file_verdicts (siblings (file_images content.blob)) content.images
+pub verdicts_are : (content : FitModel) → verdicts_of (tree_of content) ≡ file_verdicts (siblings (file_images content.blob)) content.images
 verdicts_are content =
     ap (λ (entries : List (Sibling PropertyMap)). flat_map (λ image. map (checked_hash image) (hash_nodes image)) (images_with entries (map (λ image. image.payload) content.images))) (image_siblings content)
     ∙ verdicts_with (siblings (file_images content.blob)) content.images
 
 -- After the last image nothing is added.
-pub after_last : (entries : List (Sibling FileNode)) (images : List ReadImage) (done : List CheckedHash) → (entries ≡ []) ⊎ (images ≡ []) → done ++ file_verdicts entries images ≡ done
+pub after_last : (entries : List (Sibling FileNode)) (images : List ImageModel) (done : List CheckedHash) → (entries ≡ []) ⊎ (images ≡ []) →
+    done ++ file_verdicts entries images ≡ done
 after_last entries images done (inl none) = ap (λ l. done ++ file_verdicts l images) none ∙ append-nil done
 after_last entries images done (inr none) = ap (λ l. done ++ file_verdicts entries l) none ∙ by_entries entries
   where

@@ -12,9 +12,9 @@ use Rattle.bi_fit.specs.Names.{data_name}
 use Rattle.bi_fit.specs.ImageTree.{without_payloads}
 use Rattle.bi_fit.specs.Text.{with_payloads, end_after, payloads_end}
 use Rattle.bi_fit.specs.TakenDigests.{algorithm_if_hashed, with_first_digest, images_with_digests_from}
-use Rattle.bi_fit.specs.Additions.{HasCellSize, AreWithin, properties_by_name, nodes_by_name, begin_events, sorted_images}
-use Rattle.bi_fit.proofs.Areas.{payloads_end-le}
-use Rattle.bi_fit.proofs.Adding.{begin_events-same}
+use Rattle.bi_fit.specs.NormalNodes.{HasCellSize, AreWithin, properties_by_name, nodes_by_name, begin_events, sorted_images}
+use Rattle.bi_fit.proofs.PayloadAreas.{payloads_end-le}
+use Rattle.bi_fit.proofs.AddedEvents.{begin_events-same}
 
 -- Image nodes that are added to a document.
 
@@ -28,7 +28,9 @@ abbrev pub child_begin : (hashed : Bool) → (digests : List ℕ) → Sibling Fi
 child_begin hashed digests s = begin_events s.name (child_properties hashed digests s)
 
 -- It begins with its name and its properties, in which the digest was set.
-pub child_begins : (hashed : Bool) (digests : List ℕ) (s : Sibling FileNode) (algo : Option Algo) (name : List ℕ) (read set : PropertyMap) → algo ≡ algorithm_if_hashed hashed s.name (properties_by_name s.own) → name ≡ s.name → read ≡ properties_by_name s.own → set ≡ with_first_digest algo digests read → begin_events name set ≡ child_begin hashed digests s
+pub child_begins : (hashed : Bool) (digests : List ℕ) (s : Sibling FileNode) (algo : Option Algo) (name : List ℕ) (read set : PropertyMap) →
+    algo ≡ algorithm_if_hashed hashed s.name (properties_by_name s.own) → name ≡ s.name → read ≡ properties_by_name s.own →
+    set ≡ with_first_digest algo digests read → begin_events name set ≡ child_begin hashed digests s
 child_begins hashed digests s algo name read set same_algo same_name is_read is_set =
     begin_events-same name s.name set (child_properties hashed digests s) same_name
     (is_set
@@ -36,7 +38,8 @@ child_begins hashed digests s algo name read set same_algo same_name is_read is_
     ∙ ap (with_first_digest (algorithm_if_hashed hashed s.name (properties_by_name s.own)) digests) is_read)
 
 -- Embedded payloads have no offsets.
-embedded_anywhere : (one other : ℕ) (payloads : List (Option (List ℕ))) (nodes : Nodes PropertyMap) → with_payloads Embedded one payloads nodes ≡ with_payloads Embedded other payloads nodes
+embedded_anywhere : (one other : ℕ) (payloads : List (Option (List ℕ))) (nodes : Nodes PropertyMap) →
+    with_payloads Embedded one payloads nodes ≡ with_payloads Embedded other payloads nodes
 embedded_anywhere one other [] nodes = refl
 embedded_anywhere one other (payload ∷ payloads) none = refl
 embedded_anywhere one other (None ∷ payloads) (node name own children later) =
@@ -50,14 +53,18 @@ next_end Embedded end payload = end
 next_end External end payload = end_after end payload
 
 -- The image nodes after the first.
-pub images-later : (hashes : Bool) (form : Form) (end : ℕ) (payload : Option (List ℕ)) (payloads : List (Option (List ℕ))) (digests : List ℕ) (nodes : Nodes FileNode) → sorted_images hashes form (end_after end payload) payloads digests nodes ≡ sorted_images hashes form (next_end form end payload) payloads digests nodes
+pub images-later : (hashes : Bool) (form : Form) (end : ℕ) (payload : Option (List ℕ)) (payloads : List (Option (List ℕ)))
+    (digests : List ℕ) (nodes : Nodes FileNode) →
+    sorted_images hashes form (end_after end payload) payloads digests nodes
+    ≡ sorted_images hashes form (next_end form end payload) payloads digests nodes
 images-later hashes Embedded end payload payloads digests nodes =
     ap (with_each entries)
     (embedded_anywhere (end_after end payload) end payloads (images_with_digests_from hashes payloads digests (without_payloads (nodes_by_name nodes))))
 images-later hashes External end payload payloads digests nodes = refl
 
 -- Where payloads are within the longest text, the size of the first fits a cell,
-pub within_sized : (form : Form) (end : ℕ) (payload : Option (List ℕ)) (payloads : List (Option (List ℕ))) → AreWithin form end (payload ∷ payloads) → HasCellSize form payload
+pub within_sized : (form : Form) (end : ℕ) (payload : Option (List ℕ)) (payloads : List (Option (List ℕ))) →
+    AreWithin form end (payload ∷ payloads) → HasCellSize form payload
 within_sized Embedded end payload payloads within = tt
 within_sized External end None payloads within = tt
 within_sized External end (Some payload) payloads within =
@@ -65,13 +72,15 @@ within_sized External end (Some payload) payloads within =
     omega (arith, within)
 
 -- the first ends within it,
-pub within_first : (form : Form) (end : ℕ) (payload : Option (List ℕ)) (payloads : List (Option (List ℕ))) → AreWithin form end (payload ∷ payloads) → end ≤ longest_text → next_end form end payload ≤ longest_text
+pub within_first : (form : Form) (end : ℕ) (payload : Option (List ℕ)) (payloads : List (Option (List ℕ))) →
+    AreWithin form end (payload ∷ payloads) → end ≤ longest_text → next_end form end payload ≤ longest_text
 within_first Embedded end payload payloads within small = small
 within_first External end payload payloads within small =
     let least : end_after end payload ≤ payloads_end (end_after end payload) payloads = payloads_end-le (end_after end payload) payloads in
     omega (arith, within)
 
 -- and the others are too.
-pub within_later : (form : Form) (end : ℕ) (payload : Option (List ℕ)) (payloads : List (Option (List ℕ))) → AreWithin form end (payload ∷ payloads) → AreWithin form (next_end form end payload) payloads
+pub within_later : (form : Form) (end : ℕ) (payload : Option (List ℕ)) (payloads : List (Option (List ℕ))) →
+    AreWithin form end (payload ∷ payloads) → AreWithin form (next_end form end payload) payloads
 within_later Embedded end payload payloads within = tt
 within_later External end payload payloads within = within

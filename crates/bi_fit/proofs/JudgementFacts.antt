@@ -17,7 +17,8 @@ use Rattle.bi_fit.specs.KnownJudgements.{configuration_lists, other_lists, defau
 -- What the definitions compute of small trees.
 
 -- A property of a list by its name.
-pub find-properties : (properties : List Property) (name : List ℕ) → get (from_entries {R = slice_cmp nat_cmp} properties) name ≡ find (slice_cmp nat_cmp) name properties
+pub find-properties : (properties : List Property) (name : List ℕ) →
+    get (from_entries {R = slice_cmp nat_cmp} properties) name ≡ find (slice_cmp nat_cmp) name properties
 find-properties properties name = get-from_entries nat_list_cmp_total properties name
 
 pub lists_are_read : ListsAreRead

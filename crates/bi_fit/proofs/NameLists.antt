@@ -23,12 +23,14 @@ names_listed (name ∷ later) no_zero =
     first_listed name (strings_of later) no_zero.0 ∙ ap (λ l. name ∷ l) (names_listed later no_zero.1)
 
 -- Where something is listed, a byte more is before it.
-byte_before : (byte : ℕ) (names : List (List ℕ)) (value : List ℕ) → strings_of names ≡ value → value ≢ [] → strings_of (with_byte byte names) ≡ byte ∷ value
+byte_before : (byte : ℕ) (names : List (List ℕ)) (value : List ℕ) → strings_of names ≡ value → value ≢ [] →
+    strings_of (with_byte byte names) ≡ byte ∷ value
 byte_before byte [] value same some = absurd (some (sym same))
 byte_before byte (name ∷ later) value same some = ap (λ l. byte ∷ l) same
 
 -- A value of two bytes or more ends as it does without the first.
-pub ends_later : (byte next : ℕ) (later : List ℕ) → ends_with nat_eq (byte ∷ next ∷ later) (0 ∷ []) ≡ ends_with nat_eq (next ∷ later) (0 ∷ [])
+pub ends_later : (byte next : ℕ) (later : List ℕ) →
+    ends_with nat_eq (byte ∷ next ∷ later) (0 ∷ []) ≡ ends_with nat_eq (next ∷ later) (0 ∷ [])
 ends_later byte next later =
     ap (λ n. pointwise nat_eq (0 ∷ []) (drop n (byte ∷ next ∷ later))) shorter
   where

@@ -1,4 +1,5 @@
-use Rattle.std.proofs.Common.{◌≡◌, ℕ, true, List, [], ◌∷◌, ◌++◌, map, flat_map, Option, Some, None, option_and_then, refl, sym, ap, ◌∙◌, ◌⊎◌, inl, inr, append-nil}
+use Rattle.std.proofs.Common.{◌≡◌, ℕ, true, List, [], ◌∷◌, ◌++◌, map, flat_map, Option, Some, None, option_and_then, refl, sym, ap, ◌∙◌}
+use Rattle.std.proofs.Common.{◌⊎◌, inl, inr, append-nil}
 use Rattle.bi_base.specs.Strings.{text_before_nul}
 use Rattle.bi_blob.specs.Tree.{Nodes, none, node, FileNode, properties_of}
 use Rattle.bi_blob.specs.Lookups.{Sibling, siblings, value_named}
@@ -9,16 +10,18 @@ use Rattle.bi_hash.specs.Digests.{digest_or_nothing}
 use Rattle.bi_fit.specs.declared.changes.Changes.{Changes}
 use Rattle.bi_fit.specs.Names.{algo_name, is_hash_name}
 use Rattle.bi_fit.specs.ImageTree.{without_payloads}
-use Rattle.bi_fit.specs.Content.{FitContent, ReadImage, tree_of}
+use Rattle.bi_fit.specs.Content.{FitModel, ImageModel, tree_of}
 use Rattle.bi_fit.specs.NewDigests.{hash_algorithm, digests_for, digests_of_image, digests_of_images, new_digests}
-use Rattle.bi_fit.specs.Nodes.{file_images}
-use Rattle.bi_fit.specs.Additions.{properties_by_name, nodes_by_name}
+use Rattle.bi_fit.specs.HashNodes.{file_images}
+use Rattle.bi_fit.specs.NormalNodes.{properties_by_name, nodes_by_name}
 use Rattle.bi_fit.proofs.FileNodes.{get-by_name, image_nodes_named}
 
 -- The digests that the hash nodes of an image tree that was read get by an update.
 
 -- The algorithm of a hash node is that of the name in its property `algo`.
-pub algorithm_named : (name read : List ℕ) (own : FileNode) → read ≡ name → is_hash_name read ≡ true → hash_algorithm name (properties_by_name own) ≡ option_and_then find_algorithm (option_and_then text_before_nul (value_named (properties_of own) algo_name))
+pub algorithm_named : (name read : List ℕ) (own : FileNode) → read ≡ name → is_hash_name read ≡ true →
+    hash_algorithm name (properties_by_name own)
+    ≡ option_and_then find_algorithm (option_and_then text_before_nul (value_named (properties_of own) algo_name))
 algorithm_named name read own same is =
     let here : is_hash_name name ≡ true = ap is_hash_name (sym same) ∙ is in
     rw here (ap (λ value. option_and_then find_algorithm (option_and_then text_before_nul value)) (get-by_name (properties_of own) algo_name))
@@ -34,7 +37,8 @@ file_digests payload children =
     flat_map (λ child. digest_if_both payload (hash_algorithm child.name (properties_by_name child.own))) children
 
 -- They are those for the nodes in the tree.
-pub digests_are : (payload : Option (List ℕ)) (nodes : Nodes FileNode) → file_digests payload (siblings nodes) ≡ digests_of_image payload (nodes_by_name nodes)
+pub digests_are : (payload : Option (List ℕ)) (nodes : Nodes FileNode) →
+    file_digests payload (siblings nodes) ≡ digests_of_image payload (nodes_by_name nodes)
 digests_are None none = refl
 digests_are None (node name own children later) = by_algorithm (hash_algorithm name (properties_by_name own)) (digests_are None later)
   where
@@ -49,14 +53,16 @@ digests_are (Some payload) (node name own children later) = by_algorithm (hash_a
     by_algorithm (Some algo) is rest = rw is (ap (λ l. digest_or_nothing algo (Some payload) ++ l) rest)
 
 -- The digests for the hash nodes of these image nodes, whose images were read.
-abbrev pub file_new_digests : List (Sibling FileNode) → List ReadImage → List ℕ
+abbrev pub file_new_digests : List (Sibling FileNode) → List ImageModel → List ℕ
 file_new_digests [] images = []
 file_new_digests (entry ∷ entries) [] = []
 file_new_digests (entry ∷ entries) (image ∷ images) =
     digests_of_image image.payload (nodes_by_name entry.children) ++ file_new_digests entries images
 
 -- They are those for the image nodes in the tree.
-images_are : (nodes : Nodes FileNode) (images : List ReadImage) → digests_of_images (map (λ image. image.payload) images) (without_payloads (nodes_by_name nodes)) ≡ file_new_digests (siblings nodes) images
+images_are : (nodes : Nodes FileNode) (images : List ImageModel) →
+    digests_of_images (map (λ image. image.payload) images) (without_payloads (nodes_by_name nodes))
+    ≡ file_new_digests (siblings nodes) images
 images_are none [] = refl
 images_are none (image ∷ images) = refl
 images_are (node name own children later) [] = refl
@@ -64,14 +70,16 @@ images_are (node name own children later) (image ∷ images) =
     ap (λ rest. digests_of_image image.payload (nodes_by_name children) ++ rest) (images_are later images)
 
 -- The digests are those of the tree.
-pub new_digests_are : (content : FitContent) (changes : Changes) → changes.hashes ≡ true → new_digests changes (tree_of content) ≡ file_new_digests (siblings (file_images content.blob)) content.images
+pub new_digests_are : (content : FitModel) (changes : Changes) → changes.hashes ≡ true →
+    new_digests changes (tree_of content) ≡ file_new_digests (siblings (file_images content.blob)) content.images
 new_digests_are content changes is =
     rw is
     (ap (digests_of_images (map (λ image. image.payload) content.images)) (image_nodes_named (root_of content.blob).children)
     ∙ images_are (file_images content.blob) content.images)
 
 -- After the last image nothing is added.
-pub after_last_image : (entries : List (Sibling FileNode)) (images : List ReadImage) (done : List ℕ) → (entries ≡ []) ⊎ (images ≡ []) → done ++ file_new_digests entries images ≡ done
+pub after_last_image : (entries : List (Sibling FileNode)) (images : List ImageModel) (done : List ℕ) → (entries ≡ []) ⊎ (images ≡ []) →
+    done ++ file_new_digests entries images ≡ done
 after_last_image entries images done (inl no_entries) = ap (λ l. done ++ file_new_digests l images) no_entries ∙ append-nil done
 after_last_image entries images done (inr no_images) = ap (λ l. done ++ file_new_digests entries l) no_images ∙ by_entries entries
   where

@@ -2,9 +2,9 @@ use Rattle.std.proofs.Common.{◌≡◌, ℕ, List, ◌∷◌, ◌++◌, Option,
 use Rattle.bi_blob.specs.Tree.{Nodes, none, node, Property}
 use Rattle.bi_blob.specs.Lookups.{Sibling, node_at}
 use Rattle.bi_blob.specs.Events.{NodeStart, events}
-use Rattle.bi_lay.specs.Contents.{Content}
-use Rattle.bi_fit.specs.Additions.{with_events, MayAdd}
-use Rattle.bi_fit.proofs.Adding.{with_events-none, with_events-append, MayAdd-front, MayAdd-back}
+use Rattle.bi_lay.specs.Contents.{Doc}
+use Rattle.bi_fit.specs.NormalNodes.{with_events, MayAdd}
+use Rattle.bi_fit.proofs.AddedEvents.{with_events-none, with_events-append, MayAdd-front, MayAdd-back}
 
 -- Nodes that are added to a document in turn.
 
@@ -19,30 +19,32 @@ nodes_from_first none = refl
 nodes_from_first (node name own children later) = refl
 
 -- The events of a node and of those after it.
-events-first : (name : List ℕ) (own : List Property) (children later : Nodes (List Property)) → events (node name own children later) ≡ events (node name own children none) ++ events later
+events-first : (name : List ℕ) (own : List Property) (children later : Nodes (List Property)) →
+    events (node name own children later) ≡ events (node name own children none) ++ events later
 events-first name own children later = ap (λ l. NodeStart name ∷ l) (simp append_assoc refl)
 
 -- Nodes are left to be added to a document, which it may be, and it is another with them.
-pub record IsAdding (document target : Content) (left : Nodes (List Property)) : Type 0 where
+pub record IsAdding (document target : Doc) (left : Nodes (List Property)) : Type 0 where
   pub added : with_events document (events left) ≡ target
   pub may : MayAdd document (events left)
 
 -- At first it is all of them.
-pub adding_all : (document : Content) (nodes : Nodes (List Property)) → MayAdd document (events nodes) → IsAdding document (with_events document (events nodes)) nodes
+pub adding_all : (document : Doc) (nodes : Nodes (List Property)) → MayAdd document (events nodes) →
+    IsAdding document (with_events document (events nodes)) nodes
 adding_all document nodes may = record { added = refl; may = may }
 
 -- In the end it is none.
-pub adding_none : (document target : Content) → IsAdding document target none → document ≡ target
+pub adding_none : (document target : Doc) → IsAdding document target none → document ≡ target
 adding_none document target adding = sym (with_events-none document) ∙ adding.added
 
-module _ (document target : Content) (name : List ℕ) (own : List Property) (children later : Nodes (List Property)) (adding : IsAdding document target (node name own children later)) where
+module _ (document target : Doc) (name : List ℕ) (own : List Property) (children later : Nodes (List Property)) (adding : IsAdding document target (node name own children later)) where
   -- The first of them may be added,
   pub may_add_first : MayAdd document (events (node name own children none))
   may_add_first =
       MayAdd-front document (events (node name own children none)) (events later) (subst (MayAdd document) (events-first name own children later) adding.may)
 
   -- and then the others are left.
-  pub adding_later : (more : Content) → more ≡ with_events document (events (node name own children none)) → IsAdding more target later
+  pub adding_later : (more : Doc) → more ≡ with_events document (events (node name own children none)) → IsAdding more target later
   adding_later more is = record {
     added = ap (λ document. with_events document (events later)) is
         ∙ with_events-append document (events (node name own children none)) (events later)

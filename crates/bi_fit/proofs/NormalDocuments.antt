@@ -3,7 +3,7 @@ use Rattle.std.specs.Result.{IfErr, IsErrAnd}
 use Rattle.bi_base.specs.declared.fault.Error.{Error}
 use Rattle.bi_base.specs.declared.fault.Error.TheVariants.{Refused}
 use Rattle.bi_base.specs.declared.fault.Fault.{Fault}
-use Rattle.bi_base.specs.Limits.{Bounds}
+use Rattle.bi_base.specs.Limits.{Limits}
 use Rattle.bi_base.specs.Reading.{too_large}
 use Rattle.bi_base.proofs.Refusals.{error_passed_on}
 use Rattle.bi_blob.specs.Tree.{FileNode, EachOwn}
@@ -11,27 +11,28 @@ use Rattle.bi_blob.specs.Lookups.{Sibling, root_node}
 use Rattle.bi_blob.specs.Events.{Event, events, events_of}
 use Rattle.bi_blob.specs.Stages.{AfterRoot}
 use Rattle.bi_blob.specs.Following.{stage_of_events}
-use Rattle.bi_fdt.specs.Content.{BlobContent, root_of}
-use Rattle.bi_lay.specs.Contents.{Content, empty_content, text_of}
+use Rattle.bi_fdt.specs.Content.{Blob, root_of}
+use Rattle.bi_lay.specs.Contents.{Doc, empty_content, text_of}
 use Rattle.bi_fit.specs.declared.changes.Changes.{Changes}
 use Rattle.bi_fit.specs.declared.form.Form.{Form}
 use Rattle.bi_fit.specs.declared.form.Form.TheVariants.{External}
 use Rattle.bi_fit.specs.declared.image.Image.{Image}
 use Rattle.bi_fit.specs.ImageTree.{ImageTree}
 use Rattle.bi_fit.specs.Text.{normal_tree, payloads_end, blob_of, fit_text}
-use Rattle.bi_fit.specs.Content.{FitContent, read_image, tree_of, IsHeld}
-use Rattle.bi_fit.specs.Updating.{updated}
+use Rattle.bi_fit.specs.Content.{FitModel, image_model, tree_of, IsHeld}
+use Rattle.bi_fit.specs.Updating.{with_changes}
 use Rattle.bi_fit.specs.NewDigests.{new_digests}
 use Rattle.bi_fit.specs.Documents.{document_of, length_after_blob, IsDocumentError}
-use Rattle.bi_fit.specs.Additions.{MayAdd, with_events, with_reservations, HasDistinctNames, HaveImageNodes, AreImageNodes, alone, payloads_of, sorted_root}
+use Rattle.bi_fit.specs.NormalNodes.{MayAdd, with_events, with_reservations, HasDistinctNames, HaveImageNodes, AreImageNodes, alone}
+use Rattle.bi_fit.specs.NormalNodes.{payloads_of, sorted_root}
 use Rattle.bi_fit.proofs.NormalTrees.{held_distinct, held_images, held_events, held_closed, length-fit_text}
 
 -- The document of a normal text, as it is built of a blob, its root and its images.
 
-module _ (content : FitContent) (held : IsHeld content) (changes : Changes) (form : Form)
+module _ (content : FitModel) (held : IsHeld content) (changes : Changes) (form : Form)
     (digests : List ℕ) (is_digests : digests ≡ new_digests changes (tree_of content))
-    (blob : BlobContent) (is_blob : blob ≡ content.blob)
-    (images : List Image) (is_images : map read_image images ≡ content.images)
+    (blob : Blob) (is_blob : blob ≡ content.blob)
+    (images : List Image) (is_images : map image_model images ≡ content.images)
     (root : Sibling FileNode) (is_root : root ≡ root_node (root_of blob)) where
   same_root : root ≡ root_node (root_of content.blob)
   same_root = is_root ∙ ap (λ blob. root_node (root_of blob)) is_blob
@@ -50,14 +51,14 @@ module _ (content : FitContent) (held : IsHeld content) (changes : Changes) (for
   abbrev pub tree_events : List Event
   tree_events = events (sorted_root changes form (payloads_of images) digests root)
 
-  same_events : tree_events ≡ events_of (normal_tree form (updated changes (tree_of content)))
+  same_events : tree_events ≡ events_of (normal_tree form (with_changes changes (tree_of content)))
   same_events =
       ap (λ payloads. events (sorted_root changes form payloads digests root)) (ap (map (λ image. image.payload)) is_images)
       ∙ ap (λ root. events (sorted_root changes form (tree_of content).payloads digests root)) same_root
       ∙ held_events content held changes digests is_digests form
 
   module _ (cpu : ℕ) (is_cpu : cpu ≡ blob.cpu)
-      (started reserved : Content) (is_started : started ≡ empty_content cpu) (is_reserved : reserved ≡ with_reservations started blob.reservations) where
+      (started reserved : Doc) (is_started : started ≡ empty_content cpu) (is_reserved : reserved ≡ with_reservations started blob.reservations) where
     same_reserved : reserved ≡ with_reservations (empty_content cpu) blob.reservations
     same_reserved = is_reserved ∙ ap (λ document. with_reservations document blob.reservations) is_started
 
@@ -65,39 +66,45 @@ module _ (content : FitContent) (held : IsHeld content) (changes : Changes) (for
     pub may_add_tree : MayAdd reserved tree_events
     may_add_tree =
         subst (MayAdd reserved) (sym same_events)
-        (subst (λ document. MayAdd document (events_of (normal_tree form (updated changes (tree_of content))))) (sym same_reserved)
+        (subst (λ document. MayAdd document (events_of (normal_tree form (with_changes changes (tree_of content))))) (sym same_reserved)
         (held_closed content held changes digests is_digests form).follow)
 
     -- Then the document is the one of the normal text.
-    pub is_document_of : (filled : Content) → filled ≡ with_events reserved tree_events → filled ≡ document_of form (updated changes (tree_of content))
+    pub is_document_of : (filled : Doc) → filled ≡ with_events reserved tree_events → filled ≡ document_of form (with_changes changes (tree_of content))
     is_document_of filled is_filled =
         is_filled
         ∙ ap (λ document. with_events document tree_events) same_reserved
         ∙ ap (with_events (with_reservations (empty_content cpu) blob.reservations)) same_events
-        ∙ ap (λ cpu. record { boot_cpu = cpu; reservations = blob.reservations; events = events_of (normal_tree form (updated changes (tree_of content))) }) (is_cpu ∙ ap (λ blob. blob.cpu) is_blob)
-        ∙ ap (λ reservations. record { boot_cpu = content.blob.cpu; reservations = reservations; events = events_of (normal_tree form (updated changes (tree_of content))) }) (ap (λ blob. blob.reservations) is_blob)
+        ∙ ap (λ cpu. record { boot_cpu = cpu; reservations = blob.reservations; events = events_of (normal_tree form (with_changes changes (tree_of content))) }) (is_cpu ∙ ap (λ blob. blob.cpu) is_blob)
+        ∙ ap (λ reservations. record { boot_cpu = content.blob.cpu; reservations = reservations; events = events_of (normal_tree form (with_changes changes (tree_of content))) }) (ap (λ blob. blob.reservations) is_blob)
 
 -- The root of the document has ended.
-pub document_closed : (content : FitContent) → IsHeld content → (changes : Changes) (form : Form) (digests : List ℕ) → digests ≡ new_digests changes (tree_of content) → (filled : Content) → filled ≡ document_of form (updated changes (tree_of content)) → stage_of_events filled.events ≡ AfterRoot
+pub document_closed : (content : FitModel) → IsHeld content → (changes : Changes) (form : Form) (digests : List ℕ) →
+    digests ≡ new_digests changes (tree_of content) → (filled : Doc) → filled ≡ document_of form (with_changes changes (tree_of content)) →
+    stage_of_events filled.events ≡ AfterRoot
 document_closed content held changes form digests is_digests filled is =
     subst (λ document. stage_of_events document.events ≡ AfterRoot) (sym is) (held_closed content held changes digests is_digests form).closed
 
 -- Its text and the payloads after it are the normal text.
-pub length-document : (form : Form) (tree : ImageTree) (filled : Content) (after : ℕ) → filled ≡ document_of form tree → after ≡ length_after_blob form tree.payloads → length (text_of filled) + after ≡ length (fit_text form tree)
+pub length-document : (form : Form) (tree : ImageTree) (filled : Doc) (after : ℕ) → filled ≡ document_of form tree →
+    after ≡ length_after_blob form tree.payloads → length (text_of filled) + after ≡ length (fit_text form tree)
 length-document form tree filled after is is_after =
     ap (λ document. length (text_of document) + after) is
     ∙ ap (λ n. length (text_of (document_of form tree)) + n) is_after
     ∙ sym (length-fit_text form tree)
 
 -- A normal text is too long where the payloads after its blob are.
-pub payloads_too_long : (form : Form) (tree : ImageTree) (payloads : List (Option (List ℕ))) (limit : ℕ) → form ≡ External → payloads ≡ tree.payloads → limit < payloads_end 0 payloads → limit < length (fit_text form tree)
+pub payloads_too_long : (form : Form) (tree : ImageTree) (payloads : List (Option (List ℕ))) (limit : ℕ) → form ≡ External →
+    payloads ≡ tree.payloads → limit < payloads_end 0 payloads → limit < length (fit_text form tree)
 payloads_too_long form tree payloads limit is_form same late =
     let is_length : length (fit_text External tree) ≡ length (blob_of External tree) + payloads_end 0 tree.payloads = length-fit_text External tree in
     let late_there : limit < payloads_end 0 tree.payloads = subst (λ payloads. limit < payloads_end 0 payloads) same late in
     subst (λ form. limit < length (fit_text form tree)) (sym is_form) (omega arith)
 
 -- The fault of a normal text that is too long is passed on.
-pub too_long : {A : Type 0} (r : Result A Error) (limits : Bounds) (form : Form) (tree : ImageTree) (limit : ℕ) (fault : Fault) → limit ≡ limits.file → IsErrAnd r (λ error. error ≡ Refused fault) → fault ≡ too_large limit → limit < length (fit_text form tree) → IfErr r (IsDocumentError limits form tree)
-too_long r limits form tree limit fault is_limit is is_fault late =
+pub normal_text_too_long : {A : Type 0} (r : Result A Error) (limits : Limits) (form : Form) (tree : ImageTree) (limit : ℕ)
+    (fault : Fault) → limit ≡ limits.file → IsErrAnd r (λ error. error ≡ Refused fault) → fault ≡ too_large limit →
+    limit < length (fit_text form tree) → IfErr r (IsDocumentError limits form tree)
+normal_text_too_long r limits form tree limit fault is_limit is is_fault late =
     error_passed_on r (Refused fault) (IsDocumentError limits form tree) is
     (is_fault ∙ ap too_large is_limit, subst (λ n. n < length (fit_text form tree)) is_limit late)

@@ -3,9 +3,9 @@ use Rattle.std.proofs.Math.Seq.{drop-cons}
 use Rattle.bi_fit.specs.declared.image.Image.{Image}
 use Rattle.bi_fit.specs.declared.image.Place.TheVariants.{Absent}
 use Rattle.bi_fit.specs.Text.{payloads_end, end_after}
-use Rattle.bi_fit.specs.Content.{read_image}
-use Rattle.bi_fit.specs.Additions.{payloads_of}
-use Rattle.bi_fit.proofs.Areas.{payloads_end-le}
+use Rattle.bi_fit.specs.Content.{image_model}
+use Rattle.bi_fit.specs.NormalNodes.{payloads_of}
+use Rattle.bi_fit.proofs.PayloadAreas.{payloads_end-le}
 
 -- Where the payloads of images end.
 
@@ -15,13 +15,15 @@ no_image = record { name = record { ref_ptr = (0, 0); now = [] }; payload = None
 
 module _ (images : List Image) (index : ℕ) (within : index < length images) where
   -- The payloads from an image on are its payload and those after it.
-  pub payloads_from : payloads_of (drop index images) ≡ (read_image (get_or images index no_image)).payload ∷ payloads_of (drop (index + 1) images)
+  pub payloads_from : payloads_of (drop index images)
+      ≡ (image_model (get_or images index no_image)).payload ∷ payloads_of (drop (index + 1) images)
   payloads_from =
       let cons : drop index images ≡ get_or images index no_image ∷ drop (index + 1) images = rw add-one (drop-cons images index no_image within) in
       ap payloads_of cons
 
   -- Where they end is not before the end of this payload.
-  pub one_end-le : (end : ℕ) → end_after end (read_image (get_or images index no_image)).payload ≤ payloads_end end (payloads_of (drop index images))
+  pub one_end-le : (end : ℕ) → end_after end (image_model (get_or images index no_image)).payload
+      ≤ payloads_end end (payloads_of (drop index images))
   one_end-le end =
-      subst (λ payloads. end_after end (read_image (get_or images index no_image)).payload ≤ payloads_end end payloads) (sym payloads_from)
-      (payloads_end-le (end_after end (read_image (get_or images index no_image)).payload) (payloads_of (drop (index + 1) images)))
+      subst (λ payloads. end_after end (image_model (get_or images index no_image)).payload ≤ payloads_end end payloads) (sym payloads_from)
+      (payloads_end-le (end_after end (image_model (get_or images index no_image)).payload) (payloads_of (drop (index + 1) images)))

@@ -7,7 +7,7 @@ use Rattle.bi_base.specs.declared.fault.Error.{Error}
 use Rattle.bi_base.specs.declared.fault.Error.TheVariants.{Refused, OutOfMemory, ReadFailed, WriteFailed}
 use Rattle.bi_base.specs.declared.fault.Fault.{Fault}
 use Rattle.bi_base.specs.Checks.{IsFirstFault}
-use Rattle.bi_base.specs.Limits.{Bounds}
+use Rattle.bi_base.specs.Limits.{Limits}
 use Rattle.bi_base.specs.Errors.{IsRefusal}
 use Rattle.bi_blob.specs.Tree.{Nodes, none, node, FileProperty, FileNode}
 use Rattle.bi_blob.specs.Lookups.{Sibling, siblings, root_node, node_named, property_named}
@@ -17,25 +17,27 @@ use Rattle.bi_blob.specs.Following.{most_open_nodes}
 use Rattle.bi_blob.proofs.Blobs.OneBlob.{one_blob}
 use Rattle.bi_blob.proofs.Blobs.Faults.{blob_has_no_fault}
 use Rattle.bi_fdt.specs.declared.node.NodeRef.{NodeRef}
-use Rattle.bi_fdt.specs.Content.{BlobContent, root_of}
+use Rattle.bi_fdt.specs.Content.{Blob, root_of}
 use Rattle.bi_fdt.specs.Views.{node_of}
 use Rattle.bi_fit.specs.Names.{images_name, data_name}
 use Rattle.bi_fit.specs.ImageTree.{image_nodes, nodes_or_none, each_own}
 use Rattle.bi_fit.specs.Payloads.{HasPayload}
 use Rattle.bi_fit.specs.File.{FitMeans}
 use Rattle.bi_fit.specs.Faults.{FitPasses, fit_fault, image_checks, images_checks, InTree}
-use Rattle.bi_fit.specs.Content.{ReadImage, FitContent, tree_of, IsReadImage, IsHeld}
+use Rattle.bi_fit.specs.Content.{ImageModel, FitModel, tree_of, IsReadImage, IsHeld}
 use Rattle.bi_fit.specs.Reading.{IsReadFrom, IsFitReadError, IsOnlyFitFault}
 use Rattle.bi_fit.specs.Images.{HasDataInFile}
-use Rattle.bi_fit.proofs.Faults.{meaning_has_no_fault}
-use Rattle.bi_fit.proofs.Meanings.{one_meaning}
-use Rattle.bi_fit.proofs.Values.{HaveValues, named_value, image_values}
-use Rattle.bi_fit.proofs.ReadErrors.{only_fault, none_before_tree}
+use Rattle.bi_fit.proofs.Faults.{fit_has_no_fault}
+use Rattle.bi_fit.proofs.Meanings.{one_fit_meaning}
+use Rattle.bi_fit.proofs.FilePayloads.{HaveValues, named_value, image_values}
+use Rattle.bi_fit.proofs.ReadErrors.{only_fit_fault, none_before_tree}
 
 -- What is read of a blob within limits.
 
 -- The image nodes of a blob, by its node `images`.
-pub found_images : (root : NodeRef) (blob : BlobContent) (child : Option NodeRef) → node_of root ≡ root_node (root_of blob) → option_map node_of child ≡ node_named (node_of root).children images_name → image_nodes (root_of blob) ≡ option_map (λ images. (node_of images).children) child
+pub found_images : (root : NodeRef) (blob : Blob) (child : Option NodeRef) → node_of root ≡ root_node (root_of blob) →
+    option_map node_of child ≡ node_named (node_of root).children images_name →
+    image_nodes (root_of blob) ≡ option_map (λ images. (node_of images).children) child
 found_images root blob child is_root is_child =
     ap (λ (node : Sibling FileNode). option_map (λ (images : Sibling FileNode). images.children) (node_named node.children images_name)) (sym is_root)
     ∙ ap (option_map (λ (images : Sibling FileNode). images.children)) (sym is_child)
@@ -46,7 +48,8 @@ found_images root blob child is_root is_child =
     by (Some child) = refl
 
 -- Nodes that have the values of their properties in the file begin their `data` there.
-have_data : (file : List ℕ) (nodes : Nodes FileNode) → HaveValues file nodes → AllByRecursion (λ sibling. HasDataInFile file sibling.own) (siblings nodes)
+have_data : (file : List ℕ) (nodes : Nodes FileNode) → HaveValues file nodes →
+    AllByRecursion (λ sibling. HasDataInFile file sibling.own) (siblings nodes)
 have_data file none values = tt
 have_data file (node name own children later) values =
     (by_search (property_named own.properties data_name) refl, have_data file later values.2)
@@ -58,14 +61,15 @@ have_data file (node name own children later) values =
         omega (arith, value.in_file)
 
 -- The payloads of images that are read.
-pub read_payloads : (file : List ℕ) (nodes : Nodes FileNode) (images : List ReadImage) → AllZip (IsReadImage file) (siblings nodes) images → AllZip (HasPayload file) (each_own nodes) (map (λ image. image.payload) images)
+pub read_payloads : (file : List ℕ) (nodes : Nodes FileNode) (images : List ImageModel) →
+    AllZip (IsReadImage file) (siblings nodes) images → AllZip (HasPayload file) (each_own nodes) (map (λ image. image.payload) images)
 read_payloads file none [] are = tt
 read_payloads file none (image ∷ images) are = absurd are
 read_payloads file (node name own children later) [] are = absurd are
 read_payloads file (node name own children later) (image ∷ images) are =
     (are.0.payload, read_payloads file later images are.1)
 
-module _ (limits : Bounds) (file : List ℕ) (blob : BlobContent) (accepts : IsBlobWithin limits file) (is : IsBlob file blob.cpu blob.reservations (root_of blob)) where
+module _ (limits : Limits) (file : List ℕ) (blob : Blob) (accepts : IsBlobWithin limits file) (is : IsBlob file blob.cpu blob.reservations (root_of blob)) where
   -- The tree of the blob is within the limits.
   within : IsWithin limits file (root_of blob)
   within = subst (IsWithin limits file) (one_blob file accepts.cpu blob.cpu accepts.reservations blob.reservations accepts.root (root_of blob) accepts.blob is).same_root accepts.within
@@ -75,9 +79,10 @@ module _ (limits : Bounds) (file : List ℕ) (blob : BlobContent) (accepts : IsB
   out_of_memory = none_before_tree limits file (λ fault. blob_has_no_fault limits file fault accepts)
 
   -- There is no child `images`.
-  pub no_images : image_nodes (root_of blob) ≡ None → IsOnlyFitFault limits file (record { cause = NoImages; offset = (root_of blob).own.place })
+  pub no_images : image_nodes (root_of blob) ≡ None →
+      IsOnlyFitFault limits file (record { cause = NoImages; offset = (root_of blob).own.place })
   no_images has =
-      only_fault limits file (record { cause = NoImages; offset = (root_of blob).own.place })
+      only_fit_fault limits file (record { cause = NoImages; offset = (root_of blob).own.place })
       (InTree blob.cpu blob.reservations (root_of blob) is within (inl (fails, refl)))
     where
       fails : ¬ (IsSome (image_nodes (root_of blob)))
@@ -91,7 +96,7 @@ module _ (limits : Bounds) (file : List ℕ) (blob : BlobContent) (accepts : IsB
     -- A fault of the image nodes is that of the file.
     images_fault : (fault : Fault) → IsFirstFault (FitPasses file) fit_fault (image_checks file images) fault → IsOnlyFitFault limits file fault
     images_fault fault first =
-        only_fault limits file fault
+        only_fit_fault limits file fault
         (InTree blob.cpu blob.reservations (root_of blob) is within
         (inr (rw has refl, subst (λ nodes. IsFirstFault (FitPasses file) fit_fault (images_checks file nodes) fault) (sym has) first)))
 
@@ -102,9 +107,9 @@ module _ (limits : Bounds) (file : List ℕ) (blob : BlobContent) (accepts : IsB
     images_error ReadFailed refused = refused
     images_error WriteFailed refused = refused
 
-    module _ (read : List ReadImage) (are : AllZip (IsReadImage file) (siblings images) read) where
+    module _ (read : List ImageModel) (are : AllZip (IsReadImage file) (siblings images) read) where
       -- What is read.
-      abbrev content : FitContent
+      abbrev content : FitModel
       content = record { blob = blob; images = read }
 
       -- The file means it.
@@ -133,6 +138,6 @@ module _ (limits : Bounds) (file : List ℕ) (blob : BlobContent) (accepts : IsB
         held = held;
         means = means;
         same_root = refl;
-        only = λ other other_means. one_meaning file other (tree_of content) other_means.is_file means.is_file;
-        no_fault = λ fault faulty. meaning_has_no_fault limits file (tree_of content) fault means faulty;
+        only = λ other other_means. one_fit_meaning file other (tree_of content) other_means.is_file means.is_file;
+        no_fault = λ fault faulty. fit_has_no_fault limits file (tree_of content) fault means faulty;
       }

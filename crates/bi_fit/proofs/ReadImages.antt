@@ -6,7 +6,7 @@ use Rattle.bi_blob.specs.Tree.{Nodes, none, node, FileNode}
 use Rattle.bi_blob.specs.Lookups.{Sibling, siblings}
 use Rattle.bi_fit.specs.Payloads.{source_of}
 use Rattle.bi_fit.specs.Faults.{FitCheck, FitPasses, fit_fault, source_checks, image_checks}
-use Rattle.bi_fit.specs.Content.{ReadImage, IsReadImage}
+use Rattle.bi_fit.specs.Content.{ImageModel, IsReadImage}
 use Rattle.bi_fit.specs.Images.{HasDataInFile}
 use Rattle.bi_fit.proofs.Faults.{source_passes}
 use Rattle.bi_base.proofs.FirstFault.{IsFirstFault-after, IsFirstFault-front}
@@ -24,13 +24,14 @@ siblings_have_checks file (node name own children later) =
     ap (λ checks. source_checks file (source_of own) ++ checks) (siblings_have_checks file later)
 
 -- Image nodes of which these images were read, and these nodes are left.
-pub record AreReadTo (file : List ℕ) (nodes : Nodes FileNode) (images : List ReadImage) (left : List (Sibling FileNode)) : Type 0 where
+pub record AreReadTo (file : List ℕ) (nodes : Nodes FileNode) (images : List ImageModel) (left : List (Sibling FileNode)) : Type 0 where
   pub have_data : AllByRecursion (λ sibling. HasDataInFile file sibling.own) left
-  pub read : (later : List ReadImage) → AllZip (IsReadImage file) left later → AllZip (IsReadImage file) (siblings nodes) (images ++ later)
+  pub read : (later : List ImageModel) → AllZip (IsReadImage file) left later → AllZip (IsReadImage file) (siblings nodes) (images ++ later)
   pub fault : (fault : Fault) → IsFirstFault (FitPasses file) fit_fault (sibling_checks file left) fault → IsFirstFault (FitPasses file) fit_fault (image_checks file nodes) fault
 
 -- All are left at first.
-pub none_read : (file : List ℕ) (nodes : Nodes FileNode) (left : List (Sibling FileNode)) → left ≡ siblings nodes → AllByRecursion (λ sibling. HasDataInFile file sibling.own) (siblings nodes) → AreReadTo file nodes [] left
+pub none_read : (file : List ℕ) (nodes : Nodes FileNode) (left : List (Sibling FileNode)) → left ≡ siblings nodes →
+    AllByRecursion (λ sibling. HasDataInFile file sibling.own) (siblings nodes) → AreReadTo file nodes [] left
 none_read file nodes left same have_data = record {
   have_data = subst (AllByRecursion (λ sibling. HasDataInFile file sibling.own)) (sym same) have_data;
   read = λ later read. subst (λ siblings. AllZip (IsReadImage file) siblings later) same read;
@@ -39,20 +40,21 @@ none_read file nodes left same have_data = record {
       (subst (λ siblings. IsFirstFault (FitPasses file) fit_fault (sibling_checks file siblings) fault) same first);
 }
 
-module _ (file : List ℕ) (nodes : Nodes FileNode) (images : List ReadImage) (all left : List (Sibling FileNode)) (child : Sibling FileNode) (is_first : all ≡ child ∷ left) (are : AreReadTo file nodes images all) where
+module _ (file : List ℕ) (nodes : Nodes FileNode) (images : List ImageModel) (all left : List (Sibling FileNode)) (child : Sibling FileNode) (is_first : all ≡ child ∷ left) (are : AreReadTo file nodes images all) where
   -- The first of them begins its `data` in the file.
   pub has_data : HasDataInFile file child.own
   has_data = (subst (AllByRecursion (λ sibling. HasDataInFile file sibling.own)) is_first are.have_data).0
 
   -- A fault of the first of them is that of all.
-  pub child_fault : (fault : Fault) → IsFirstFault (FitPasses file) fit_fault (source_checks file (source_of child.own)) fault → IsFirstFault (FitPasses file) fit_fault (image_checks file nodes) fault
+  pub child_fault : (fault : Fault) → IsFirstFault (FitPasses file) fit_fault (source_checks file (source_of child.own)) fault →
+      IsFirstFault (FitPasses file) fit_fault (image_checks file nodes) fault
   child_fault fault first =
       are.fault fault
       (subst (λ siblings. IsFirstFault (FitPasses file) fit_fault (sibling_checks file siblings) fault) (sym is_first)
       (IsFirstFault-front (FitPasses file) fit_fault (source_checks file (source_of child.own)) (sibling_checks file left) fault first))
 
   -- The first of them is read.
-  pub one_more : (image : ReadImage) → IsReadImage file child image → AreReadTo file nodes (images ++ image ∷ []) left
+  pub one_more : (image : ImageModel) → IsReadImage file child image → AreReadTo file nodes (images ++ image ∷ []) left
   one_more image is = record {
     have_data = (subst (AllByRecursion (λ sibling. HasDataInFile file sibling.own)) is_first are.have_data).1;
     read = λ later read.
@@ -67,5 +69,6 @@ module _ (file : List ℕ) (nodes : Nodes FileNode) (images : List ReadImage) (a
   }
 
 -- None is left at last.
-pub all_read : (file : List ℕ) (nodes : Nodes FileNode) (images : List ReadImage) → AreReadTo file nodes images [] → AllZip (IsReadImage file) (siblings nodes) images
+pub all_read : (file : List ℕ) (nodes : Nodes FileNode) (images : List ImageModel) → AreReadTo file nodes images [] →
+    AllZip (IsReadImage file) (siblings nodes) images
 all_read file nodes images are = subst (AllZip (IsReadImage file) (siblings nodes)) (append-nil images) (are.read [] tt)

@@ -4,15 +4,15 @@ use Rattle.std.specs.List.{AllZip}
 use Rattle.bi_blob.specs.Tree.{Nodes, Property, with_each, tree_without_order}
 use Rattle.bi_blob.specs.Layout.{with_places}
 use Rattle.bi_blob.proofs.Blobs.EventTrees.{same_events}
-use Rattle.bi_lay.specs.Contents.{Content}
+use Rattle.bi_lay.specs.Contents.{Doc}
 use Rattle.bi_fit.specs.declared.form.Form.TheVariants.{Embedded}
 use Rattle.bi_fit.specs.ImageTree.{ImageTree, IsImageTree, each_own, image_nodes, tree_without_payloads}
 use Rattle.bi_fit.specs.Payloads.{HasPayload}
 use Rattle.bi_fit.specs.Text.{with_payloads, normal_tree}
-use Rattle.bi_fit.specs.Content.{FitContent, tree_of, IsHeld}
+use Rattle.bi_fit.specs.Content.{FitModel, tree_of, IsHeld}
 use Rattle.bi_fit.specs.Documents.{document_of}
 use Rattle.bi_fit.proofs.Meanings.{same_in_some, one_list}
-use Rattle.bi_fit.proofs.Areas.{embedded_are_there, have_payloads}
+use Rattle.bi_fit.proofs.PayloadAreas.{embedded_are_there, have_payloads}
 use Rattle.bi_fit.proofs.FileTrees.{is_image_tree}
 use Rattle.bi_fit.proofs.NormalTrees.{held_means}
 use Rattle.bi_fit.proofs.Texts.{normal_images, normal_root}
@@ -24,7 +24,8 @@ abbrev document_images : (tree : ImageTree) → IsImageTree tree → Nodes (List
 document_images tree is = with_each entries (with_payloads Embedded 0 tree.payloads is.images)
 
 -- They have the payloads, whatever the file.
-document_payloads : (tree : ImageTree) (is : IsImageTree tree) → AllZip (HasPayload []) (each_own (with_places 0 (document_images tree is))) tree.payloads
+document_payloads : (tree : ImageTree) (is : IsImageTree tree) →
+    AllZip (HasPayload []) (each_own (with_places 0 (document_images tree is))) tree.payloads
 document_payloads tree is = have_payloads Embedded [] 0 0 tree.payloads is.images is.apart (embedded_are_there [] 0 tree.payloads)
 
 -- Image trees whose documents have the same nodes are the same but for the boot processor and the memory reservations.
@@ -46,7 +47,8 @@ module _ (one other : ImageTree) (is : IsImageTree one) (is_other : IsImageTree 
       (subst (λ nodes. AllZip (HasPayload []) (each_own (with_places 0 nodes)) other.payloads) (sym same_images) (document_payloads other is_other))
 
 -- Image trees with one document are the same.
-same_document : (one other : ImageTree) → IsImageTree one → IsImageTree other → document_of Embedded one ≡ document_of Embedded other → one ≡ other
+same_document : (one other : ImageTree) → IsImageTree one → IsImageTree other → document_of Embedded one ≡ document_of Embedded other →
+    one ≡ other
 same_document one other is is_other same =
     let nodes : normal_tree Embedded one ≡ normal_tree Embedded other =
     same_events (normal_tree Embedded one) (normal_tree Embedded other) (ap (λ document. document.events) same) in
@@ -57,7 +59,9 @@ same_document one other is is_other same =
     λ i. record { cpu = cpu i; reservations = reservations i; root = root i; payloads = payloads i }
 
 -- What two files mean is the same exactly if their documents are.
-pub tells_meaning : (content other : FitContent) → IsHeld content → IsHeld other → (document other_document : Content) (same : Bool) → document ≡ document_of Embedded (tree_of content) → other_document ≡ document_of Embedded (tree_of other) → IsTrue same ↔ (document ≡ other_document) → IsTrue same ↔ (tree_of content ≡ tree_of other)
+pub tells_meaning : (content other : FitModel) → IsHeld content → IsHeld other → (document other_document : Doc) (same : Bool) →
+    document ≡ document_of Embedded (tree_of content) → other_document ≡ document_of Embedded (tree_of other) →
+    IsTrue same ↔ (document ≡ other_document) → IsTrue same ↔ (tree_of content ≡ tree_of other)
 tells_meaning content other held held_other document other_document same is is_other tells = (
   (λ true.
       same_document (tree_of content) (tree_of other)

@@ -10,11 +10,14 @@ use Rattle.bi_blob.specs.Lookups.{siblings_from}
 -- Going over siblings.
 
 -- From the first of some nodes on, all are left.
-pub from_first : (first : Option NodeRef) (nodes : Nodes FileNode) → option_map node_of first ≡ node_at nodes 0 → siblings_from (option_map node_of first) ≡ siblings nodes
+pub from_first : (first : Option NodeRef) (nodes : Nodes FileNode) → option_map node_of first ≡ node_at nodes 0 →
+    siblings_from (option_map node_of first) ≡ siblings nodes
 from_first first nodes is = ap siblings_from is ∙ siblings_from-first nodes
 
 -- After a node those are left that begin with the next one.
-pub from_next : (left next : Option NodeRef) (first : NodeRef) → left ≡ Some first → option_map node_of next ≡ node_at (node_of first).later 0 → siblings_from (option_map node_of left) ≡ node_of first ∷ siblings_from (option_map node_of next)
+pub from_next : (left next : Option NodeRef) (first : NodeRef) → left ≡ Some first →
+    option_map node_of next ≡ node_at (node_of first).later 0 →
+    siblings_from (option_map node_of left) ≡ node_of first ∷ siblings_from (option_map node_of next)
 from_next left next first is next_is =
     ap (λ (o : Option NodeRef). siblings_from (option_map node_of o)) is
     ∙ ap (λ l. node_of first ∷ l) (sym (from_first next (node_of first).later next_is))

@@ -22,7 +22,8 @@ module _ (payload rest digests : List ℕ) (properties : PropertyMap) where
       let all : length digests ≡ length (digest_of algo payload ++ rest) = ap length is in
       omega (arith, all, length-append (digest_of algo payload) rest, length-digest_of algo payload)
 
-  same_first : (algo : Option Algo) → digests ≡ digest_by algo payload ++ rest → with_first_digest algo digests properties ≡ with_digest_by algo payload properties
+  same_first : (algo : Option Algo) → digests ≡ digest_by algo payload ++ rest →
+      with_first_digest algo digests properties ≡ with_digest_by algo payload properties
   same_first None is = refl
   same_first (Some algo) is =
       ap (insert properties value_name)
@@ -38,7 +39,8 @@ module _ (payload rest digests : List ℕ) (properties : PropertyMap) where
       ∙ drop-append_seam (digest_of algo payload) rest
 
 -- A child of an image node has the digest by its algorithm.
-with_digest_is : (payload name : List ℕ) (properties : PropertyMap) → with_digest payload name properties ≡ with_digest_by (hash_algorithm name properties) payload properties
+with_digest_is : (payload name : List ℕ) (properties : PropertyMap) →
+    with_digest payload name properties ≡ with_digest_by (hash_algorithm name properties) payload properties
 with_digest_is payload name properties = by_name (is_hash_name name) refl
   where
     by_name : (b : Bool) → is_hash_name name ≡ b → with_digest payload name properties ≡ with_digest_by (hash_algorithm name properties) payload properties
@@ -52,7 +54,8 @@ record IsTaken (hashed : Bool) (digests : List ℕ) (nodes : Nodes PropertyMap) 
   left : after_digests hashed digests nodes ≡ rest
 
 -- They do so if the bytes begin with their digests.
-taken_in_turn : (payload rest : List ℕ) (nodes : Nodes PropertyMap) (digests : List ℕ) → digests ≡ digests_for payload nodes ++ rest → IsTaken true digests nodes (with_digests payload nodes) rest
+taken_in_turn : (payload rest : List ℕ) (nodes : Nodes PropertyMap) (digests : List ℕ) → digests ≡ digests_for payload nodes ++ rest →
+    IsTaken true digests nodes (with_digests payload nodes) rest
 taken_in_turn payload rest none digests is = record { there = tt; same = refl; left = is }
 taken_in_turn payload rest (node name own children later) digests is =
     let algo = hash_algorithm name own in
@@ -80,13 +83,17 @@ pub record AreTaken (hashes : Bool) (payloads : List (Option (List ℕ))) (diges
   pub same : images_with_digests_from hashes payloads digests nodes ≡ taken
 
 -- One image node and others.
-one_more_image : (hashes : Bool) (payload : Option (List ℕ)) (payloads : List (Option (List ℕ))) (digests rest : List ℕ) (name : List ℕ) (own : PropertyMap) (children later taken others : Nodes PropertyMap) → IsTaken (is_hashed hashes payload) digests children taken rest → AreTaken hashes payloads rest later others → AreTaken hashes (payload ∷ payloads) digests (node name own children later) (node name own taken others)
+one_more_image : (hashes : Bool) (payload : Option (List ℕ)) (payloads : List (Option (List ℕ))) (digests rest : List ℕ) (name : List ℕ)
+    (own : PropertyMap) (children later taken others : Nodes PropertyMap) → IsTaken (is_hashed hashes payload) digests children taken rest →
+    AreTaken hashes payloads rest later others →
+    AreTaken hashes (payload ∷ payloads) digests (node name own children later) (node name own taken others)
 one_more_image hashes payload payloads digests rest name own children later taken others first images = record {
   there = (first.there, subst (λ digests. HaveImageDigests hashes payloads digests later) (sym first.left) images.there);
   same = ap₂ (node name own) first.same (ap (λ digests. images_with_digests_from hashes payloads digests later) first.left ∙ images.same);
 }
 
-taken_by_images : (payloads : List (Option (List ℕ))) (nodes : Nodes PropertyMap) (digests : List ℕ) → digests ≡ digests_of_images payloads nodes → AreTaken true payloads digests nodes (images_with_digests payloads nodes)
+taken_by_images : (payloads : List (Option (List ℕ))) (nodes : Nodes PropertyMap) (digests : List ℕ) →
+    digests ≡ digests_of_images payloads nodes → AreTaken true payloads digests nodes (images_with_digests payloads nodes)
 taken_by_images [] nodes digests is = record { there = tt; same = refl }
 taken_by_images (payload ∷ payloads) none digests is = record { there = tt; same = refl }
 taken_by_images (None ∷ payloads) (node name own children later) digests is =
@@ -97,7 +104,8 @@ taken_by_images (Some payload ∷ payloads) (node name own children later) diges
     (taken_in_turn payload (digests_of_images payloads later) children digests is)
     (taken_by_images payloads later (digests_of_images payloads later) refl)
 
-none_taken_by_images : (payloads : List (Option (List ℕ))) (nodes : Nodes PropertyMap) (digests : List ℕ) → AreTaken false payloads digests nodes nodes
+none_taken_by_images : (payloads : List (Option (List ℕ))) (nodes : Nodes PropertyMap) (digests : List ℕ) →
+    AreTaken false payloads digests nodes nodes
 none_taken_by_images [] nodes digests = record { there = tt; same = refl }
 none_taken_by_images (payload ∷ payloads) none digests = record { there = tt; same = refl }
 none_taken_by_images (None ∷ payloads) (node name own children later) digests =
@@ -107,12 +115,14 @@ none_taken_by_images (Some payload ∷ payloads) (node name own children later) 
     one_more_image false (Some payload) payloads digests digests name own children later children later
     (none_taken children digests) (none_taken_by_images payloads later digests)
 
-pub are_taken : (hashes : Bool) (payloads : List (Option (List ℕ))) (nodes : Nodes PropertyMap) (digests : List ℕ) → digests ≡ digests_if_changed hashes payloads nodes → AreTaken hashes payloads digests nodes (new_images hashes payloads nodes)
+pub are_taken : (hashes : Bool) (payloads : List (Option (List ℕ))) (nodes : Nodes PropertyMap) (digests : List ℕ) →
+    digests ≡ digests_if_changed hashes payloads nodes → AreTaken hashes payloads digests nodes (new_images hashes payloads nodes)
 are_taken false payloads nodes digests is = none_taken_by_images payloads nodes digests
 are_taken true payloads nodes digests is = taken_by_images payloads nodes digests is
 
 -- The properties of image nodes themselves make no difference.
-pub digests_bare : (hashes : Bool) (payloads : List (Option (List ℕ))) (digests : List ℕ) (nodes : Nodes PropertyMap) → HaveImageDigests hashes payloads digests (without_payloads nodes) → HaveImageDigests hashes payloads digests nodes
+pub digests_bare : (hashes : Bool) (payloads : List (Option (List ℕ))) (digests : List ℕ) (nodes : Nodes PropertyMap) →
+    HaveImageDigests hashes payloads digests (without_payloads nodes) → HaveImageDigests hashes payloads digests nodes
 digests_bare hashes [] digests nodes have = tt
 digests_bare hashes (payload ∷ payloads) digests none have = tt
 digests_bare hashes (payload ∷ payloads) digests (node name own children later) have =

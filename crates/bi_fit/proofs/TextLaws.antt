@@ -1,5 +1,5 @@
 use Rattle.std.proofs.Common.{◌≡◌, ℕ, ◌≤◌, List, [], ◌∷◌, ◌++◌, length, Option, refl, sym, ap, subst, ◌∙◌, arith, length-append}
-use Rattle.bi_base.specs.Limits.{Bounds}
+use Rattle.bi_base.specs.Limits.{Limits}
 use Rattle.bi_blob.specs.Tree.{depth_of}
 use Rattle.bi_blob.specs.Blob.{IsWithin}
 use Rattle.bi_blob.specs.Layout.{longest_text}
@@ -10,12 +10,13 @@ use Rattle.bi_fit.specs.ImageTree.{ImageTree, IsImageTree}
 use Rattle.bi_fit.specs.File.{IsFitFile, FitMeans}
 use Rattle.bi_fit.specs.Text.{normal_tree, blob_of, payloads_end, end_after, after_blob, fit_text}
 use Rattle.bi_fit.specs.Judgement.{judgement}
-use Rattle.bi_fit.specs.Laws.{FileMeansImageTree, TextIsAccepted, NormalTextIsAccepted, SameTextSameTree, TextKeepsJudgement, SameTextSameJudgement, EachExternalTextHasItsLength, PayloadsEndLater}
-use Rattle.bi_fit.proofs.Meanings.{one_meaning}
-use Rattle.bi_fit.proofs.Faults.{meaning_has_no_fault}
-use Rattle.bi_fit.proofs.Areas.{length-payload_area, payloads_end-le}
+use Rattle.bi_fit.specs.Laws.{FileMeansImageTree, FitTextIsAccepted, NormalFitTextIsAccepted, SameTextSameTree, TextKeepsJudgement}
+use Rattle.bi_fit.specs.Laws.{SameTextSameJudgement, EachExternalTextHasItsLength, PayloadsEndLater}
+use Rattle.bi_fit.proofs.Meanings.{one_fit_meaning}
+use Rattle.bi_fit.proofs.Faults.{fit_has_no_fault}
+use Rattle.bi_fit.proofs.PayloadAreas.{length-payload_area, payloads_end-le}
 use Rattle.bi_fit.proofs.FileTrees.{is_image_tree, depth-image_tree}
-use Rattle.bi_fit.proofs.Texts.{blob_of_text, text_means, depth-normal_tree}
+use Rattle.bi_fit.proofs.Texts.{blob_of_text, fit_text_means, depth-normal_tree}
 
 -- The laws of texts.
 
@@ -23,10 +24,11 @@ pub file_means_image_tree : FileMeansImageTree
 file_means_image_tree = is_image_tree
 
 -- A text means its tree within limits that hold it.
-text_means_within : (bounds : Bounds) (form : Form) (tree : ImageTree) → IsImageTree tree → depth_of tree.root ≤ bounds.depth → length (fit_text form tree) ≤ bounds.file → bounds.file ≤ longest_text → FitMeans bounds (fit_text form tree) tree
+text_means_within : (bounds : Limits) (form : Form) (tree : ImageTree) → IsImageTree tree → depth_of tree.root ≤ bounds.depth →
+    length (fit_text form tree) ≤ bounds.file → bounds.file ≤ longest_text → FitMeans bounds (fit_text form tree) tree
 text_means_within bounds form tree is shallow fits short =
     let fits_text : length (fit_text form tree) ≤ longest_text = omega (arith, fits, short) in
-    let means = text_means form tree is fits_text in
+    let means = fit_text_means form tree is fits_text in
     let same_depth = (blob_of_text form tree is fits_text).same_depth ∙ depth-normal_tree form tree in
     record {
       is_file = means.0;
@@ -34,29 +36,29 @@ text_means_within bounds form tree is shallow fits short =
           (record { short = fits; shallow = subst (λ n. n ≤ bounds.depth) (sym same_depth) shallow });
     }
 
-pub text_is_accepted : TextIsAccepted
-text_is_accepted bounds form tree is shallow fits short =
+pub fit_text_is_accepted : FitTextIsAccepted
+fit_text_is_accepted bounds form tree is shallow fits short =
     let means = text_means_within bounds form tree is shallow fits short in
-    record { means = means; no_fault = λ fault. meaning_has_no_fault bounds (fit_text form tree) tree fault means }
+    record { means = means; no_fault = λ fault. fit_has_no_fault bounds (fit_text form tree) tree fault means }
 
-pub normal_text_is_accepted : NormalTextIsAccepted
-normal_text_is_accepted bounds form file tree means fits short =
-    text_is_accepted bounds form tree (is_image_tree file tree means.is_file)
+pub normal_fit_text_is_accepted : NormalFitTextIsAccepted
+normal_fit_text_is_accepted bounds form file tree means fits short =
+    fit_text_is_accepted bounds form tree (is_image_tree file tree means.is_file)
     (subst (λ n. n ≤ bounds.depth) (sym (depth-image_tree file tree means.is_file)) means.within.shallow)
     fits short
 
 pub same_text_same_tree : SameTextSameTree
 same_text_same_tree form one other is is_other short = (
   (λ same.
-      one_meaning (fit_text form one) one other (text_means form one is short).0
+      one_fit_meaning (fit_text form one) one other (fit_text_means form one is short).0
       (subst (λ text. IsFitFile text other) (sym same)
-      (text_means form other is_other (subst (λ text. length text ≤ longest_text) same short)).0)),
+      (fit_text_means form other is_other (subst (λ text. length text ≤ longest_text) same short)).0)),
   (λ same. ap (fit_text form) same),
 )
 
 pub text_keeps_judgement : TextKeepsJudgement
 text_keeps_judgement form file tree other is short is_text =
-    ap judgement (one_meaning (fit_text form tree) other tree is_text (text_means form tree (is_image_tree file tree is) short).0)
+    ap judgement (one_fit_meaning (fit_text form tree) other tree is_text (fit_text_means form tree (is_image_tree file tree is) short).0)
 
 pub same_text_same_judgement : SameTextSameJudgement
 same_text_same_judgement form file other_file tree other is is_other short same =
@@ -69,7 +71,8 @@ each_external_text_has_its_length tree = record {
 }
 
 -- Payloads end where the last of them do.
-pub payloads_end-append : (end : ℕ) (first later : List (Option (List ℕ))) → payloads_end end (first ++ later) ≡ payloads_end (payloads_end end first) later
+pub payloads_end-append : (end : ℕ) (first later : List (Option (List ℕ))) →
+    payloads_end end (first ++ later) ≡ payloads_end (payloads_end end first) later
 payloads_end-append end [] later = refl
 payloads_end-append end (payload ∷ first) later = payloads_end-append (end_after end payload) first later
 

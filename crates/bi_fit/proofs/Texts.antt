@@ -13,20 +13,22 @@ use Rattle.bi_blob.proofs.Texts.TextBlob.{text_is_blob, has_text_length}
 use Rattle.bi_fit.specs.declared.form.Form.{Form}
 use Rattle.bi_fit.specs.declared.form.Form.TheVariants.{Embedded, External}
 use Rattle.bi_fit.specs.Names.{images_name}
-use Rattle.bi_fit.specs.ImageTree.{ImageTree, each_own, image_nodes, with_image_nodes, without_payloads, tree_without_payloads, IsApart, IsImageTree}
+use Rattle.bi_fit.specs.ImageTree.{ImageTree, each_own, image_nodes, with_image_nodes, without_payloads, tree_without_payloads, IsApart}
+use Rattle.bi_fit.specs.ImageTree.{IsImageTree}
 use Rattle.bi_fit.specs.Payloads.{external_base}
 use Rattle.bi_fit.specs.File.{IsFitFile}
 use Rattle.bi_fit.specs.Text.{with_payloads, end_after, normal_tree, blob_of, payload_area, after_blob, fit_text}
-use Rattle.bi_fit.proofs.Maps.{without-with_payload}
+use Rattle.bi_fit.proofs.PayloadProperties.{without-with_payload}
 use Rattle.bi_fit.proofs.Trees.{children_of-with_each, children_of-with_places, children_of-with_children_of, with_children_of-back}
-use Rattle.bi_fit.proofs.Areas.{AreThere, embedded_are_there, external_are_there, have_payloads}
-use Rattle.bi_fit.proofs.Shapes.{depth-with_children_of, depth-with_payloads}
-use Rattle.bi_fit.proofs.Contents.{content-normal_tree}
+use Rattle.bi_fit.proofs.PayloadAreas.{AreThere, embedded_are_there, external_are_there, have_payloads}
+use Rattle.bi_fit.proofs.TreeShapes.{depth-with_children_of, depth-with_payloads}
+use Rattle.bi_fit.proofs.TreeContents.{content-normal_tree}
 
 -- The text of an image tree means it.
 
 -- Payloads that are bytes take up bytes.
-bytes-payload_area : (end : ℕ) (own : List PropertyMap) (payloads : List (Option (List ℕ))) → AllZip IsApart own payloads → AreBytes (payload_area end payloads)
+bytes-payload_area : (end : ℕ) (own : List PropertyMap) (payloads : List (Option (List ℕ))) → AllZip IsApart own payloads →
+    AreBytes (payload_area end payloads)
 bytes-payload_area end own [] apart = AreBytes-none
 bytes-payload_area end [] (payload ∷ later) apart = absurd apart
 bytes-payload_area end (first ∷ own) (None ∷ later) apart = bytes-payload_area end own later apart.1
@@ -40,7 +42,8 @@ bytes-after_blob Embedded tree is = AreBytes-none
 bytes-after_blob External tree is = bytes-payload_area 0 (each_own is.images) tree.payloads is.apart
 
 -- Image nodes without what gives their payloads are what they were.
-without-with_payloads : (form : Form) (end : ℕ) (payloads : List (Option (List ℕ))) (nodes : Nodes PropertyMap) → AllZip IsApart (each_own nodes) payloads → without_payloads (with_payloads form end payloads nodes) ≡ nodes
+without-with_payloads : (form : Form) (end : ℕ) (payloads : List (Option (List ℕ))) (nodes : Nodes PropertyMap) →
+    AllZip IsApart (each_own nodes) payloads → without_payloads (with_payloads form end payloads nodes) ≡ nodes
 without-with_payloads form end [] none apart = refl
 without-with_payloads form end [] (node name own children later) apart = absurd apart
 without-with_payloads form end (payload ∷ payloads) none apart = refl
@@ -49,7 +52,8 @@ without-with_payloads form end (payload ∷ payloads) (node name own children la
     ∙ ap (node name own children) (without-with_payloads form (end_after end payload) payloads later apart.1)
 
 -- The blob of a text begins it, and is a blob of its tree.
-pub blob_of_text : (form : Form) (tree : ImageTree) → IsImageTree tree → length (fit_text form tree) ≤ longest_text → IsBlobOf (fit_text form tree) tree.cpu tree.reservations (normal_tree form tree)
+pub blob_of_text : (form : Form) (tree : ImageTree) → IsImageTree tree → length (fit_text form tree) ≤ longest_text →
+    IsBlobOf (fit_text form tree) tree.cpu tree.reservations (normal_tree form tree)
 blob_of_text form tree is short =
     text_is_blob tree.cpu tree.reservations (normal_tree form tree) (after_blob form tree)
     (content-normal_tree form tree is)
@@ -57,12 +61,14 @@ blob_of_text form tree is short =
     (bytes-after_blob form tree is)
 
 -- External payloads are counted from the end of the blob.
-pub text_base : (form : Form) (tree : ImageTree) → IsImageTree tree → length (fit_text form tree) ≤ longest_text → external_base (fit_text form tree) ≡ length (blob_of form tree)
+pub text_base : (form : Form) (tree : ImageTree) → IsImageTree tree → length (fit_text form tree) ≤ longest_text →
+    external_base (fit_text form tree) ≡ length (blob_of form tree)
 text_base form tree is short =
     omega (arith, (blob_of_text form tree is short).is_total, (has_text_length tree.cpu tree.reservations (normal_tree form tree)).is_whole)
 
 -- The external payloads of a text are where they begin.
-pub text_has_payloads : (form : Form) (tree : ImageTree) → IsImageTree tree → length (fit_text form tree) ≤ longest_text → AreThere form (fit_text form tree) 0 tree.payloads
+pub text_has_payloads : (form : Form) (tree : ImageTree) → IsImageTree tree → length (fit_text form tree) ≤ longest_text →
+    AreThere form (fit_text form tree) 0 tree.payloads
 text_has_payloads Embedded tree is short = embedded_are_there (fit_text Embedded tree) 0 tree.payloads
 text_has_payloads External tree is short =
     external_are_there (fit_text External tree) (blob_of External tree) 0 tree.payloads refl
@@ -70,18 +76,22 @@ text_has_payloads External tree is short =
     (omega (arith, short))
 
 -- The image nodes of the tree of a text.
-pub normal_images : (form : Form) (tree : ImageTree) (is : IsImageTree tree) → image_nodes (normal_tree form tree) ≡ Some (with_each entries (with_payloads form 0 tree.payloads is.images))
+pub normal_images : (form : Form) (tree : ImageTree) (is : IsImageTree tree) →
+    image_nodes (normal_tree form tree) ≡ Some (with_each entries (with_payloads form 0 tree.payloads is.images))
 normal_images form tree is =
     children_of-with_each entries images_name (with_image_nodes (with_payloads form 0 tree.payloads) tree.root).children
     ∙ ap (option_map (with_each entries)) (children_of-with_children_of images_name (with_payloads form 0 tree.payloads) tree.root.children is.images is.has_images)
 
 -- The same at the places of the layout.
-pub text_images : (form : Form) (tree : ImageTree) (is : IsImageTree tree) → (place : ℕ) × (image_nodes (tree_with_places tree.reservations (normal_tree form tree)) ≡ Some (with_places place (with_each entries (with_payloads form 0 tree.payloads is.images))))
+pub text_images : (form : Form) (tree : ImageTree) (is : IsImageTree tree) →
+    (place : ℕ) × (image_nodes (tree_with_places tree.reservations (normal_tree form tree))
+    ≡ Some (with_places place (with_each entries (with_payloads form 0 tree.payloads is.images))))
 text_images form tree is =
     children_of-with_places _ images_name (normal_tree form tree).children (with_each entries (with_payloads form 0 tree.payloads is.images)) (normal_images form tree is)
 
 -- The tree of a text is the tree, with the properties that give payloads.
-pub normal_root : (form : Form) (tree : ImageTree) → IsImageTree tree → tree_without_payloads (tree_without_order (normal_tree form tree)) ≡ tree.root
+pub normal_root : (form : Form) (tree : ImageTree) → IsImageTree tree →
+    tree_without_payloads (tree_without_order (normal_tree form tree)) ≡ tree.root
 normal_root form tree is =
     ap tree_without_payloads (has_one_order (with_image_nodes (with_payloads form 0 tree.payloads) tree.root)).is_same
     ∙ ap (λ children. record { own = tree.root.own; children = children })
@@ -89,8 +99,9 @@ normal_root form tree is =
     (without-with_payloads form 0 tree.payloads is.images is.apart))
 
 -- A text means its image tree, and its tree has the places of the layout.
-pub text_means : (form : Form) (tree : ImageTree) → IsImageTree tree → length (fit_text form tree) ≤ longest_text → (is : IsFitFile (fit_text form tree) tree) × (is.root ≡ tree_with_places tree.reservations (normal_tree form tree))
-text_means form tree is short =
+pub fit_text_means : (form : Form) (tree : ImageTree) → IsImageTree tree → length (fit_text form tree) ≤ longest_text →
+    (is : IsFitFile (fit_text form tree) tree) × (is.root ≡ tree_with_places tree.reservations (normal_tree form tree))
+fit_text_means form tree is short =
     let blob = blob_of_text form tree is short in
     let found = text_images form tree is in (
       record {

@@ -9,7 +9,8 @@ use Rattle.bi_fit.specs.ImageTree.{children_of, with_children_of}
 -- The children of a node that is found by its name, and trees that differ in these.
 
 -- What is found in nodes that differ in what each has itself.
-pub children_of-with_each : {A B : Type 0} (change : A → B) (wanted : List ℕ) (nodes : Nodes A) → children_of wanted (with_each change nodes) ≡ option_map (with_each change) (children_of wanted nodes)
+pub children_of-with_each : {A B : Type 0} (change : A → B) (wanted : List ℕ) (nodes : Nodes A) →
+    children_of wanted (with_each change nodes) ≡ option_map (with_each change) (children_of wanted nodes)
 children_of-with_each change wanted none = refl
 children_of-with_each change wanted (node name own children later) =
     where_first (bytes_eq name wanted) refl (children_of-with_each change wanted later)
@@ -19,7 +20,8 @@ children_of-with_each change wanted (node name own children later) =
     where_first false is rest = rw is rest
 
 -- What is found in nodes with places is what is found without, at some place.
-pub children_of-with_places : (at : ℕ) (wanted : List ℕ) (nodes inner : Nodes (List Property)) → children_of wanted nodes ≡ Some inner → (place : ℕ) × (children_of wanted (with_places at nodes) ≡ Some (with_places place inner))
+pub children_of-with_places : (at : ℕ) (wanted : List ℕ) (nodes inner : Nodes (List Property)) → children_of wanted nodes ≡ Some inner →
+    (place : ℕ) × (children_of wanted (with_places at nodes) ≡ Some (with_places place inner))
 children_of-with_places at wanted none inner has = absurd cc
 children_of-with_places at wanted (node name properties children later) inner has =
     where_first (bytes_eq name wanted) refl has (λ has. children_of-with_places next wanted later inner has)
@@ -43,7 +45,8 @@ children_of-with_places at wanted (node name properties children later) inner ha
 
 module _ {Own : Type 0} (wanted : List ℕ) where
   -- What is found in nodes with other children there.
-  pub children_of-with_children_of : (change : Nodes Own → Nodes Own) (nodes inner : Nodes Own) → children_of wanted nodes ≡ Some inner → children_of wanted (with_children_of wanted change nodes) ≡ Some (change inner)
+  pub children_of-with_children_of : (change : Nodes Own → Nodes Own) (nodes inner : Nodes Own) → children_of wanted nodes ≡ Some inner →
+      children_of wanted (with_children_of wanted change nodes) ≡ Some (change inner)
   children_of-with_children_of change none inner has = absurd cc
   children_of-with_children_of change (node name own children later) inner has =
       where_first (bytes_eq name wanted) refl has (λ has. children_of-with_children_of change later inner has)
@@ -55,7 +58,8 @@ module _ {Own : Type 0} (wanted : List ℕ) where
       where_first false is has rest = rw (is, is) (rest (rw is at has))
 
   -- Changed and changed back, the children are the same, and so are all nodes.
-  pub with_children_of-back : (change back : Nodes Own → Nodes Own) (nodes inner : Nodes Own) → children_of wanted nodes ≡ Some inner → back (change inner) ≡ inner → with_children_of wanted back (with_children_of wanted change nodes) ≡ nodes
+  pub with_children_of-back : (change back : Nodes Own → Nodes Own) (nodes inner : Nodes Own) → children_of wanted nodes ≡ Some inner →
+      back (change inner) ≡ inner → with_children_of wanted back (with_children_of wanted change nodes) ≡ nodes
   with_children_of-back change back none inner has same = refl
   with_children_of-back change back (node name own children later) inner has same =
       where_first (bytes_eq name wanted) refl has (λ has. with_children_of-back change back later inner has same)

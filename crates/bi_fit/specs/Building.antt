@@ -21,14 +21,14 @@ use Rattle.bi_fit.specs.ImageTree.{ImageTree}
 
 -- What a built tree has beside its images: a description and a time. Numbers become cells, modulo
 -- 2^32.
-pub record FitHead : Type 0 where
+pub record HeadModel : Type 0 where
   pub description : List ℕ
   pub time : ℕ
 
 -- An image to be built: its name, the key under which the configuration lists it, which also
 -- decides its type, the names of its architecture, operating system and compression, where it is
 -- loaded and entered, if that is given, and its payload.
-pub record ImageSpecification : Type 0 where
+pub record ImageSpecModel : Type 0 where
   pub name : List ℕ
   pub key : Key
   pub arch : List ℕ
@@ -58,7 +58,7 @@ cell_property name None = []
 cell_property name (Some number) = (name, cell number) ∷ []
 
 -- The properties of the root.
-abbrev pub root_properties : FitHead → List Property
+abbrev pub root_properties : HeadModel → List Property
 root_properties head =
     (codes "#address-cells", cell 1)
     ∷ (codes "description", text_value head.description)
@@ -66,8 +66,8 @@ root_properties head =
     ∷ []
 
 -- The properties of an image node.
-abbrev pub image_properties : FitHead → ImageSpecification → List Property
-image_properties head image =
+abbrev pub built_image_properties : HeadModel → ImageSpecModel → List Property
+built_image_properties head image =
     (codes "arch", text_value image.arch)
     ∷ (codes "compression", text_value image.compression)
     ∷ (codes "description", text_value head.description)
@@ -89,10 +89,10 @@ abbrev pub configuration_name : List ℕ
 configuration_name = codes "conf-1"
 
 -- The image nodes.
-abbrev pub built_images : FitHead → List ImageSpecification → Nodes PropertyMap
+abbrev pub built_images : HeadModel → List ImageSpecModel → Nodes PropertyMap
 built_images head [] = none
 built_images head (image ∷ later) =
-    node image.name (from_entries (image_properties head image))
+    node image.name (from_entries (built_image_properties head image))
     (node hash_node_name (from_entries (hash_properties image.payload)) none none)
     (built_images head later)
 
@@ -107,7 +107,7 @@ is_under Script Script = true
 is_under key other = false
 
 -- The names of the images that are listed under a key, in their order.
-abbrev pub names_under : Key → List ImageSpecification → List (List ℕ)
+abbrev pub names_under : Key → List ImageSpecModel → List (List ℕ)
 names_under key images =
     map (λ image. image.name) (filter (λ image. is_under key image.key) images)
 
@@ -117,14 +117,14 @@ list_property key [] = []
 list_property key (name ∷ later) = (key_name key, strings_of (name ∷ later)) ∷ []
 
 -- The properties of the configuration.
-abbrev pub configuration_properties : FitHead → List ImageSpecification → List Property
+abbrev pub configuration_properties : HeadModel → List ImageSpecModel → List Property
 configuration_properties head images =
     (codes "description", text_value head.description)
     ∷ flat_map (λ key. list_property key (names_under key images)) all_keys
 
 -- The nodes below the root: `images`, and `configurations` with the one configuration, which is
 -- the default.
-abbrev pub built_nodes : FitHead → List ImageSpecification → Nodes PropertyMap
+abbrev pub built_nodes : HeadModel → List ImageSpecModel → Nodes PropertyMap
 built_nodes head images =
     node images_name empty (built_images head images)
     (node configurations_name (from_entries ((default_name, text_value configuration_name) ∷ []))
@@ -132,8 +132,8 @@ built_nodes head images =
     none)
 
 -- The tree that is built. The payloads are those of the images, in their order.
-abbrev pub built : FitHead → List ImageSpecification → ImageTree
-built head images = record {
+abbrev pub built_tree : HeadModel → List ImageSpecModel → ImageTree
+built_tree head images = record {
   cpu = 0;
   reservations = [];
   root = record { own = from_entries (root_properties head); children = built_nodes head images };
@@ -146,7 +146,7 @@ pub record IsText (text : List ℕ) : Type 0 where
   pub no_zero : HasNoZero text
 
 -- An image that can be built.
-pub record IsSpecification (image : ImageSpecification) : Type 0 where
+pub record IsImageSpec (image : ImageSpecModel) : Type 0 where
   pub is_name : IsChildName image.name
   pub name_bytes : AreBytes image.name
   pub arch : IsText image.arch
@@ -155,7 +155,7 @@ pub record IsSpecification (image : ImageSpecification) : Type 0 where
   pub payload_bytes : AreBytes image.payload
 
 -- What can be built: each image can, no two of them have one name, and the description is a text.
-pub record CanBeBuilt (head : FitHead) (images : List ImageSpecification) : Type 0 where
+pub record CanBeBuilt (head : HeadModel) (images : List ImageSpecModel) : Type 0 where
   pub description : IsText head.description
-  pub each : AllByRecursion IsSpecification images
+  pub each : AllByRecursion IsImageSpec images
   pub distinct : AreDistinct (map (λ image. image.name) images)

@@ -10,37 +10,37 @@ use Rattle.bi_blob.specs.Lookups.{Sibling, siblings}
 use Rattle.bi_blob.specs.Blob.{IsBlob, totalsize}
 use Rattle.bi_blob.specs.Layout.{longest_text}
 use Rattle.bi_blob.specs.Following.{most_open_nodes}
-use Rattle.bi_fdt.specs.Content.{BlobContent, root_of}
+use Rattle.bi_fdt.specs.Content.{Blob, root_of}
 use Rattle.bi_fit.specs.declared.image.Image.{Image}
 use Rattle.bi_fit.specs.declared.image.Place.{Place}
 use Rattle.bi_fit.specs.declared.image.Place.TheVariants as place
 use Rattle.bi_fit.specs.ImageTree.{ImageTree, image_nodes, nodes_or_none, tree_without_payloads}
 use Rattle.bi_fit.specs.Payloads.{PayloadSource, NoSource, Data, DataOffset, DataPosition}
-use Rattle.bi_fit.specs.Payloads.{source_of, number_of, external_base, HasPayload}
+use Rattle.bi_fit.specs.Payloads.{source_of, cell_number, external_base, HasPayload}
 
 -- What a flattened image tree that was read holds.
 
 -- An image node: its name, its payload, if it has one, and where that is in the file.
-pub record ReadImage : Type 0 where
+pub record ImageModel : Type 0 where
   pub name : List ℕ
   pub payload : Option (List ℕ)
   pub place : Place
 
 -- The blob, and its image nodes in their order.
-pub record FitContent : Type 0 where
-  pub blob : BlobContent
-  pub images : List ReadImage
+pub record FitModel : Type 0 where
+  pub blob : Blob
+  pub images : List ImageModel
 
 -- An image, as the definitions see it.
-abbrev pub read_image : Image → ReadImage
-read_image image = record {
+abbrev pub image_model : Image → ImageModel
+image_model image = record {
   name = image.name.now;
   payload = option_map (λ payload. payload.now) image.payload;
   place = image.place;
 }
 
 -- The image tree that it means.
-abbrev pub tree_of : FitContent → ImageTree
+abbrev pub tree_of : FitModel → ImageTree
 tree_of content = record {
   cpu = content.blob.cpu;
   reservations = content.blob.reservations;
@@ -52,17 +52,18 @@ tree_of content = record {
 abbrev pub place_of : List ℕ → PayloadSource → Place
 place_of file NoSource = place.Absent
 place_of file (Data data_property) = place.Data (data_property.place + 12)
-place_of file (DataOffset offset size) = place.DataOffset (external_base file + number_of offset)
-place_of file (DataPosition position size) = place.DataPosition (number_of position)
+place_of file (DataOffset offset size) = place.DataOffset (external_base file + cell_number offset)
+place_of file (DataPosition position size) = place.DataPosition (cell_number position)
 
 -- The image is read from an image node of a file.
-pub record IsReadImage (file : List ℕ) (entry : Sibling FileNode) (image : ReadImage) : Type 0 where
+pub record IsReadImage (file : List ℕ) (entry : Sibling FileNode) (image : ImageModel)
+    : Type 0 where
   pub name : image.name ≡ entry.name
   pub payload : HasPayload file entry.own image.payload
   pub place : image.place ≡ place_of file (source_of entry.own)
 
 -- The images are those of the blob, which has image nodes.
-pub record IsHeld (content : FitContent) : Type 0 where
+pub record IsHeld (content : FitModel) : Type 0 where
   pub is_blob : IsBlob content.blob.file content.blob.cpu content.blob.reservations
       (root_of content.blob)
   pub total_size : content.blob.total_size ≡ totalsize content.blob.file
@@ -73,21 +74,22 @@ pub record IsHeld (content : FitContent) : Type 0 where
       (siblings (nodes_or_none (image_nodes (root_of content.blob)))) content.images
 
 -- The index of the first image of a name, where the first of these images has this index.
-abbrev pub index_from : ℕ → List ℕ → List ReadImage → Option ℕ
+abbrev pub index_from : ℕ → List ℕ → List ImageModel → Option ℕ
 index_from index name [] = None
 index_from index name (image ∷ later) =
     if bytes_eq image.name name then Some index else index_from (index + 1) name later
 
 -- The index of the image of a name.
-abbrev pub index_of : List ℕ → List ReadImage → Option ℕ
+abbrev pub index_of : List ℕ → List ImageModel → Option ℕ
 index_of name images = index_from 0 name images
 
 -- A map has the index of the first image of each name.
-pub record HasIndices (indices : BTreeMap (Bor (List ℕ)) ℕ) (images : List ReadImage) : Type 0 where
+pub record HasIndices (indices : BTreeMap (Bor (List ℕ)) ℕ) (images : List ImageModel)
+    : Type 0 where
   pub each : (name : List ℕ) → get_by (λ other. slice_cmp nat_cmp name other.now) indices
       ≡ index_of name images
 
 -- The place of the image at an index, where there is one.
-abbrev pub place_or_absent : Option ReadImage → Place
+abbrev pub place_or_absent : Option ImageModel → Place
 place_or_absent None = place.Absent
 place_or_absent (Some image) = image.place

@@ -2,12 +2,12 @@ use Rattle.std.specs.Prelude.{ℕ, ◌≡◌, ◌<◌, ◌≤◌, List, Option, 
 use Rattle.bi_base.specs.declared.fault.Error.{Error}
 use Rattle.bi_base.specs.declared.fault.Error.TheVariants.{Refused, OutOfMemory, ReadFailed}
 use Rattle.bi_base.specs.declared.fault.Error.TheVariants.{WriteFailed}
-use Rattle.bi_base.specs.Limits.{Bounds}
+use Rattle.bi_base.specs.Limits.{Limits}
 use Rattle.bi_base.specs.Reading.{too_large}
 use Rattle.bi_blob.specs.Events.{events_of}
 use Rattle.bi_blob.specs.Following.{stage_of_events}
 use Rattle.bi_blob.specs.Stages.{AfterRoot}
-use Rattle.bi_lay.specs.Contents.{Content}
+use Rattle.bi_lay.specs.Contents.{Doc}
 use Rattle.bi_fit.specs.declared.form.Form.{Form}
 use Rattle.bi_fit.specs.declared.form.Form.TheVariants.{Embedded, External}
 use Rattle.bi_fit.specs.ImageTree.{ImageTree}
@@ -16,7 +16,7 @@ use Rattle.bi_fit.specs.Text.{normal_tree, payloads_end, fit_text}
 -- The document of an image tree in a form: its text is the blob of the normal text.
 
 -- What the document holds.
-abbrev pub document_of : Form → ImageTree → Content
+abbrev pub document_of : Form → ImageTree → Doc
 document_of form tree = record {
   boot_cpu = tree.cpu;
   reservations = tree.reservations;
@@ -25,7 +25,7 @@ document_of form tree = record {
 
 -- It is the document of an image tree whose normal text, with the payloads after the blob, is no
 -- longer than the limit.
-pub record IsDocument (limits : Bounds) (form : Form) (tree : ImageTree) (document : Content)
+pub record IsDocument (limits : Limits) (form : Form) (tree : ImageTree) (document : Doc)
     : Type 0 where
   pub is : document ≡ document_of form tree
   pub is_closed : stage_of_events document.events ≡ AfterRoot
@@ -38,7 +38,7 @@ length_after_blob External payloads = payloads_end 0 payloads
 
 -- The error of making the document: TooLarge at the limit, exactly if the normal text is longer, or
 -- memory ran out. It never runs out where what follows the blob is longer than the limit by itself.
-abbrev pub IsDocumentError : Bounds → Form → ImageTree → Error → Type 0
+abbrev pub IsDocumentError : Limits → Form → ImageTree → Error → Type 0
 IsDocumentError limits form tree (Refused fault) =
     (fault ≡ too_large limits.file) × (limits.file < length (fit_text form tree))
 IsDocumentError limits form tree OutOfMemory =

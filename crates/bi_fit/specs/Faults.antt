@@ -3,13 +3,13 @@ use Rattle.std.specs.Prelude.{length}
 use Rattle.bi_base.specs.declared.fault.Fault.{Fault}
 use Rattle.bi_base.specs.declared.fault.Cause.TheVariants.{NoImages, BadCell, NoSize, OutsideFile}
 use Rattle.bi_base.specs.Checks.{IsFirstFault}
-use Rattle.bi_base.specs.Limits.{Bounds}
+use Rattle.bi_base.specs.Limits.{Limits}
 use Rattle.bi_blob.specs.Tree.{Nodes, none, node, Root, FileProperty, FileNode}
 use Rattle.bi_blob.specs.Blob.{Reservation, IsBlob, IsWithin}
 use Rattle.bi_blob.specs.BlobFaults.{IsBlobFault}
 use Rattle.bi_fit.specs.ImageTree.{image_nodes}
 use Rattle.bi_fit.specs.Payloads.{PayloadSource, NoSource, Data, DataOffset, DataPosition}
-use Rattle.bi_fit.specs.Payloads.{source_of, number_of, external_base}
+use Rattle.bi_fit.specs.Payloads.{source_of, cell_number, external_base}
 
 -- Why a blob within limits is no flattened image tree, and at which offset: the first check that
 -- fails. The order of the checks, and that a file with a fault is refused, is profile of this
@@ -45,13 +45,13 @@ size_checks begin begin_place None = HasSize None begin_place ∷ []
 size_checks begin begin_place (Some size) =
     HasSize (Some size) begin_place
     ∷ HasSizeCell size
-    ∷ IsInFile (begin + number_of size) begin_place
+    ∷ IsInFile (begin + cell_number size) begin_place
     ∷ []
 
 -- The checks of a region of the file, in their order.
 abbrev pub region_checks : (base : ℕ) → FileProperty → Option FileProperty → List FitCheck
 region_checks base begin size =
-    HasBeginCell begin ∷ size_checks (base + number_of begin) begin.place size
+    HasBeginCell begin ∷ size_checks (base + cell_number begin) begin.place size
 
 -- The checks of the source of a payload: none where it is no region.
 abbrev pub source_checks : List ℕ → PayloadSource → List FitCheck
@@ -78,7 +78,7 @@ fit_checks file root =
 
 -- The fault of a file as a flattened image tree within limits: that of a blob, or else that of its
 -- tree.
-pub data IsFitFault (bounds : Bounds) (file : List ℕ) (fault : Fault) : Type 0 where
+pub data IsFitFault (bounds : Limits) (file : List ℕ) (fault : Fault) : Type 0 where
   InBlob : IsBlobFault bounds file fault → IsFitFault bounds file fault
   InTree : (cpu : ℕ) → (reservations : List Reservation) → (root : Root FileNode)
       → IsBlob file cpu reservations root → IsWithin bounds file root

@@ -1,6 +1,6 @@
 use Rattle.std.specs.Prelude.{◌≡◌, ℕ, List, Some}
 use Rattle.std.specs.List.{AllZip}
-use Rattle.bi_base.specs.Limits.{Bounds}
+use Rattle.bi_base.specs.Limits.{Limits}
 use Rattle.bi_blob.specs.Tree.{Nodes, Root, FileNode, tree_without_places, tree_without_order}
 use Rattle.bi_blob.specs.Blob.{IsBlob, IsWithin}
 use Rattle.bi_fit.specs.ImageTree.{ImageTree, image_nodes, each_own, tree_without_payloads}
@@ -19,6 +19,6 @@ pub record IsFitFile (file : List ℕ) (tree : ImageTree) : Type 0 where
 
 -- The same within limits on the length of the file and the depth of its tree (profile of this
 -- project).
-pub record FitMeans (bounds : Bounds) (file : List ℕ) (tree : ImageTree) : Type 0 where
+pub record FitMeans (bounds : Limits) (file : List ℕ) (tree : ImageTree) : Type 0 where
   pub is_file : IsFitFile file tree
   pub within : IsWithin bounds file is_file.root

@@ -95,53 +95,53 @@ pub record ListedImage : Type 0 where
   pub payload : Option (List ℕ)
 
 -- What a configuration lists under a key: images, or the first reason why not.
-pub data Listed : Type 0 where
-  NoConfiguration : Listed
-  NoKey : Listed
-  BadList : Listed
-  MissingImage : (index : ℕ) → Listed
-  ListedImages : (images : List ListedImage) → Listed
+pub data ListResult : Type 0 where
+  NoConfig : ListResult
+  NoKey : ListResult
+  BadList : ListResult
+  Missing : (index : ℕ) → ListResult
+  ListedImages : (images : List ListedImage) → ListResult
 
 -- The image of this name, if there is one.
 abbrev pub image_named : List ℕ → List Image → Option Image
 image_named name images = find (λ image. bytes_eq image.entry.name name) images
 
 -- One more image at the front of what is listed.
-abbrev pub with_image : ListedImage → Listed → Listed
+abbrev pub with_image : ListedImage → ListResult → ListResult
 with_image image (ListedImages later) = ListedImages (image ∷ later)
 with_image image refusal = refusal
 
 -- The image of a name, and what follows it in the list.
-abbrev pub listed_from : (index : ℕ) → (name : List ℕ) → Option Image → Listed → Listed
-listed_from index name None later = MissingImage index
+abbrev pub listed_from : (index : ℕ) → (name : List ℕ) → Option Image → ListResult → ListResult
+listed_from index name None later = Missing index
 listed_from index name (Some image) later =
     with_image (record { name = name; payload = image.payload }) later
 
 -- The images of these names, or the index of the first name that no image has.
-abbrev pub list_images : List Image → (index : ℕ) → List (List ℕ) → Listed
+abbrev pub list_images : List Image → (index : ℕ) → List (List ℕ) → ListResult
 list_images images index [] = ListedImages []
 list_images images index (name ∷ later) =
     listed_from index name (image_named name images) (list_images images (index + 1) later)
 
 -- What the value of a key lists. It is a list of names where its last byte is a zero, which an
 -- empty value does not have.
-abbrev pub listed_in : List Image → List ℕ → Listed
+abbrev pub listed_in : List Image → List ℕ → ListResult
 listed_in images value =
     if ends_with nat_eq value (0 ∷ []) then list_images images 0 (listed_names value) else BadList
 
 -- The same where there may be no such key.
-abbrev pub listed_at : List Image → Option (List ℕ) → Listed
+abbrev pub listed_at : List Image → Option (List ℕ) → ListResult
 listed_at images None = NoKey
 listed_at images (Some value) = listed_in images value
 
 -- What a node lists under a key, where there may be no node.
-abbrev pub listed_under : List Image → Option (Sibling PropertyMap) → Key → Listed
-listed_under images None key = NoConfiguration
+abbrev pub listed_under : List Image → Option (Sibling PropertyMap) → Key → ListResult
+listed_under images None key = NoConfig
 listed_under images (Some configuration) key =
     listed_at images (get configuration.own (key_name key))
 
 -- What the configuration of this name lists under a key.
-abbrev pub listed_of : ImageTree → List ℕ → Key → Listed
+abbrev pub listed_of : ImageTree → List ℕ → Key → ListResult
 listed_of tree name key =
     listed_under (images_of tree) (node_named (configuration_nodes tree) name) key
 
@@ -159,7 +159,7 @@ signature_count tree =
 pub record Judgement : Type 0 where
   pub verdicts : List CheckedHash
   pub configurations : List (List ℕ)
-  pub listed : List ℕ → Key → Listed
+  pub listed : List ℕ → Key → ListResult
   pub default_configuration : Option (List ℕ)
   pub signatures : ℕ
 

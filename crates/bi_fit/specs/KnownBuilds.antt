@@ -10,17 +10,17 @@ use Rattle.bi_fit.specs.declared.key.Key.TheVariants.{Kernel, Fdt, Ramdisk, Firm
 use Rattle.bi_fit.specs.declared.key.Key.TheVariants.{Script}
 use Rattle.bi_fit.specs.Names.{key_name, all_keys}
 use Rattle.bi_fit.specs.Text.{normal_tree, fit_text}
-use Rattle.bi_fit.specs.Building.{FitHead, ImageSpecification, text_value, type_name, built}
+use Rattle.bi_fit.specs.Building.{HeadModel, ImageSpecModel, text_value, type_name, built_tree}
 use Rattle.bi_fit.specs.Building.{configuration_properties}
 
 -- A small built tree with its nodes and properties, by which a reader can judge the definitions.
 
 -- The description `k`, and time 1.
-abbrev pub known_head : FitHead
+abbrev pub known_head : HeadModel
 known_head = record { description = codes "k"; time = 1 }
 
 -- A kernel with a load address and another entry point, and a ramdisk without either.
-abbrev pub known_kernel : ImageSpecification
+abbrev pub known_kernel : ImageSpecModel
 known_kernel = record {
   name = codes "kernel-1";
   key = Kernel;
@@ -32,7 +32,7 @@ known_kernel = record {
   payload = codes "hello";
 }
 
-abbrev pub known_ramdisk : ImageSpecification
+abbrev pub known_ramdisk : ImageSpecModel
 known_ramdisk = record {
   name = codes "ramdisk-1";
   key = Ramdisk;
@@ -95,12 +95,12 @@ known_tree kernel_digest ramdisk_digest = record {
 
 -- Its text.
 abbrev pub known_text : List ℕ
-known_text = fit_text Embedded (built known_head (known_kernel ∷ known_ramdisk ∷ []))
+known_text = fit_text Embedded (built_tree known_head (known_kernel ∷ known_ramdisk ∷ []))
 
 -- The built tree is this one with the SHA-256 of each payload, and its text has 824 bytes: the
 -- structure block has 656, and the strings block (at 712) has 112.
 pub record BuiltIsKnown : Type 0 where
-  pub is_tree : normal_tree Embedded (built known_head (known_kernel ∷ known_ramdisk ∷ []))
+  pub is_tree : normal_tree Embedded (built_tree known_head (known_kernel ∷ known_ramdisk ∷ []))
       ≡ known_tree (digest_of Sha256 (codes "hello")) (digest_of Sha256 (codes "abc"))
   pub is_length : length known_text ≡ 824
   pub structure_size : size_dt_struct known_text ≡ 656
@@ -108,11 +108,11 @@ pub record BuiltIsKnown : Type 0 where
   pub strings_size : size_dt_strings known_text ≡ 112
 
 -- An image of this name that is listed under a key, otherwise like the ramdisk.
-abbrev pub known_image_of : Key → List ℕ → ImageSpecification
+abbrev pub known_image_of : Key → List ℕ → ImageSpecModel
 known_image_of key name = record known_ramdisk { name = name; key = key }
 
 -- An image of each key but one, of which there are two, in another order than that of the keys.
-abbrev pub images_of_each_key : List ImageSpecification
+abbrev pub images_of_each_key : List ImageSpecModel
 images_of_each_key =
     known_image_of Script (codes "a")
     ∷ known_image_of Loadables (codes "b")

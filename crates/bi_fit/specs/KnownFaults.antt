@@ -3,7 +3,7 @@ use Rattle.bi_base.specs.declared.fault.Cause.{Cause}
 use Rattle.bi_base.specs.declared.fault.Cause.TheVariants.{TooLarge, NoImages, BadCell, NoSize}
 use Rattle.bi_base.specs.declared.fault.Cause.TheVariants.{OutsideFile}
 use Rattle.bi_base.specs.Cells.{cell}
-use Rattle.bi_base.specs.Limits.{Bounds}
+use Rattle.bi_base.specs.Limits.{Limits}
 use Rattle.bi_blob.specs.Tree.{Nodes, none, node, Property}
 use Rattle.bi_blob.specs.Layout.{text_of_tree}
 use Rattle.bi_blob.specs.KnownFaults.{widest}
@@ -16,7 +16,7 @@ use Rattle.bi_fit.specs.KnownFiles.{file_of_images, region_of, shared_file}
 -- that of `images` at 64, that of the first image node at 76 and that of its first property at 84.
 
 -- A file has this fault under these limits.
-abbrev pub HasFitFault : Bounds → List ℕ → Cause → ℕ → Type 0
+abbrev pub HasFitFault : Limits → List ℕ → Cause → ℕ → Type 0
 HasFitFault bounds file cause offset =
     IsFitFault bounds file (record { cause = cause; offset = offset })
 

@@ -16,13 +16,13 @@ use Rattle.bi_fit.specs.Text.{blob_of, payload_places, payload_area, fit_text}
 -- Small files with what they mean, and their texts, by which a reader can judge the definitions.
 
 -- The tree of a file whose root has a child `images` with these image nodes.
-abbrev pub tree_of_images : Nodes (List Property) → Root (List Property)
-tree_of_images images = record { own = []; children = node images_name [] images none }
+abbrev pub tree_with_images : Nodes (List Property) → Root (List Property)
+tree_with_images images = record { own = []; children = node images_name [] images none }
 
 -- A file with this tree, boot processor 0 and no memory reservations, and with these bytes after
 -- its blob.
 abbrev pub file_of_images : Nodes (List Property) → List ℕ → List ℕ
-file_of_images images rest = text_of_tree 0 [] (tree_of_images images) ++ rest
+file_of_images images rest = text_of_tree 0 [] (tree_with_images images) ++ rest
 
 -- Image nodes of these names, without properties.
 abbrev pub plain_images : List (List ℕ) → Nodes PropertyMap

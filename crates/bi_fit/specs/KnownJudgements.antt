@@ -8,8 +8,8 @@ use Rattle.bi_fit.specs.declared.key.Key.TheVariants.{Script}
 use Rattle.bi_fit.specs.Names.{images_name, configurations_name, algo_name, value_name}
 use Rattle.bi_fit.specs.Names.{default_name}
 use Rattle.bi_fit.specs.ImageTree.{ImageTree}
-use Rattle.bi_fit.specs.Judgement.{verdicts_of, listed_of, NoConfiguration, NoKey, BadList}
-use Rattle.bi_fit.specs.Judgement.{MissingImage, ListedImages, default_of, signature_count}
+use Rattle.bi_fit.specs.Judgement.{verdicts_of, listed_of, NoConfig, NoKey, BadList}
+use Rattle.bi_fit.specs.Judgement.{Missing, ListedImages, default_of, signature_count}
 
 -- What follows from small trees about their images and configurations, by which a reader can judge
 -- the definitions.
@@ -56,13 +56,13 @@ configured_tree = record {
 pub record ListsAreRead : Type 0 where
   pub listed : listed_of configured_tree (codes "conf-1") Kernel
       ≡ ListedImages (record { name = codes "a"; payload = Some (codes "abc") } ∷ [])
-  pub missing : listed_of configured_tree (codes "conf-1") Fdt ≡ MissingImage 1
+  pub missing : listed_of configured_tree (codes "conf-1") Fdt ≡ Missing 1
   pub no_zero : listed_of configured_tree (codes "conf-1") Ramdisk ≡ BadList
-  pub empty_name : listed_of configured_tree (codes "conf-1") Firmware ≡ MissingImage 0
-  pub second_empty : listed_of configured_tree (codes "conf-1") Loadables ≡ MissingImage 1
+  pub empty_name : listed_of configured_tree (codes "conf-1") Firmware ≡ Missing 0
+  pub second_empty : listed_of configured_tree (codes "conf-1") Loadables ≡ Missing 1
   pub no_key : listed_of configured_tree (codes "conf-1") Script ≡ NoKey
   pub empty_value : listed_of configured_tree (codes "conf-2") Kernel ≡ BadList
-  pub no_configuration : listed_of configured_tree (codes "conf-3") Kernel ≡ NoConfiguration
+  pub no_configuration : listed_of configured_tree (codes "conf-3") Kernel ≡ NoConfig
   pub default : default_of configured_tree ≡ Some (codes "conf-3")
   pub signatures : signature_count configured_tree ≡ 2
 

@@ -3,7 +3,7 @@ use Rattle.std.specs.Prelude.{map, [], ◌∷◌, nat_eq, IsTrue, filter}
 use Rattle.std.specs.List.{AllByRecursion, AllZip, ends_with}
 use Rattle.bi_base.specs.declared.fault.Fault.{Fault}
 use Rattle.bi_base.specs.Cells.{AreBytes}
-use Rattle.bi_base.specs.Limits.{Bounds}
+use Rattle.bi_base.specs.Limits.{Limits}
 use Rattle.bi_hash.specs.declared.algo.Algo.TheVariants.{Sha256}
 use Rattle.bi_hash.specs.declared.verdicts.Verdict.TheVariants.{Good}
 use Rattle.bi_hash.specs.Algos.{algorithm_name}
@@ -19,9 +19,9 @@ use Rattle.bi_fit.specs.Payloads.{source_of, payload_place, IsAtPlace}
 use Rattle.bi_fit.specs.File.{IsFitFile, FitMeans}
 use Rattle.bi_fit.specs.Faults.{IsFitFault}
 use Rattle.bi_fit.specs.Text.{blob_of, payloads_end, payload_places, fit_text}
-use Rattle.bi_fit.specs.Judgement.{judgement, CheckedHash, verdicts_of, Listed, NoKey}
+use Rattle.bi_fit.specs.Judgement.{judgement, CheckedHash, verdicts_of, ListResult, NoKey}
 use Rattle.bi_fit.specs.Judgement.{ListedImages, listed_names, listed_of, default_of}
-use Rattle.bi_fit.specs.Building.{FitHead, ImageSpecification, CanBeBuilt, hash_node_name, built}
+use Rattle.bi_fit.specs.Building.{HeadModel, ImageSpecModel, CanBeBuilt, hash_node_name, built_tree}
 use Rattle.bi_fit.specs.Building.{configuration_name, is_under}
 
 -- Laws of what a flattened image tree is (Flattened Image Tree Specification), and of its faults
@@ -41,19 +41,19 @@ FitBeginsWithMagic = (file : List ℕ) (tree : ImageTree) → IsFitFile file tre
 -- A file that is a flattened image tree within limits has no fault under them.
 abbrev pub FitHasNoFault : Type 0
 FitHasNoFault =
-    (bounds : Bounds) (file : List ℕ) (tree : ImageTree) (fault : Fault)
+    (bounds : Limits) (file : List ℕ) (tree : ImageTree) (fault : Fault)
     → FitMeans bounds file tree → ¬ (IsFitFault bounds file fault)
 
 -- A file has at most one fault under limits.
 abbrev pub OneFitFault : Type 0
 OneFitFault =
-    (bounds : Bounds) (file : List ℕ) (one other : Fault)
+    (bounds : Limits) (file : List ℕ) (one other : Fault)
     → IsFitFault bounds file one → IsFitFault bounds file other → one ≡ other
 
 -- A file of bytes is a flattened image tree within limits, or it has a fault under them.
 abbrev pub FitMeaningOrFault : Type 0
 FitMeaningOrFault =
-    (bounds : Bounds) (file : List ℕ) → AreBytes file
+    (bounds : Limits) (file : List ℕ) → AreBytes file
     → ((tree : ImageTree) × FitMeans bounds file tree)
     ⊎ ((fault : Fault) × IsFitFault bounds file fault)
 
@@ -61,7 +61,7 @@ FitMeaningOrFault =
 -- them.
 abbrev pub FitMeaningWhereNoFault : Type 0
 FitMeaningWhereNoFault =
-    (bounds : Bounds) (file : List ℕ) → AreBytes file
+    (bounds : Limits) (file : List ℕ) → AreBytes file
     → ((tree : ImageTree) × FitMeans bounds file tree)
     ↔ ((fault : Fault) → ¬ (IsFitFault bounds file fault))
 
@@ -78,23 +78,23 @@ abbrev pub FileMeansImageTree : Type 0
 FileMeansImageTree = (file : List ℕ) (tree : ImageTree) → IsFitFile file tree → IsImageTree tree
 
 -- A file means an image tree within limits, and has no fault under them.
-pub record IsAcceptedAs (bounds : Bounds) (file : List ℕ) (tree : ImageTree) : Type 0 where
+pub record IsAcceptedAs (bounds : Limits) (file : List ℕ) (tree : ImageTree) : Type 0 where
   pub means : FitMeans bounds file tree
   pub no_fault : (fault : Fault) → ¬ (IsFitFault bounds file fault)
 
 -- The text of an image tree is accepted under limits that hold it, and means the tree.
-abbrev pub TextIsAccepted : Type 0
-TextIsAccepted =
-    (bounds : Bounds) (form : Form) (tree : ImageTree) → IsImageTree tree
+abbrev pub FitTextIsAccepted : Type 0
+FitTextIsAccepted =
+    (bounds : Limits) (form : Form) (tree : ImageTree) → IsImageTree tree
     → depth_of tree.root ≤ bounds.depth → length (fit_text form tree) ≤ bounds.file
     → bounds.file ≤ longest_text
     → IsAcceptedAs bounds (fit_text form tree) tree
 
 -- The normal text of a file is accepted under the same limits and means the same, if it is no
 -- longer than the limit.
-abbrev pub NormalTextIsAccepted : Type 0
-NormalTextIsAccepted =
-    (bounds : Bounds) (form : Form) (file : List ℕ) (tree : ImageTree) → FitMeans bounds file tree
+abbrev pub NormalFitTextIsAccepted : Type 0
+NormalFitTextIsAccepted =
+    (bounds : Limits) (form : Form) (file : List ℕ) (tree : ImageTree) → FitMeans bounds file tree
     → length (fit_text form tree) ≤ bounds.file → bounds.file ≤ longest_text
     → IsAcceptedAs bounds (fit_text form tree) tree
 
@@ -151,14 +151,14 @@ ExternalPayloadsArePlaced =
 -- nodes, and means the tree.
 abbrev pub BuiltIsAccepted : Type 0
 BuiltIsAccepted =
-    (bounds : Bounds) (form : Form) (head : FitHead) (images : List ImageSpecification)
+    (bounds : Limits) (form : Form) (head : HeadModel) (images : List ImageSpecModel)
     → CanBeBuilt head images
-    → 4 ≤ bounds.depth → length (fit_text form (built head images)) ≤ bounds.file
+    → 4 ≤ bounds.depth → length (fit_text form (built_tree head images)) ≤ bounds.file
     → bounds.file ≤ longest_text
-    → IsAcceptedAs bounds (fit_text form (built head images)) (built head images)
+    → IsAcceptedAs bounds (fit_text form (built_tree head images)) (built_tree head images)
 
 -- The hash node of a built image: it has the SHA-256 of the payload, and its verdict is Good.
-abbrev pub good_hash : ImageSpecification → CheckedHash
+abbrev pub good_hash : ImageSpecModel → CheckedHash
 good_hash image = record {
   image = image.name;
   node_name = hash_node_name;
@@ -169,13 +169,13 @@ good_hash image = record {
 
 -- The payloads of a built tree are those of its images in their order, and each image has one hash
 -- node, whose verdict is Good.
-pub record HasGoodPayloads (head : FitHead) (images : List ImageSpecification) : Type 0 where
-  pub payloads : (built head images).payloads ≡ map (λ image. Some image.payload) images
-  pub verdicts : verdicts_of (built head images) ≡ map good_hash images
+pub record HasGoodPayloads (head : HeadModel) (images : List ImageSpecModel) : Type 0 where
+  pub payloads : (built_tree head images).payloads ≡ map (λ image. Some image.payload) images
+  pub verdicts : verdicts_of (built_tree head images) ≡ map good_hash images
 
 -- Each built tree does.
 abbrev pub BuiltHasGoodPayloads : Type 0
-BuiltHasGoodPayloads = (head : FitHead) (images : List ImageSpecification)
+BuiltHasGoodPayloads = (head : HeadModel) (images : List ImageSpecModel)
     → HasGoodPayloads head images
 
 -- How a value lists names: each name is followed by a zero. Where the last byte of a value is a
@@ -188,21 +188,21 @@ pub record ReadsNames : Type 0 where
   pub no_zero : (value : List ℕ) → AllByRecursion HasNoZero (listed_names value)
 
 -- What a list of these images is: none where there is no image.
-abbrev pub list_of : List ImageSpecification → Listed
-list_of [] = NoKey
-list_of (image ∷ later) =
+abbrev pub list_of_built : List ImageSpecModel → ListResult
+list_of_built [] = NoKey
+list_of_built (image ∷ later) =
     ListedImages
     (map (λ image. record { name = image.name; payload = Some image.payload }) (image ∷ later))
 
 -- The configuration of a built tree lists the images of each key in their order, and it is the
 -- default.
-pub record HasConfiguration (head : FitHead) (images : List ImageSpecification) : Type 0 where
-  pub listed : (key : Key) → listed_of (built head images) configuration_name key
-      ≡ list_of (filter (λ image. is_under key image.key) images)
-  pub default : default_of (built head images) ≡ Some configuration_name
+pub record HasConfiguration (head : HeadModel) (images : List ImageSpecModel) : Type 0 where
+  pub listed : (key : Key) → listed_of (built_tree head images) configuration_name key
+      ≡ list_of_built (filter (λ image. is_under key image.key) images)
+  pub default : default_of (built_tree head images) ≡ Some configuration_name
 
 -- Each tree that can be built has.
 abbrev pub BuiltHasConfiguration : Type 0
 BuiltHasConfiguration =
-    (head : FitHead) (images : List ImageSpecification) → CanBeBuilt head images
+    (head : HeadModel) (images : List ImageSpecModel) → CanBeBuilt head images
     → HasConfiguration head images

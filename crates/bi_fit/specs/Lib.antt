@@ -14,11 +14,11 @@ pub mod Fields
 pub mod Images
 pub mod Reading
 pub mod Documents
-pub mod Nodes
-pub mod Judging
+pub mod HashNodes
+pub mod JudgementCalls
 pub mod Siblings
 pub mod TakenDigests
-pub mod Additions
+pub mod NormalNodes
 pub mod PropertyMaps
 pub mod Laws
 pub mod KnownFiles

@@ -37,8 +37,8 @@ source_of own =
     (property_named own.properties data_name)
 
 -- The number of a property whose value is one cell.
-abbrev pub number_of : FileProperty → ℕ
-number_of property = from_be_bytes w32 property.value
+abbrev pub cell_number : FileProperty → ℕ
+cell_number property = from_be_bytes w32 property.value
 
 -- Where external data begins: `data-offset` is counted from the first multiple of four that is not
 -- before the blob's end (U-Boot, boot/image-fit.c: fit_image_get_data_and_size).
@@ -51,8 +51,8 @@ pub record IsRegion (file : List ℕ) (base : ℕ) (begin size : FileProperty)
     (payload : Option (List ℕ)) : Type 0 where
   pub begin_cell : length begin.value ≡ 4
   pub size_cell : length size.value ≡ 4
-  pub in_file : base + number_of begin + number_of size ≤ length file
-  pub is_slice : payload ≡ Some (slice file (base + number_of begin) (number_of size))
+  pub in_file : base + cell_number begin + cell_number size ≤ length file
+  pub is_slice : payload ≡ Some (slice file (base + cell_number begin) (cell_number size))
 
 -- The same where the size may not be there: then they name nothing.
 abbrev pub IsSizedRegion : List ℕ → ℕ → FileProperty → Option FileProperty → Option (List ℕ)
@@ -79,8 +79,8 @@ HasPayload file own payload = IsPayload file (source_of own) payload
 abbrev pub payload_place : List ℕ → PayloadSource → Option ℕ
 payload_place file NoSource = None
 payload_place file (Data data_property) = Some (data_property.place + 12)
-payload_place file (DataOffset offset size) = Some (external_base file + number_of offset)
-payload_place file (DataPosition position size) = Some (number_of position)
+payload_place file (DataOffset offset size) = Some (external_base file + cell_number offset)
+payload_place file (DataPosition position size) = Some (cell_number position)
 
 -- These bytes are in the file at this offset.
 pub record IsAt (file : List ℕ) (place : ℕ) (bytes : List ℕ) : Type 0 where

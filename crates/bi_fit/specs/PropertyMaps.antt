@@ -15,8 +15,8 @@ abbrev pub properties_in : List (Bor (List ℕ) × Value) → List Property
 properties_in entries = map (λ entry. (entry.0.now, value_bytes entry.1)) entries
 
 -- The properties that the fields hold.
-abbrev pub by_name : Fields → PropertyMap
-by_name properties = from_sorted (properties_in properties.values.entries)
+abbrev pub map_of_fields : Fields → PropertyMap
+map_of_fields properties = from_sorted (properties_in properties.values.entries)
 
 -- What is true of the fields: the names are in byte order.
 abbrev pub IsConsistentMap : Fields → Type 0

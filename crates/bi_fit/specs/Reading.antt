@@ -3,19 +3,19 @@ use Rattle.bi_base.specs.declared.fault.Error.{Error}
 use Rattle.bi_base.specs.declared.fault.Error.TheVariants.{Refused, OutOfMemory, ReadFailed}
 use Rattle.bi_base.specs.declared.fault.Error.TheVariants.{WriteFailed}
 use Rattle.bi_base.specs.declared.fault.Fault.{Fault}
-use Rattle.bi_base.specs.Limits.{Bounds}
+use Rattle.bi_base.specs.Limits.{Limits}
 use Rattle.bi_blob.specs.BlobFaults.{HasNoFaultBeforeTree}
 use Rattle.bi_fdt.specs.Content.{root_of}
 use Rattle.bi_fit.specs.ImageTree.{ImageTree}
 use Rattle.bi_fit.specs.File.{FitMeans}
 use Rattle.bi_fit.specs.Faults.{IsFitFault}
-use Rattle.bi_fit.specs.Content.{FitContent, tree_of, IsHeld}
+use Rattle.bi_fit.specs.Content.{FitModel, tree_of, IsHeld}
 
 -- What reading a flattened image tree returns.
 
 -- The flattened image tree was read from this file: the file means it and nothing else within the
 -- limits, and has no fault under them.
-pub record IsReadFrom (limits : Bounds) (file : List ℕ) (content : FitContent) : Type 0 where
+pub record IsReadFrom (limits : Limits) (file : List ℕ) (content : FitModel) : Type 0 where
   pub is_file : content.blob.file ≡ file
   pub held : IsHeld content
   pub means : FitMeans limits file (tree_of content)
@@ -24,14 +24,14 @@ pub record IsReadFrom (limits : Bounds) (file : List ℕ) (content : FitContent)
   pub no_fault : (fault : Fault) → ¬ (IsFitFault limits file fault)
 
 -- A file that has this fault, and no other, is no flattened image tree within the limits.
-pub record IsOnlyFitFault (limits : Bounds) (file : List ℕ) (fault : Fault) : Type 0 where
+pub record IsOnlyFitFault (limits : Limits) (file : List ℕ) (fault : Fault) : Type 0 where
   pub is_fault : IsFitFault limits file fault
   pub only : (other : Fault) → IsFitFault limits file other → other ≡ fault
   pub means_nothing : (tree : ImageTree) → ¬ (FitMeans limits file tree)
 
 -- The error of reading a file: its fault; or that memory ran out, which happens only if the header
 -- and the reservation block have no fault.
-abbrev pub IsFitReadError : Bounds → List ℕ → Error → Type 0
+abbrev pub IsFitReadError : Limits → List ℕ → Error → Type 0
 IsFitReadError limits file (Refused fault) = IsOnlyFitFault limits file fault
 IsFitReadError limits file OutOfMemory = HasNoFaultBeforeTree limits file
 IsFitReadError limits file ReadFailed = ⊥

@@ -1,5 +1,5 @@
 use Rattle.std.specs.Prelude.{◌≡◌, ◌≤◌, None, false, length}
-use Rattle.bi_base.specs.Limits.{Bounds}
+use Rattle.bi_base.specs.Limits.{Limits}
 use Rattle.bi_blob.specs.Tree.{depth_of}
 use Rattle.bi_blob.specs.Layout.{longest_text}
 use Rattle.bi_fit.specs.declared.changes.Changes.{Changes}
@@ -7,7 +7,7 @@ use Rattle.bi_fit.specs.declared.form.Form.{Form}
 use Rattle.bi_fit.specs.ImageTree.{ImageTree, IsImageTree}
 use Rattle.bi_fit.specs.Laws.{IsAcceptedAs}
 use Rattle.bi_fit.specs.Text.{fit_text}
-use Rattle.bi_fit.specs.Updating.{updated, HasUpdatedJudgement}
+use Rattle.bi_fit.specs.Updating.{with_changes, HasUpdatedJudgement}
 
 -- Laws of updates of flattened image trees (profile of this project). Each is the contract of a
 -- function in `update_laws`.
@@ -15,12 +15,12 @@ use Rattle.bi_fit.specs.Updating.{updated, HasUpdatedJudgement}
 -- Without changes a tree is as it was.
 abbrev pub NoChangeKeepsTree : Type 0
 NoChangeKeepsTree =
-    (tree : ImageTree) → updated (record { time = None; hashes = false }) tree ≡ tree
+    (tree : ImageTree) → with_changes (record { time = None; hashes = false }) tree ≡ tree
 
 -- An updated image tree is an image tree, and as deep.
 pub record IsStillImageTree (changes : Changes) (tree : ImageTree) : Type 0 where
-  pub is_image_tree : IsImageTree (updated changes tree)
-  pub depth : depth_of (updated changes tree).root ≡ depth_of tree.root
+  pub is_image_tree : IsImageTree (with_changes changes tree)
+  pub depth : depth_of (with_changes changes tree).root ≡ depth_of tree.root
 
 abbrev pub UpdatedIsImageTree : Type 0
 UpdatedIsImageTree =
@@ -30,10 +30,10 @@ UpdatedIsImageTree =
 -- tree.
 abbrev pub UpdatedIsAccepted : Type 0
 UpdatedIsAccepted =
-    (bounds : Bounds) (form : Form) (changes : Changes) (tree : ImageTree) → IsImageTree tree
+    (bounds : Limits) (form : Form) (changes : Changes) (tree : ImageTree) → IsImageTree tree
     → depth_of tree.root ≤ bounds.depth
-    → length (fit_text form (updated changes tree)) ≤ bounds.file → bounds.file ≤ longest_text
-    → IsAcceptedAs bounds (fit_text form (updated changes tree)) (updated changes tree)
+    → length (fit_text form (with_changes changes tree)) ≤ bounds.file → bounds.file ≤ longest_text
+    → IsAcceptedAs bounds (fit_text form (with_changes changes tree)) (with_changes changes tree)
 
 -- After an update of the digests each verdict on a known algorithm is Good, and all else that
 -- follows from a tree stays.

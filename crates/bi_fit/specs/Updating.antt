@@ -78,8 +78,8 @@ with_new_digests true payloads nodes =
 
 -- A tree with these changes. All else is as it was: the boot processor, the memory reservations,
 -- the nodes and their order, all other properties, and the payloads.
-abbrev pub updated : Changes → ImageTree → ImageTree
-updated changes tree =
+abbrev pub with_changes : Changes → ImageTree → ImageTree
+with_changes changes tree =
     record tree {
       root = record {
         own = with_time changes.time tree.root.own;
@@ -107,19 +107,19 @@ rechecked_by image hash (Some payload) (Some algo) = hash_with_digest image hash
 rechecked_by image hash payload algo = checked_hash image hash
 
 -- The same, if the digests change.
-abbrev pub rechecked : (hashes : Bool) → Image → Sibling PropertyMap → CheckedHash
-rechecked false image hash = checked_hash image hash
-rechecked true image hash = rechecked_by image hash image.payload (known_algorithm hash.own)
+abbrev pub new_hash : (hashes : Bool) → Image → Sibling PropertyMap → CheckedHash
+new_hash false image hash = checked_hash image hash
+new_hash true image hash = rechecked_by image hash image.payload (known_algorithm hash.own)
 
 -- What follows from a tree after an update. If the digests change, the verdict on each hash node of
 -- an image with a payload is Good, if its algorithm is known. All other verdicts stay, and so do
 -- the configurations and what they list, the default, and the number of signatures.
 pub record HasUpdatedJudgement (changes : Changes) (tree : ImageTree) : Type 0 where
-  pub verdicts : verdicts_of (updated changes tree)
-      ≡ flat_map (λ image. map (rechecked changes.hashes image) (hash_nodes image)) (images_of tree)
-  pub configurations : names (configuration_nodes (updated changes tree))
+  pub verdicts : verdicts_of (with_changes changes tree)
+      ≡ flat_map (λ image. map (new_hash changes.hashes image) (hash_nodes image)) (images_of tree)
+  pub configurations : names (configuration_nodes (with_changes changes tree))
       ≡ names (configuration_nodes tree)
   pub listed : (configuration : List ℕ) (key : Key)
-      → listed_of (updated changes tree) configuration key ≡ listed_of tree configuration key
-  pub default_configuration : default_of (updated changes tree) ≡ default_of tree
-  pub signatures : signature_count (updated changes tree) ≡ signature_count tree
+      → listed_of (with_changes changes tree) configuration key ≡ listed_of tree configuration key
+  pub default_configuration : default_of (with_changes changes tree) ≡ default_of tree
+  pub signatures : signature_count (with_changes changes tree) ≡ signature_count tree

@@ -23,8 +23,8 @@ impl<'a> Fit<'a> {
             ↔ (tree_of self.now ≡ tree_of other.now)) }
         ensures failed { IfErr result (λ error. error ≡ OutOfMemory) }
     {
-        self.held();
-        other.held();
+        self.give_invariant();
+        other.give_invariant();
         let own_doc = self.build_doc(alloc, Form::Embedded)?;
         let other_doc = other.build_doc(alloc, Form::Embedded)?;
         Ok(own_doc.has_same_content(&other_doc))

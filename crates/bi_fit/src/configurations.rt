@@ -63,10 +63,10 @@ pub struct Configuration<'a, 'b> {
 
 impl<'a, 'b> Model for Configuration<'a, 'b> {
     ghost use Rattle.bi_fdt.specs.Views.{node_of};
-    ghost use Rattle.bi_fit.specs.Judging.{NamedConfiguration};
-    ghost use Rattle.bi_fit.specs.Nodes.{IsConfiguration};
+    ghost use Rattle.bi_fit.specs.JudgementCalls.{ConfigurationModel};
+    ghost use Rattle.bi_fit.specs.HashNodes.{IsConfiguration};
 
-    ghost Value = { NamedConfiguration };
+    ghost Value = { ConfigurationModel };
 
     ghost view = { λ configuration. record {
       content = configuration.fit.now;
@@ -78,7 +78,7 @@ impl<'a, 'b> Model for Configuration<'a, 'b> {
 }
 
 impl<'a, 'b> Configuration<'a, 'b> {
-    ghost use Rattle.bi_fit.specs.Judging.{listed_image, IsListError};
+    ghost use Rattle.bi_fit.specs.JudgementCalls.{listed_image, IsListError};
 
     /// The name.
     pub fn name(&self) -> &'a [u8]
@@ -97,7 +97,7 @@ impl<'a, 'b> Configuration<'a, 'b> {
         ensures failed { IfErr result (IsListError
             (listed_of (tree_of self.now.content) self.now.name key)) }
     {
-        self.fit.held();
+        self.fit.give_invariant();
         list_images(alloc, self.fit, self.node, key)
     }
 }
@@ -112,11 +112,11 @@ pub struct Configurations<'a, 'b> {
 impl<'a, 'b> Model for Configurations<'a, 'b> {
     ghost use Rattle.std.specs.Prelude.{List, map};
     ghost use Rattle.std.specs.List.{AllByRecursion};
-    ghost use Rattle.bi_fit.specs.Judging.{NamedConfiguration};
-    ghost use Rattle.bi_fit.specs.Nodes.{IsConfiguration};
+    ghost use Rattle.bi_fit.specs.JudgementCalls.{ConfigurationModel};
+    ghost use Rattle.bi_fit.specs.HashNodes.{IsConfiguration};
     ghost use Rattle.bi_fit.specs.Siblings.{siblings_left};
 
-    ghost Value = { List NamedConfiguration };
+    ghost Value = { List ConfigurationModel };
 
     ghost view = { λ configurations. map
         (λ node. record { content = configurations.fit.now; name = node.name })
@@ -145,14 +145,14 @@ impl<'a, 'b> Iterator for Configurations<'a, 'b> {
 }
 
 impl<'a> Fit<'a> {
-    ghost use Rattle.bi_fit.specs.Judging.{configurations_of, listed_image, IsListError};
+    ghost use Rattle.bi_fit.specs.JudgementCalls.{configurations_of, listed_image, IsListError};
 
     /// The configurations, in their order in the file. Going over all of them takes time linear in
     /// their number.
     pub fn configurations<'b>(&'b self) -> Configurations<'a, 'b>
         ensures { result ≡ configurations_of self.now }
     {
-        self.held();
+        self.give_invariant();
         Configurations {
             fit: self,
             nodes: self.configuration_nodes(),
@@ -201,7 +201,7 @@ impl<'a> Fit<'a> {
             ≡ ListedImages (map listed_image listed.items)) }
         ensures failed { IfErr result (IsListError (listed_of (tree_of self.now) conf.now key)) }
     {
-        self.held();
+        self.give_invariant();
         match self.configuration_node(conf) {
             Some(node) => list_images(alloc, self, node, key),
             None => Err(ConfigError::NoConfig),

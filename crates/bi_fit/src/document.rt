@@ -10,10 +10,10 @@ ghost use Rattle.bi_blob.specs.Following.{stage_of_events};
 ghost use Rattle.bi_blob.specs.Layout.{longest_text};
 ghost use Rattle.bi_lay.specs.Contents.{text_of};
 ghost use Rattle.bi_fit.specs.Content.{tree_of};
-ghost use Rattle.bi_fit.specs.Updating.{updated};
+ghost use Rattle.bi_fit.specs.Updating.{with_changes};
 ghost use Rattle.bi_fit.specs.NewDigests.{new_digests};
 ghost use Rattle.bi_fit.specs.Documents.{document_of, IsDocument, IsDocumentError};
-ghost use Rattle.bi_fit.specs.Additions.{with_reservations, AreWithin};
+ghost use Rattle.bi_fit.specs.NormalNodes.{with_reservations, AreWithin};
 
 mod image_nodes;
 mod nodes;
@@ -74,9 +74,9 @@ impl<'a> Fit<'a> {
         'a: 'b,
         requires { digests.now ≡ new_digests changes (tree_of self.now) }
         ensures document { IfOk result
-            (IsDocument limits form (updated changes (tree_of self.now))) }
+            (IsDocument limits form (with_changes changes (tree_of self.now))) }
         ensures failed { IfErr result
-            (IsDocumentError limits form (updated changes (tree_of self.now))) }
+            (IsDocumentError limits form (with_changes changes (tree_of self.now))) }
     {
         let limit = limits.file();
         let end = match form {
@@ -111,11 +111,11 @@ impl<'a> Fit<'a> {
         requires digests { digests.now ≡ new_digests changes (tree_of self.now) }
         requires within { AreWithin form 0 (tree_of self.now).payloads }
         ensures document { IfOk result (λ doc. doc
-            ≡ document_of form (updated changes (tree_of self.now))) }
+            ≡ document_of form (with_changes changes (tree_of self.now))) }
         ensures closed { IfOk result (λ doc. stage_of_events doc.events ≡ AfterRoot) }
         ensures failed { IfErr result (λ error. error ≡ OutOfMemory) }
     {
-        self.held();
+        self.give_invariant();
         let blob: &Blob<'b> = self.blob();
         let images: &[Image<'b>] = self.images();
         let mut doc: Doc<'b> = Doc::new(alloc, blob.boot_cpu())?;
@@ -147,8 +147,8 @@ pub fn check_size(doc: &Doc<'_>, after: u32, limit: u32) -> Result<(), Fault>
     requires closed { stage_of_events doc.now.events ≡ AfterRoot }
     requires within { after ≤ limit }
     requires small { limit ≤ longest_text }
-    ensures fits { OnOk result (length (text_of doc.now) + after ≤ limit) }
-    ensures refused { IfErr result (λ fault. (fault ≡ too_large limit)
+    ensures ok { OnOk result (length (text_of doc.now) + after ≤ limit) }
+    ensures fault { IfErr result (λ fault. (fault ≡ too_large limit)
         × (limit < length (text_of doc.now) + after)) }
 {
     match doc.size() {

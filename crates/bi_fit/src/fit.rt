@@ -3,7 +3,7 @@
 ghost use Rattle.std.specs.Prelude.{◌≡◌, length, map, slice_get, IfOk, IfErr};
 ghost use Rattle.std.specs.Option.{option_map, option_and_then};
 ghost use Rattle.bi_base.specs.declared.fault.Error.TheVariants.{OutOfMemory};
-ghost use Rattle.bi_fit.specs.Content.{index_of, place_or_absent, read_image};
+ghost use Rattle.bi_fit.specs.Content.{index_of, place_or_absent, image_model};
 ghost use Rattle.bi_fit.specs.Content.{HasIndices, IsHeld};
 ghost use Rattle.bi_fit.specs.Reading.{IsReadFrom, IsFitReadError};
 
@@ -25,13 +25,13 @@ pub struct Fit<'a> {
 }
 
 impl<'a> Model for Fit<'a> {
-    ghost use Rattle.bi_fit.specs.Content.{FitContent};
+    ghost use Rattle.bi_fit.specs.Content.{FitModel};
 
-    ghost Value = { FitContent };
+    ghost Value = { FitModel };
 
-    ghost use Rattle.bi_fit.specs.Fields.{content_of, IsConsistentFit};
+    ghost use Rattle.bi_fit.specs.Fields.{fit_model, IsConsistentFit};
 
-    ghost view = { content_of };
+    ghost view = { fit_model };
 
     ghost invariant = { IsConsistentFit };
 }
@@ -78,7 +78,7 @@ impl<'a> Fit<'a> {
 
     /// The images, in their order in the file.
     pub fn images(&self) -> &[Image<'a>]
-        ensures { map read_image result.now ≡ self.now.images }
+        ensures { map image_model result.now ≡ self.now.images }
     {
         &self.images
     }
@@ -126,7 +126,7 @@ impl<'a> Fit<'a> {
     }
 
     /// Does nothing. Proofs outside this module get the invariant from it.
-    pub(crate) fn held(&self)
+    pub(crate) fn give_invariant(&self)
         ensures { IsHeld self.now }
     {
         let _ = &self.images;
@@ -138,8 +138,8 @@ fn index_by_name<'a>(
     alloc: Global,
     images: &[Image<'a>],
 ) -> Result<BTreeMap<&'a [u8], usize>, Error>
-    ensures indices { IfOk result (λ indices. HasIndices indices (map read_image images.now)) }
-    ensures error { IfErr result (λ error. error ≡ OutOfMemory) }
+    ensures indices { IfOk result (λ indices. HasIndices indices (map image_model images.now)) }
+    ensures failed { IfErr result (λ error. error ≡ OutOfMemory) }
 {
     let mut indices = BTreeMap::new(alloc);
     // The first image of a name is inserted last, so its index stays.

@@ -7,8 +7,8 @@ ghost use Rattle.bi_blob.specs.Lookups.{siblings};
 ghost use Rattle.bi_fdt.specs.Views.{node_of};
 ghost use Rattle.bi_fit.specs.Content.{tree_of};
 ghost use Rattle.bi_fit.specs.Judgement.{verdicts_of};
-ghost use Rattle.bi_fit.specs.Judging.{checked_hash_of};
-ghost use Rattle.bi_fit.specs.Nodes.{file_hash, file_hashes};
+ghost use Rattle.bi_fit.specs.JudgementCalls.{checked_hash_of};
+ghost use Rattle.bi_fit.specs.HashNodes.{file_hash, file_hashes};
 
 use crate::fit::Fit;
 use crate::nodes::Siblings;
@@ -41,7 +41,7 @@ impl<'a> Fit<'a> {
     pub fn verdicts(&self, alloc: Global) -> Result<Vec<Checked<'a>>, Error>
         ensures verdicts { IfOk result (λ checked. map checked_hash_of checked.items
             ≡ verdicts_of (tree_of self.now)) }
-        ensures error { IfErr result (λ error. error ≡ OutOfMemory) }
+        ensures failed { IfErr result (λ error. error ≡ OutOfMemory) }
     {
         let mut checked = Vec::new(alloc);
         for (node, image) in self.image_nodes().zip(self.images()) {

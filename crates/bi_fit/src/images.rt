@@ -10,11 +10,11 @@ ghost use Rattle.bi_blob.specs.Layout.{longest_text};
 ghost use Rattle.bi_blob.specs.Lookups.{siblings};
 ghost use Rattle.bi_fdt.specs.Properties.{file_property_of};
 ghost use Rattle.bi_fdt.specs.Views.{node_of};
-ghost use Rattle.bi_fit.specs.Payloads.{source_of, number_of, external_base as external_base_of};
+ghost use Rattle.bi_fit.specs.Payloads.{source_of, cell_number, external_base as external_base_of};
 ghost use Rattle.bi_fit.specs.Payloads.{HasPayload, IsSizedRegion};
 ghost use Rattle.bi_fit.specs.Faults.{FitPasses, fit_fault, HasBeginCell, region_checks};
 ghost use Rattle.bi_fit.specs.Faults.{source_checks, image_checks};
-ghost use Rattle.bi_fit.specs.Content.{IsReadImage, place_of, read_image as read_image_of};
+ghost use Rattle.bi_fit.specs.Content.{IsReadImage, place_of, image_model as read_image_of};
 ghost use Rattle.bi_fit.specs.Images.{HasDataInFile};
 
 use crate::image::{Image, Place};
@@ -47,7 +47,7 @@ pub(crate) fn read_images<'a>(
     ensures images { IfOk result (λ images. AllZip
         (IsReadImage file.entry.now)
         (siblings (node_of node.entry).children) (map read_image_of images.items)) }
-    ensures fault { IfErr result (IsRefusal
+    ensures failed { IfErr result (IsRefusal
         (IsFirstFault (FitPasses file.entry.now) fit_fault
         (image_checks file.entry.now (node_of node.entry).children))) }
 {
@@ -120,7 +120,7 @@ fn read_region<'a>(
     requires short { length file.now ≤ longest_text }
     requires base { base < 2 ^ 33 }
     ensures place { IfOk result (λ region.
-        region.0 ≡ base + number_of (file_property_of begin.entry)) }
+        region.0 ≡ base + cell_number (file_property_of begin.entry)) }
     ensures payload { IfOk result (λ region. IsSizedRegion file.entry.now base
         (file_property_of begin.entry) (option_map file_property_of size.entry)
         (Some region.1.now)) }
@@ -143,7 +143,7 @@ fn read_region<'a>(
 fn read_cell(property: Property<'_>) -> Result<u32, Fault>
     ensures is_cell { IfOk result (λ _. length property.entry.value.now ≡ 4) }
     ensures number { IfOk result (λ number. number
-        ≡ number_of (file_property_of property.entry)) }
+        ≡ cell_number (file_property_of property.entry)) }
     ensures fault { IfErr result (λ fault. ¬ (length property.entry.value.now ≡ 4)
         × (fault ≡ fit_fault (HasBeginCell (file_property_of property.entry)))) }
 {

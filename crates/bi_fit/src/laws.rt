@@ -3,7 +3,7 @@
 
 ghost use Rattle.bi_fit.specs.Laws.{OneFitMeaning, FitBeginsWithMagic, FitHasNoFault, OneFitFault};
 ghost use Rattle.bi_fit.specs.Laws.{FitMeaningOrFault, FitMeaningWhereNoFault, FileMeansImageTree};
-ghost use Rattle.bi_fit.specs.Laws.{TextIsAccepted, NormalTextIsAccepted, SameTextSameTree};
+ghost use Rattle.bi_fit.specs.Laws.{FitTextIsAccepted, NormalFitTextIsAccepted, SameTextSameTree};
 ghost use Rattle.bi_fit.specs.Laws.{TextKeepsJudgement, SameTextSameJudgement};
 ghost use Rattle.bi_fit.specs.Laws.{EachExternalTextHasItsLength, PayloadsEndLater};
 ghost use Rattle.bi_fit.specs.Laws.{ExternalPayloadsArePlaced, PayloadsAreAtPlaces};
@@ -60,13 +60,13 @@ pub fn file_means_image_tree()
 /// accepted under limits that are no less than the depth of the tree, and means the tree. The
 /// limit on files is at most 0x7fffffff.
 pub fn text_is_accepted()
-    ensures { TextIsAccepted }
+    ensures { FitTextIsAccepted }
 {}
 
 /// The normal text of a file in either form, if it is no longer than the limit on files, is
 /// accepted under the limits under which the file is, and means what the file means.
 pub fn normal_text_is_accepted()
-    ensures { NormalTextIsAccepted }
+    ensures { NormalFitTextIsAccepted }
 {}
 
 /// Two texts in one form, one of which has at most 0x7fffffff bytes, are the same exactly where

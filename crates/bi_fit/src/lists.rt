@@ -3,8 +3,8 @@
 ghost use Rattle.std.specs.Prelude.{◌≡◌, [], map, IfOk, IfErr, MatchOption};
 ghost use Rattle.bi_fdt.specs.Views.{node_of};
 ghost use Rattle.bi_fit.specs.Judgement.{listed_names, ListedImages};
-ghost use Rattle.bi_fit.specs.Judging.{listed_image, IsListError};
-ghost use Rattle.bi_fit.specs.Nodes.{file_list, file_listed, BeginsWithName};
+ghost use Rattle.bi_fit.specs.JudgementCalls.{listed_image, IsListError};
+ghost use Rattle.bi_fit.specs.HashNodes.{file_list, file_listed, BeginsWithName};
 
 use crate::configurations::{ConfigError, Named};
 use crate::fit::Fit;

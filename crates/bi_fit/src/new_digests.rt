@@ -6,7 +6,7 @@ ghost use Rattle.bi_base.specs.declared.fault.Error.TheVariants.{OutOfMemory};
 ghost use Rattle.bi_fdt.specs.Views.{node_of};
 ghost use Rattle.bi_fit.specs.Content.{tree_of};
 ghost use Rattle.bi_fit.specs.NewDigests.{hash_algorithm, digests_of_image, new_digests};
-ghost use Rattle.bi_fit.specs.Additions.{nodes_by_name, properties_by_name};
+ghost use Rattle.bi_fit.specs.NormalNodes.{nodes_by_name, properties_by_name};
 
 use crate::changes::Changes;
 use crate::fit::Fit;

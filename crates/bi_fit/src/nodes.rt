@@ -6,7 +6,7 @@ ghost use Rattle.bi_blob.specs.Lookups.{siblings, node_named};
 ghost use Rattle.bi_fdt.specs.Content.{root_of};
 ghost use Rattle.bi_fdt.specs.Views.{node_of};
 ghost use Rattle.bi_fit.specs.Names.{configurations_name};
-ghost use Rattle.bi_fit.specs.Nodes.{file_images, file_configurations};
+ghost use Rattle.bi_fit.specs.HashNodes.{file_images, file_configurations};
 
 use crate::fit::Fit;
 use bi_fdt::NodeRef;

@@ -5,7 +5,7 @@ ghost use Rattle.bi_blob.specs.Lookups.{siblings};
 ghost use Rattle.bi_fdt.specs.Views.{node_of};
 ghost use Rattle.bi_fit.specs.Content.{tree_of};
 ghost use Rattle.bi_fit.specs.Judgement.{signature_count};
-ghost use Rattle.bi_fit.specs.Nodes.{file_signatures};
+ghost use Rattle.bi_fit.specs.HashNodes.{file_signatures};
 ghost use Rattle.bi_fit.specs.Siblings.{siblings_left, children_of_each};
 
 use crate::fit::Fit;
@@ -18,7 +18,7 @@ impl<'a> Fit<'a> {
     pub fn signature_count(&self) -> usize
         ensures { result ≡ signature_count (tree_of self.now) }
     {
-        self.held();
+        self.give_invariant();
         count_signatures(self.image_nodes()) + count_signatures(self.configuration_nodes())
     }
 }

@@ -15,7 +15,7 @@ use Rattle.bi_hash.specs.declared.algo.Algo.{Algo}
 use Rattle.bi_hash.specs.declared.algo.Algo.TheVariants.{Crc32, Md5, Sha1, Sha256, Sha384, Sha512}
 use Rattle.bi_hash.specs.Digests.{digest_of, digest_size}
 use Rattle.bi_base.proofs.ByteLists.{AreBytes-none, AreBytes-append, AreBytes-take}
-use Rattle.bi_hash.proofs.Bytes.{AreBytes-be_word, AreBytes-le_word, AreBytes-be_long}
+use Rattle.bi_hash.proofs.WordBytes.{AreBytes-be_word, AreBytes-le_word, AreBytes-be_long}
 
 -- The words of an MD5 hash value are written as bytes.
 AreBytes-md5 : (h : List ℕ) (n : ℕ) → AreBytes (md5_bytes h n)

@@ -8,7 +8,7 @@ use Rattle.bi_hash.specs.declared.verdicts.Verdict.TheVariants.{Good, Bad}
 use Rattle.bi_hash.specs.Algos.{algorithm_name, find_algorithm}
 use Rattle.bi_hash.specs.Digests.{digest_of}
 use Rattle.bi_hash.specs.Verdicts.{HasItsDigest, verdict_of, verdict_by_name, verdict_by_algorithm}
-use Rattle.bi_hash.proofs.Names.{find_algorithm-algorithm_name, algorithm_name-find_algorithm}
+use Rattle.bi_hash.proofs.AlgorithmNames.{find_algorithm-algorithm_name, algorithm_name-find_algorithm}
 
 -- The text of an algorithm's name, a NUL and any bytes is the name.
 text_before_nul-name : (algo : Algo) (rest : List ℕ) → text_before_nul (algorithm_name algo ++ 0 ∷ rest) ≡ Some (algorithm_name algo)

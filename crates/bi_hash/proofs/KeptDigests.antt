@@ -1,4 +1,5 @@
-use Rattle.std.proofs.Common.{◌≡◌, ◌≤◌, ◌⊎◌, ℕ, zero, suc, List, [], ◌∷◌, ◌++◌, length, take, Option, Some, refl, sym, ap, subst, ◌∙◌, inl, inr, lit≤}
+use Rattle.std.proofs.Common.{◌≡◌, ◌≤◌, ◌⊎◌, ℕ, zero, suc, List, [], ◌∷◌, ◌++◌, length, take, Option, Some, refl, sym, ap, subst, ◌∙◌, inl}
+use Rattle.std.proofs.Common.{inr, lit≤}
 use Rattle.std.proofs.Math.Seq.{take-append_seam}
 use Rattle.std.specs.List.{slice_get, slice_set}
 use Rattle.std.specs.Option.{option_copied}
@@ -14,7 +15,8 @@ use Rattle.bi_hash.specs.KeptDigests.{IsDigestOf, AreKept}
 -- What is kept after one more digest.
 
 -- An element of a list in which one was set is that one, or it was there before.
-set_or_before : {A : Type 0} (xs : List A) (i j : ℕ) (new got : A) → slice_get (slice_set xs i new) j ≡ Some got → ((j ≡ i) × (got ≡ new)) ⊎ (slice_get xs j ≡ Some got)
+set_or_before : {A : Type 0} (xs : List A) (i j : ℕ) (new got : A) → slice_get (slice_set xs i new) j ≡ Some got →
+    ((j ≡ i) × (got ≡ new)) ⊎ (slice_get xs j ≡ Some got)
 set_or_before [] i j new got is = inr is
 set_or_before (x ∷ xs) zero zero new got is = inl (refl, sym (same_Some new got is))
 set_or_before (x ∷ xs) zero (suc j) new got is = inr is
@@ -55,15 +57,19 @@ size_small Sha384 = lit≤ tt
 size_small Sha512 = lit≤ tt
 
 -- A buffer that begins with a digest.
-pub begins_with : (algo : Algo) (payload zeros buffer : List ℕ) (length_of : ℕ) → length_of ≡ length (digest_of algo payload) → length_of ≡ digest_size algo → buffer ≡ digest_of algo payload ++ zeros → IsDigestOf algo payload (record { buffer = buffer; length = length_of })
-begins_with algo payload zeros buffer length_of long size is = record {
+pub begins_with_digest : (algo : Algo) (payload zeros buffer : List ℕ) (length_of : ℕ) → length_of ≡ length (digest_of algo payload) →
+    length_of ≡ digest_size algo → buffer ≡ digest_of algo payload ++ zeros →
+    IsDigestOf algo payload (record { buffer = buffer; length = length_of })
+begins_with_digest algo payload zeros buffer length_of long size is = record {
   fits = subst (λ n. n ≤ 64) (sym size) (size_small algo);
   bytes = ap (λ n. take n buffer) long ∙ ap (take (length (digest_of algo payload))) is ∙ take-append_seam (digest_of algo payload) zeros;
 }
 
 -- One more digest of the payload is kept.
-pub one_more : (fields : Fields) (algo : Algo) (payload : List ℕ) (digest : Digest) → option_copied fields.payload ≡ Some payload → IsDigestOf algo payload digest → AreKept fields → AreKept (record fields { digests = slice_set fields.digests (algorithm_index algo) (Some digest) })
-one_more fields algo payload digest there is kept = record {
+pub one_more_digest : (fields : Fields) (algo : Algo) (payload : List ℕ) (digest : Digest) → option_copied fields.payload ≡ Some payload →
+    IsDigestOf algo payload digest → AreKept fields →
+    AreKept (record fields { digests = slice_set fields.digests (algorithm_index algo) (Some digest) })
+one_more_digest fields algo payload digest there is kept = record {
   each = λ other bytes found same at. elim (set_or_before fields.digests (algorithm_index algo) (algorithm_index other) (Some digest) (Some found) at) [
     | inl now ↦ (
         let same_algo : algo ≡ other = same_index algo other (sym now.0) in

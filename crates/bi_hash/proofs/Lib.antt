@@ -1,6 +1,6 @@
-pub mod Bytes
+pub mod WordBytes
 pub mod DigestBytes
 pub mod GoodValues
-pub mod Names
+pub mod AlgorithmNames
 pub mod VerdictFacts
 pub mod KeptDigests

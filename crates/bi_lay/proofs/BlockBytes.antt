@@ -26,8 +26,10 @@ names_bytes (name ∷ later) = ap (λ l. name_and_zero name ++ l) (names_bytes l
 
 -- A text: its header, its blocks, and its padding.
 pub text_bytes : (cpu : ℕ) (reserved structure strings : List ℕ) (reserved_size structure_size strings_size size : ℕ)
-    → reserved_size ≡ length reserved → structure_size ≡ length structure → strings_size ≡ length strings → size ≡ length_before_padding reserved_size structure_size strings_size
-    → (blob_header cpu reserved_size structure_size strings_size ++ (reserved ++ structure ++ strings)) ++ padding_to_4 size ≡ text_of_blocks cpu reserved structure strings
+    → reserved_size ≡ length reserved → structure_size ≡ length structure → strings_size ≡ length strings →
+    size ≡ length_before_padding reserved_size structure_size strings_size
+    → (blob_header cpu reserved_size structure_size strings_size ++ (reserved ++ structure ++ strings)) ++ padding_to_4 size
+    ≡ text_of_blocks cpu reserved structure strings
 unfolding text_of_blocks
 text_bytes cpu reserved structure strings reserved_size structure_size strings_size size is_reserved is_structure is_strings is_size =
     (λ j. (blob_header cpu (is_reserved j) (is_structure j) (is_strings j) ++ (reserved ++ structure ++ strings)) ++ padding_to_4 (is_size j))

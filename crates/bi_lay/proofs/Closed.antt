@@ -7,7 +7,7 @@ use Rattle.bi_lay.specs.declared.document.Doc.TheInside.{Inside as Fields}
 use Rattle.bi_lay.specs.declared.items.Item.{Item}
 use Rattle.bi_lay.specs.declared.items.Item.TheVariants.{Begin, Property, End}
 use Rattle.bi_lay.specs.Items.{events_of_items}
-use Rattle.bi_lay.specs.Documents.{IsConsistentDocument, IsNewest, stage_of}
+use Rattle.bi_lay.specs.Documents.{IsConsistentDocument, IsNewest, stage_of_fields}
 
 -- A document without open nodes in which a node was begun holds one tree.
 
@@ -20,15 +20,17 @@ at_end (Inside innermost outer) item newest none = absurd (omega arith)
 at_end AfterRoot item newest none = refl
 
 -- The root has ended.
-ended : (doc : Fields) → IsConsistentDocument doc → doc.depth ≡ 0 → 0 < vec_len doc.items → (items : List Item) → items ≡ doc.items.items → stage_of doc ≡ AfterRoot
+ended : (doc : Fields) → IsConsistentDocument doc → doc.depth ≡ 0 → 0 < vec_len doc.items → (items : List Item) → items ≡ doc.items.items →
+    stage_of_fields doc ≡ AfterRoot
 ended doc kept none some [] is = absurd (omega (arith, some, doc.items.ok.0, ap length is))
 ended doc kept none some (first ∷ later) is =
-    at_end (stage_of doc) (get_or doc.items.items (length doc.items.items - 1) first)
-    (subst (λ item. IsNewest item (stage_of doc)) (slice_get-get_or doc.items.items (length doc.items.items - 1) first (omega (arith, ap length is))) kept.newest)
+    at_end (stage_of_fields doc) (get_or doc.items.items (length doc.items.items - 1) first)
+    (subst (λ item. IsNewest item (stage_of_fields doc)) (slice_get-get_or doc.items.items (length doc.items.items - 1) first (omega (arith, ap length is))) kept.newest)
     (omega (arith, kept.is_depth, none))
 
 -- The events are those of one tree.
-pub has_tree : (doc : Fields) → IsConsistentDocument doc → doc.depth ≡ 0 → 0 < vec_len doc.items → HasOneNormalTree (events_of_items doc.items.items)
-has_tree doc kept none some =
+pub closed_has_tree : (doc : Fields) → IsConsistentDocument doc → doc.depth ≡ 0 → 0 < vec_len doc.items →
+    HasOneNormalTree (events_of_items doc.items.items)
+closed_has_tree doc kept none some =
     (normal_events_have_one_tree (events_of_items doc.items.items)).0
     (record { follow = kept.follow; closed = ended doc kept none some doc.items.items refl })

@@ -1,12 +1,12 @@
 pub mod NameOffsets
-pub mod Growing
+pub mod OneMoreItem
 pub mod UsedNames
 pub mod Consistent
 pub mod Scanning
-pub mod Chains
+pub mod SinkChains
 pub mod TokenBytes
 pub mod BlockBytes
-pub mod Texts
+pub mod DocTexts
 pub mod Closed
 pub mod Building
 pub mod SameContents

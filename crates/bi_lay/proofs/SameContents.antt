@@ -32,7 +32,8 @@ iff_in_turn : {A B C : Type 0} → A ↔ B → B ↔ C → A ↔ C
 iff_in_turn one other = ((λ a. other.0 (one.0 a)), (λ c. one.1 (other.1 c)))
 
 -- Whether a text is another tells whether it is with a zero after both.
-pub tells_with_zero : (bytes own text : List ℕ) (same : Bool) → bytes ≡ own ++ 0 ∷ [] → same ≡ pointwise eqb own text → IsTrue same ↔ (bytes ≡ text ++ 0 ∷ [])
+pub tells_with_zero : (bytes own text : List ℕ) (same : Bool) → bytes ≡ own ++ 0 ∷ [] → same ≡ pointwise eqb own text →
+    IsTrue same ↔ (bytes ≡ text ++ 0 ∷ [])
 tells_with_zero bytes own text same is told =
     subst (λ l. IsTrue same ↔ (l ≡ text ++ 0 ∷ [])) (sym is)
     (iff_in_turn (slice_eq-Decides Decides-eqb own text same told) (same_with_zero own text))
@@ -46,6 +47,7 @@ pair_decides x y =
     )
 
 -- Whether pairs are the same tells whether their reservations are.
-pub tells_reservations : (pairs others : List (ℕ × ℕ)) (same : Bool) → same ≡ pointwise (λ x y. eqb x.0 y.0 && eqb x.1 y.1) pairs others → IsTrue same ↔ (reservations_of pairs ≡ reservations_of others)
+pub tells_reservations : (pairs others : List (ℕ × ℕ)) (same : Bool) → same ≡ pointwise (λ x y. eqb x.0 y.0 && eqb x.1 y.1) pairs others →
+    IsTrue same ↔ (reservations_of pairs ≡ reservations_of others)
 tells_reservations pairs others same told =
     iff_in_turn (slice_eq-Decides pair_decides pairs others same told) (same_pairs pairs others)

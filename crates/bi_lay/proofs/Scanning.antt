@@ -9,12 +9,14 @@ use Rattle.bi_lay.specs.Siblings.{KnowsChildren}
 -- How a search for a child goes on.
 
 -- Nothing is known of a node that is not open.
-knows-none : (name : List ℕ) (depth : ℕ) (is_new : Bool) (nodes : List OpenNode) → length nodes < depth → KnowsChildren name depth is_new nodes
+knows-none : (name : List ℕ) (depth : ℕ) (is_new : Bool) (nodes : List OpenNode) → length nodes < depth →
+    KnowsChildren name depth is_new nodes
 knows-none name depth is_new [] less = tt
 knows-none name depth is_new (node ∷ outer) less = (λ is. absurd (omega arith), knows-none name depth is_new outer (omega arith))
 
 -- A name is new among children with one more exactly where it is new among these and differs from that one.
-new-push : (name child : List ℕ) (children : List (List ℕ)) (old new : Bool) → IsTrue old ↔ IsNew name children → IsTrue new ↔ ((old ≡ true) × (child ≢ name)) → IsTrue new ↔ IsNew name (children ++ child ∷ [])
+new-push : (name child : List ℕ) (children : List (List ℕ)) (old new : Bool) → IsTrue old ↔ IsNew name children →
+    IsTrue new ↔ ((old ≡ true) × (child ≢ name)) → IsTrue new ↔ IsNew name (children ++ child ∷ [])
 new-push name child children old new before after = (
   λ is. each-append (λ other. other ≢ name) children (child ∷ []) (before.0 (after.0 is).0) ((after.0 is).1, tt),
   λ each. after.1 (before.1 (each-front (λ other. other ≢ name) children (child ∷ []) each), (each-back (λ other. other ≢ name) children (child ∷ []) each).0),
@@ -23,7 +25,8 @@ new-push name child children old new before after = (
 -- What is known where a node begins.
 pub knows-begun : (name child : List ℕ) (depth scan_depth : ℕ) (old new : Bool) (stage : Stage)
     → scan_depth ≡ length (open_nodes stage) → KnowsChildren name depth old (open_nodes stage)
-    → (scan_depth ≡ depth → IsTrue new ↔ ((old ≡ true) × (child ≢ name))) → (scan_depth + 1 ≡ depth → IsTrue new) → (scan_depth ≢ depth → scan_depth + 1 ≢ depth → new ≡ old)
+    → (scan_depth ≡ depth → IsTrue new ↔ ((old ≡ true) × (child ≢ name))) → (scan_depth + 1 ≡ depth → IsTrue new) →
+    (scan_depth ≢ depth → scan_depth + 1 ≢ depth → new ≡ old)
     → KnowsChildren name depth new (open_nodes (next_stage stage (NodeStart child)))
 knows-begun name child depth scan_depth old new BeforeRoot is_depth knows as_child as_node as_other = (λ is. (λ _. tt, λ _. as_node (omega arith)), tt)
 knows-begun name child depth scan_depth old new AfterRoot is_depth knows as_child as_node as_other = (λ is. (λ _. tt, λ _. as_node (omega arith)), tt)

@@ -31,12 +31,15 @@ cell-low n = λ j. first j ∷ second j ∷ third j ∷ fourth j ∷ []
     fourth = omega arith
 
 -- The cells of a property and its value are its token without the padding.
-property_cells : (size offset : ℕ) (value : List ℕ) → flat_map cell (3 ∷ size ∷ offset ∷ []) ++ value ≡ cell 3 ++ (cell size ++ (cell offset ++ value))
+property_cells : (size offset : ℕ) (value : List ℕ) →
+    flat_map cell (3 ∷ size ∷ offset ∷ []) ++ value ≡ cell 3 ++ (cell size ++ (cell offset ++ value))
 unfolding cell
 property_cells size offset value = refl
 
 -- The token of a property: three cells, the value, and the padding of the value.
-pub property_bytes : (offset : ℕ) (value : List ℕ) (size low_size low_offset : ℕ) → size ≡ length value → low_size ≡ size % 2 ^ 32 → low_offset ≡ offset % 2 ^ 32 → (flat_map cell (3 ∷ low_size ∷ low_offset ∷ []) ++ value) ++ padding_to_4 size ≡ encoding (Prop offset value)
+pub property_bytes : (offset : ℕ) (value : List ℕ) (size low_size low_offset : ℕ) → size ≡ length value → low_size ≡ size % 2 ^ 32 →
+    low_offset ≡ offset % 2 ^ 32 →
+    (flat_map cell (3 ∷ low_size ∷ low_offset ∷ []) ++ value) ++ padding_to_4 size ≡ encoding (Prop offset value)
 property_bytes offset value size low_size low_offset is_size is_low_size is_low_offset =
     ap (λ l. l ++ padding_to_4 size) (property_cells low_size low_offset value ∙ (λ j. cell 3 ++ (same_size j ++ (same_offset j ++ value))))
     ∙ ap (λ n. token_bytes (Prop offset value) ++ replicate n 0) same_padding

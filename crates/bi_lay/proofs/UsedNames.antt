@@ -5,10 +5,10 @@ use Rattle.bi_blob.specs.Tree.{Property}
 use Rattle.bi_blob.specs.Events.{Event, NodeProperty}
 use Rattle.bi_blob.specs.Layout.{used_names, distinct_names}
 use Rattle.bi_blob.proofs.Texts.FirstUse.{found_among, among_found, distinct_names-push, used_names-push}
-use Rattle.bi_blob.proofs.Texts.Names.{distinct_names-all, distinct_names-only}
+use Rattle.bi_blob.proofs.Texts.NamesOnce.{distinct_names-all, distinct_names-only}
 use Rattle.bi_lay.specs.declared.items.Item.{Item}
 use Rattle.bi_lay.specs.declared.items.Item.TheVariants.{Begin, Property as PropertyItem, End}
-use Rattle.bi_lay.specs.Names.{is_among, with_name, capped}
+use Rattle.bi_lay.specs.Names.{is_among, with_name, as_usize}
 use Rattle.bi_lay.specs.Items.{HasOffset}
 use Rattle.bi_lay.proofs.NameOffsets.{offset_in-stays}
 
@@ -27,7 +27,8 @@ is_among-distinct names name = by (is_among name names) refl (is_among name (dis
         absurd (true≢false (sym (found_among names name (distinct_names-only names name (among_found (distinct_names names) name among))) ∙ is))
 
 -- The names of events with one more property are those with its name.
-pub names-push : (events : List Event) (property : Property) → distinct_names (used_names (events ++ NodeProperty property ∷ [])) ≡ with_name (distinct_names (used_names events)) property.0
+pub names-push : (events : List Event) (property : Property) →
+    distinct_names (used_names (events ++ NodeProperty property ∷ [])) ≡ with_name (distinct_names (used_names events)) property.0
 names-push events property =
     ap distinct_names (used_names-push events property) ∙ distinct_names-push names property.0
     ∙ ap (λ b. cond b (distinct_names names) (distinct_names names ++ property.0 ∷ [])) (sym (is_among-distinct names property.0))
@@ -44,7 +45,8 @@ with_name-has names name = by (is_among name names) refl
     by false is = rw is (Contains-push names name)
 
 -- The offsets of properties stay where a name is added.
-pub HasOffset-with_name : (names : List (List ℕ)) (name : List ℕ) (item : Item) → HasOffset names item → HasOffset (with_name names name) item
+pub HasOffset-with_name : (names : List (List ℕ)) (name : List ℕ) (item : Item) → HasOffset names item →
+    HasOffset (with_name names name) item
 HasOffset-with_name names name (Begin other) has = tt
 HasOffset-with_name names name End has = tt
 HasOffset-with_name names name (PropertyItem property) has = by (is_among name names) refl
@@ -54,9 +56,10 @@ HasOffset-with_name names name (PropertyItem property) has = by (is_among name n
     by false is =
         rw is (
           Contains-append_left names (name ∷ []) property.name.now has.0,
-          has.1 ∙ ap capped (sym (offset_in-stays names property.name.now name (found_among names property.name.now has.0))),
+          has.1 ∙ ap as_usize (sym (offset_in-stays names property.name.now name (found_among names property.name.now has.0))),
         )
 
-pub each-with_name : (names : List (List ℕ)) (name : List ℕ) (items : List Item) → AllByRecursion (HasOffset names) items → AllByRecursion (HasOffset (with_name names name)) items
+pub each-with_name : (names : List (List ℕ)) (name : List ℕ) (items : List Item) → AllByRecursion (HasOffset names) items →
+    AllByRecursion (HasOffset (with_name names name)) items
 each-with_name names name [] each = tt
 each-with_name names name (item ∷ later) each = (HasOffset-with_name names name item each.0, each-with_name names name later each.1)

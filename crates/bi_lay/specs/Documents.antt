@@ -7,22 +7,22 @@ use Rattle.bi_lay.specs.declared.document.Doc.TheInside.{Inside as Fields}
 use Rattle.bi_lay.specs.declared.items.Item.{Item}
 use Rattle.bi_lay.specs.declared.items.Item.TheVariants.{Begin, Property, End}
 use Rattle.bi_blob.specs.Following.{stage_of_events, AllFollow, MayFollowInText}
-use Rattle.bi_lay.specs.Contents.{Content}
+use Rattle.bi_lay.specs.Contents.{Doc}
 use Rattle.bi_lay.specs.Items.{events_of_items, reservations_of, HasOffset}
 
 -- What a document's fields hold, and what is true of them.
 
 -- What the fields hold.
-abbrev pub content_of : Fields → Content
-content_of doc = record {
+abbrev pub doc_model : Fields → Doc
+doc_model doc = record {
   boot_cpu = doc.boot_cpu;
   reservations = reservations_of doc.reservations.items;
   events = events_of_items doc.items.items;
 }
 
 -- The stage that the tree has reached.
-abbrev pub stage_of : Fields → Stage
-stage_of doc = stage_of_events (events_of_items doc.items.items)
+abbrev pub stage_of_fields : Fields → Stage
+stage_of_fields doc = stage_of_events (events_of_items doc.items.items)
 
 -- The last of these, if there is one.
 abbrev pub last : {X : Type 0} → List X → Option X
@@ -47,10 +47,10 @@ IsNewest item stage = ⊥
 -- What is true of the fields. There is room for the ends of all open nodes.
 pub record IsConsistentDocument (doc : Fields) : Type 0 where
   pub follow : AllFollow MayFollowInText BeforeRoot (events_of_items doc.items.items)
-  pub is_depth : doc.depth ≡ length (open_nodes (stage_of doc))
+  pub is_depth : doc.depth ≡ length (open_nodes (stage_of_fields doc))
   pub shallow : doc.depth ≤ 64
   pub room : vec_len doc.items + doc.depth ≤ vec_capacity doc.items
-  pub newest : IsNewest (last doc.items.items) (stage_of doc)
-  pub parents : AllByRecursion (λ node. node.children ≢ []) (outer_nodes (stage_of doc))
+  pub newest : IsNewest (last doc.items.items) (stage_of_fields doc)
+  pub parents : AllByRecursion (λ node. node.children ≢ []) (outer_nodes (stage_of_fields doc))
   pub names : doc.names ≡ distinct_names (used_names (events_of_items doc.items.items))
   pub offsets : AllByRecursion (HasOffset doc.names) doc.items.items

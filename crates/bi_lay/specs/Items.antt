@@ -7,7 +7,7 @@ use Rattle.bi_blob.specs.Layout.{offset_in, encoding}
 use Rattle.bi_lay.specs.declared.items.Item.{Item}
 use Rattle.bi_lay.specs.declared.items.Item.TheVariants.{Begin, Property, End}
 use Rattle.bi_lay.specs.Values.{value_bytes}
-use Rattle.bi_lay.specs.Names.{capped}
+use Rattle.bi_lay.specs.Names.{as_usize}
 
 -- The events that a document stores.
 
@@ -44,5 +44,5 @@ bytes_of slices = map (λ slice. slice.now) slices
 abbrev pub HasOffset : List (List ℕ) → Item → Type 0
 HasOffset names (Property property) =
     Contains names property.name.now
-    × (property.name_offset ≡ capped (offset_in names property.name.now))
+    × (property.name_offset ≡ as_usize (offset_in names property.name.now))
 HasOffset names item = Unit {0}

@@ -36,13 +36,13 @@ pub struct Doc<'a> {
 }
 
 impl<'a> Model for Doc<'a> {
-    ghost use Rattle.bi_lay.specs.Contents.{Content};
+    ghost use Rattle.bi_lay.specs.Contents.{Doc};
 
-    ghost Value = { Content };
+    ghost Value = { Doc };
 
-    ghost use Rattle.bi_lay.specs.Documents.{content_of, IsConsistentDocument};
+    ghost use Rattle.bi_lay.specs.Documents.{doc_model, IsConsistentDocument};
 
-    ghost view = { content_of };
+    ghost view = { doc_model };
 
     ghost invariant = { IsConsistentDocument };
 }
@@ -61,7 +61,7 @@ impl<'a> Doc<'a> {
     /// only error is `OutOfMemory`.
     pub fn new(alloc: Global, boot_cpu: u32) -> Result<Doc<'a>, Error>
         ensures empty { IfOk result (λ doc. doc ≡ empty_content boot_cpu) }
-        ensures refused { IfErr result (λ error. error ≡ OutOfMemory) }
+        ensures failed { IfErr result (λ error. error ≡ OutOfMemory) }
     {
         Ok(Doc {
             boot_cpu,
@@ -79,7 +79,7 @@ impl<'a> Doc<'a> {
     pub fn reserve(&mut self, address: u64, size: u64) -> Result<(), Error>
         requires { 0 < address + size }
         ensures reserved { OnOk result (self.new ≡ with_reservation self.old address size) }
-        ensures refused { IfErr result (λ error. (error ≡ OutOfMemory) × (self.new ≡ self.old)) }
+        ensures failed { IfErr result (λ error. (error ≡ OutOfMemory) × (self.new ≡ self.old)) }
     {
         self.reservations.push((address, size))?;
         Ok(())
@@ -92,7 +92,7 @@ impl<'a> Doc<'a> {
     pub fn begin(&mut self, name: &'a [u8]) -> Result<(), Error>
         requires { MayBegin most_open_nodes name.now (stage_of_events self.old.events) }
         ensures begun { OnOk result (self.new ≡ with_event self.old (NodeStart name.entry.now)) }
-        ensures refused { IfErr result (λ error. (error ≡ OutOfMemory) × (self.new ≡ self.old)) }
+        ensures failed { IfErr result (λ error. (error ≡ OutOfMemory) × (self.new ≡ self.old)) }
     {
         self.items.reserve(self.depth + 2)?;
         self.items.push(Item::Begin(name)).unwrap();
@@ -107,7 +107,7 @@ impl<'a> Doc<'a> {
         requires { MayHaveNextProperty name.now (stage_of_events self.old.events) }
         ensures added { let event = NodeProperty (name.entry.now, value_bytes value.entry) in
             OnOk result (self.new ≡ with_event self.old event) }
-        ensures refused { IfErr result (λ error. (error ≡ OutOfMemory) × (self.new ≡ self.old)) }
+        ensures failed { IfErr result (λ error. (error ≡ OutOfMemory) × (self.new ≡ self.old)) }
     {
         self.items.reserve(self.depth + 1)?;
         let name_offset = self.names.add(name)?;

@@ -4,10 +4,11 @@ use Rattle.std.proofs.lemmas.List.Elements.{Contains-get_or}
 use Rattle.std.proofs.lemmas.List.Sums.{passes_at_first}
 use Rattle.bi_base.specs.Cells.{u32_at}
 use Rattle.bi_base.specs.Crc.{crc32}
-use Rattle.bi_base.specs.Limits.{Bounds}
+use Rattle.bi_base.specs.Limits.{Limits}
 use Rattle.bi_base.specs.declared.fault.Fault.{Fault}
 use Rattle.bi_base.proofs.FirstFault.{one_fault, not_both, fault_or_none}
-use Rattle.bi_legacy.specs.Faults.{Check, IsWithinLimit, HasMagicCell, HasMagic, HasHeader, HasHeaderChecksum, HasData, HasDataChecksum, InPartTable, Passes, fault_of, checks, IsLegacyFault, HasNoLegacyFault, body_of, header_without_checksum}
+use Rattle.bi_legacy.specs.Faults.{Check, IsWithinLimit, HasMagicCell, HasMagic, HasHeader, HasHeaderChecksum, HasData, HasDataChecksum}
+use Rattle.bi_legacy.specs.Faults.{InPartTable, Passes, fault_of, checks, IsLegacyFault, HasNoLegacyFault, body_of, header_without_checksum}
 use Rattle.bi_legacy.specs.PartTables.{TableCheck, HasTableEnd, HasPart, TablePasses, cells_of}
 use Rattle.bi_legacy.specs.File.{LegacyMeans}
 use Rattle.bi_legacy.specs.Meaning.{LegacyImage}
@@ -37,7 +38,7 @@ table_decided body HasTableEnd = zero_decided (cells_of body)
 table_decided body (HasPart index end) = bound_decided end (length body)
 
 -- Each check passes or fails.
-check_decided : (file : List ℕ) (limits : Bounds) (check : Check) → Passes limits file check ⊎ (¬ (Passes limits file check))
+check_decided : (file : List ℕ) (limits : Limits) (check : Check) → Passes limits file check ⊎ (¬ (Passes limits file check))
 check_decided file limits IsWithinLimit = bound_decided (length file) limits.file
 check_decided file limits HasMagicCell = bound_decided 4 (length file)
 check_decided file limits HasMagic = cases_eq (u32_at file 0) 0x27051956
@@ -48,18 +49,21 @@ check_decided file limits HasDataChecksum = cases_eq (u32_at file 24) (crc32 (bo
 check_decided file limits (InPartTable check) = table_decided (body_of file) check
 
 -- A file has no fault or some fault.
-pub fault_or_no_fault : (file : List ℕ) (limits : Bounds) → HasNoLegacyFault limits file ⊎ ((fault : Fault) × IsLegacyFault limits file fault)
+pub fault_or_no_fault : (file : List ℕ) (limits : Limits) →
+    HasNoLegacyFault limits file ⊎ ((fault : Fault) × IsLegacyFault limits file fault)
 fault_or_no_fault file limits = fault_or_none (Passes limits file) (fault_of limits) (check_decided file limits) (checks file)
 
 -- A file has at most one fault.
-pub one_legacy_fault : (file : List ℕ) (limits : Bounds) (a b : Fault) → IsLegacyFault limits file a → IsLegacyFault limits file b → a ≡ b
+pub one_legacy_fault : (file : List ℕ) (limits : Limits) (a b : Fault) → IsLegacyFault limits file a → IsLegacyFault limits file b → a ≡ b
 one_legacy_fault file limits a b is_a is_b = one_fault (Passes limits file) (fault_of limits) (checks file) a b is_a is_b
 
 -- A file without a fault has no fault.
-pub no_fault_no_fault : (file : List ℕ) (limits : Bounds) (fault : Fault) → HasNoLegacyFault limits file → IsLegacyFault limits file fault → ⊥
+pub no_fault_no_fault : (file : List ℕ) (limits : Limits) (fault : Fault) → HasNoLegacyFault limits file → IsLegacyFault limits file fault →
+    ⊥
 no_fault_no_fault file limits fault none is = not_both (Passes limits file) (fault_of limits) (checks file) fault none is
 
 -- A file with a fault means no image within the limits.
-pub no_meaning_with_fault : (file : List ℕ) (image : LegacyImage) (limits : Bounds) (fault : Fault) → IsLegacyFault limits file fault → LegacyMeans limits file image → ⊥
+pub no_meaning_with_fault : (file : List ℕ) (image : LegacyImage) (limits : Limits) (fault : Fault) → IsLegacyFault limits file fault →
+    LegacyMeans limits file image → ⊥
 no_meaning_with_fault file image limits fault is means =
     no_fault_no_fault file limits fault (means_no_fault file image limits means) is

@@ -20,7 +20,8 @@ unfolding header cell
 magic_read file image is = cell_read file 0 0x27051956 (omega arith) (ap (λ bytes. slice bytes 0 4) is.file_is)
 
 -- The header checksum.
-pub header_sum_read : (file : List ℕ) (image : LegacyImage) (is : IsLegacyFile file image) → u32_at file 4 ≡ crc32 (header_with 0 image is.field is.body)
+pub header_sum_read : (file : List ℕ) (image : LegacyImage) (is : IsLegacyFile file image) →
+    u32_at file 4 ≡ crc32 (header_with 0 image is.field is.body)
 unfolding header cell
 header_sum_read file image is = cell_read file 4 _ (crc32_fits _) (ap (λ bytes. slice bytes 4 4) is.file_is)
 
@@ -85,7 +86,8 @@ body_read file image is =
     ∙ take_at is.body is.rest (length is.body) refl
 
 -- The header with zeros in place of its checksum.
-pub header_without_checksum_read : (file : List ℕ) (image : LegacyImage) (is : IsLegacyFile file image) → header_without_checksum file ≡ header_with 0 image is.field is.body
+pub header_without_checksum_read : (file : List ℕ) (image : LegacyImage) (is : IsLegacyFile file image) →
+    header_without_checksum file ≡ header_with 0 image is.field is.body
 unfolding header cell
 header_without_checksum_read file image is =
     ap (λ bytes. slice bytes 0 4 ++ (cell 0 ++ slice bytes 8 56)) is.file_is

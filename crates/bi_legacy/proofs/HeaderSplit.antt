@@ -55,19 +55,24 @@ slice_after_checksum file bytes whole =
     ∙ take_at (after_checksum file) (drop 64 file) 56 (length-after_checksum file whole)
 
 -- A header with the fields of a file, by the bytes after its checksum, where the size and the checksum of the data are right.
-header_after_checksum : (file : List ℕ) (checksum : ℕ) → length (body_of file) ≡ u32_at file 12 → crc32 (body_of file) ≡ u32_at file 24 → header_with checksum (read_image file) (slice file 32 32) (body_of file) ≡ cell 0x27051956 ++ (cell checksum ++ after_checksum file)
+header_after_checksum : (file : List ℕ) (checksum : ℕ) → length (body_of file) ≡ u32_at file 12 → crc32 (body_of file) ≡ u32_at file 24 →
+    header_with checksum (read_image file) (slice file 32 32) (body_of file) ≡ cell 0x27051956 ++ (cell checksum ++ after_checksum file)
 unfolding after_checksum codes_and_name
 header_after_checksum file checksum size sum = rw (size, sum)
 
 -- The header with zeros in place of its checksum, by the bytes of the file.
-header_without_checksum_is : (file : List ℕ) → AreBytes file → 64 ≤ length file → u32_at file 0 ≡ 0x27051956 → length (body_of file) ≡ u32_at file 12 → crc32 (body_of file) ≡ u32_at file 24 → header_with 0 (read_image file) (slice file 32 32) (body_of file) ≡ header_without_checksum file
+header_without_checksum_is : (file : List ℕ) → AreBytes file → 64 ≤ length file → u32_at file 0 ≡ 0x27051956 →
+    length (body_of file) ≡ u32_at file 12 → crc32 (body_of file) ≡ u32_at file 24 →
+    header_with 0 (read_image file) (slice file 32 32) (body_of file) ≡ header_without_checksum file
 header_without_checksum_is file bytes whole magic size sum =
     header_after_checksum file 0 size sum
     ∙ ap (λ first. first ++ (cell 0 ++ after_checksum file)) (ap cell (sym magic) ∙ cell-u32_at file 0 bytes (omega arith))
     ∙ ap (λ last. slice file 0 4 ++ (cell 0 ++ last)) (sym (slice_after_checksum file bytes whole))
 
 -- A file that passes the checks of its header begins with the header of the image that is read from it.
-pub header_split : (file : List ℕ) → AreBytes file → 64 ≤ length file → u32_at file 0 ≡ 0x27051956 → u32_at file 4 ≡ crc32 (header_without_checksum file) → length (body_of file) ≡ u32_at file 12 → u32_at file 24 ≡ crc32 (body_of file) → file ≡ header (read_image file) (slice file 32 32) (body_of file) ++ drop 64 file
+pub header_split : (file : List ℕ) → AreBytes file → 64 ≤ length file → u32_at file 0 ≡ 0x27051956 →
+    u32_at file 4 ≡ crc32 (header_without_checksum file) → length (body_of file) ≡ u32_at file 12 → u32_at file 24 ≡ crc32 (body_of file) →
+    file ≡ header (read_image file) (slice file 32 32) (body_of file) ++ drop 64 file
 unfolding header
 header_split file bytes whole magic header_sum size data_sum =
     let after = after_checksum file in

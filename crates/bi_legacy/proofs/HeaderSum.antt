@@ -4,7 +4,8 @@ use Rattle.bi_base.specs.Crc.{crc32, crc_after}
 use Rattle.bi_base.proofs.CrcLaws.{crc_after-append}
 
 -- The CRC-32 that is computed over two pieces with four zeros between them.
-pub sum-around_zeros : (a b : List ℕ) → 0xFFFFFFFF - crc_after (crc_after (crc_after 0xFFFFFFFF a) (0 ∷ 0 ∷ 0 ∷ 0 ∷ [])) b ≡ crc32 (a ++ (cell 0 ++ b))
+pub sum-around_zeros : (a b : List ℕ) →
+    0xFFFFFFFF - crc_after (crc_after (crc_after 0xFFFFFFFF a) (0 ∷ 0 ∷ 0 ∷ 0 ∷ [])) b ≡ crc32 (a ++ (cell 0 ++ b))
 unfolding cell crc32
 sum-around_zeros a b =
     ap (λ register. 0xFFFFFFFF - register)

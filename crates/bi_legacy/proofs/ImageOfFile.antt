@@ -21,12 +21,15 @@ parts_at-bytes at (part ∷ parts) body bytes at_offsets =
     (subst AreBytes at_offsets.1 (AreBytes-slice body at (length part) bytes), parts_at-bytes (up4 (at + length part)) parts body bytes at_offsets.2)
 
 -- The parts of data of bytes, with or without a part table, are bytes.
-body_parts_bytes : (has_table : Bool) (parts : List (List ℕ)) (body : List ℕ) → AreBytes body → MatchBool has_table (HasPartTable parts body) (parts ≡ body ∷ []) → AllByRecursion AreBytes parts
+body_parts_bytes : (has_table : Bool) (parts : List (List ℕ)) (body : List ℕ) → AreBytes body →
+    MatchBool has_table (HasPartTable parts body) (parts ≡ body ∷ []) → AllByRecursion AreBytes parts
 body_parts_bytes true parts body bytes holds = parts_at-bytes _ parts body bytes (table_parts_at parts body holds)
 body_parts_bytes false parts body bytes holds = rw holds (bytes, tt)
 
 -- The parts of data, with or without a part table, are parts that such an image can have.
-body_parts : (has_table : Bool) (parts : List (List ℕ)) (body : List ℕ) → MatchBool has_table (HasPartTable parts body) (parts ≡ body ∷ []) → MatchBool has_table (AllByRecursion IsTablePart parts) (length parts ≡ 1)
+body_parts : (has_table : Bool) (parts : List (List ℕ)) (body : List ℕ) →
+    MatchBool has_table (HasPartTable parts body) (parts ≡ body ∷ []) →
+    MatchBool has_table (AllByRecursion IsTablePart parts) (length parts ≡ 1)
 body_parts true parts body holds = holds.are_table_parts
 body_parts false parts body holds = ap length holds
 

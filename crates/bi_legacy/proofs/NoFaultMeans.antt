@@ -1,7 +1,8 @@
-use Rattle.std.proofs.Common.{◌≡◌, ℕ, ◌+◌, Bool, true, false, List, ◌++◌, [], ◌∷◌, length, drop, slice_index, refl, ap, ◌∙◌, MatchBool, if◌then◌else◌}
+use Rattle.std.proofs.Common.{◌≡◌, ℕ, ◌+◌, Bool, true, false, List, ◌++◌, [], ◌∷◌, length, drop, slice_index, refl, ap, ◌∙◌, MatchBool}
+use Rattle.std.proofs.Common.{if◌then◌else◌}
 use Rattle.bi_base.specs.Cells.{slice, u32_at, AreBytes}
 use Rattle.bi_base.specs.Checks.{HasNoFault}
-use Rattle.bi_base.specs.Limits.{Bounds}
+use Rattle.bi_base.specs.Limits.{Limits}
 use Rattle.bi_base.proofs.CellLaws.{AreBytes-slice, length-slice, u32_at-fits}
 use Rattle.bi_base.proofs.FileSlices.{drop_slice}
 use Rattle.bi_legacy.specs.Faults.{Passes, InPartTable, HasNoLegacyFault, body_of}
@@ -31,12 +32,16 @@ ranges_read file bytes = record {
 }
 
 -- Where the checks of the parts pass, the data holds the parts that are read from it.
-parts_held : (has_table : Bool) (body : List ℕ) → AreBytes body → HasNoFault (TablePasses body) (if has_table then table_checks body else []) → MatchBool has_table (HasPartTable (if has_table then parts_in_table body else body ∷ []) body) ((if has_table then parts_in_table body else body ∷ []) ≡ body ∷ [])
+parts_held : (has_table : Bool) (body : List ℕ) → AreBytes body →
+    HasNoFault (TablePasses body) (if has_table then table_checks body else []) →
+    MatchBool has_table (HasPartTable (if has_table then parts_in_table body else body ∷ []) body)
+    ((if has_table then parts_in_table body else body ∷ []) ≡ body ∷ [])
 parts_held true body bytes none = table_of_sizes body bytes none.0 (ends_checked body 0 _ _ none.1)
 parts_held false body bytes none = refl
 
 -- A file of bytes that fails no check means the image that is read from it.
-pub no_fault_means : (file : List ℕ) (limits : Bounds) → AreBytes file → HasNoLegacyFault limits file → LegacyMeans limits file (read_image file)
+pub no_fault_means : (file : List ℕ) (limits : Limits) → AreBytes file → HasNoLegacyFault limits file →
+    LegacyMeans limits file (read_image file)
 no_fault_means file limits bytes (short, (cell, (magic, (whole, (header_sum, (whole_data, (data_sum, parts))))))) =
     let size : length (body_of file) ≡ u32_at file 12 = length-slice file 64 (u32_at file 12) whole_data in
     record {

@@ -4,7 +4,7 @@ use Rattle.bi_base.specs.Cells.{cell, AreBytes}
 use Rattle.bi_legacy.specs.File.{header}
 use Rattle.bi_legacy.specs.Meaning.{LegacyImage, FitsFields, has_part_table}
 use Rattle.bi_legacy.specs.Parts.{part_table}
-use Rattle.bi_legacy.specs.Text.{padded, joined_parts, name_field, legacy_text, IsLegacyImage}
+use Rattle.bi_legacy.specs.Text.{with_zeros, joined_parts, name_field, legacy_text, IsLegacyImage}
 use Rattle.bi_base.proofs.ByteLists.{AreBytes-none, AreBytes-cons, AreBytes-append, AreBytes-zeros, AreBytes-cell}
 use Rattle.bi_legacy.proofs.TableCells.{part_table-cells}
 
@@ -26,15 +26,17 @@ joined_bytes : (parts : List (List ℕ)) → AllByRecursion AreBytes parts → A
 joined_bytes [] are = AreBytes-none
 joined_bytes (part ∷ []) are = are.0
 joined_bytes (part ∷ next ∷ later) are =
-    AreBytes-append (padded part) (joined_parts (next ∷ later)) (AreBytes-append part _ are.0 (AreBytes-zeros _)) (joined_bytes (next ∷ later) are.1)
+    AreBytes-append (with_zeros part) (joined_parts (next ∷ later)) (AreBytes-append part _ are.0 (AreBytes-zeros _)) (joined_bytes (next ∷ later) are.1)
 
 -- The normal data of parts of bytes, with or without a part table, is bytes.
-kind_bytes : (has_table : Bool) (parts : List (List ℕ)) → AllByRecursion AreBytes parts → AreBytes (if has_table then part_table parts ++ joined_parts parts else joined_parts parts)
+kind_bytes : (has_table : Bool) (parts : List (List ℕ)) → AllByRecursion AreBytes parts →
+    AreBytes (if has_table then part_table parts ++ joined_parts parts else joined_parts parts)
 kind_bytes true parts are = AreBytes-append (part_table parts) (joined_parts parts) (part_table-bytes parts) (joined_bytes parts are)
 kind_bytes false parts are = joined_bytes parts are
 
 -- The codes of an image and its name's field are bytes.
-codes_bytes : (image : LegacyImage) (field : List ℕ) → FitsFields image → AreBytes field → AreBytes ((image.os ∷ image.arch ∷ image.image_type ∷ image.compression ∷ []) ++ field)
+codes_bytes : (image : LegacyImage) (field : List ℕ) → FitsFields image → AreBytes field →
+    AreBytes ((image.os ∷ image.arch ∷ image.image_type ∷ image.compression ∷ []) ++ field)
 codes_bytes image field ranges are =
     AreBytes-cons image.os _ ranges.os (AreBytes-cons image.arch _ ranges.arch (AreBytes-cons image.image_type _ ranges.image_type
     (AreBytes-cons image.compression field ranges.compression are)))

@@ -23,7 +23,9 @@ joined_parts-padded (part ∷ next ∷ later) =
     )
 
 -- The normal data, with or without a part table, holds the parts.
-normal_holds : (has_table : Bool) (parts : List (List ℕ)) → MatchBool has_table (AllByRecursion IsTablePart parts) (length parts ≡ 1) → let body = if has_table then part_table parts ++ joined_parts parts else joined_parts parts in MatchBool has_table (HasPartTable parts body) (parts ≡ body ∷ [])
+normal_holds : (has_table : Bool) (parts : List (List ℕ)) → MatchBool has_table (AllByRecursion IsTablePart parts) (length parts ≡ 1) →
+    let body = if has_table then part_table parts
+    ++ joined_parts parts else joined_parts parts in MatchBool has_table (HasPartTable parts body) (parts ≡ body ∷ [])
 normal_holds true parts are = record {
   rest = joined_parts parts;
   body_is = refl;
@@ -35,5 +37,6 @@ normal_holds false (part ∷ []) are = refl
 normal_holds false (part ∷ next ∷ later) are = absurd (omega arith)
 
 -- The normal data holds the parts.
-pub normal_body_holds : (image_type : ℕ) (parts : List (List ℕ)) → AreParts image_type parts → HoldsParts image_type (normal_body image_type parts) parts
+pub normal_body_holds : (image_type : ℕ) (parts : List (List ℕ)) → AreParts image_type parts →
+    HoldsParts image_type (normal_body image_type parts) parts
 normal_body_holds image_type parts are = normal_holds (has_part_table image_type) parts are

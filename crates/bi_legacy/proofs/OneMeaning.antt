@@ -1,4 +1,5 @@
-use Rattle.std.proofs.Common.{◌≡◌, ℕ, ◌<◌, ◌^◌, Bool, true, false, List, [], ◌∷◌, length, slice_index, sym, ap, ap₂, ◌∙◌, MatchBool, if◌then◌else◌}
+use Rattle.std.proofs.Common.{◌≡◌, ℕ, ◌<◌, ◌^◌, Bool, true, false, List, [], ◌∷◌, length, slice_index, sym, ap, ap₂, ◌∙◌, MatchBool}
+use Rattle.std.proofs.Common.{if◌then◌else◌}
 use Rattle.bi_base.specs.Strings.{before_nul}
 use Rattle.bi_base.specs.Cells.{slice}
 use Rattle.bi_legacy.specs.Faults.{body_of}
@@ -6,14 +7,16 @@ use Rattle.bi_legacy.specs.File.{IsLegacyFile}
 use Rattle.bi_legacy.specs.Meaning.{LegacyImage, has_part_table}
 use Rattle.bi_legacy.specs.Parts.{HasPartTable}
 use Rattle.bi_legacy.specs.ReadImage.{read_image, parts_of_body}
-use Rattle.bi_legacy.proofs.HeaderReads.{time_read, load_read, entry_read, os_read, arch_read, type_read, compression_read, field_read, body_read}
+use Rattle.bi_legacy.proofs.HeaderReads.{time_read, load_read, entry_read, os_read, arch_read, type_read, compression_read, field_read}
+use Rattle.bi_legacy.proofs.HeaderReads.{body_read}
 use Rattle.bi_legacy.proofs.TableParts.{parts_in_table, table_parts_are}
 use Rattle.bi_legacy.proofs.NameField.{name_in_field}
 
 -- A file means at most one image: the one that is read at the offsets of the fields.
 
 -- The parts that are read from data that holds some parts are these parts.
-parts_read : (has_table : Bool) (parts : List (List ℕ)) (body : List ℕ) → length body < 2 ^ 32 → MatchBool has_table (HasPartTable parts body) (parts ≡ body ∷ []) → (if has_table then parts_in_table body else body ∷ []) ≡ parts
+parts_read : (has_table : Bool) (parts : List (List ℕ)) (body : List ℕ) → length body < 2 ^ 32 →
+    MatchBool has_table (HasPartTable parts body) (parts ≡ body ∷ []) → (if has_table then parts_in_table body else body ∷ []) ≡ parts
 parts_read true parts body fits holds = table_parts_are parts body fits holds
 parts_read false parts body fits holds = sym holds
 
@@ -38,5 +41,5 @@ image_read file image is =
     }
 
 -- A file means at most one image.
-pub one_meaning : (file : List ℕ) (a b : LegacyImage) → IsLegacyFile file a → IsLegacyFile file b → a ≡ b
-one_meaning file a b is_a is_b = sym (image_read file a is_a) ∙ image_read file b is_b
+pub one_legacy_meaning : (file : List ℕ) (a b : LegacyImage) → IsLegacyFile file a → IsLegacyFile file b → a ≡ b
+one_legacy_meaning file a b is_a is_b = sym (image_read file a is_a) ∙ image_read file b is_b

@@ -22,12 +22,14 @@ ArePartsAt at (part ∷ parts) body =
     (at + length part ≤ length body) × (slice body at (length part) ≡ part) × ArePartsAt (up4 (at + length part)) parts body
 
 -- After an aligned front, a part with its padding ends at the next multiple of four.
-padded_end : (front part padding : List ℕ) → up4 (length front) ≡ length front → length part + length padding ≡ up4 (length part) → length (front ++ (part ++ padding)) ≡ up4 (length front + length part)
+padded_end : (front part padding : List ℕ) → up4 (length front) ≡ length front → length part + length padding ≡ up4 (length part) →
+    length (front ++ (part ++ padding)) ≡ up4 (length front + length part)
 padded_end front part padding aligned whole =
     length-append front (part ++ padding) ∙ omega (arith, length-append part padding, aligned, whole)
 
 -- What follows it is aligned.
-padded_aligned : (front part padding : List ℕ) → up4 (length front) ≡ length front → length part + length padding ≡ up4 (length part) → up4 (length (front ++ (part ++ padding))) ≡ length (front ++ (part ++ padding))
+padded_aligned : (front part padding : List ℕ) → up4 (length front) ≡ length front → length part + length padding ≡ up4 (length part) →
+    up4 (length (front ++ (part ++ padding))) ≡ length (front ++ (part ++ padding))
 padded_aligned front part padding aligned whole =
     let ends = padded_end front part padding aligned whole in ap up4 ends ∙ up4-up4 (length front + length part) ∙ sym ends
 
@@ -37,7 +39,8 @@ padded_front front part padding after =
     append_assoc front (part ++ padding) after ∙ ap (λ list. front ++ list) (append_assoc part padding after)
 
 -- Padded parts after an aligned front are at these offsets.
-pub padded_parts-at : (front : List ℕ) (parts : List (List ℕ)) (bytes : List ℕ) → up4 (length front) ≡ length front → ArePaddedParts parts bytes → ArePartsAt (length front) parts (front ++ bytes)
+pub padded_parts-at : (front : List ℕ) (parts : List (List ℕ)) (bytes : List ℕ) → up4 (length front) ≡ length front →
+    ArePaddedParts parts bytes → ArePartsAt (length front) parts (front ++ bytes)
 padded_parts-at front [] bytes aligned turn = tt
 padded_parts-at front (part ∷ []) bytes aligned turn =
     let after = turn.0 in
@@ -56,13 +59,15 @@ padded_parts-at front (part ∷ next ∷ later) bytes aligned turn =
     )
 
 -- The slice right after a front is the first of the bytes there.
-first_part-at : (front bytes part : List ℕ) → slice (front ++ bytes) (length front) (length part) ≡ part → bytes ≡ part ++ drop (length part) bytes
+first_part-at : (front bytes part : List ℕ) → slice (front ++ bytes) (length front) (length part) ≡ part →
+    bytes ≡ part ++ drop (length part) bytes
 first_part-at front bytes part at_offsets =
     sym (take-append-drop (length part) bytes)
     ∙ ap (λ first. first ++ drop (length part) bytes) (ap (take (length part)) (sym (drop-append_seam front bytes)) ∙ at_offsets)
 
 -- Parts at these offsets after an aligned front are padded parts in order.
-pub padded_parts-from : (front : List ℕ) (parts : List (List ℕ)) (bytes : List ℕ) → up4 (length front) ≡ length front → ArePartsAt (length front) parts (front ++ bytes) → ArePaddedParts parts bytes
+pub padded_parts-from : (front : List ℕ) (parts : List (List ℕ)) (bytes : List ℕ) → up4 (length front) ≡ length front →
+    ArePartsAt (length front) parts (front ++ bytes) → ArePaddedParts parts bytes
 padded_parts-from front [] bytes aligned at_offsets = tt
 padded_parts-from front (part ∷ []) bytes aligned at_offsets = (drop (length part) bytes, first_part-at front bytes part at_offsets.1)
 padded_parts-from front (part ∷ next ∷ later) bytes aligned at_offsets =

@@ -22,7 +22,8 @@ data_slice file size at n within =
     ap (take n) (slice-rest file 64 at size left sum) ∙ slice-first file (64 + at) n left room
 
 -- Parts in the data are in the file, 64 bytes later.
-parts_at-in_file : (file body : List ℕ) (at : ℕ) (parts : List (List ℕ)) → slice file 64 (length body) ≡ body → ArePartsAt at parts body → AreAtOffsets file (placed_parts_from at parts)
+parts_at-in_file : (file body : List ℕ) (at : ℕ) (parts : List (List ℕ)) → slice file 64 (length body) ≡ body → ArePartsAt at parts body →
+    AreAtOffsets file (placed_parts_from at parts)
 parts_at-in_file file body at [] there at_offsets = tt
 parts_at-in_file file body at (part ∷ parts) there at_offsets = (
   sym (data_slice file (length body) at (length part) at_offsets.0) ∙ ap (λ bytes. slice bytes at (length part)) there ∙ at_offsets.1,
@@ -30,7 +31,9 @@ parts_at-in_file file body at (part ∷ parts) there at_offsets = (
 )
 
 -- The same for data with or without a part table.
-body_parts-in_file : (has_table : Bool) (file body : List ℕ) (parts : List (List ℕ)) → slice file 64 (length body) ≡ body → MatchBool has_table (HasPartTable parts body) (parts ≡ body ∷ []) → AreAtOffsets file (placed_parts_from (if has_table then length (part_table parts) else 0) parts)
+body_parts-in_file : (has_table : Bool) (file body : List ℕ) (parts : List (List ℕ)) → slice file 64 (length body) ≡ body →
+    MatchBool has_table (HasPartTable parts body) (parts ≡ body ∷ []) →
+    AreAtOffsets file (placed_parts_from (if has_table then length (part_table parts) else 0) parts)
 body_parts-in_file true file body parts there held = parts_at-in_file file body (length (part_table parts)) parts there (table_parts_at parts body held)
 body_parts-in_file false file body parts there alone =
     subst (λ (them : List (List ℕ)). AreAtOffsets file (placed_parts_from 0 them)) (sym alone)
@@ -43,6 +46,7 @@ parts_at_offsets file image is =
     (ap (slice file 64) (sym (size_read file image is)) ∙ body_read file image is) is.parts
 
 -- They end in the file.
-pub parts_end_in_file : (file : List ℕ) (image : LegacyImage) → IsLegacyFile file image → 64 + parts_end image.image_type image.parts ≤ length file
+pub parts_end_in_file : (file : List ℕ) (image : LegacyImage) → IsLegacyFile file image →
+    64 + parts_end image.image_type image.parts ≤ length file
 parts_end_in_file file image is =
     omega (arith, parts_end_in image.image_type image.parts is.body is.parts, length-file file image is)

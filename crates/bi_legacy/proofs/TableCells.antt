@@ -16,7 +16,8 @@ use Rattle.bi_base.proofs.NulLaws.{nul_index, before_nul-append}
 -- Lists of cells, and the numbers in them.
 
 -- Four bytes are the cell of their number.
-cell_of_bytes : (a b c d : ℕ) (later : List ℕ) → AreBytes (a ∷ b ∷ c ∷ d ∷ later) → cell (from_be_bytes w32 (a ∷ b ∷ c ∷ d ∷ [])) ≡ a ∷ b ∷ c ∷ d ∷ []
+cell_of_bytes : (a b c d : ℕ) (later : List ℕ) → AreBytes (a ∷ b ∷ c ∷ d ∷ later) →
+    cell (from_be_bytes w32 (a ∷ b ∷ c ∷ d ∷ [])) ≡ a ∷ b ∷ c ∷ d ∷ []
 unfolding cell
 cell_of_bytes a b c d later bytes =
     be_bytes_4 (a ∷ b ∷ c ∷ d ∷ []) _ refl (AreBytes-slice (a ∷ b ∷ c ∷ d ∷ later) 0 4 bytes).each refl
@@ -26,7 +27,8 @@ bytes_after_cell : (a b c d : ℕ) (later : List ℕ) → AreBytes (a ∷ b ∷ 
 bytes_after_cell a b c d later bytes = record { each = λ i. bytes.each (suc (suc (suc (suc i)))) }
 
 -- The cells of the first numbers of some bytes are the first of the bytes.
-pub cells_split : (body : List ℕ) (n : ℕ) → AreBytes body → n ≤ length (cells_of body) → body ≡ flat_map cell (take n (cells_of body)) ++ drop (4 * n) body
+pub cells_split : (body : List ℕ) (n : ℕ) → AreBytes body → n ≤ length (cells_of body) →
+    body ≡ flat_map cell (take n (cells_of body)) ++ drop (4 * n) body
 cells_split body zero bytes within = refl
 cells_split [] (suc n) bytes within = absurd (omega arith)
 cells_split (a ∷ []) (suc n) bytes within = absurd (omega arith)
@@ -46,7 +48,8 @@ abbrev pub IsSize : ℕ → Type 0
 IsSize size = (0 < size) × (size < 2 ^ 32)
 
 -- The first numbers of cells and more bytes are those of the cells.
-pub cells_of-flat_map : (sizes later : List ℕ) → AllByRecursion IsSize sizes → cells_of (flat_map cell sizes ++ later) ≡ sizes ++ cells_of later
+pub cells_of-flat_map : (sizes later : List ℕ) → AllByRecursion IsSize sizes →
+    cells_of (flat_map cell sizes ++ later) ≡ sizes ++ cells_of later
 cells_of-flat_map [] later are = refl
 cells_of-flat_map (size ∷ sizes) later are =
     ap cells_of (append_assoc (cell size) (flat_map cell sizes) later)
@@ -62,14 +65,16 @@ part_table-cells parts = ap (λ list. list ++ cell 0) (of_lengths parts)
     of_lengths (part ∷ parts) = ap (λ list. cell (length part) ++ list) (of_lengths parts)
 
 -- The first numbers of a part table and more bytes are the sizes and a zero.
-sizes_read : (sizes after : List ℕ) → AllByRecursion IsSize sizes → cells_of ((flat_map cell sizes ++ cell 0) ++ after) ≡ sizes ++ 0 ∷ cells_of after
+sizes_read : (sizes after : List ℕ) → AllByRecursion IsSize sizes →
+    cells_of ((flat_map cell sizes ++ cell 0) ++ after) ≡ sizes ++ 0 ∷ cells_of after
 sizes_read sizes after are =
     ap cells_of (append_assoc (flat_map cell sizes) (cell 0) after)
     ∙ cells_of-flat_map sizes (cell 0 ++ after) are
     ∙ ap (λ list. sizes ++ list) (cells_of-cell 0 after (omega arith))
 
 -- The sizes that are read from a part table are its sizes.
-pub table_sizes-cells : (sizes after : List ℕ) → AllByRecursion IsSize sizes → table_sizes ((flat_map cell sizes ++ cell 0) ++ after) ≡ sizes
+pub table_sizes-cells : (sizes after : List ℕ) → AllByRecursion IsSize sizes →
+    table_sizes ((flat_map cell sizes ++ cell 0) ++ after) ≡ sizes
 table_sizes-cells sizes after are =
     ap (before_first (λ number. number == 0)) (sizes_read sizes after are)
     ∙ before_nul-append sizes (0 ∷ cells_of after) (nonzero sizes are) refl
@@ -79,7 +84,8 @@ table_sizes-cells sizes after are =
     nonzero (size ∷ sizes) are = ((λ zero. omega (arith, are.0.0)), nonzero sizes are.1)
 
 -- A part table has an end.
-pub part_table-ends : (sizes after : List ℕ) → AllByRecursion IsSize sizes → Contains (cells_of ((flat_map cell sizes ++ cell 0) ++ after)) 0
+pub part_table-ends : (sizes after : List ℕ) → AllByRecursion IsSize sizes →
+    Contains (cells_of ((flat_map cell sizes ++ cell 0) ++ after)) 0
 part_table-ends sizes after are =
     rw (sizes_read sizes after are) (Contains-append_right sizes (0 ∷ cells_of after) 0 (0, omega arith, refl))
 
@@ -91,7 +97,8 @@ zero_within numbers there = elim (cases_lt (nul_index numbers) (length numbers))
 ]
 
 -- Data with a zero among its cells is the part table that is read from it, and the bytes after the table.
-pub part_table-split : (body : List ℕ) → AreBytes body → Contains (cells_of body) 0 → body ≡ (flat_map cell (table_sizes body) ++ cell 0) ++ drop (4 * (length (table_sizes body) + 1)) body
+pub part_table-split : (body : List ℕ) → AreBytes body → Contains (cells_of body) 0 →
+    body ≡ (flat_map cell (table_sizes body) ++ cell 0) ++ drop (4 * (length (table_sizes body) + 1)) body
 part_table-split body bytes there =
     let cells = cells_of body in
     let place = nul_index cells in

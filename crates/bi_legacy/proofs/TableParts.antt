@@ -37,7 +37,8 @@ table_parts_at parts body is =
     rw is.body_is (padded_parts-at (part_table parts) parts is.rest (part_table-aligned parts) is.padded_parts)
 
 -- Data with the part table of some parts, and these parts at their offsets, holds them.
-pub parts_at_table : (parts : List (List ℕ)) (body after : List ℕ) → body ≡ part_table parts ++ after → AllByRecursion IsTablePart parts → ArePartsAt (length (part_table parts)) parts body → HasPartTable parts body
+pub parts_at_table : (parts : List (List ℕ)) (body after : List ℕ) → body ≡ part_table parts ++ after → AllByRecursion IsTablePart parts →
+    ArePartsAt (length (part_table parts)) parts body → HasPartTable parts body
 parts_at_table parts body after list are at_offsets = record {
   rest = after;
   body_is = list;
@@ -54,7 +55,8 @@ abbrev pub parts_in_table : List ℕ → List (List ℕ)
 parts_in_table body = part_slices body (first_offset body) (table_sizes body)
 
 -- Data with a part table that has an end, and whose parts end within the data, holds these parts.
-pub table_of_sizes : (body : List ℕ) → AreBytes body → Contains (cells_of body) 0 → FitWithin (length body) (first_offset body) (table_sizes body) → HasPartTable (parts_in_table body) body
+pub table_of_sizes : (body : List ℕ) → AreBytes body → Contains (cells_of body) 0 →
+    FitWithin (length body) (first_offset body) (table_sizes body) → HasPartTable (parts_in_table body) body
 table_of_sizes body bytes there ends =
     let sizes : map length (parts_in_table body) ≡ table_sizes body = length-slices body (first_offset body) (table_sizes body) ends in
     let first : first_offset body ≡ length (part_table (parts_in_table body)) =
@@ -67,11 +69,13 @@ table_of_sizes body bytes there ends =
     (subst (λ at. ArePartsAt at (parts_in_table body) body) first (part_slices-at body (first_offset body) (table_sizes body) ends))
 
 -- Data that holds these parts begins with the cells of their sizes and a cell of zero.
-table_body : (parts : List (List ℕ)) (body : List ℕ) (is : HasPartTable parts body) → body ≡ (flat_map cell (map length parts) ++ cell 0) ++ is.rest
+table_body : (parts : List (List ℕ)) (body : List ℕ) (is : HasPartTable parts body) →
+    body ≡ (flat_map cell (map length parts) ++ cell 0) ++ is.rest
 table_body parts body is = is.body_is ∙ ap (λ list. list ++ is.rest) (part_table-cells parts)
 
 -- The sizes that are read from data that holds these parts are their sizes.
-pub table_sizes_are : (parts : List (List ℕ)) (body : List ℕ) → length body < 2 ^ 32 → HasPartTable parts body → table_sizes body ≡ map length parts
+pub table_sizes_are : (parts : List (List ℕ)) (body : List ℕ) → length body < 2 ^ 32 → HasPartTable parts body →
+    table_sizes body ≡ map length parts
 table_sizes_are parts body fits is =
     ap table_sizes (table_body parts body is)
     ∙ table_sizes-cells (map length parts) is.rest (sizes_of_parts body _ parts fits (table_parts_at parts body is) is.are_table_parts)
@@ -83,7 +87,8 @@ table_has_end parts body fits is =
     (part_table-ends (map length parts) is.rest (sizes_of_parts body _ parts fits (table_parts_at parts body is) is.are_table_parts))
 
 -- The parts begin where the part table ends.
-pub table_first_offset : (parts : List (List ℕ)) (body : List ℕ) → length body < 2 ^ 32 → HasPartTable parts body → first_offset body ≡ length (part_table parts)
+pub table_first_offset : (parts : List (List ℕ)) (body : List ℕ) → length body < 2 ^ 32 → HasPartTable parts body →
+    first_offset body ≡ length (part_table parts)
 table_first_offset parts body fits is =
     ap (λ sizes. 4 * (length sizes + 1)) (table_sizes_are parts body fits is)
     ∙ ap (λ n. 4 * (n + 1)) (length-map parts length) ∙ sym (length-part_table parts)
@@ -96,7 +101,8 @@ table_parts_are parts body fits is =
     ∙ part_slices-are body (length (part_table parts)) parts (table_parts_at parts body is)
 
 -- The parts that are read from data that holds some parts end within it.
-pub table_parts_fit : (parts : List (List ℕ)) (body : List ℕ) → length body < 2 ^ 32 → HasPartTable parts body → FitWithin (length body) (first_offset body) (table_sizes body)
+pub table_parts_fit : (parts : List (List ℕ)) (body : List ℕ) → length body < 2 ^ 32 → HasPartTable parts body →
+    FitWithin (length body) (first_offset body) (table_sizes body)
 table_parts_fit parts body fits is =
     rw (table_first_offset parts body fits is, table_sizes_are parts body fits is)
     (parts_at-fit body (length (part_table parts)) parts (table_parts_at parts body is))

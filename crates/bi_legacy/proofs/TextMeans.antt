@@ -1,5 +1,5 @@
 use Rattle.std.proofs.Common.{◌≡◌, ◌-◌, ℕ, List, ◌++◌, [], length, replicate, refl, sym, ap, arith, zero, suc, append-nil}
-use Rattle.bi_base.specs.Limits.{Bounds}
+use Rattle.bi_base.specs.Limits.{Limits}
 use Rattle.bi_base.specs.Strings.{IsEmptyOrBeginsWithNul}
 use Rattle.bi_legacy.specs.File.{header, HoldsName, IsLegacyFile, LegacyMeans}
 use Rattle.bi_legacy.specs.Meaning.{LegacyImage, IsImageName}
@@ -8,7 +8,7 @@ use Rattle.bi_legacy.proofs.ImageOfFile.{image_of_file, text_no_longer}
 use Rattle.bi_legacy.proofs.NormalBytes.{legacy_text_bytes}
 use Rattle.bi_legacy.proofs.NormalLength.{length-name_field}
 use Rattle.bi_legacy.proofs.NormalParts.{normal_body_holds}
-use Rattle.bi_legacy.proofs.OneMeaning.{one_meaning}
+use Rattle.bi_legacy.proofs.OneMeaning.{one_legacy_meaning}
 
 -- The normal text of an image is a file that means this image.
 
@@ -28,9 +28,9 @@ name_field_holds name is = record {
 }
 
 -- The normal text of an image is a file that means this image.
-pub text_means : (image : LegacyImage) → IsLegacyImage image → IsLegacyFile (legacy_text image) image
+pub legacy_text_means : (image : LegacyImage) → IsLegacyImage image → IsLegacyFile (legacy_text image) image
 unfolding legacy_text
-text_means image is =
+legacy_text_means image is =
     let body = normal_body image.image_type image.parts in
     record {
       field = name_field image.name;
@@ -45,12 +45,13 @@ text_means image is =
     }
 
 -- The normal text of the image that a file means within the limits means it within them.
-pub text_means_same : (file : List ℕ) (image : LegacyImage) (limits : Bounds) → LegacyMeans limits file image → LegacyMeans limits (legacy_text image) image
+pub text_means_same : (file : List ℕ) (image : LegacyImage) (limits : Limits) → LegacyMeans limits file image →
+    LegacyMeans limits (legacy_text image) image
 text_means_same file image limits means = record {
-  is_file = text_means image (image_of_file file image means.is_file);
+  is_file = legacy_text_means image (image_of_file file image means.is_file);
   short = omega (arith, text_no_longer file image means.is_file, means.short);
 }
 
 -- Two images that fit the format and have the same normal text are the same.
-pub texts_differ : (a b : LegacyImage) → IsLegacyImage a → IsLegacyImage b → legacy_text a ≡ legacy_text b → a ≡ b
-texts_differ a b is_a is_b same = one_meaning (legacy_text b) a b (rw (← same) (text_means a is_a)) (text_means b is_b)
+pub legacy_texts_differ : (a b : LegacyImage) → IsLegacyImage a → IsLegacyImage b → legacy_text a ≡ legacy_text b → a ≡ b
+legacy_texts_differ a b is_a is_b same = one_legacy_meaning (legacy_text b) a b (rw (← same) (legacy_text_means a is_a)) (legacy_text_means b is_b)

@@ -1,4 +1,5 @@
-use Rattle.std.proofs.Common.{◌≡◌, ℕ, ◌-◌, ◌<◌, ◌≤◌, List, [], ◌∷◌, ◌++◌, length, take, drop, get_or, replicate, flat_map, append-nil, append_assoc, zero, suc, arith, refl, sym, ap, ◌∙◌}
+use Rattle.std.proofs.Common.{◌≡◌, ℕ, ◌-◌, ◌<◌, ◌≤◌, List, [], ◌∷◌, ◌++◌, length, take, drop, get_or, replicate, flat_map, append-nil}
+use Rattle.std.proofs.Common.{append_assoc, zero, suc, arith, refl, sym, ap, ◌∙◌}
 use Rattle.std.specs.Borrow.{Bor}
 use Rattle.std.proofs.lemmas.List.{length-append, length-map, get_or-map, map-append, take-replicate, drop-replicate}
 use Rattle.std.proofs.lemmas.List.Folds.{flat_map-map}
@@ -8,28 +9,30 @@ use Rattle.bi_legacy.specs.Emitting.{bytes_of}
 use Rattle.bi_legacy.specs.File.{header_cells, header}
 use Rattle.bi_legacy.specs.Meaning.{LegacyImage}
 use Rattle.bi_legacy.specs.Parts.{part_table}
-use Rattle.bi_legacy.specs.Text.{padded, joined_parts}
+use Rattle.bi_legacy.specs.Text.{with_zeros, joined_parts}
 
 -- The normal text, as it is written piece by piece.
 
 -- Joined parts are those before the last one, each padded, and then the last one.
-joined_parts-last : (before : List (List ℕ)) (last : List ℕ) → joined_parts (before ++ (last ∷ [])) ≡ flat_map padded before ++ last
+joined_parts-last : (before : List (List ℕ)) (last : List ℕ) → joined_parts (before ++ (last ∷ [])) ≡ flat_map with_zeros before ++ last
 joined_parts-last [] last = refl
-joined_parts-last (part ∷ []) last = ap (λ l. l ++ last) (sym (append-nil (padded part)))
+joined_parts-last (part ∷ []) last = ap (λ l. l ++ last) (sym (append-nil (with_zeros part)))
 joined_parts-last (part ∷ next ∷ later) last =
-    ap (λ l. padded part ++ l) (joined_parts-last (next ∷ later) last)
-    ∙ sym (append_assoc (padded part) (flat_map padded (next ∷ later)) last)
+    ap (λ l. with_zeros part ++ l) (joined_parts-last (next ∷ later) last)
+    ∙ sym (append_assoc (with_zeros part) (flat_map with_zeros (next ∷ later)) last)
 
 -- The same for slices.
-pub joined_parts-bytes_of : (slices before : List (Bor (List ℕ))) (last : Bor (List ℕ)) → slices ≡ before ++ (last ∷ []) → joined_parts (bytes_of slices) ≡ flat_map (λ slice. padded slice.now) before ++ last.now
+pub joined_parts-bytes_of : (slices before : List (Bor (List ℕ))) (last : Bor (List ℕ)) → slices ≡ before ++ (last ∷ []) →
+    joined_parts (bytes_of slices) ≡ flat_map (λ slice. with_zeros slice.now) before ++ last.now
 joined_parts-bytes_of slices before last e =
     ap (λ l. joined_parts (bytes_of l)) e
     ∙ ap joined_parts (map-append (λ slice. slice.now) before (last ∷ []))
     ∙ joined_parts-last (bytes_of before) last.now
-    ∙ ap (λ l. l ++ last.now) (flat_map-map padded (λ slice. slice.now) before)
+    ∙ ap (λ l. l ++ last.now) (flat_map-map with_zeros (λ slice. slice.now) before)
 
 -- The part table of slices.
-pub part_table-bytes_of : (slices : List (Bor (List ℕ))) → part_table (bytes_of slices) ≡ flat_map (λ slice. cell (length slice.now)) slices ++ cell 0
+pub part_table-bytes_of : (slices : List (Bor (List ℕ))) →
+    part_table (bytes_of slices) ≡ flat_map (λ slice. cell (length slice.now)) slices ++ cell 0
 part_table-bytes_of slices =
     ap (λ l. l ++ cell 0) (flat_map-map (λ part. cell (length part)) (λ slice. slice.now) slices)
 
@@ -41,14 +44,15 @@ part_within (part ∷ []) (suc i) d within = absurd (omega arith)
 part_within (part ∷ next ∷ later) zero d within =
     omega (
       arith,
-      length-append (padded part) (joined_parts (next ∷ later)),
+      length-append (with_zeros part) (joined_parts (next ∷ later)),
       length-append part (replicate (up4 (length part) - length part) 0),
     )
 part_within (part ∷ next ∷ later) (suc i) d within =
-    omega (arith, length-append (padded part) (joined_parts (next ∷ later)), part_within (next ∷ later) i d (omega arith))
+    omega (arith, length-append (with_zeros part) (joined_parts (next ∷ later)), part_within (next ∷ later) i d (omega arith))
 
 -- The same for slices.
-pub slice_within : (slices : List (Bor (List ℕ))) (i : ℕ) (d : Bor (List ℕ)) → i < length slices → length (get_or slices i d).now ≤ length (joined_parts (bytes_of slices))
+pub slice_within : (slices : List (Bor (List ℕ))) (i : ℕ) (d : Bor (List ℕ)) → i < length slices →
+    length (get_or slices i d).now ≤ length (joined_parts (bytes_of slices))
 slice_within slices i d within =
     let now = λ (slice : Bor (List ℕ)). slice.now in
     omega (
@@ -67,12 +71,15 @@ name_zeros n short =
     ap (take (32 - n)) (drop-replicate n 32 0) ∙ take-replicate (32 - n) (32 - n) 0 (omega arith)
 
 -- A header is its seven cells, its four codes and the name's field.
-pub header_pieces : (checksum size sum : ℕ) (image : LegacyImage) (field : List ℕ) → (flat_map cell (0x27051956 ∷ checksum ∷ image.time ∷ size ∷ image.load ∷ image.entry ∷ sum ∷ []) ++ (image.os ∷ image.arch ∷ image.image_type ∷ image.compression ∷ [])) ++ field ≡ header_cells checksum size sum image field
+pub header_pieces : (checksum size sum : ℕ) (image : LegacyImage) (field : List ℕ) →
+    (flat_map cell (0x27051956 ∷ checksum ∷ image.time ∷ size ∷ image.load ∷ image.entry ∷ sum ∷ [])
+    ++ (image.os ∷ image.arch ∷ image.image_type ∷ image.compression ∷ [])) ++ field ≡ header_cells checksum size sum image field
 unfolding cell
 header_pieces checksum size sum image field = refl
 
 -- The header of an image, with the checksum of its data and then that of the header itself.
-pub header_made : (image : LegacyImage) (field body : List ℕ) (size sum checksum : ℕ) → size ≡ length body → sum ≡ crc32 body → checksum ≡ crc32 (header_cells 0 size sum image field) → header_cells checksum size sum image field ≡ header image field body
+pub header_made : (image : LegacyImage) (field body : List ℕ) (size sum checksum : ℕ) → size ≡ length body → sum ≡ crc32 body →
+    checksum ≡ crc32 (header_cells 0 size sum image field) → header_cells checksum size sum image field ≡ header image field body
 unfolding header
 header_made image field body size sum checksum size_is sum_is checksum_is =
     let made : ℕ → ℕ → List ℕ = λ n s. header_cells (crc32 (header_cells 0 n s image field)) n s image field in

@@ -6,7 +6,7 @@ use Rattle.bi_base.specs.declared.fault.Error.{Error}
 use Rattle.bi_base.specs.declared.fault.Error.TheVariants.{Refused}
 use Rattle.bi_base.specs.Sinks.{Wrote}
 use Rattle.bi_base.specs.declared.fault.Cause.TheVariants.{TooLarge, EmptyPart, BadField}
-use Rattle.bi_base.specs.Limits.{Bounds}
+use Rattle.bi_base.specs.Limits.{Limits}
 use Rattle.bi_base.specs.Checks.{IsFirstFault, HasNoFault}
 use Rattle.bi_legacy.specs.declared.fields.Fields.{Fields}
 use Rattle.bi_legacy.specs.Meaning.{LegacyImage, image_of, IsImageName, IsTablePart, has_part_table}
@@ -43,7 +43,7 @@ pub data EmitCheck : Type 0 where
   IsNotEmpty : EmitPartCheck → EmitCheck
 
 -- When each check passes.
-abbrev pub EmitPasses : Bounds → LegacyImage → EmitCheck → Type 0
+abbrev pub EmitPasses : Limits → LegacyImage → EmitCheck → Type 0
 EmitPasses limits image HasImageName = IsImageName image.name
 EmitPasses limits image HasPartCount =
     MatchBool (has_part_table image.image_type) ⊤ (length image.parts ≡ 1)
@@ -52,7 +52,7 @@ EmitPasses limits image (IsNotEmpty check) = EmitPartPasses check
 
 -- The fault of an image that fails a check, at the offset of the field in the image to be written,
 -- or at the limit.
-abbrev pub emit_fault : Bounds → EmitCheck → Fault
+abbrev pub emit_fault : Limits → EmitCheck → Fault
 emit_fault limits HasImageName = record { cause = BadField; offset = 32 }
 emit_fault limits HasPartCount = record { cause = BadField; offset = 30 }
 emit_fault limits FitsLimit = record { cause = TooLarge; offset = limits.file }
@@ -72,19 +72,19 @@ emit_checks image =
     (if has_part_table image.image_type then emit_part_checks 0 image.parts else [])
 
 -- The fault of an image: that of its first failing check.
-abbrev pub IsEmitFault : Bounds → LegacyImage → Fault → Type 0
+abbrev pub IsEmitFault : Limits → LegacyImage → Fault → Type 0
 IsEmitFault limits image fault =
     IsFirstFault (EmitPasses limits image) (emit_fault limits) (emit_checks image) fault
 
 -- The image fails no check.
-abbrev pub HasNoEmitFault : Bounds → LegacyImage → Type 0
+abbrev pub HasNoEmitFault : Limits → LegacyImage → Type 0
 HasNoEmitFault limits image = HasNoFault (EmitPasses limits image) (emit_checks image)
 
 -- What a call that writes this image to a sink did. It fails with the fault of the image and leaves
 -- the sink unchanged, or it writes the normal text as a call to the sink does. The image has a
 -- fault or none.
 pub record WroteImage {S : Type 0} (appends : S → List ℕ → S → Type 0)
-    (fails : S → List ℕ → S → Error → Type 0) (limits : Bounds) (image : LegacyImage)
+    (fails : S → List ℕ → S → Error → Type 0) (limits : Limits) (image : LegacyImage)
     (old : S) (result : Result (Unit {0}) Error) (new : S) : Type 0 where
   pub refused : (fault : Fault) → IsEmitFault limits image fault →
       (result ≡ Err (Refused fault)) × (new ≡ old)

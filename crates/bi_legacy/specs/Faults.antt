@@ -4,7 +4,7 @@ use Rattle.bi_base.specs.declared.fault.Cause.TheVariants.{Truncated, BadMagic, 
 use Rattle.bi_base.specs.declared.fault.Cause.TheVariants.{BadDataCrc, TooLarge}
 use Rattle.bi_base.specs.Cells.{cell, slice, u32_at}
 use Rattle.bi_base.specs.Crc.{crc32}
-use Rattle.bi_base.specs.Limits.{Bounds}
+use Rattle.bi_base.specs.Limits.{Limits}
 use Rattle.bi_base.specs.Checks.{IsFirstFault, HasNoFault}
 use Rattle.bi_legacy.specs.File.{legacy_magic}
 use Rattle.bi_legacy.specs.PartTables.{TableCheck, TablePasses, table_fault, body_checks}
@@ -31,7 +31,7 @@ pub data Check : Type 0 where
   InPartTable : TableCheck → Check
 
 -- When each check passes.
-abbrev pub Passes : Bounds → List ℕ → Check → Type 0
+abbrev pub Passes : Limits → List ℕ → Check → Type 0
 Passes limits file IsWithinLimit = length file ≤ limits.file
 Passes limits file HasMagicCell = 4 ≤ length file
 Passes limits file HasMagic = u32_at file 0 ≡ legacy_magic
@@ -42,7 +42,7 @@ Passes limits file HasDataChecksum = u32_at file 24 ≡ crc32 (body_of file)
 Passes limits file (InPartTable check) = TablePasses (body_of file) check
 
 -- The fault of a file that fails a check.
-abbrev pub fault_of : Bounds → Check → Fault
+abbrev pub fault_of : Limits → Check → Fault
 fault_of limits IsWithinLimit = record { cause = TooLarge; offset = limits.file }
 fault_of limits HasMagicCell = record { cause = Truncated; offset = 0 }
 fault_of limits HasMagic = record { cause = BadMagic; offset = 0 }
@@ -53,25 +53,25 @@ fault_of limits HasDataChecksum = record { cause = BadDataCrc; offset = 24 }
 fault_of limits (InPartTable check) = table_fault check
 
 -- The checks of header and data, in their order.
-abbrev pub header_checks : List Check
-header_checks =
+abbrev pub legacy_checks : List Check
+legacy_checks =
     IsWithinLimit ∷ HasMagicCell ∷ HasMagic ∷ HasHeader ∷ HasHeaderChecksum ∷ HasData
     ∷ HasDataChecksum ∷ []
 
 -- All checks of a legacy image, in their order. Byte 30 of the header is the type.
 abbrev pub checks : List ℕ → List Check
-checks file = header_checks ++ map InPartTable (body_checks (slice_index file 30) (body_of file))
+checks file = legacy_checks ++ map InPartTable (body_checks (slice_index file 30) (body_of file))
 
 -- The fault of a file: that of its first failing check.
-abbrev pub IsLegacyFault : Bounds → List ℕ → Fault → Type 0
+abbrev pub IsLegacyFault : Limits → List ℕ → Fault → Type 0
 IsLegacyFault limits file fault =
     IsFirstFault (Passes limits file) (fault_of limits) (checks file) fault
 
 -- The file has this fault and no other.
-pub record IsOnlyLegacyFault (limits : Bounds) (file : List ℕ) (fault : Fault) : Type 0 where
+pub record IsOnlyLegacyFault (limits : Limits) (file : List ℕ) (fault : Fault) : Type 0 where
   pub is_fault : IsLegacyFault limits file fault
   pub only : (other : Fault) → IsLegacyFault limits file other → other ≡ fault
 
 -- The file fails no check.
-abbrev pub HasNoLegacyFault : Bounds → List ℕ → Type 0
+abbrev pub HasNoLegacyFault : Limits → List ℕ → Type 0
 HasNoLegacyFault limits file = HasNoFault (Passes limits file) (checks file)

@@ -1,7 +1,7 @@
 use Rattle.std.specs.Prelude.{ℕ, ◌^◌, ◌<◌, ◌≤◌, ◌≡◌, List, [], ◌∷◌, ◌++◌, length}
 use Rattle.bi_base.specs.Cells.{cell, u32_at, AreBytes}
 use Rattle.bi_base.specs.Crc.{crc32}
-use Rattle.bi_base.specs.Limits.{Bounds}
+use Rattle.bi_base.specs.Limits.{Limits}
 use Rattle.bi_base.specs.Strings.{IsEmptyOrBeginsWithNul}
 use Rattle.bi_legacy.specs.Meaning.{LegacyImage, FitsFields, IsImageName}
 use Rattle.bi_legacy.specs.Parts.{HoldsParts}
@@ -54,6 +54,6 @@ pub record IsLegacyFile (file : List ℕ) (image : LegacyImage) : Type 0 where
   pub bytes : AreBytes file
 
 -- The file is no longer than the limit, and has this meaning.
-pub record LegacyMeans (limits : Bounds) (file : List ℕ) (image : LegacyImage) : Type 0 where
+pub record LegacyMeans (limits : Limits) (file : List ℕ) (image : LegacyImage) : Type 0 where
   pub is_file : IsLegacyFile file image
   pub short : length file ≤ limits.file

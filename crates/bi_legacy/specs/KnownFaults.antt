@@ -4,7 +4,7 @@ use Rattle.bi_base.specs.declared.fault.Cause.TheVariants.{Truncated, BadMagic, 
 use Rattle.bi_base.specs.declared.fault.Cause.TheVariants.{BadDataCrc, BadPartTable, BadPart}
 use Rattle.bi_base.specs.declared.fault.Cause.TheVariants.{EmptyPart, TooLarge, BadField}
 use Rattle.bi_base.specs.Cells.{cell}
-use Rattle.bi_base.specs.Limits.{Bounds}
+use Rattle.bi_base.specs.Limits.{Limits}
 use Rattle.bi_legacy.specs.Meaning.{LegacyImage}
 use Rattle.bi_legacy.specs.File.{header}
 use Rattle.bi_legacy.specs.Text.{name_field}
@@ -17,11 +17,11 @@ use Rattle.bi_legacy.specs.KnownImages.{kernel_image, kernel_file, multi_image}
 -- (profile of this project).
 
 -- The widest limits.
-abbrev pub widest : Bounds
+abbrev pub widest : Limits
 widest = record { file = 0x7fffffff; depth = 64 }
 
 -- The widest limits but for this one on files.
-abbrev pub limited_to : ℕ → Bounds
+abbrev pub limited_to : ℕ → Limits
 limited_to limit = record { file = limit; depth = 64 }
 
 -- A file with another byte at this offset.
@@ -35,7 +35,7 @@ file_of_data image_type body =
     header (record kernel_image { image_type = image_type }) (name_field (codes "k")) body ++ body
 
 -- A file has this fault under these limits.
-abbrev pub HasLegacyFault : Bounds → List ℕ → Cause → ℕ → Type 0
+abbrev pub HasLegacyFault : Limits → List ℕ → Cause → ℕ → Type 0
 HasLegacyFault bounds file cause offset =
     IsLegacyFault bounds file (record { cause = cause; offset = offset })
 
@@ -89,7 +89,7 @@ pub record LegacyChecksHaveOrder : Type 0 where
       HasLegacyFault widest (file_of_data 4 (cell 9 ++ (cell 9 ++ cell 0))) BadPart 64
 
 -- An image has this fault if it is written under these limits.
-abbrev pub HasEmitFault : Bounds → LegacyImage → Cause → ℕ → Type 0
+abbrev pub HasEmitFault : Limits → LegacyImage → Cause → ℕ → Type 0
 HasEmitFault bounds image cause offset =
     IsEmitFault bounds image (record { cause = cause; offset = offset })
 

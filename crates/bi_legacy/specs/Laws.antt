@@ -2,7 +2,7 @@ use Rattle.std.specs.Prelude.{ℕ, ◌^◌, ◌<◌, ◌≤◌, ◌≡◌, ◌�
 use Rattle.std.specs.List.{AllByRecursion}
 use Rattle.bi_base.specs.declared.fault.Fault.{Fault}
 use Rattle.bi_base.specs.Cells.{AreBytes}
-use Rattle.bi_base.specs.Limits.{Bounds}
+use Rattle.bi_base.specs.Limits.{Limits}
 use Rattle.bi_legacy.specs.Meaning.{LegacyImage, FitsFields, with_new_time}
 use Rattle.bi_legacy.specs.File.{BeginsWithMagic, IsLegacyFile, LegacyMeans}
 use Rattle.bi_legacy.specs.Text.{legacy_text, IsLegacyImage}
@@ -22,7 +22,7 @@ OneLegacyMeaning = (file : List ℕ) (a b : LegacyImage) → IsLegacyFile file a
 -- within any limits.
 abbrev pub NoMeaningWithoutMagic : Type 0
 NoMeaningWithoutMagic =
-    (file : List ℕ) (limits : Bounds) → ¬ (BeginsWithMagic file) →
+    (file : List ℕ) (limits : Limits) → ¬ (BeginsWithMagic file) →
     (image : LegacyImage) → ¬ (LegacyMeans limits file image)
 
 -- A normal text begins with the magic number.
@@ -32,26 +32,26 @@ TextBeginsWithMagic = (image : LegacyImage) → BeginsWithMagic (legacy_text ima
 -- Bytes mean an image within the limits exactly if no check fails.
 abbrev pub MeaningWithoutFault : Type 0
 MeaningWithoutFault =
-    (file : List ℕ) (limits : Bounds) → AreBytes file →
+    (file : List ℕ) (limits : Limits) → AreBytes file →
     ((image : LegacyImage) × LegacyMeans limits file image) ↔ HasNoLegacyFault limits file
 
 -- Bytes mean an image within the limits or have a fault.
 abbrev pub LegacyMeaningOrFault : Type 0
 LegacyMeaningOrFault =
-    (file : List ℕ) (limits : Bounds) → AreBytes file →
+    (file : List ℕ) (limits : Limits) → AreBytes file →
     ((image : LegacyImage) × LegacyMeans limits file image)
     ⊎ ((fault : Fault) × IsLegacyFault limits file fault)
 
 -- A file with a fault means no image within the limits.
 abbrev pub NoMeaningWithFault : Type 0
 NoMeaningWithFault =
-    (file : List ℕ) (limits : Bounds) (fault : Fault) → IsLegacyFault limits file fault →
+    (file : List ℕ) (limits : Limits) (fault : Fault) → IsLegacyFault limits file fault →
     (image : LegacyImage) → ¬ (LegacyMeans limits file image)
 
 -- A file has at most one fault.
 abbrev pub OneLegacyFault : Type 0
 OneLegacyFault =
-    (file : List ℕ) (limits : Bounds) (a b : Fault) →
+    (file : List ℕ) (limits : Limits) (a b : Fault) →
     IsLegacyFault limits file a → IsLegacyFault limits file b → a ≡ b
 
 -- An image fits the format exactly if some file means it.
@@ -62,7 +62,7 @@ ImagesOfFiles =
 -- The normal text of an image that a file means within the limits means it within the same limits.
 abbrev pub TextMeansImage : Type 0
 TextMeansImage =
-    (file : List ℕ) (image : LegacyImage) (limits : Bounds) → LegacyMeans limits file image →
+    (file : List ℕ) (image : LegacyImage) (limits : Limits) → LegacyMeans limits file image →
     LegacyMeans limits (legacy_text image) image
 
 -- The normal text of the image that a file means is no longer than the file.
@@ -87,19 +87,19 @@ TextsDiffer =
 -- it can be written, and its normal text is accepted and means it.
 abbrev pub UpdatedHasNormalForm : Type 0
 UpdatedHasNormalForm =
-    (file : List ℕ) (image : LegacyImage) (limits : Bounds) (time : ℕ) →
+    (file : List ℕ) (image : LegacyImage) (limits : Limits) (time : ℕ) →
     LegacyMeans limits file image → time < 2 ^ 32 →
     HasNormalForm limits (with_new_time time image)
 
 -- An image that a file means within the limits can be written within them.
 abbrev pub MeaningCanBeWritten : Type 0
 MeaningCanBeWritten =
-    (file : List ℕ) (image : LegacyImage) (limits : Bounds) →
+    (file : List ℕ) (image : LegacyImage) (limits : Limits) →
     LegacyMeans limits file image → HasNoEmitFault limits image
 
 -- The normal text of an image that can be written within the limits means this image within them.
 abbrev pub WrittenTextMeansImage : Type 0
 WrittenTextMeansImage =
-    (image : LegacyImage) (limits : Bounds) → FitsFields image → AreBytes image.name →
+    (image : LegacyImage) (limits : Limits) → FitsFields image → AreBytes image.name →
     AllByRecursion AreBytes image.parts → limits.file < 2 ^ 32 → HasNoEmitFault limits image →
     LegacyMeans limits (legacy_text image) image

@@ -6,7 +6,7 @@ use Rattle.bi_legacy.specs.declared.part_table.PartTable.{PartTable}
 use Rattle.bi_legacy.specs.declared.part_ranges.PartRange.{PartRange}
 use Rattle.bi_legacy.specs.Parts.{parts_end_from}
 use Rattle.bi_legacy.specs.PartTables.{table_sizes}
-use Rattle.bi_legacy.specs.PlacedParts.{PlacedPart}
+use Rattle.bi_legacy.specs.PlacedParts.{PartModel}
 
 -- Where the reader finds the parts in the data of an image. It finds them by the sizes alone: no
 -- promise about the format is stated in these terms.
@@ -27,17 +27,17 @@ part_ranges at (size ∷ sizes) =
     record { start = at; size = size } ∷ part_ranges (up4 (at + size)) sizes
 
 -- The bytes of the data in a range, with their offset in the file.
-abbrev pub placed_slice : List ℕ → PartRange → PlacedPart
+abbrev pub placed_slice : List ℕ → PartRange → PartModel
 placed_slice body range =
     record { place = 64 + range.start; bytes = slice body range.start range.size }
 
 -- The bytes of the data in the ranges of parts of these sizes, with their offsets in the file.
-abbrev pub placed_slices : List ℕ → ℕ → List ℕ → List PlacedPart
+abbrev pub placed_slices : List ℕ → ℕ → List ℕ → List PartModel
 placed_slices body at sizes = map (placed_slice body) (part_ranges at sizes)
 
 -- The same bytes without their offsets.
 abbrev pub part_slices : List ℕ → ℕ → List ℕ → List (List ℕ)
-part_slices body at sizes = map (λ (part : PlacedPart). part.bytes) (placed_slices body at sizes)
+part_slices body at sizes = map (λ (part : PartModel). part.bytes) (placed_slices body at sizes)
 
 -- A range ends within this many bytes.
 abbrev pub EndsWithin : ℕ → PartRange → Type 0

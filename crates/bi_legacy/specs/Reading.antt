@@ -1,28 +1,28 @@
 use Rattle.std.specs.Prelude.{ℕ, ◌+◌, ◌≡◌, List, length, map}
-use Rattle.bi_base.specs.Limits.{Bounds}
+use Rattle.bi_base.specs.Limits.{Limits}
 use Rattle.bi_legacy.specs.Meaning.{LegacyImage}
 use Rattle.bi_legacy.specs.Parts.{parts_end}
 use Rattle.bi_legacy.specs.File.{LegacyMeans}
 use Rattle.bi_legacy.specs.Faults.{HasNoLegacyFault}
 use Rattle.bi_legacy.specs.NormalForm.{HasNormalForm}
-use Rattle.bi_legacy.specs.PlacedParts.{PlacedPart, placed_parts, AreAtOffsets}
+use Rattle.bi_legacy.specs.PlacedParts.{PartModel, placed_parts, AreAtOffsets}
 
 -- The result of reading a legacy image (profile of this project).
 
 -- What reading returns: the image, and how many bytes of the file follow the last part, or the part
 -- table if there are no parts.
-pub record ParsedImage : Type 0 where
+pub record LegacyModel : Type 0 where
   pub image : LegacyImage
   pub unused : ℕ
 
 -- The offsets of the parts of an image in its file.
 abbrev pub part_places : LegacyImage → List ℕ
-part_places image = map (λ (part : PlacedPart). part.place) (placed_parts image)
+part_places image = map (λ (part : PartModel). part.place) (placed_parts image)
 
 -- The file means this image and no other, each part is in it at its offset, and this many of its
 -- bytes follow the last part, or the part table if there are no parts. No check of the file fails,
 -- and the image has a normal form.
-pub record IsParsedImage (limits : Bounds) (file : List ℕ) (value : ParsedImage) : Type 0 where
+pub record IsParsedImage (limits : Limits) (file : List ℕ) (value : LegacyModel) : Type 0 where
   pub means : LegacyMeans limits file value.image
   pub only_meaning : (other : LegacyImage) → LegacyMeans limits file other → other ≡ value.image
   pub at_offsets : AreAtOffsets file (placed_parts value.image)

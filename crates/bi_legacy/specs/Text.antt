@@ -9,14 +9,14 @@ use Rattle.bi_legacy.specs.File.{header}
 -- The normal form of a legacy image (profile of this project).
 
 -- These bytes, and then zeros up to a multiple of four.
-abbrev pub padded : List ℕ → List ℕ
-padded bytes = bytes ++ replicate (up4 (length bytes) - length bytes) 0
+abbrev pub with_zeros : List ℕ → List ℕ
+with_zeros bytes = bytes ++ replicate (up4 (length bytes) - length bytes) 0
 
 -- The parts in order, each but the last padded.
 abbrev pub joined_parts : List (List ℕ) → List ℕ
 joined_parts [] = []
 joined_parts (part ∷ []) = part
-joined_parts (part ∷ next ∷ later) = padded part ++ joined_parts (next ∷ later)
+joined_parts (part ∷ next ∷ later) = with_zeros part ++ joined_parts (next ∷ later)
 
 -- The normal data: for multi and script images the part table and the padded parts, else the one
 -- part.

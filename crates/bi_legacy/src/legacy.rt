@@ -11,7 +11,7 @@ ghost use Rattle.bi_legacy.specs.Faults.{IsLegacyFault, IsOnlyLegacyFault, HasNo
 ghost use Rattle.bi_legacy.specs.Faults.{body_of};
 ghost use Rattle.bi_legacy.specs.PlacedParts.{placed_parts};
 ghost use Rattle.bi_legacy.specs.Text.{normal_body};
-ghost use Rattle.bi_legacy.specs.Reading.{ParsedImage, IsParsedImage, part_places};
+ghost use Rattle.bi_legacy.specs.Reading.{LegacyModel, IsParsedImage, part_places};
 ghost use Rattle.bi_legacy.specs.ReadImage.{IsReaderState, parts_of_body, read_image, read_end};
 
 use crate::fields::{Fields, has_part_table};
@@ -35,7 +35,7 @@ pub struct Legacy<'a> {
 }
 
 impl<'a> Model for Legacy<'a> {
-    ghost Value = { ParsedImage };
+    ghost Value = { LegacyModel };
 
     ghost view = { λ legacy. record {
       image = image_of legacy.fields (parts_of_body legacy.fields.image_type legacy.body.now);
@@ -64,7 +64,7 @@ impl<'a> Legacy<'a> {
     pub fn read(file: &'a [u8], limits: Limits) -> Result<Legacy<'a>, Fault>
         ensures accepts { let file = file.entry.now in
             IsOk result ↔ ((image : LegacyImage) × LegacyMeans limits file image) }
-        ensures parsed { IfOk result (IsParsedImage limits file.entry.now) }
+        ensures read { IfOk result (IsParsedImage limits file.entry.now) }
         ensures fault { IfErr result (IsOnlyLegacyFault limits file.entry.now) }
     {
         parse(file, limits)

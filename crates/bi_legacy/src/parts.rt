@@ -5,7 +5,7 @@ ghost use Rattle.std.specs.Iterator.{YieldsFirstBy, at_most};
 ghost use Rattle.std.specs.List.{AllByRecursion};
 ghost use Rattle.bi_legacy.specs.PartRanges.{IsPartTable, EndsWithin, placed_slice, placed_slices};
 ghost use Rattle.bi_legacy.specs.PartRanges.{part_sizes, first_part_offset};
-ghost use Rattle.bi_legacy.specs.PlacedParts.{PlacedPart, placed_part_of};
+ghost use Rattle.bi_legacy.specs.PlacedParts.{PartModel, part_model};
 
 use crate::header::HEADER_SIZE;
 use crate::part_ranges::PartRanges;
@@ -29,7 +29,7 @@ pub struct Parts<'a> {
 }
 
 impl<'a> Model for Parts<'a> {
-    ghost Value = { List PlacedPart };
+    ghost Value = { List PartModel };
 
     ghost view = { λ parts. map (placed_slice parts.body.now) parts.ranges };
 
@@ -55,7 +55,7 @@ impl<'a> Parts<'a> {
 impl<'a> Iterator for Parts<'a> {
     type Item = Part<'a>;
 
-    ghost next_gives = { YieldsFirstBy placed_part_of (λ parts. parts) };
+    ghost next_gives = { YieldsFirstBy part_model (λ parts. parts) };
 
     ghost remaining = { λ parts. at_most (length parts) };
 

@@ -6,7 +6,8 @@ ghost use Rattle.bi_base.specs.Sinks.{Wrote};
 ghost use Rattle.bi_legacy.specs.File.{header_cells};
 ghost use Rattle.bi_legacy.specs.Parts.{part_table};
 ghost use Rattle.bi_legacy.specs.Meaning.{image_of};
-ghost use Rattle.bi_legacy.specs.Text.{padded, joined_parts, normal_body, name_field, legacy_text};
+ghost use Rattle.bi_legacy.specs.Text.{with_zeros, joined_parts, normal_body, name_field};
+ghost use Rattle.bi_legacy.specs.Text.{legacy_text};
 ghost use Rattle.bi_legacy.specs.Emitting.{bytes_of, image_of_parts};
 
 use crate::fields::{Fields, has_part_table};
@@ -140,7 +141,7 @@ fn put_joined_parts<S: Sink>(parts: &[&[u8]], sink: &mut S) -> Result<(), Error>
 
 /// Appends some bytes, and zeros up to a multiple of four bytes.
 fn put_padded<S: Sink>(bytes: &[u8], sink: &mut S) -> Result<(), Error>
-    ensures { Wrote S.appends S.fails sink.old (padded bytes.now) result sink.new }
+    ensures { Wrote S.appends S.fails sink.old (with_zeros bytes.now) result sink.new }
 {
     sink.put(bytes)?;
     sink.put(&[0; 3][..up4(bytes.len()) - bytes.len()])

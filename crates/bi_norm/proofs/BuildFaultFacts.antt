@@ -4,15 +4,17 @@ use Rattle.std.specs.Bool.{Decides}
 use Rattle.std.specs.Option.{is_some}
 use Rattle.std.specs.Borrow.{Bor}
 use Rattle.std.proofs.lemmas.Bool.Decides.{Decides-not}
-use Rattle.bi_base.specs.Limits.{Bounds}
-use Rattle.bi_blob.proofs.CheckTests.{le_decides, eq_decides, both_decide, lacks_byte, lacks_byte_decides, is_new, is_new_decides, is_property_name, is_child_name, is_child_name_decides, first_failing, fault_by_test}
+use Rattle.bi_base.specs.Limits.{Limits}
+use Rattle.bi_blob.proofs.CheckDecisions.{le_decides, eq_decides, both_decide, lacks_byte, lacks_byte_decides, is_new, is_new_decides}
+use Rattle.bi_blob.proofs.CheckDecisions.{is_property_name, is_child_name, is_child_name_decides, first_failing, fault_by_test}
 use Rattle.bi_fit.specs.declared.form.Form.{Form}
 use Rattle.bi_fit.specs.declared.form.Form.TheVariants.{Embedded}
 use Rattle.bi_fit.specs.Text.{fit_text}
 use Rattle.bi_legacy.specs.Codes.{os_names, arch_names, type_names, compression_names, name_of_code}
 use Rattle.bi_norm.specs.declared.building.Head.{Head}
 use Rattle.bi_norm.specs.declared.building.ImageSpec.{ImageSpec}
-use Rattle.bi_norm.specs.Building.{BuildCheck, HasFewImages, HasTextDescription, HasFields, HasCodeNames, HasNewName, FitsLimit, HasNames, BuildPasses, build_fault, build_checks, IsBuildFault, tree_of_images}
+use Rattle.bi_norm.specs.BuildCalls.{BuildCheck, HasFewImages, HasTextDescription, HasFields, HasCodeNames, HasNewName, FitsLimit, HasNames}
+use Rattle.bi_norm.specs.BuildCalls.{BuildPasses, build_fault, build_checks, IsBuildFault, tree_of_images}
 use Rattle.bi_norm.specs.KnownBuildFaults.{head_like, kernel_like, narrow_limits, description_with_zero, BuildFaultsAreKnown}
 
 -- The faults of small trees that are to be built.
@@ -37,7 +39,7 @@ has_names_decides image =
     )
 
 -- Whether a check passes.
-unfoldable test : Bounds → Form → Head → List ImageSpec → BuildCheck → Bool
+unfoldable test : Limits → Form → Head → List ImageSpec → BuildCheck → Bool
 test limits form head images HasFewImages = nat_le (length images) limits.file
 test limits form head images HasTextDescription = lacks_byte 0 head.description.now
 test limits form head images (HasFields at) = is_child_name at.image.name.now && not (at.image.image_type == 4)
@@ -45,7 +47,8 @@ test limits form head images (HasCodeNames at) = has_names at.image
 test limits form head images (HasNewName at) = is_new at.image.name.now at.earlier
 test limits form head images FitsLimit = nat_le (length (fit_text form (tree_of_images head images))) limits.file
 
-test_decides : (limits : Bounds) (form : Form) (head : Head) (images : List ImageSpec) (check : BuildCheck) → Decides (test limits form head images check) (BuildPasses limits form head images check)
+test_decides : (limits : Limits) (form : Form) (head : Head) (images : List ImageSpec) (check : BuildCheck) →
+    Decides (test limits form head images check) (BuildPasses limits form head images check)
 unfolding test
 test_decides limits form head images HasFewImages = le_decides (length images) limits.file
 test_decides limits form head images HasTextDescription = lacks_byte_decides 0 head.description.now
@@ -56,7 +59,9 @@ test_decides limits form head images (HasNewName at) = is_new_decides at.image.n
 test_decides limits form head images FitsLimit = le_decides (length (fit_text form (tree_of_images head images))) limits.file
 
 -- The first check that the test finds to fail gives the fault.
-first_fails : (any : Bor (List ℕ)) (description : List ℕ) (images : List ImageSpec) (check : BuildCheck) → first_failing (test narrow_limits Embedded (head_like any description) images) (build_checks images) ≡ Some check → IsBuildFault narrow_limits Embedded (head_like any description) images (build_fault narrow_limits check)
+first_fails : (any : Bor (List ℕ)) (description : List ℕ) (images : List ImageSpec) (check : BuildCheck) →
+    first_failing (test narrow_limits Embedded (head_like any description) images) (build_checks images) ≡ Some check →
+    IsBuildFault narrow_limits Embedded (head_like any description) images (build_fault narrow_limits check)
 first_fails any description images check =
     let head = head_like any description in
     fault_by_test (BuildPasses narrow_limits Embedded head images) (build_fault narrow_limits) (test narrow_limits Embedded head images) (test_decides narrow_limits Embedded head images) (build_checks images) check

@@ -2,7 +2,7 @@ use Rattle.std.proofs.Common.{◌≡◌, ◌++◌, ◌^◌, ◌<◌, ℕ, Bool, 
 use Rattle.std.specs.Prelude.{if◌then◌else◌}
 use Rattle.std.specs.List.{AllByRecursion}
 use Rattle.bi_base.specs.Cells.{cell, AreBytes}
-use Rattle.bi_base.specs.Limits.{Bounds}
+use Rattle.bi_base.specs.Limits.{Limits}
 use Rattle.bi_base.specs.declared.fault.Error.{Error}
 use Rattle.bi_base.specs.declared.fault.Error.TheVariants.{Refused, OutOfMemory}
 use Rattle.bi_base.proofs.ByteLists.{AreBytes-left, AreBytes-right}
@@ -10,9 +10,9 @@ use Rattle.bi_legacy.specs.Emitting.{WroteImage, HasNoEmitFault}
 use Rattle.bi_legacy.specs.File.{header, LegacyMeans}
 use Rattle.bi_legacy.specs.Meaning.{LegacyImage, FitsFields, has_part_table}
 use Rattle.bi_legacy.specs.Parts.{part_table}
-use Rattle.bi_legacy.specs.Text.{padded, joined_parts, normal_body, name_field, legacy_text}
+use Rattle.bi_legacy.specs.Text.{with_zeros, joined_parts, normal_body, name_field, legacy_text}
 use Rattle.bi_legacy.proofs.NoEmitFault.{no_emit_fault_image}
-use Rattle.bi_legacy.proofs.TextMeans.{text_means}
+use Rattle.bi_legacy.proofs.TextMeans.{legacy_text_means}
 use Rattle.bi_norm.specs.LegacyBuilding.{IsBuiltLegacy, IsBuildLegacyError}
 
 -- Legacy images that were built.
@@ -29,8 +29,8 @@ joined_bytes : (parts : List (List ℕ)) → AreBytes (joined_parts parts) → A
 joined_bytes [] bytes = tt
 joined_bytes (part ∷ []) bytes = (bytes, tt)
 joined_bytes (part ∷ next ∷ later) bytes = (
-  AreBytes-left part _ (AreBytes-left (padded part) (joined_parts (next ∷ later)) bytes),
-  joined_bytes (next ∷ later) (AreBytes-right (padded part) (joined_parts (next ∷ later)) bytes),
+  AreBytes-left part _ (AreBytes-left (with_zeros part) (joined_parts (next ∷ later)) bytes),
+  joined_bytes (next ∷ later) (AreBytes-right (with_zeros part) (joined_parts (next ∷ later)) bytes),
 )
 
 parts_in_body : (has_table : Bool) (table joined : List ℕ) → AreBytes (if has_table then table ++ joined else joined) → AreBytes joined
@@ -53,27 +53,32 @@ parts_bytes image bytes =
     (AreBytes-right (header image (name_field image.name) body) body bytes))
 
 -- A text that was written means its image.
-pub is_built : (limits : Bounds) (image : LegacyImage) (text : List ℕ) → FitsFields image → limits.file < 2 ^ 32 → HasNoEmitFault limits image → text ≡ legacy_text image → AreBytes text → IsBuiltLegacy limits image text
+pub is_built : (limits : Limits) (image : LegacyImage) (text : List ℕ) → FitsFields image → limits.file < 2 ^ 32 →
+    HasNoEmitFault limits image → text ≡ legacy_text image → AreBytes text → IsBuiltLegacy limits image text
 is_built limits image text ranges small none is bytes =
     let all : AreBytes (legacy_text image) = subst AreBytes is bytes in
     record {
       no_fault = none;
       is_text = is;
       accepted = subst (λ (file : List ℕ). LegacyMeans limits file image) (sym is) (record {
-        is_file = text_means image (no_emit_fault_image image limits ranges (name_bytes image all) (parts_bytes image all) small none);
+        is_file = legacy_text_means image (no_emit_fault_image image limits ranges (name_bytes image all) (parts_bytes image all) small none);
         short = none.1.1.0;
       });
     }
 
 -- An image that was written has no fault, and its text was appended.
-pub written : {S : Type 0} (appends : S → List ℕ → S → Type 0) (fails : S → List ℕ → S → Error → Type 0) (limits : Bounds) (image : LegacyImage) (old new : S) → WroteImage appends fails limits image old (Ok tt) new → HasNoEmitFault limits image × appends old (legacy_text image) new
-written appends fails limits image old new wrote = elim wrote.refused_or_written [
+pub legacy_text_written : {S : Type 0} (appends : S → List ℕ → S → Type 0) (fails : S → List ℕ → S → Error → Type 0) (limits : Limits)
+    (image : LegacyImage) (old new : S) → WroteImage appends fails limits image old (Ok tt) new →
+    HasNoEmitFault limits image × appends old (legacy_text image) new
+legacy_text_written appends fails limits image old new wrote = elim wrote.refused_or_written [
   | inl none ↦ (none, wrote.written none)
   | inr some ↦ absurd (let e = (wrote.refused some.0 some.1).0 in cc)
 ]
 
 -- The error of writing an image to a sink that fails only where memory runs out.
-pub build_error : {S : Type 0} (appends : S → List ℕ → S → Type 0) (fails : S → List ℕ → S → Error → Type 0) (limits : Bounds) (image : LegacyImage) (old new : S) (error : Error) → ((text : List ℕ) → fails old text new error → error ≡ OutOfMemory) → WroteImage appends fails limits image old (Err error) new → IsBuildLegacyError limits image error
+pub build_error : {S : Type 0} (appends : S → List ℕ → S → Type 0) (fails : S → List ℕ → S → Error → Type 0) (limits : Limits)
+    (image : LegacyImage) (old new : S) (error : Error) → ((text : List ℕ) → fails old text new error → error ≡ OutOfMemory) →
+    WroteImage appends fails limits image old (Err error) new → IsBuildLegacyError limits image error
 build_error appends fails limits image old new error memory wrote = elim wrote.refused_or_written [
   | inl none ↦ subst (IsBuildLegacyError limits image) (sym (memory (legacy_text image) (wrote.written none))) none
   | inr some ↦

@@ -5,21 +5,24 @@ use Rattle.std.proofs.lemmas.Bool.{eqb-true, false≢true}
 use Rattle.std.specs.FinMap.{empty, from_entries}
 use Rattle.bi_legacy.specs.Codes.{type_names, name_of_code}
 use Rattle.bi_fit.specs.Building.{type_name, cell_property}
-use Rattle.bi_norm.specs.Building.{first_key}
-use Rattle.bi_norm.specs.BuiltNodes.{with_cell}
+use Rattle.bi_norm.specs.BuildCalls.{first_key}
+use Rattle.bi_norm.specs.BuiltNodes.{with_cell_property}
 use Rattle.bi_norm.specs.Converting.{code_name, keys_of_type}
 
 -- The properties of an image to be built.
 
 -- Its addresses.
-pub addresses : (load entry : Option ℕ) → with_cell (codes "load") load (with_cell (codes "entry") entry empty) ≡ from_entries {R = slice_cmp nat_cmp} (cell_property (codes "load") load ++ cell_property (codes "entry") entry)
+pub addresses : (load entry : Option ℕ) →
+    with_cell_property (codes "load") load (with_cell_property (codes "entry") entry empty)
+    ≡ from_entries {R = slice_cmp nat_cmp} (cell_property (codes "load") load ++ cell_property (codes "entry") entry)
 addresses None None = refl
 addresses None (Some entry) = refl
 addresses (Some load) None = refl
 addresses (Some load) (Some entry) = refl
 
 -- The name of its type is that of its key's images.
-pub type_of_key : (code : ℕ) → IsSome (name_of_code type_names code) → code ≢ 4 → code_name type_names code ≡ type_name (first_key (keys_of_type code))
+pub type_of_key : (code : ℕ) → IsSome (name_of_code type_names code) → code ≢ 4 →
+    code_name type_names code ≡ type_name (first_key (keys_of_type code))
 type_of_key code some single = standalone (1 == code) refl
   where
     Same : Type 0

@@ -2,7 +2,7 @@ use Rattle.std.proofs.Common.{◌≡◌, ◌≤◌, List, [], ◌∷◌, ◌++�
 use Rattle.bi_base.specs.declared.fault.Error.{Error}
 use Rattle.bi_base.specs.declared.fault.Error.TheVariants.{Refused, OutOfMemory, ReadFailed, WriteFailed}
 use Rattle.bi_base.specs.Checks.{HasNoFault}
-use Rattle.bi_base.specs.Limits.{Bounds}
+use Rattle.bi_base.specs.Limits.{Limits}
 use Rattle.bi_base.proofs.ListMembers.{each-append}
 use Rattle.bi_blob.specs.Layout.{longest_text}
 use Rattle.bi_fit.specs.declared.form.Form.{Form}
@@ -14,7 +14,8 @@ use Rattle.bi_fit.proofs.Building.{built_is_accepted, built_has_good_payloads}
 use Rattle.bi_fit.proofs.BuiltConfigurations.{built_has_configuration}
 use Rattle.bi_norm.specs.declared.building.Head.{Head}
 use Rattle.bi_norm.specs.declared.building.ImageSpec.{ImageSpec}
-use Rattle.bi_norm.specs.Building.{head_of, specifications_of, tree_of_images, BuildPasses, build_fault, FitsLimit, image_checks, IsBuilt, IsBuildError, IsTextOfTree, BuildCheck, first_image_checks}
+use Rattle.bi_norm.specs.BuildCalls.{head_model, spec_models, tree_of_images, BuildPasses, build_fault, FitsLimit, spec_checks, IsBuilt}
+use Rattle.bi_norm.specs.BuildCalls.{IsBuildError, IsTextOfTree, BuildCheck, first_image_checks}
 use Rattle.bi_norm.specs.BuildChecks.{early_checks}
 use Rattle.bi_base.specs.Commands.{Appended, AppendFailed, WasRefused, SinkFailed}
 use Rattle.bi_base.proofs.FirstFault.{IsFirstFault-after}
@@ -22,32 +23,37 @@ use Rattle.bi_base.proofs.FirstFault.{IsFirstFault-after}
 -- The texts of trees to be built.
 
 -- Checks of the first image pass where all checks of images do.
-first_of_images : (limits : Bounds) (form : Form) (head : Head) (all images : List ImageSpec) → HasNoFault (BuildPasses limits form head all) (image_checks 0 [] images) → HasNoFault (BuildPasses limits form head all) (first_image_checks images)
+first_of_images : (limits : Limits) (form : Form) (head : Head) (all images : List ImageSpec) →
+    HasNoFault (BuildPasses limits form head all) (spec_checks 0 [] images) →
+    HasNoFault (BuildPasses limits form head all) (first_image_checks images)
 first_of_images limits form head all [] fine = tt
 first_of_images limits form head all (image ∷ images) fine = (fine.0, (fine.1.0, tt))
 
 -- The same where more checks follow.
-first_of_all : (limits : Bounds) (form : Form) (head : Head) (all images : List ImageSpec) (later : List BuildCheck) → HasNoFault (BuildPasses limits form head all) (image_checks 0 [] images ++ later) → HasNoFault (BuildPasses limits form head all) (first_image_checks images)
+first_of_all : (limits : Limits) (form : Form) (head : Head) (all images : List ImageSpec) (later : List BuildCheck) →
+    HasNoFault (BuildPasses limits form head all) (spec_checks 0 [] images ++ later) →
+    HasNoFault (BuildPasses limits form head all) (first_image_checks images)
 first_of_all limits form head all [] later fine = tt
 first_of_all limits form head all (image ∷ images) later fine = (fine.0, (fine.1.0, tt))
 
-module _ (limits : Bounds) (form : Form) (head : Head) (images : List ImageSpec) (fine : HasNoFault (BuildPasses limits form head images) (early_checks images)) (can : CanBeBuilt (head_of head) (specifications_of images)) (most : limits.file ≤ longest_text) where
+module _ (limits : Limits) (form : Form) (head : Head) (images : List ImageSpec) (fine : HasNoFault (BuildPasses limits form head images) (early_checks images)) (can : CanBeBuilt (head_model head) (spec_models images)) (most : limits.file ≤ longest_text) where
   -- The text of the tree is what is built.
   pub text_is_built : (text : List ℕ) → IsTextOfTree limits form (tree_of_images head images) text → IsBuilt limits form head images text
   text_is_built text is =
       let short : length (fit_text form (tree_of_images head images)) ≤ limits.file = subst (λ text. length text ≤ limits.file) is.is_text is.short in
       record {
-        no_fault = (fine.0, (fine.1.0, each-append (BuildPasses limits form head images) (image_checks 0 [] images) (FitsLimit ∷ []) fine.1.1 (short, tt)));
+        no_fault = (fine.0, (fine.1.0, each-append (BuildPasses limits form head images) (spec_checks 0 [] images) (FitsLimit ∷ []) fine.1.1 (short, tt)));
         is_text = is.is_text;
         accepted = λ bounds same deep.
             subst (λ text. IsAcceptedAs bounds text (tree_of_images head images)) (sym is.is_text)
-            (built_is_accepted bounds form (head_of head) (specifications_of images) can deep (omega (arith, same, short)) (omega (arith, same, most)));
-        payloads = built_has_good_payloads (head_of head) (specifications_of images);
-        configuration = built_has_configuration (head_of head) (specifications_of images) can;
+            (built_is_accepted bounds form (head_model head) (spec_models images) can deep (omega (arith, same, short)) (omega (arith, same, most)));
+        payloads = built_has_good_payloads (head_model head) (spec_models images);
+        configuration = built_has_configuration (head_model head) (spec_models images) can;
       }
 
   -- An error of making the document is one of building.
-  document_error : (error : Error) → IsDocumentError limits form (tree_of_images head images) error → IsBuildError limits form head images error
+  document_error : (error : Error) → IsDocumentError limits form (tree_of_images head images) error →
+      IsBuildError limits form head images error
   document_error (Refused fault) is =
       IsFirstFault-after (BuildPasses limits form head images) (build_fault limits) (early_checks images) (FitsLimit ∷ []) fault fine
       (inl ((λ fits. omega (arith, fits, is.1)), is.0))
@@ -67,7 +73,10 @@ module _ (limits : Bounds) (form : Form) (head : Head) (images : List ImageSpec)
     build_failed error (SinkFailed text cause is failed same) = SinkFailed text cause (text_is_built text is) failed same
 
 -- An error of building into memory is one of building.
-pub memory_build_error : {S : Type 0} (fails : S → List ℕ → S → Error → Type 0) (limits : Bounds) (form : Form) (head : Head) (images : List ImageSpec) (old new : S) (error : Error) → ((text : List ℕ) → fails old text new error → error ≡ OutOfMemory) → AppendFailed fails (IsBuilt limits form head images) (IsBuildError limits form head images) old new error → IsBuildError limits form head images error
+pub memory_build_error : {S : Type 0} (fails : S → List ℕ → S → Error → Type 0) (limits : Limits) (form : Form) (head : Head)
+    (images : List ImageSpec) (old new : S) (error : Error) → ((text : List ℕ) → fails old text new error → error ≡ OutOfMemory) →
+    AppendFailed fails (IsBuilt limits form head images) (IsBuildError limits form head images) old new error →
+    IsBuildError limits form head images error
 memory_build_error fails limits form head images old new error full (WasRefused is same) = is
 memory_build_error fails limits form head images old new error full (SinkFailed text cause is failed same) =
     subst (IsBuildError limits form head images) (sym (full text (subst (fails old text new) (sym same) failed)))

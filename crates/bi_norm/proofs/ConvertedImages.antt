@@ -1,4 +1,5 @@
-use Rattle.std.proofs.Common.{◌≡◌, ℕ, ◌≤◌, Bool, true, false, List, [], ◌∷◌, length, map, Option, Some, refl, sym, ap, ◌∙◌, subst, arith, if◌then◌else◌}
+use Rattle.std.proofs.Common.{◌≡◌, ℕ, ◌≤◌, Bool, true, false, List, [], ◌∷◌, length, map, Option, Some, refl, sym, ap, ◌∙◌, subst, arith}
+use Rattle.std.proofs.Common.{if◌then◌else◌}
 use Rattle.std.specs.Prelude.{◌==◌, unwrap_or}
 use Rattle.std.specs.List.{AllByRecursion}
 use Rattle.bi_base.specs.Cells.{AreBytes}
@@ -7,18 +8,19 @@ use Rattle.bi_base.proofs.EqualBytes.{other_bytes}
 use Rattle.bi_blob.specs.Tree.{IsNew, AreDistinct, IsChildName, HasNoZero}
 use Rattle.bi_fit.specs.declared.key.Key.{Key}
 use Rattle.bi_fit.specs.declared.key.Key.TheVariants.{Kernel, Fdt, Ramdisk, Firmware, Loadables, Script}
-use Rattle.bi_fit.specs.Building.{ImageSpecification, IsText, IsSpecification, CanBeBuilt}
+use Rattle.bi_fit.specs.Building.{ImageSpecModel, IsText, IsImageSpec, CanBeBuilt}
 use Rattle.bi_fit.specs.Judgement.{CheckedHash}
 use Rattle.bi_fit.specs.Laws.{good_hash}
 use Rattle.bi_fit.proofs.Building.{built_is_accepted, built_has_good_payloads}
 use Rattle.bi_fit.proofs.BuiltConfigurations.{built_has_configuration}
 use Rattle.bi_fit.proofs.BuiltTrees.{tested_child}
-use Rattle.bi_fit.proofs.Contents.{tested_name}
+use Rattle.bi_fit.proofs.TreeContents.{tested_name}
 use Rattle.bi_hash.specs.declared.verdicts.Verdict.TheVariants.{Good}
 use Rattle.bi_legacy.specs.Codes.{CodeName, os_names, arch_names, compression_names, name_of_code}
 use Rattle.bi_legacy.specs.Meaning.{LegacyImage}
 use Rattle.bi_legacy.specs.Text.{IsLegacyImage}
-use Rattle.bi_norm.specs.Converting.{Conversion, conversions, keys_in, keys_of_type, image_name, code_name, later_images, images_of_parts, converted_images, ConvertedIsAccepted, head_of_image, ConvertedHasItsParts}
+use Rattle.bi_norm.specs.Converting.{Conversion, conversions, keys_in, keys_of_type, image_name, code_name, later_images, images_of_parts}
+use Rattle.bi_norm.specs.Converting.{converted_images, ConvertedIsAccepted, head_of_image, ConvertedHasItsParts}
 
 -- The tree that a legacy image is converted to.
 
@@ -27,12 +29,14 @@ tested_text : (name : List ℕ) → AreBytes name × HasNoZero name → IsText n
 tested_text name tested = record { bytes = tested.0; no_zero = tested.1 }
 
 -- What a choice gives is a text where both branches are.
-text_of_choice : (chosen : Bool) (name : List ℕ) (other : Option (List ℕ)) → IsText name → IsText (unwrap_or other []) → IsText (unwrap_or (if chosen then Some name else other) [])
+text_of_choice : (chosen : Bool) (name : List ℕ) (other : Option (List ℕ)) → IsText name → IsText (unwrap_or other []) →
+    IsText (unwrap_or (if chosen then Some name else other) [])
 text_of_choice true name other is later = is
 text_of_choice false name other is later = later
 
 -- The name of a code is a text where each name of the table is.
-pub code_text : (names : List CodeName) (code : ℕ) → AllByRecursion (λ (entry : CodeName). IsText entry.name) names → IsText (code_name names code)
+pub code_text : (names : List CodeName) (code : ℕ) → AllByRecursion (λ (entry : CodeName). IsText entry.name) names →
+    IsText (code_name names code)
 code_text [] code each = record { bytes = AreBytes-none; no_zero = tt }
 code_text (entry ∷ later) code each =
     text_of_choice (entry.code == code) entry.name (name_of_code later code) each.0 (code_text later code each.1)
@@ -93,7 +97,8 @@ name_is_bytes Loadables = (tested_name (image_name Loadables) refl).0
 name_is_bytes Script = (tested_name (image_name Script) refl).0
 
 -- The images of later parts can be built.
-later_can : (image : LegacyImage) (keys : List Key) (parts : List (List ℕ)) → AllByRecursion AreBytes parts → AllByRecursion IsSpecification (later_images image keys parts)
+later_can : (image : LegacyImage) (keys : List Key) (parts : List (List ℕ)) → AllByRecursion AreBytes parts →
+    AllByRecursion IsImageSpec (later_images image keys parts)
 later_can image [] parts bytes = tt
 later_can image (key ∷ keys) [] bytes = tt
 later_can image (key ∷ keys) (part ∷ parts) bytes = (
@@ -109,7 +114,8 @@ later_can image (key ∷ keys) (part ∷ parts) bytes = (
 )
 
 -- The images of parts can be built.
-each_can : (image : LegacyImage) (keys : List Key) (parts : List (List ℕ)) → AllByRecursion AreBytes parts → AllByRecursion IsSpecification (images_of_parts image keys parts)
+each_can : (image : LegacyImage) (keys : List Key) (parts : List (List ℕ)) → AllByRecursion AreBytes parts →
+    AllByRecursion IsImageSpec (images_of_parts image keys parts)
 each_can image [] parts bytes = tt
 each_can image (key ∷ keys) [] bytes = tt
 each_can image (key ∷ keys) (part ∷ parts) bytes = (
@@ -125,34 +131,40 @@ each_can image (key ∷ keys) (part ∷ parts) bytes = (
 )
 
 -- The names of specifications.
-abbrev names_of : List ImageSpecification → List (List ℕ)
-names_of images = map (λ (image : ImageSpecification). image.name) images
+abbrev names_of : List ImageSpecModel → List (List ℕ)
+names_of images = map (λ (image : ImageSpecModel). image.name) images
 
 -- A name that no key has is new among the images of some keys.
-new_later : (image : LegacyImage) (name : List ℕ) (keys : List Key) (parts : List (List ℕ)) → IsNew name (map image_name keys) → IsNew name (names_of (later_images image keys parts))
+new_later : (image : LegacyImage) (name : List ℕ) (keys : List Key) (parts : List (List ℕ)) → IsNew name (map image_name keys) →
+    IsNew name (names_of (later_images image keys parts))
 new_later image name [] parts new = tt
 new_later image name (key ∷ keys) [] new = tt
 new_later image name (key ∷ keys) (part ∷ parts) new = (new.0, new_later image name keys parts new.1)
 
 -- Where the names of keys differ, so do those of their images.
-later_distinct : (image : LegacyImage) (keys : List Key) (parts : List (List ℕ)) → AreDistinct (map image_name keys) → AreDistinct (names_of (later_images image keys parts))
+later_distinct : (image : LegacyImage) (keys : List Key) (parts : List (List ℕ)) → AreDistinct (map image_name keys) →
+    AreDistinct (names_of (later_images image keys parts))
 later_distinct image [] parts distinct = tt
 later_distinct image (key ∷ keys) [] distinct = tt
 later_distinct image (key ∷ keys) (part ∷ parts) distinct =
     (new_later image (image_name key) keys parts distinct.0, later_distinct image keys parts distinct.1)
 
-images_distinct : (image : LegacyImage) (keys : List Key) (parts : List (List ℕ)) → AreDistinct (map image_name keys) → AreDistinct (names_of (images_of_parts image keys parts))
+images_distinct : (image : LegacyImage) (keys : List Key) (parts : List (List ℕ)) → AreDistinct (map image_name keys) →
+    AreDistinct (names_of (images_of_parts image keys parts))
 images_distinct image [] parts distinct = tt
 images_distinct image (key ∷ keys) [] distinct = tt
 images_distinct image (key ∷ keys) (part ∷ parts) distinct =
     (new_later image (image_name key) keys parts distinct.0, later_distinct image keys parts distinct.1)
 
 -- The names of the keys of a type differ.
-choice_distinct : (chosen : Bool) (keys other : List Key) → AreDistinct (map image_name keys) → AreDistinct (map image_name other) → AreDistinct (map image_name (if chosen then keys else other))
+choice_distinct : (chosen : Bool) (keys other : List Key) → AreDistinct (map image_name keys) → AreDistinct (map image_name other) →
+    AreDistinct (map image_name (if chosen then keys else other))
 choice_distinct true keys other is later = is
 choice_distinct false keys other is later = later
 
-keys_distinct_in : (all : List Conversion) (image_type : ℕ) → AllByRecursion (λ (conversion : Conversion). AreDistinct (map image_name conversion.keys)) all → AreDistinct (map image_name (keys_in all image_type))
+keys_distinct_in : (all : List Conversion) (image_type : ℕ) →
+    AllByRecursion (λ (conversion : Conversion). AreDistinct (map image_name conversion.keys)) all →
+    AreDistinct (map image_name (keys_in all image_type))
 keys_distinct_in [] image_type each = tt
 keys_distinct_in (conversion ∷ later) image_type each =
     choice_distinct (conversion.image_type == image_type) conversion.keys (keys_in later image_type) each.0
@@ -178,24 +190,26 @@ keys_distinct image_type =
     )
 
 -- The payload of an image to be built.
-abbrev payload_of : ImageSpecification → Option (List ℕ)
+abbrev payload_of : ImageSpecModel → Option (List ℕ)
 payload_of image = Some image.payload
 
 -- The payloads of images are their parts, where there are keys enough.
-later_payloads : (image : LegacyImage) (keys : List Key) (parts : List (List ℕ)) → length parts ≤ length keys → map payload_of (later_images image keys parts) ≡ map Some parts
+later_payloads : (image : LegacyImage) (keys : List Key) (parts : List (List ℕ)) → length parts ≤ length keys →
+    map payload_of (later_images image keys parts) ≡ map Some parts
 later_payloads image [] [] few = refl
 later_payloads image [] (part ∷ parts) few = absurd (omega arith)
 later_payloads image (key ∷ keys) [] few = refl
 later_payloads image (key ∷ keys) (part ∷ parts) few = ap (λ l. Some part ∷ l) (later_payloads image keys parts (omega arith))
 
-payloads_are_parts : (image : LegacyImage) (keys : List Key) (parts : List (List ℕ)) → length parts ≤ length keys → map payload_of (images_of_parts image keys parts) ≡ map Some parts
+payloads_are_parts : (image : LegacyImage) (keys : List Key) (parts : List (List ℕ)) → length parts ≤ length keys →
+    map payload_of (images_of_parts image keys parts) ≡ map Some parts
 payloads_are_parts image [] [] few = refl
 payloads_are_parts image [] (part ∷ parts) few = absurd (omega arith)
 payloads_are_parts image (key ∷ keys) [] few = refl
 payloads_are_parts image (key ∷ keys) (part ∷ parts) few = ap (λ l. Some part ∷ l) (later_payloads image keys parts (omega arith))
 
 -- The verdicts of good hash nodes are Good.
-all_good : (images : List ImageSpecification) → AllByRecursion (λ (hash : CheckedHash). hash.verdict ≡ Good) (map good_hash images)
+all_good : (images : List ImageSpecModel) → AllByRecursion (λ (hash : CheckedHash). hash.verdict ≡ Good) (map good_hash images)
 all_good [] = tt
 all_good (image ∷ images) = (refl, all_good images)
 

@@ -1,11 +1,12 @@
-use Rattle.std.proofs.Common.{◌≡◌, ◌<◌, ◌≤◌, ℕ, List, [], ◌∷◌, ◌++◌, length, map, get_or, refl, ap, sym, ◌∙◌, subst, append_assoc, append-nil, zero, suc, false, arith}
+use Rattle.std.proofs.Common.{◌≡◌, ◌<◌, ◌≤◌, ℕ, List, [], ◌∷◌, ◌++◌, length, map, get_or, refl, ap, sym, ◌∙◌, subst, append_assoc}
+use Rattle.std.proofs.Common.{append-nil, zero, suc, false, arith}
 use Rattle.std.specs.Prelude.{◌==◌}
 use Rattle.std.proofs.lemmas.List.{map-append, length-map, length-append}
-use Rattle.bi_legacy.specs.PlacedParts.{PlacedPart}
+use Rattle.bi_legacy.specs.PlacedParts.{PartModel}
 use Rattle.bi_fit.specs.declared.key.Key.{Key}
 use Rattle.bi_legacy.specs.Meaning.{LegacyImage}
 use Rattle.bi_norm.specs.declared.building.ImageSpec.{ImageSpec}
-use Rattle.bi_norm.specs.Building.{specification_of, specifications_of, HasBuildableType}
+use Rattle.bi_norm.specs.BuildCalls.{spec_model, spec_models, HasBuildableType}
 use Rattle.std.specs.List.{AllByRecursion}
 use Rattle.bi_base.proofs.ListMembers.{each-append}
 use Rattle.bi_norm.specs.Converting.{first_image, later_image, later_images, images_of_parts, converted_images, keys_of_type}
@@ -26,28 +27,35 @@ not_empty (suc count) test = omega arith
 abbrev pub part_of : ImageSpec → List ℕ
 part_of image = image.payload.now
 
-abbrev pub parts_of : List ImageSpec → List (List ℕ)
-parts_of images = map part_of images
+abbrev pub payloads_of_images : List ImageSpec → List (List ℕ)
+payloads_of_images images = map part_of images
 
 -- The image of one later part.
-one_later : (image : LegacyImage) (key : Key) (keys : List Key) (part : List ℕ) → later_images image (key ∷ keys) (part ∷ []) ≡ later_image image key part ∷ []
+one_later : (image : LegacyImage) (key : Key) (keys : List Key) (part : List ℕ) →
+    later_images image (key ∷ keys) (part ∷ []) ≡ later_image image key part ∷ []
 one_later image key [] part = refl
 one_later image key (next ∷ keys) part = refl
 
 -- The images of later parts, and one more.
-later_more : (image : LegacyImage) (keys : List Key) (parts : List (List ℕ)) (part : List ℕ) (d : Key) → length parts < length keys → later_images image keys (parts ++ part ∷ []) ≡ later_images image keys parts ++ (later_image image (get_or keys (length parts) d) part ∷ [])
+later_more : (image : LegacyImage) (keys : List Key) (parts : List (List ℕ)) (part : List ℕ) (d : Key) → length parts < length keys →
+    later_images image keys (parts ++ part ∷ [])
+    ≡ later_images image keys parts ++ (later_image image (get_or keys (length parts) d) part ∷ [])
 later_more image [] parts part d room = absurd (omega arith)
 later_more image (key ∷ keys) [] part d room = one_later image key keys part
 later_more image (key ∷ keys) (first ∷ parts) part d room =
     ap (λ l. later_image image key first ∷ l) (later_more image keys parts part d (omega arith))
 
 -- The images of parts, and one more.
-first_more : (image : LegacyImage) (keys : List Key) (part : List ℕ) (d : Key) → 0 < length keys → images_of_parts image keys (part ∷ []) ≡ first_image image (get_or keys 0 d) part ∷ []
+first_more : (image : LegacyImage) (keys : List Key) (part : List ℕ) (d : Key) → 0 < length keys →
+    images_of_parts image keys (part ∷ []) ≡ first_image image (get_or keys 0 d) part ∷ []
 first_more image [] part d room = absurd (omega arith)
 first_more image (key ∷ []) part d room = refl
 first_more image (key ∷ next ∷ keys) part d room = refl
 
-images_more : (image : LegacyImage) (keys : List Key) (first : List ℕ) (parts : List (List ℕ)) (part : List ℕ) (d : Key) → length (first ∷ parts) < length keys → images_of_parts image keys ((first ∷ parts) ++ part ∷ []) ≡ images_of_parts image keys (first ∷ parts) ++ (later_image image (get_or keys (length (first ∷ parts)) d) part ∷ [])
+images_more : (image : LegacyImage) (keys : List Key) (first : List ℕ) (parts : List (List ℕ)) (part : List ℕ) (d : Key) →
+    length (first ∷ parts) < length keys →
+    images_of_parts image keys ((first ∷ parts) ++ part ∷ [])
+    ≡ images_of_parts image keys (first ∷ parts) ++ (later_image image (get_or keys (length (first ∷ parts)) d) part ∷ [])
 images_more image [] first parts part d room = absurd (omega arith)
 images_more image (key ∷ keys) first parts part d room =
     ap (λ l. first_image image key first ∷ l) (later_more image keys parts part d (omega arith))
@@ -56,38 +64,46 @@ images_more image (key ∷ keys) first parts part d room =
 abbrev more : List ImageSpec → ImageSpec → List ImageSpec
 more images next = images ++ (next ∷ [])
 
-converted_first : (image : LegacyImage) (keys : List Key) (images : List ImageSpec) (next : ImageSpec) (d : Key) → length images ≡ 0 → 0 < length keys → specification_of next ≡ first_image image (get_or keys (length images) d) (part_of next) → specifications_of (more images next) ≡ images_of_parts image keys (parts_of (more images next))
+converted_first : (image : LegacyImage) (keys : List Key) (images : List ImageSpec) (next : ImageSpec) (d : Key) → length images ≡ 0 →
+    0 < length keys → spec_model next ≡ first_image image (get_or keys (length images) d) (part_of next) →
+    spec_models (more images next) ≡ images_of_parts image keys (payloads_of_images (more images next))
 converted_first image keys [] next d none room is = ap (λ s. s ∷ []) is ∙ sym (first_more image keys (part_of next) d room)
 converted_first image keys (first ∷ images) next d none room is = absurd (omega arith)
 
-converted_later : (image : LegacyImage) (keys : List Key) (images : List ImageSpec) (next : ImageSpec) (d : Key) → 0 < length images → length images < length keys → specifications_of images ≡ images_of_parts image keys (parts_of images) → specification_of next ≡ later_image image (get_or keys (length images) d) (part_of next) → specifications_of (more images next) ≡ images_of_parts image keys (parts_of (more images next))
+converted_later : (image : LegacyImage) (keys : List Key) (images : List ImageSpec) (next : ImageSpec) (d : Key) → 0 < length images →
+    length images < length keys → spec_models images ≡ images_of_parts image keys (payloads_of_images images) →
+    spec_model next ≡ later_image image (get_or keys (length images) d) (part_of next) →
+    spec_models (more images next) ≡ images_of_parts image keys (payloads_of_images (more images next))
 converted_later image keys [] next d some room same is = absurd (omega arith)
 converted_later image keys (first ∷ images) next d some room same is =
     let part = part_of first in
-    let parts = parts_of images in
+    let parts = payloads_of_images images in
     let count : length (part ∷ parts) ≡ length (first ∷ images) = length-map (first ∷ images) part_of in
-    map-append specification_of (first ∷ images) (next ∷ [])
-    ∙ ap (λ l. l ++ (specification_of next ∷ [])) same
+    map-append spec_model (first ∷ images) (next ∷ [])
+    ∙ ap (λ l. l ++ (spec_model next ∷ [])) same
     ∙ ap (λ s. images_of_parts image keys (part ∷ parts) ++ (s ∷ [])) is
     ∙ ap (λ n. images_of_parts image keys (part ∷ parts) ++ (later_image image (get_or keys n d) (part_of next) ∷ [])) (sym count)
     ∙ sym (images_more image keys part parts (part_of next) d (subst (λ n. n < length keys) (sym count) room))
     ∙ ap (images_of_parts image keys) (sym (map-append part_of (first ∷ images) (next ∷ [])))
 
 -- The bytes of a part.
-abbrev pub bytes_of : PlacedPart → List ℕ
-bytes_of placed = placed.bytes
+abbrev pub bytes_of_part : PartModel → List ℕ
+bytes_of_part placed = placed.bytes
 
 -- There are keys for the part that follows these.
-has_key : (images : List ImageSpec) (placed : PlacedPart) (later : List PlacedPart) (parts : List (List ℕ)) (most : ℕ) → parts_of images ++ map bytes_of (placed ∷ later) ≡ parts → length parts ≤ most → length images < most
+has_key : (images : List ImageSpec) (placed : PartModel) (later : List PartModel) (parts : List (List ℕ)) (most : ℕ) →
+    payloads_of_images images ++ map bytes_of_part (placed ∷ later) ≡ parts → length parts ≤ most → length images < most
 has_key images placed later parts most same few =
-    omega (arith, ap length same, length-append (parts_of images) (map bytes_of (placed ∷ later)), length-map images part_of)
+    omega (arith, ap length same, length-append (payloads_of_images images) (map bytes_of_part (placed ∷ later)), length-map images part_of)
 
 -- The parts of images and one more, and those that are left, are all.
-all_parts : (images : List ImageSpec) (next : ImageSpec) (placed : PlacedPart) (later : List PlacedPart) (parts : List (List ℕ)) → part_of next ≡ placed.bytes → parts_of images ++ map bytes_of (placed ∷ later) ≡ parts → parts_of (more images next) ++ map bytes_of later ≡ parts
+all_parts : (images : List ImageSpec) (next : ImageSpec) (placed : PartModel) (later : List PartModel) (parts : List (List ℕ)) →
+    part_of next ≡ placed.bytes → payloads_of_images images ++ map bytes_of_part (placed ∷ later) ≡ parts →
+    payloads_of_images (more images next) ++ map bytes_of_part later ≡ parts
 all_parts images next placed later parts is same =
-    ap (λ l. l ++ map bytes_of later) (map-append part_of images (next ∷ []))
-    ∙ append_assoc (parts_of images) (part_of next ∷ []) (map bytes_of later)
-    ∙ ap (λ part. parts_of images ++ (part ∷ map bytes_of later)) is
+    ap (λ l. l ++ map bytes_of_part later) (map-append part_of images (next ∷ []))
+    ∙ append_assoc (payloads_of_images images) (part_of next ∷ []) (map bytes_of_part later)
+    ∙ ap (λ part. payloads_of_images images ++ (part ∷ map bytes_of_part later)) is
     ∙ same
 
 -- No parts have no images.
@@ -96,28 +112,36 @@ no_images image [] = refl
 no_images image (key ∷ keys) = refl
 
 -- Images were made of the first parts, and these parts are left.
-pub record IsPartWay (image : LegacyImage) (keys : List Key) (images : List ImageSpec) (left : List PlacedPart) : Type 0 where
-  pub are_all : parts_of images ++ map bytes_of left ≡ image.parts
-  pub are_images : specifications_of images ≡ images_of_parts image keys (parts_of images)
+pub record IsPartWay (image : LegacyImage) (keys : List Key) (images : List ImageSpec) (left : List PartModel) : Type 0 where
+  pub are_all : payloads_of_images images ++ map bytes_of_part left ≡ image.parts
+  pub are_images : spec_models images ≡ images_of_parts image keys (payloads_of_images images)
   pub are_buildable : AllByRecursion HasBuildableType images
 
 -- At the beginning.
-pub begins : (image : LegacyImage) (keys : List Key) (left : List PlacedPart) → map bytes_of left ≡ image.parts → IsPartWay image keys [] left
+pub begins : (image : LegacyImage) (keys : List Key) (left : List PartModel) → map bytes_of_part left ≡ image.parts →
+    IsPartWay image keys [] left
 begins image keys left all = record { are_all = all; are_images = no_images image keys; are_buildable = tt }
 
 -- There is a key for the next part.
-pub key_of_next : (image : LegacyImage) (keys : List Key) (images : List ImageSpec) (placed : PlacedPart) (left : List PlacedPart) → IsPartWay image keys images (placed ∷ left) → length image.parts ≤ length keys → length images < length keys
+pub key_of_next : (image : LegacyImage) (keys : List Key) (images : List ImageSpec) (placed : PartModel) (left : List PartModel) →
+    IsPartWay image keys images (placed ∷ left) → length image.parts ≤ length keys → length images < length keys
 key_of_next image keys images placed left way few = has_key images placed left image.parts (length keys) way.are_all few
 
 -- After the image of the first part, and of a later one.
-pub after_first : (image : LegacyImage) (keys : List Key) (images : List ImageSpec) (placed : PlacedPart) (left : List PlacedPart) (next : ImageSpec) (d : Key) → IsPartWay image keys images (placed ∷ left) → length image.parts ≤ length keys → length images ≡ 0 → specification_of next ≡ first_image image (get_or keys (length images) d) placed.bytes → part_of next ≡ placed.bytes → HasBuildableType next → IsPartWay image keys (more images next) left
+pub after_first : (image : LegacyImage) (keys : List Key) (images : List ImageSpec) (placed : PartModel) (left : List PartModel)
+    (next : ImageSpec) (d : Key) → IsPartWay image keys images (placed ∷ left) → length image.parts ≤ length keys → length images ≡ 0 →
+    spec_model next ≡ first_image image (get_or keys (length images) d) placed.bytes → part_of next ≡ placed.bytes → HasBuildableType next →
+    IsPartWay image keys (more images next) left
 after_first image keys images placed left next d way few none is part buildable = record {
   are_all = all_parts images next placed left image.parts part way.are_all;
   are_images = converted_first image keys images next d none (omega (arith, key_of_next image keys images placed left way few)) (is ∙ ap (first_image image (get_or keys (length images) d)) (sym part));
   are_buildable = each-append HasBuildableType images (next ∷ []) way.are_buildable (buildable, tt);
 }
 
-pub after_later : (image : LegacyImage) (keys : List Key) (images : List ImageSpec) (placed : PlacedPart) (left : List PlacedPart) (next : ImageSpec) (d : Key) → IsPartWay image keys images (placed ∷ left) → length image.parts ≤ length keys → 0 < length images → specification_of next ≡ later_image image (get_or keys (length images) d) placed.bytes → part_of next ≡ placed.bytes → HasBuildableType next → IsPartWay image keys (more images next) left
+pub after_later : (image : LegacyImage) (keys : List Key) (images : List ImageSpec) (placed : PartModel) (left : List PartModel)
+    (next : ImageSpec) (d : Key) → IsPartWay image keys images (placed ∷ left) → length image.parts ≤ length keys → 0 < length images →
+    spec_model next ≡ later_image image (get_or keys (length images) d) placed.bytes → part_of next ≡ placed.bytes → HasBuildableType next →
+    IsPartWay image keys (more images next) left
 after_later image keys images placed left next d way few some is part buildable = record {
   are_all = all_parts images next placed left image.parts part way.are_all;
   are_images = converted_later image keys images next d some (key_of_next image keys images placed left way few) way.are_images (is ∙ ap (later_image image (get_or keys (length images) d)) (sym part));
@@ -125,8 +149,9 @@ after_later image keys images placed left next d way few some is part buildable 
 }
 
 -- At the end.
-pub ends : (image : LegacyImage) (keys : List Key) (images : List ImageSpec) → keys ≡ keys_of_type image.image_type → IsPartWay image keys images [] → specifications_of images ≡ converted_images image
+pub ends : (image : LegacyImage) (keys : List Key) (images : List ImageSpec) → keys ≡ keys_of_type image.image_type →
+    IsPartWay image keys images [] → spec_models images ≡ converted_images image
 ends image keys images same way =
     way.are_images
-    ∙ ap (λ parts. images_of_parts image keys parts) (sym (append-nil (parts_of images)) ∙ way.are_all)
+    ∙ ap (λ parts. images_of_parts image keys parts) (sym (append-nil (payloads_of_images images)) ∙ way.are_all)
     ∙ ap (λ keys. images_of_parts image keys image.parts) same

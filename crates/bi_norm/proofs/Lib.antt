@@ -1,5 +1,5 @@
 pub mod Opening
-pub mod PayloadAreas
+pub mod ReadPayloadAreas
 pub mod NormalForms
 pub mod Documents
 pub mod KindLaws

@@ -5,7 +5,7 @@ use Rattle.bi_fit.specs.declared.key.Key.{Key}
 use Rattle.bi_fit.specs.declared.key.Key.TheVariants.{Kernel, Fdt, Ramdisk, Firmware, Loadables, Script}
 use Rattle.bi_fit.specs.Building.{is_under, names_under}
 use Rattle.bi_norm.specs.declared.building.ImageSpec.{ImageSpec}
-use Rattle.bi_norm.specs.Building.{specification_of, specifications_of}
+use Rattle.bi_norm.specs.BuildCalls.{spec_model, spec_models}
 
 -- The names of images that are listed under a key.
 
@@ -59,23 +59,25 @@ under_other Script Script differ = absurd (differ refl)
 
 -- The names under a key of images from one on.
 abbrev pub names_from : Key → List ImageSpec → ℕ → List ℕ
-names_from key images index = strings_of (names_under key (specifications_of (drop index images)))
+names_from key images index = strings_of (names_under key (spec_models (drop index images)))
 
 module _ (key : Key) (images : List ImageSpec) (index : ℕ) (d : ImageSpec) (within : index < length images) where
   -- Its name is the first if it is listed,
-  pub name_listed : (specification_of (get_or images index d)).key ≡ key → (names : List ℕ) → ((names ++ (get_or images index d).name.now) ++ 0 ∷ []) ++ names_from key images (index + 1) ≡ names ++ names_from key images index
+  pub name_listed : (spec_model (get_or images index d)).key ≡ key → (names : List ℕ) →
+      ((names ++ (get_or images index d).name.now) ++ 0 ∷ []) ++ names_from key images (index + 1) ≡ names ++ names_from key images index
   name_listed is names =
       let name = (get_or images index d).name.now in
       let later = names_from key images (index + 1) in
       let first : names_from key images index ≡ (name ++ 0 ∷ []) ++ later =
-      at_drop_more (λ l. strings_of (names_under key (specifications_of l))) images index d within
+      at_drop_more (λ l. strings_of (names_under key (spec_models l))) images index d within
       ∙ rw (ap (is_under key) is ∙ under_key key) refl in
       ap (λ l. l ++ later) (append_assoc names name (0 ∷ [])) ∙ append_assoc names (name ++ 0 ∷ []) later ∙ sym (ap (λ l. names ++ l) first)
 
   -- and left out if it is not.
-  pub name_left_out : ¬ ((specification_of (get_or images index d)).key ≡ key) → (names : List ℕ) → names ++ names_from key images (index + 1) ≡ names ++ names_from key images index
+  pub name_left_out : ¬ ((spec_model (get_or images index d)).key ≡ key) → (names : List ℕ) →
+      names ++ names_from key images (index + 1) ≡ names ++ names_from key images index
   name_left_out differs names =
-      let other = (specification_of (get_or images index d)).key in
+      let other = (spec_model (get_or images index d)).key in
       ap (λ l. names ++ l)
-      (sym (at_drop_more (λ l. strings_of (names_under key (specifications_of l))) images index d within
+      (sym (at_drop_more (λ l. strings_of (names_under key (spec_models l))) images index d within
       ∙ rw (under_other key other differs) refl))

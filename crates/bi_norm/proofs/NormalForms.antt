@@ -1,7 +1,7 @@
 use Rattle.std.proofs.Common.{◌≡◌, ◌≤◌, ◌⊎◌, ◌↔◌, ℕ, List, ◌∷◌, length, refl, sym, ap, subst, ◌∙◌, inl, inr, arith}
 use Rattle.bi_base.specs.Cells.{cell, u32_at}
 use Rattle.bi_base.specs.Commands.{AppendFailed, WasRefused, SinkFailed}
-use Rattle.bi_base.specs.Limits.{Bounds}
+use Rattle.bi_base.specs.Limits.{Limits}
 use Rattle.bi_base.specs.declared.fault.Error.{Error}
 use Rattle.bi_base.specs.declared.fault.Error.TheVariants.{Refused, OutOfMemory, ReadFailed, WriteFailed}
 use Rattle.bi_base.specs.declared.fault.Fault.{Fault}
@@ -11,10 +11,10 @@ use Rattle.bi_blob.specs.Layout.{longest_text, text_of_events, text_of_blocks}
 use Rattle.bi_blob.proofs.Blobs.BeforeTree.{fault_before_tree_comes_first}
 use Rattle.bi_legacy.specs.File.{legacy_magic, header}
 use Rattle.bi_legacy.specs.Meaning.{LegacyImage}
-use Rattle.bi_legacy.specs.Reading.{ParsedImage, IsParsedImage}
+use Rattle.bi_legacy.specs.Reading.{LegacyModel, IsParsedImage}
 use Rattle.bi_legacy.specs.Text.{legacy_text}
 use Rattle.bi_fit.specs.declared.form.Form.{Form}
-use Rattle.bi_fit.specs.Content.{FitContent, tree_of}
+use Rattle.bi_fit.specs.Content.{FitModel, tree_of}
 use Rattle.bi_fit.specs.Documents.{IsDocumentError}
 use Rattle.bi_fit.specs.Faults.{InBlob}
 use Rattle.bi_fit.specs.File.{IsFitFile}
@@ -22,8 +22,8 @@ use Rattle.bi_fit.specs.ImageTree.{ImageTree}
 use Rattle.bi_fit.specs.Judgement.{judgement, signature_count as signatures_of_tree}
 use Rattle.bi_fit.specs.Reading.{IsReadFrom}
 use Rattle.bi_fit.specs.Text.{fit_text}
-use Rattle.bi_fit.proofs.Faults.{meaning_has_no_fault}
-use Rattle.bi_fit.proofs.TextLaws.{file_means_image_tree, normal_text_is_accepted, same_text_same_tree, text_keeps_judgement}
+use Rattle.bi_fit.proofs.Faults.{fit_has_no_fault}
+use Rattle.bi_fit.proofs.TextLaws.{file_means_image_tree, normal_fit_text_is_accepted, same_text_same_tree, text_keeps_judgement}
 use Rattle.bi_norm.specs.Meaning.{Meaning, OfLegacy, OfFit, Means, normal_text}
 use Rattle.bi_norm.specs.NormalForm.{IsNormalForm, IsOpenError, IsNormaliseError, Normalised, NeedsMemory, ForLegacyImage, ForTree}
 use Rattle.bi_norm.proofs.Opening.{means_legacy, means_tree}
@@ -54,13 +54,16 @@ texts_differ form image tree same =
     omega (arith, legacy_text_begins image, tree_text_begins form tree, ap (λ text. u32_at text 0) same)
 
 -- A file that means a legacy image means nothing else.
-pub only_legacy : (limits : Bounds) (file : List ℕ) (parsed : ParsedImage) → IsParsedImage limits file parsed → (other : Meaning) → Means limits file other → other ≡ OfLegacy parsed.image
+pub only_legacy : (limits : Limits) (file : List ℕ) (parsed : LegacyModel) → IsParsedImage limits file parsed → (other : Meaning) →
+    Means limits file other → other ≡ OfLegacy parsed.image
 only_legacy limits file parsed opened (OfLegacy other) means = ap OfLegacy (opened.only_meaning other means)
 only_legacy limits file parsed opened (OfFit tree) means =
     absurd (means_tree limits file tree means (means_legacy limits file parsed.image opened.means))
 
 -- Files that mean something else have another normal text.
-distinguishes_legacy : (limits : Bounds) (form : Form) (file : List ℕ) (parsed : ParsedImage) → IsParsedImage limits file parsed → (other_file : List ℕ) (other : Meaning) → Means limits other_file other → (normal_text form other ≡ legacy_text parsed.image) ↔ (other ≡ OfLegacy parsed.image)
+distinguishes_legacy : (limits : Limits) (form : Form) (file : List ℕ) (parsed : LegacyModel) → IsParsedImage limits file parsed →
+    (other_file : List ℕ) (other : Meaning) → Means limits other_file other →
+    (normal_text form other ≡ legacy_text parsed.image) ↔ (other ≡ OfLegacy parsed.image)
 distinguishes_legacy limits form file parsed opened other_file (OfLegacy other) means = (
   λ same. ap OfLegacy (opened.normal_form.only_image other_file other means.is_file same),
   λ same. ap (normal_text form) same,
@@ -71,7 +74,8 @@ distinguishes_legacy limits form file parsed opened other_file (OfFit tree) mean
 )
 
 -- The normal text of a legacy image that was read from a file is the normal form of the file.
-pub legacy_normal_form : (limits : Bounds) (form : Form) (file : List ℕ) (parsed : ParsedImage) → IsParsedImage limits file parsed → IsNormalForm limits form file (legacy_text parsed.image)
+pub legacy_normal_form : (limits : Limits) (form : Form) (file : List ℕ) (parsed : LegacyModel) → IsParsedImage limits file parsed →
+    IsNormalForm limits form file (legacy_text parsed.image)
 legacy_normal_form limits form file parsed opened = record {
   meaning = OfLegacy parsed.image;
   means = opened.means;
@@ -83,18 +87,22 @@ legacy_normal_form limits form file parsed opened = record {
 }
 
 -- It has no signature nodes.
-pub legacy_normalised : (limits : Bounds) (form : Form) (file : List ℕ) (parsed : ParsedImage) → IsParsedImage limits file parsed → Normalised limits form 0 file (legacy_text parsed.image)
+pub legacy_normalised : (limits : Limits) (form : Form) (file : List ℕ) (parsed : LegacyModel) → IsParsedImage limits file parsed →
+    Normalised limits form 0 file (legacy_text parsed.image)
 unfolding legacy_normal_form
 legacy_normalised limits form file parsed opened = record { normal = legacy_normal_form limits form file parsed opened; signatures = refl }
 
 -- A file that means a flattened image tree means nothing else.
-pub only_tree : (limits : Bounds) (file : List ℕ) (content : FitContent) → IsReadFrom limits file content → (other : Meaning) → Means limits file other → other ≡ OfFit (tree_of content)
+pub only_tree : (limits : Limits) (file : List ℕ) (content : FitModel) → IsReadFrom limits file content → (other : Meaning) →
+    Means limits file other → other ≡ OfFit (tree_of content)
 only_tree limits file content opened (OfFit other) means = ap OfFit (opened.only other means)
 only_tree limits file content opened (OfLegacy image) means =
     absurd (means_tree limits file (tree_of content) opened.means (means_legacy limits file image means))
 
 -- Files that mean something else have another normal text.
-distinguishes_tree : (limits : Bounds) (form : Form) (file : List ℕ) (tree : ImageTree) → IsFitFile file tree → length (fit_text form tree) ≤ longest_text → (other_file : List ℕ) (other : Meaning) → Means limits other_file other → (normal_text form other ≡ fit_text form tree) ↔ (other ≡ OfFit tree)
+distinguishes_tree : (limits : Limits) (form : Form) (file : List ℕ) (tree : ImageTree) → IsFitFile file tree →
+    length (fit_text form tree) ≤ longest_text → (other_file : List ℕ) (other : Meaning) → Means limits other_file other →
+    (normal_text form other ≡ fit_text form tree) ↔ (other ≡ OfFit tree)
 distinguishes_tree limits form file tree is short other_file (OfFit other) means = (
   λ same.
       ap OfFit (sym ((same_text_same_tree form tree other (file_means_image_tree file tree is) (file_means_image_tree other_file other means.is_file) short).0 (sym same))),
@@ -106,7 +114,9 @@ distinguishes_tree limits form file tree is short other_file (OfLegacy image) me
 )
 
 -- The normal text of a flattened image tree that was read from a file, if it is no longer than the limit, is the normal form of the file.
-pub tree_normal_form : (limits : Bounds) (form : Form) (file : List ℕ) (content : FitContent) → IsReadFrom limits file content → length (fit_text form (tree_of content)) ≤ limits.file → limits.file ≤ longest_text → IsNormalForm limits form file (fit_text form (tree_of content))
+pub tree_normal_form : (limits : Limits) (form : Form) (file : List ℕ) (content : FitModel) → IsReadFrom limits file content →
+    length (fit_text form (tree_of content)) ≤ limits.file → limits.file ≤ longest_text →
+    IsNormalForm limits form file (fit_text form (tree_of content))
 tree_normal_form limits form file content opened fits most =
     let tree = tree_of content in
     let short : length (fit_text form (tree_of content)) ≤ longest_text = omega (arith, fits, most) in
@@ -116,30 +126,34 @@ tree_normal_form limits form file content opened fits most =
       only = only_tree limits file content opened;
       is_text = refl;
       distinguishes = distinguishes_tree limits form file tree opened.means.is_file short;
-      is_own = (normal_text_is_accepted limits form file tree opened.means fits most).means;
+      is_own = (normal_fit_text_is_accepted limits form file tree opened.means fits most).means;
       keeps_judgement = λ one other means text_means.
           text_keeps_judgement form file tree other opened.means.is_file short text_means.is_file ∙ ap judgement (sym (opened.only one means));
     }
 
 -- It has as many signature nodes as the tree.
-pub tree_normalised : (limits : Bounds) (form : Form) (file : List ℕ) (content : FitContent) (count : ℕ) → IsReadFrom limits file content → length (fit_text form (tree_of content)) ≤ limits.file → limits.file ≤ longest_text → count ≡ signatures_of_tree (tree_of content) → Normalised limits form count file (fit_text form (tree_of content))
+pub tree_normalised : (limits : Limits) (form : Form) (file : List ℕ) (content : FitModel) (count : ℕ) → IsReadFrom limits file content →
+    length (fit_text form (tree_of content)) ≤ limits.file → limits.file ≤ longest_text → count ≡ signatures_of_tree (tree_of content) →
+    Normalised limits form count file (fit_text form (tree_of content))
 unfolding tree_normal_form
 tree_normalised limits form file content count opened fits most is = record { normal = tree_normal_form limits form file content opened fits most; signatures = is }
 
 -- A file that means something needs memory.
-pub needs_memory : (limits : Bounds) (file : List ℕ) (meaning : Meaning) → Means limits file meaning → NeedsMemory limits file
+pub needs_memory : (limits : Limits) (file : List ℕ) (meaning : Meaning) → Means limits file meaning → NeedsMemory limits file
 needs_memory limits file (OfLegacy image) means = ForLegacyImage image means
 needs_memory limits file (OfFit tree) means = by (fault_before_tree_comes_first limits file).decided where
   by : HasNoFaultBeforeTree limits file ⊎ ((fault : Fault) × IsFaultBeforeTree limits file fault) → NeedsMemory limits file
   by (inl fine) = ForTree (means_tree limits file tree means) fine
-  by (inr faulty) = absurd (meaning_has_no_fault limits file tree faulty.0 means (InBlob ((fault_before_tree_comes_first limits file).first faulty.0 faulty.1)))
+  by (inr faulty) = absurd (fit_has_no_fault limits file tree faulty.0 means (InBlob ((fault_before_tree_comes_first limits file).first faulty.0 faulty.1)))
 
 -- A file that has a normal form needs memory.
-pub normal_form_needs_memory : (limits : Bounds) (form : Form) (file text : List ℕ) → IsNormalForm limits form file text → NeedsMemory limits file
+pub normal_form_needs_memory : (limits : Limits) (form : Form) (file text : List ℕ) → IsNormalForm limits form file text →
+    NeedsMemory limits file
 normal_form_needs_memory limits form file text normal = needs_memory limits file normal.meaning normal.means
 
 -- An error of making its document is one that normalising the file can have.
-pub document_error : (limits : Bounds) (form : Form) (file : List ℕ) (content : FitContent) (error : Error) → IsReadFrom limits file content → IsDocumentError limits form (tree_of content) error → IsNormaliseError limits form file error
+pub document_error : (limits : Limits) (form : Form) (file : List ℕ) (content : FitModel) (error : Error) → IsReadFrom limits file content →
+    IsDocumentError limits form (tree_of content) error → IsNormaliseError limits form file error
 document_error limits form file content (Refused fault) opened is =
     inr (record { tree = tree_of content; means = opened.means; longer = is.1 }, is.0)
 document_error limits form file content OutOfMemory opened is = needs_memory limits file (OfFit (tree_of content)) opened.means
@@ -147,14 +161,18 @@ document_error limits form file content ReadFailed opened is = is
 document_error limits form file content WriteFailed opened is = is
 
 -- An error of reading a file is one of normalising it.
-pub open_error : (limits : Bounds) (form : Form) (file : List ℕ) (error : Error) → IsOpenError limits file error → IsNormaliseError limits form file error
+pub open_error : (limits : Limits) (form : Form) (file : List ℕ) (error : Error) → IsOpenError limits file error →
+    IsNormaliseError limits form file error
 open_error limits form file (Refused fault) is = inl is
 open_error limits form file OutOfMemory is = is
 open_error limits form file ReadFailed is = is
 open_error limits form file WriteFailed is = is
 
 -- A legacy image whose normal text was not written: memory ran out, or the sink failed.
-pub legacy_not_written : {S : Type 0} {fails : S → List ℕ → S → Error → Type 0} (limits : Bounds) (form : Form) (file : List ℕ) (parsed : ParsedImage) (written : List ℕ) (old new : S) (error : Error) → IsParsedImage limits file parsed → written ≡ legacy_text parsed.image → AppendFailed fails (λ text. text ≡ written) (λ error. error ≡ OutOfMemory) old new error → AppendFailed fails (IsNormalForm limits form file) (IsNormaliseError limits form file) old new error
+pub legacy_not_written : {S : Type 0} {fails : S → List ℕ → S → Error → Type 0} (limits : Limits) (form : Form) (file : List ℕ)
+    (parsed : LegacyModel) (written : List ℕ) (old new : S) (error : Error) → IsParsedImage limits file parsed →
+    written ≡ legacy_text parsed.image → AppendFailed fails (λ text. text ≡ written) (λ error. error ≡ OutOfMemory) old new error →
+    AppendFailed fails (IsNormalForm limits form file) (IsNormaliseError limits form file) old new error
 legacy_not_written limits form file parsed written old new error opened is_written (WasRefused is same) =
     WasRefused (subst (IsNormaliseError limits form file) (sym is) (ForLegacyImage parsed.image opened.means)) same
 legacy_not_written limits form file parsed written old new error opened is_written (SinkFailed text cause is failed same) =

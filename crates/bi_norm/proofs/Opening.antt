@@ -8,7 +8,7 @@ use Rattle.bi_norm.specs.Faults.{IsFileFault, OfLegacyImage, OfTree}
 use Rattle.bi_base.specs.declared.fault.Error.{Error}
 use Rattle.bi_base.specs.declared.fault.Error.TheVariants.{Refused, OutOfMemory, ReadFailed, WriteFailed}
 use Rattle.bi_base.specs.declared.fault.Fault.{Fault}
-use Rattle.bi_base.specs.Limits.{Bounds}
+use Rattle.bi_base.specs.Limits.{Limits}
 use Rattle.bi_base.specs.Cells.{u32_at}
 use Rattle.std.specs.Prelude.{Bool, if◌then◌else◌}
 use Rattle.bi_blob.specs.Blob.{lacks_structure_size}
@@ -47,7 +47,7 @@ legacy_or_not file = by (nat_le_decided 4 (length file)) (eqb_tells (u32_at file
   by (inl whole) (inr other) = inr (λ begins. other.1 begins.magic)
 
 -- A file that means a legacy image begins with its magic number.
-pub means_legacy : (limits : Bounds) (file : List ℕ) (image : LegacyImage) → LegacyMeans limits file image → BeginsAs file Legacy
+pub means_legacy : (limits : Limits) (file : List ℕ) (image : LegacyImage) → LegacyMeans limits file image → BeginsAs file Legacy
 means_legacy limits file image means =
     let begins = file_begins file image means.is_file in record { whole = begins.whole; magic = begins.magic }
 
@@ -57,13 +57,13 @@ least_header true = omega arith
 least_header false = omega arith
 
 -- A file that means a flattened image tree begins as one.
-begins_as_tree : (limits : Bounds) (file : List ℕ) (tree : ImageTree) → FitMeans limits file tree → BeginsAs file Fit
+begins_as_tree : (limits : Limits) (file : List ℕ) (tree : ImageTree) → FitMeans limits file tree → BeginsAs file Fit
 begins_as_tree limits file tree means =
     let header = means.is_file.blob.header in
     record { whole = omega (arith, least_header (lacks_structure_size file), header.whole); magic = begins_with_magic file tree means.is_file }
 
 -- A file that means a flattened image tree does not begin as a legacy image.
-pub means_tree : (limits : Bounds) (file : List ℕ) (tree : ImageTree) → FitMeans limits file tree → ¬ (BeginsAs file Legacy)
+pub means_tree : (limits : Limits) (file : List ℕ) (tree : ImageTree) → FitMeans limits file tree → ¬ (BeginsAs file Legacy)
 means_tree limits file tree means begins =
     omega (arith, begins.magic, begins_with_magic file tree means.is_file)
 
@@ -72,7 +72,8 @@ pub begins_as_one : (file : List ℕ) → BeginsAs file Fit → ¬ (BeginsAs fil
 begins_as_one file begins legacy = omega (arith, begins.magic, legacy.magic)
 
 -- The fault of a file of no kind that is not too long is the fault of the file.
-pub kind_fault_is_file_fault : (limits : Bounds) (file : List ℕ) (fault : Fault) → length file ≤ limits.file → IsKindFault file fault → IsFileFault limits file fault
+pub kind_fault_is_file_fault : (limits : Limits) (file : List ℕ) (fault : Fault) → length file ≤ limits.file → IsKindFault file fault →
+    IsFileFault limits file fault
 kind_fault_is_file_fault limits file fault short (TooShort few is) =
     OfTree (λ begins. omega (arith, few, begins.whole))
     (InBlob (InHeader (inr (short, inl (λ enough. omega (arith, few, enough), is)))))
@@ -81,7 +82,7 @@ kind_fault_is_file_fault limits file fault short (OfNoKind whole unknown is) =
     (InBlob (InHeader (inr (short, inr (whole, inl (λ magic. unknown Fit (record { whole = whole; magic = magic }), is))))))
 
 -- A file of no kind means nothing.
-pub kind_fault_means_nothing : (limits : Bounds) (file : List ℕ) (fault : Fault) → IsKindFault file fault → MeansNothing limits file
+pub kind_fault_means_nothing : (limits : Limits) (file : List ℕ) (fault : Fault) → IsKindFault file fault → MeansNothing limits file
 kind_fault_means_nothing limits file fault (TooShort short is) (OfLegacy image) means =
     omega (arith, short, (means_legacy limits file image means).whole)
 kind_fault_means_nothing limits file fault (OfNoKind whole unknown is) (OfLegacy image) means =
@@ -92,7 +93,7 @@ kind_fault_means_nothing limits file fault (OfNoKind whole unknown is) (OfFit tr
     unknown Fit (begins_as_tree limits file tree means)
 
 -- The fault of a file that is too long.
-pub too_long_is_file_fault : (limits : Bounds) (file : List ℕ) → limits.file < length file → IsFileFault limits file (too_large limits.file)
+pub too_long_is_file_fault : (limits : Limits) (file : List ℕ) → limits.file < length file → IsFileFault limits file (too_large limits.file)
 too_long_is_file_fault limits file longer =
     elim (legacy_or_not file) [
       | inl begins ↦ OfLegacyImage begins (inl (λ short. omega (arith, longer, short), refl))
@@ -100,22 +101,25 @@ too_long_is_file_fault limits file longer =
     ]
 
 -- It is not converted.
-pub too_long_is_not_converted : (limits : Bounds) (file : List ℕ) → limits.file < length file → IsConvertError limits file (Refused (too_large limits.file))
+pub too_long_is_not_converted : (limits : Limits) (file : List ℕ) → limits.file < length file →
+    IsConvertError limits file (Refused (too_large limits.file))
 too_long_is_not_converted limits file longer =
     NotLegacy (inl (λ short. omega (arith, longer, short), refl)) (λ image means. omega (arith, longer, means.short))
 
 -- A file that is too long means nothing.
-pub too_long_means_nothing : (limits : Bounds) (file : List ℕ) → limits.file < length file → MeansNothing limits file
+pub too_long_means_nothing : (limits : Limits) (file : List ℕ) → limits.file < length file → MeansNothing limits file
 too_long_means_nothing limits file longer (OfLegacy image) means = omega (arith, longer, means.short)
 too_long_means_nothing limits file longer (OfFit tree) means = omega (arith, longer, means.within.short)
 
 -- A file that begins as a legacy image and means none means nothing.
-pub refused_means_nothing : (limits : Bounds) (file : List ℕ) → BeginsAs file Legacy → (((image : LegacyImage) × LegacyMeans limits file image) → false ≡ true) → MeansNothing limits file
+pub refused_means_nothing : (limits : Limits) (file : List ℕ) → BeginsAs file Legacy →
+    (((image : LegacyImage) × LegacyMeans limits file image) → false ≡ true) → MeansNothing limits file
 refused_means_nothing limits file begins refused (OfLegacy image) means = absurd (false≢true (refused (image, means)))
 refused_means_nothing limits file begins refused (OfFit tree) means = means_tree limits file tree means begins
 
 -- An error of reading a flattened image tree is one of a file that begins as one.
-pub tree_error : (limits : Bounds) (file : List ℕ) (error : Error) → BeginsAs file Fit → IsFitReadError limits file error → IsOpenError limits file error
+pub tree_error : (limits : Limits) (file : List ℕ) (error : Error) → BeginsAs file Fit → IsFitReadError limits file error →
+    IsOpenError limits file error
 tree_error limits file (Refused fault) begins is =
     (OfTree (begins_as_one file begins) is.is_fault, means_nothing)
   where

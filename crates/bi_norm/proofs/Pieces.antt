@@ -12,11 +12,13 @@ pub sum_more : (lengths : List ℕ) (i : ℕ) → i < length lengths → sum (ta
 sum_more lengths i within = sum_by_more (λ (n : ℕ). n) lengths i 0 within
 
 -- The lengths before one of them, itself, and those after it.
-pub lengths_around : (lengths : List ℕ) (i : ℕ) → i < length lengths → lengths ≡ take i lengths ++ (get_or lengths i 0 ∷ drop (i + 1) lengths)
+pub lengths_around : (lengths : List ℕ) (i : ℕ) → i < length lengths →
+    lengths ≡ take i lengths ++ (get_or lengths i 0 ∷ drop (i + 1) lengths)
 lengths_around lengths i within = sym (take-append-drop i lengths) ∙ ap (λ l. take i lengths ++ l) (rw add-one (drop-cons lengths i 0 within))
 
 -- The lengths of the pieces, and one more.
-pub lengths_more : (pieces : List (List ℕ)) (piece : List ℕ) (lengths : List ℕ) (i : ℕ) → i < length lengths → map length pieces ≡ take i lengths → length piece ≡ get_or lengths i 0 → map length (pieces ++ piece ∷ []) ≡ take (i + 1) lengths
+pub lengths_more : (pieces : List (List ℕ)) (piece : List ℕ) (lengths : List ℕ) (i : ℕ) → i < length lengths →
+    map length pieces ≡ take i lengths → length piece ≡ get_or lengths i 0 → map length (pieces ++ piece ∷ []) ≡ take (i + 1) lengths
 lengths_more pieces piece lengths i within same is =
     map-append length pieces (piece ∷ [])
     ∙ ap (λ l. l ++ (length piece ∷ [])) same
@@ -24,7 +26,8 @@ lengths_more pieces piece lengths i within same is =
     ∙ sym (take_more lengths i 0 within)
 
 -- The pieces together, and one more.
-pub pieces_more : (pieces : List (List ℕ)) (input : List ℕ) (start end : ℕ) → start ≤ end → concat pieces ≡ take start input → concat (pieces ++ slice_range input start end ∷ []) ≡ take end input
+pub pieces_more : (pieces : List (List ℕ)) (input : List ℕ) (start end : ℕ) → start ≤ end → concat pieces ≡ take start input →
+    concat (pieces ++ slice_range input start end ∷ []) ≡ take end input
 pieces_more pieces input start end ordered same =
     let piece = slice_range input start end in
     let last : start + (end - start) ≡ end = omega arith in

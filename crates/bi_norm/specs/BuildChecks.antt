@@ -5,36 +5,36 @@ use Rattle.bi_base.specs.declared.fault.Error.TheVariants.{Refused, OutOfMemory,
 use Rattle.bi_base.specs.declared.fault.Error.TheVariants.{WriteFailed}
 use Rattle.bi_base.specs.Cells.{AreBytes}
 use Rattle.bi_base.specs.Checks.{IsFirstFault, HasNoFault}
-use Rattle.bi_base.specs.Limits.{Bounds}
+use Rattle.bi_base.specs.Limits.{Limits}
 use Rattle.bi_fit.specs.declared.form.Form.{Form}
 use Rattle.bi_norm.specs.declared.building.Head.{Head}
 use Rattle.bi_norm.specs.declared.building.ImageSpec.{ImageSpec}
-use Rattle.bi_norm.specs.Building.{BuildCheck, HasFewImages, HasTextDescription, HasFields}
-use Rattle.bi_norm.specs.Building.{HasCodeNames, BuildPasses, build_fault, image_checks}
-use Rattle.bi_norm.specs.Building.{IndexedImage, first_image_checks}
+use Rattle.bi_norm.specs.BuildCalls.{BuildCheck, HasFewImages, HasTextDescription, HasFields}
+use Rattle.bi_norm.specs.BuildCalls.{HasCodeNames, BuildPasses, build_fault, spec_checks}
+use Rattle.bi_norm.specs.BuildCalls.{IndexedImage, first_image_checks}
 
 -- The checks of what is to be built, one after the other.
 
 -- All checks but that of the text's length.
 abbrev pub early_checks : List ImageSpec → List BuildCheck
-early_checks images = HasFewImages ∷ HasTextDescription ∷ image_checks 0 [] images
+early_checks images = HasFewImages ∷ HasTextDescription ∷ spec_checks 0 [] images
 
 -- Checks of images pass, which is so for any limits, form and head.
 abbrev pub AllPass : List BuildCheck → Type 0
 AllPass checks =
-    (limits : Bounds) (form : Form) (head : Head) (images : List ImageSpec)
+    (limits : Limits) (form : Form) (head : Head) (images : List ImageSpec)
     → HasNoFault (BuildPasses limits form head images) checks
 
 -- This is the fault of the first check of images that fails, for any limits, form and head.
 abbrev pub IsFirstFailure : List BuildCheck → Fault → Type 0
 IsFirstFailure checks fault =
-    (limits : Bounds) (form : Form) (head : Head) (images : List ImageSpec)
+    (limits : Limits) (form : Form) (head : Head) (images : List ImageSpec)
     → IsFirstFault (BuildPasses limits form head images) (build_fault limits) checks fault
 
 -- The error that the checks of images can have. Memory is needed only after the checks of the first
 -- image that look at no other.
 abbrev pub IsImagesError : List ImageSpec → Error → Type 0
-IsImagesError images (Refused fault) = IsFirstFailure (image_checks 0 [] images) fault
+IsImagesError images (Refused fault) = IsFirstFailure (spec_checks 0 [] images) fault
 IsImagesError images OutOfMemory = AllPass (first_image_checks images)
 IsImagesError images ReadFailed = ⊥
 IsImagesError images WriteFailed = ⊥

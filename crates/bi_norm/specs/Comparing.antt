@@ -2,19 +2,19 @@ use Rattle.std.specs.Prelude.{ℕ, ◌≡◌, ◌↔◌, ◌⊎◌, Bool, IsTrue
 use Rattle.bi_base.specs.declared.fault.Error.{Error}
 use Rattle.bi_base.specs.declared.fault.Error.TheVariants.{Refused, OutOfMemory, ReadFailed}
 use Rattle.bi_base.specs.declared.fault.Error.TheVariants.{WriteFailed}
-use Rattle.bi_base.specs.Limits.{Bounds}
+use Rattle.bi_base.specs.Limits.{Limits}
 use Rattle.bi_norm.specs.Meaning.{Meaning, Means}
 use Rattle.bi_norm.specs.NormalForm.{IsOpenError, NeedsMemory}
 
 -- Comparing what two files mean (profile of this project).
 
 -- What a file means, and that it means nothing else.
-pub record MeansOnly (limits : Bounds) (file : List ℕ) (meaning : Meaning) : Type 0 where
+pub record MeansOnly (limits : Limits) (file : List ℕ) (meaning : Meaning) : Type 0 where
   pub means : Means limits file meaning
   pub only : (other : Meaning) → Means limits file other → other ≡ meaning
 
 -- Each of two files means something, and the result is whether they mean the same.
-pub record AreCompared (limits : Bounds) (one other : List ℕ) (same : Bool) : Type 0 where
+pub record AreCompared (limits : Limits) (one other : List ℕ) (same : Bool) : Type 0 where
   pub meaning : Meaning
   pub other_meaning : Meaning
   pub means : MeansOnly limits one meaning
@@ -22,14 +22,14 @@ pub record AreCompared (limits : Bounds) (one other : List ℕ) (same : Bool) : 
   pub is_same : IsTrue same ↔ (meaning ≡ other_meaning)
 
 -- The first of two files means something, and reading the second one fails with this error.
-pub record IsErrorOfSecond (limits : Bounds) (one other : List ℕ) (error : Error) : Type 0 where
+pub record IsErrorOfSecond (limits : Limits) (one other : List ℕ) (error : Error) : Type 0 where
   pub meaning : Meaning
   pub means : Means limits one meaning
   pub has_error : IsOpenError limits other error
 
 -- The error that comparing two files can have: one of reading the first, or else one of reading the
 -- second. Memory never runs out if the first file fails a check that needs none.
-abbrev pub IsCompareError : Bounds → List ℕ → List ℕ → Error → Type 0
+abbrev pub IsCompareError : Limits → List ℕ → List ℕ → Error → Type 0
 IsCompareError limits one other (Refused fault) =
     IsOpenError limits one (Refused fault) ⊎ IsErrorOfSecond limits one other (Refused fault)
 IsCompareError limits one other OutOfMemory = NeedsMemory limits one

@@ -7,7 +7,7 @@ use Rattle.bi_base.specs.declared.fault.Error.{Error}
 use Rattle.bi_base.specs.declared.fault.Error.TheVariants.{Refused, OutOfMemory, ReadFailed}
 use Rattle.bi_base.specs.declared.fault.Error.TheVariants.{WriteFailed}
 use Rattle.bi_base.specs.Checks.{IsFirstFault, HasNoFault}
-use Rattle.bi_base.specs.Limits.{Bounds}
+use Rattle.bi_base.specs.Limits.{Limits}
 use Rattle.bi_base.specs.Reading.{too_large}
 use Rattle.bi_blob.specs.Layout.{longest_text}
 use Rattle.bi_fit.specs.declared.form.Form.{Form}
@@ -15,7 +15,7 @@ use Rattle.bi_fit.specs.declared.form.Form.TheVariants.{Embedded}
 use Rattle.bi_fit.specs.declared.key.Key.{Key}
 use Rattle.bi_fit.specs.declared.key.Key.TheVariants.{Kernel, Fdt, Ramdisk, Firmware, Loadables}
 use Rattle.bi_fit.specs.declared.key.Key.TheVariants.{Script}
-use Rattle.bi_fit.specs.Building.{FitHead, ImageSpecification, built}
+use Rattle.bi_fit.specs.Building.{HeadModel, ImageSpecModel, built_tree}
 use Rattle.bi_fit.specs.ImageTree.{ImageTree}
 use Rattle.bi_fit.specs.Judgement.{verdicts_of}
 use Rattle.bi_fit.specs.Laws.{IsAcceptedAs, HasConfiguration}
@@ -76,29 +76,29 @@ has_addresses Loadables = true
 has_addresses key = false
 
 -- A number that is given or not.
-abbrev pub given : Bool → ℕ → Option ℕ
-given true number = Some number
-given false number = None
+abbrev pub number_if : Bool → ℕ → Option ℕ
+number_if true number = Some number
+number_if false number = None
 
 -- The name of a code. A code without a name is refused before this is used.
 abbrev pub code_name : List CodeName → ℕ → List ℕ
 code_name names code = unwrap_or (name_of_code names code) []
 
 -- The image of the first part. It has the compression of the legacy image.
-abbrev pub first_image : LegacyImage → Key → List ℕ → ImageSpecification
+abbrev pub first_image : LegacyImage → Key → List ℕ → ImageSpecModel
 first_image image key part = record {
   name = image_name key;
   key = key;
   arch = code_name arch_names image.arch;
   os = code_name os_names image.os;
   compression = code_name compression_names image.compression;
-  load = given (has_addresses key) image.load;
-  entry = given (has_addresses key) image.entry;
+  load = number_if (has_addresses key) image.load;
+  entry = number_if (has_addresses key) image.entry;
   payload = part;
 }
 
 -- The image of a later part, which is not compressed.
-abbrev pub later_image : LegacyImage → Key → List ℕ → ImageSpecification
+abbrev pub later_image : LegacyImage → Key → List ℕ → ImageSpecModel
 later_image image key part = record {
   name = image_name key;
   key = key;
@@ -111,29 +111,29 @@ later_image image key part = record {
 }
 
 -- The images of later parts, of these keys.
-abbrev pub later_images : LegacyImage → List Key → List (List ℕ) → List ImageSpecification
+abbrev pub later_images : LegacyImage → List Key → List (List ℕ) → List ImageSpecModel
 later_images image (key ∷ keys) (part ∷ parts) =
     later_image image key part ∷ later_images image keys parts
 later_images image keys parts = []
 
 -- The images of parts, of these keys.
-abbrev pub images_of_parts : LegacyImage → List Key → List (List ℕ) → List ImageSpecification
+abbrev pub images_of_parts : LegacyImage → List Key → List (List ℕ) → List ImageSpecModel
 images_of_parts image (key ∷ keys) (part ∷ parts) =
     first_image image key part ∷ later_images image keys parts
 images_of_parts image keys parts = []
 
 -- The images of a legacy image.
-abbrev pub converted_images : LegacyImage → List ImageSpecification
+abbrev pub converted_images : LegacyImage → List ImageSpecModel
 converted_images image = images_of_parts image (keys_of_type image.image_type) image.parts
 
 -- The description of the tree is the name of the legacy image, and its time is that of the legacy
 -- image.
-abbrev pub head_of_image : LegacyImage → FitHead
+abbrev pub head_of_image : LegacyImage → HeadModel
 head_of_image image = record { description = image.name; time = image.time }
 
 -- The tree that a legacy image is converted to.
 abbrev pub fit_of : LegacyImage → ImageTree
-fit_of image = built (head_of_image image) (converted_images image)
+fit_of image = built_tree (head_of_image image) (converted_images image)
 
 -- The checks of a legacy image to be converted.
 pub data ConvertCheck : Type 0 where
@@ -188,7 +188,7 @@ ConvertedHasItsParts =
     (image : LegacyImage) → IsLegacyImage image → CanBeConverted image → HasConvertedParts image
 
 -- What the text of a converted image is: it is accepted and means the tree.
-pub record IsConverted (bounds : Bounds) (form : Form) (image : LegacyImage) : Type 0 where
+pub record IsConverted (bounds : Limits) (form : Form) (image : LegacyImage) : Type 0 where
   pub accepted : IsAcceptedAs bounds (fit_text form (fit_of image)) (fit_of image)
   pub parts : HasConvertedParts image
 
@@ -196,7 +196,7 @@ pub record IsConverted (bounds : Bounds) (form : Form) (image : LegacyImage) : T
 -- nodes or more may be open.
 abbrev pub ConvertedIsAccepted : Type 0
 ConvertedIsAccepted =
-    (bounds : Bounds) (form : Form) (image : LegacyImage)
+    (bounds : Limits) (form : Form) (image : LegacyImage)
     → IsLegacyImage image → CanBeConverted image
     → 4 ≤ bounds.depth → length (fit_text form (fit_of image)) ≤ bounds.file
     → bounds.file ≤ longest_text
@@ -205,23 +205,23 @@ ConvertedIsAccepted =
 -- The text is that of the flattened image tree to which the legacy image in the file is converted.
 -- Under the same limit on files, if four nodes or more may be open, it is accepted and means that
 -- tree.
-pub record IsConvertedFile (limits : Bounds) (file text : List ℕ) : Type 0 where
+pub record IsConvertedFile (limits : Limits) (file text : List ℕ) : Type 0 where
   pub image : LegacyImage
   pub means : LegacyMeans limits file image
   pub only : (other : LegacyImage) → LegacyMeans limits file other → other ≡ image
   pub can : CanBeConverted image
   pub is_text : text ≡ fit_text Embedded (fit_of image)
-  pub converted : (bounds : Bounds) → bounds.file ≡ limits.file → 4 ≤ bounds.depth
+  pub converted : (bounds : Limits) → bounds.file ≡ limits.file → 4 ≤ bounds.depth
       → IsConverted bounds Embedded image
 
 -- The file is a legacy image that can be converted.
-pub record IsConvertible (limits : Bounds) (file : List ℕ) : Type 0 where
+pub record IsConvertible (limits : Limits) (file : List ℕ) : Type 0 where
   pub image : LegacyImage
   pub means : LegacyMeans limits file image
   pub can : CanBeConverted image
 
 -- The fault of a file to be converted, in the order of the checks.
-pub data IsFileConvertFault (limits : Bounds) (file : List ℕ) (fault : Fault) : Type 0 where
+pub data IsFileConvertFault (limits : Limits) (file : List ℕ) (fault : Fault) : Type 0 where
   NotLegacy : IsLegacyFault limits file fault
       → ((image : LegacyImage) → ¬ (LegacyMeans limits file image))
       → IsFileConvertFault limits file fault
@@ -232,7 +232,7 @@ pub data IsFileConvertFault (limits : Bounds) (file : List ℕ) (fault : Fault) 
       → IsFileConvertFault limits file fault
 
 -- The error that converting a file in memory can have, except those of a sink.
-abbrev pub IsConvertError : Bounds → List ℕ → Error → Type 0
+abbrev pub IsConvertError : Limits → List ℕ → Error → Type 0
 IsConvertError limits file (Refused fault) = IsFileConvertFault limits file fault
 IsConvertError limits file OutOfMemory = IsConvertible limits file
 IsConvertError limits file ReadFailed = ⊥

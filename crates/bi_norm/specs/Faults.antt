@@ -1,6 +1,6 @@
 use Rattle.std.specs.Prelude.{ℕ, List}
 use Rattle.bi_base.specs.declared.fault.Fault.{Fault}
-use Rattle.bi_base.specs.Limits.{Bounds}
+use Rattle.bi_base.specs.Limits.{Limits}
 use Rattle.bi_fit.specs.Faults.{IsFitFault}
 use Rattle.bi_legacy.specs.Faults.{IsLegacyFault}
 use Rattle.bi_norm.specs.declared.kind.Kind.TheVariants.{Legacy}
@@ -10,7 +10,7 @@ use Rattle.bi_norm.specs.Kinds.{BeginsAs}
 
 -- The fault of a file: that of a legacy image if it begins as one, else that of a flattened image
 -- tree.
-pub data IsFileFault (limits : Bounds) (file : List ℕ) (fault : Fault) : Type 0 where
+pub data IsFileFault (limits : Limits) (file : List ℕ) (fault : Fault) : Type 0 where
   OfLegacyImage : BeginsAs file Legacy → IsLegacyFault limits file fault
       → IsFileFault limits file fault
   OfTree : ¬ (BeginsAs file Legacy) → IsFitFault limits file fault → IsFileFault limits file fault

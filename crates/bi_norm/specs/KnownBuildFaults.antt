@@ -4,12 +4,12 @@ use Rattle.bi_base.specs.declared.fault.Cause.{Cause}
 use Rattle.bi_base.specs.declared.fault.Cause.TheVariants.{TooLarge, NoCodeName, BadField}
 use Rattle.bi_base.specs.declared.fault.Cause.TheVariants.{DuplicateNode}
 use Rattle.bi_base.specs.declared.fault.Error.TheVariants.{OutOfMemory}
-use Rattle.bi_base.specs.Limits.{Bounds}
+use Rattle.bi_base.specs.Limits.{Limits}
 use Rattle.bi_fit.specs.declared.form.Form.{Form}
 use Rattle.bi_fit.specs.declared.form.Form.TheVariants.{Embedded}
 use Rattle.bi_norm.specs.declared.building.Head.{Head}
 use Rattle.bi_norm.specs.declared.building.ImageSpec.{ImageSpec}
-use Rattle.bi_norm.specs.Building.{IsBuildFault, IsBuildError}
+use Rattle.bi_norm.specs.BuildCalls.{IsBuildFault, IsBuildError}
 
 -- Small trees that cannot be built, each with its fault, by which a reader can judge the
 -- definitions (profile of this project). Where the slices of the arguments are makes no difference:
@@ -37,7 +37,7 @@ kernel_like any name = record {
 }
 
 -- The limits of 64 bytes and 64 open nodes.
-abbrev pub narrow_limits : Bounds
+abbrev pub narrow_limits : Limits
 narrow_limits = record { file = 64; depth = 64 }
 
 -- A tree with this description and these images has this fault under these limits.

@@ -4,11 +4,11 @@ use Rattle.bi_base.specs.declared.fault.Cause.{Cause}
 use Rattle.bi_base.specs.declared.fault.Cause.TheVariants.{NoCodeName, TooManyParts, EmptyPart}
 use Rattle.bi_fit.specs.declared.key.Key.TheVariants.{Fdt, Firmware, Loadables}
 use Rattle.bi_fit.specs.declared.key.Key.TheVariants.{Script}
-use Rattle.bi_fit.specs.Building.{built, type_name}
+use Rattle.bi_fit.specs.Building.{built_tree, type_name}
 use Rattle.bi_fit.specs.KnownBuilds.{known_head, known_kernel, known_ramdisk}
 use Rattle.bi_legacy.specs.Codes.{type_names}
 use Rattle.bi_legacy.specs.Meaning.{LegacyImage}
-use Rattle.bi_norm.specs.Building.{first_key, multi}
+use Rattle.bi_norm.specs.BuildCalls.{first_key, multi}
 use Rattle.bi_norm.specs.Converting.{converted_images, fit_of, keys_of_type, IsConvertFault}
 
 -- Small legacy images with the images that they are converted to, or with the fault why they cannot
@@ -36,7 +36,7 @@ known_parts = codes "hello" ∷ codes "abc" ∷ codes "x" ∷ []
 -- Each type of image becomes images of known names, keys, compressions and addresses.
 pub record ConversionsAreKnown : Type 0 where
   pub two_parts : fit_of (known_image 4 0 (codes "hello" ∷ codes "abc" ∷ []))
-      ≡ built known_head (known_kernel ∷ known_ramdisk ∷ [])
+      ≡ built_tree known_head (known_kernel ∷ known_ramdisk ∷ [])
   pub three_parts : converted_images (known_image 4 1 known_parts)
       ≡ record known_kernel { compression = codes "gzip" }
       ∷ known_ramdisk

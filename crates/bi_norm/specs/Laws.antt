@@ -1,7 +1,7 @@
 use Rattle.std.specs.Prelude.{◌≡◌, ◌⊎◌, ◌↔◌, ℕ, ◌≤◌, List, length}
 use Rattle.bi_base.specs.declared.fault.Fault.{Fault}
 use Rattle.bi_base.specs.Cells.{AreBytes}
-use Rattle.bi_base.specs.Limits.{Bounds}
+use Rattle.bi_base.specs.Limits.{Limits}
 use Rattle.bi_blob.specs.Layout.{longest_text}
 use Rattle.bi_fit.specs.declared.form.Form.{Form}
 use Rattle.bi_fit.specs.File.{IsFitFile}
@@ -23,32 +23,32 @@ OneKind = (file : List ℕ) (image : LegacyImage) (tree : ImageTree)
 -- A file has at most one meaning, whatever the limits.
 abbrev pub OneFileMeaning : Type 0
 OneFileMeaning =
-    (limits other_limits : Bounds) (file : List ℕ) (one other : Meaning)
+    (limits other_limits : Limits) (file : List ℕ) (one other : Meaning)
     → Means limits file one → Means other_limits file other → one ≡ other
 
 -- A file has at most one fault under limits.
 abbrev pub OneFileFault : Type 0
 OneFileFault =
-    (limits : Bounds) (file : List ℕ) (one other : Fault)
+    (limits : Limits) (file : List ℕ) (one other : Fault)
     → IsFileFault limits file one → IsFileFault limits file other → one ≡ other
 
 -- A file that means something within limits has no fault under them.
 abbrev pub FileHasNoFault : Type 0
 FileHasNoFault =
-    (limits : Bounds) (file : List ℕ) (meaning : Meaning) (fault : Fault)
+    (limits : Limits) (file : List ℕ) (meaning : Meaning) (fault : Fault)
     → Means limits file meaning → ¬ (IsFileFault limits file fault)
 
 -- A file of bytes means something within limits, or it has a fault under them.
 abbrev pub FileMeaningOrFault : Type 0
 FileMeaningOrFault =
-    (limits : Bounds) (file : List ℕ) → AreBytes file
+    (limits : Limits) (file : List ℕ) → AreBytes file
     → ((meaning : Meaning) × Means limits file meaning)
     ⊎ ((fault : Fault) × IsFileFault limits file fault)
 
 -- A file of bytes means something within limits exactly where it has no fault under them.
 abbrev pub FileMeaningWhereNoFault : Type 0
 FileMeaningWhereNoFault =
-    (limits : Bounds) (file : List ℕ) → AreBytes file
+    (limits : Limits) (file : List ℕ) → AreBytes file
     → ((meaning : Meaning) × Means limits file meaning)
     ↔ ((fault : Fault) → ¬ (IsFileFault limits file fault))
 
@@ -62,7 +62,7 @@ TextsOfKindsDiffer =
 -- they mean the same, if one of the texts is not too long.
 abbrev pub NormalTextsDiffer : Type 0
 NormalTextsDiffer =
-    (form : Form) (limits other_limits : Bounds) (file other_file : List ℕ) (one other : Meaning)
+    (form : Form) (limits other_limits : Limits) (file other_file : List ℕ) (one other : Meaning)
     → Means limits file one → Means other_limits other_file other
     → length (normal_text form one) ≤ longest_text
     → (normal_text form one ≡ normal_text form other) ↔ (one ≡ other)

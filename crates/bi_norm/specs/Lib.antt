@@ -8,7 +8,7 @@ pub mod Texts
 pub mod Converting
 pub mod Cutting
 pub mod LegacyBuilding
-pub mod Building
+pub mod BuildCalls
 pub mod BuildChecks
 pub mod BuiltNodes
 pub mod Comparing

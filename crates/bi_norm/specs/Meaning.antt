@@ -1,5 +1,5 @@
 use Rattle.std.specs.Prelude.{ℕ, List}
-use Rattle.bi_base.specs.Limits.{Bounds}
+use Rattle.bi_base.specs.Limits.{Limits}
 use Rattle.bi_legacy.specs.File.{LegacyMeans}
 use Rattle.bi_legacy.specs.Meaning.{LegacyImage}
 use Rattle.bi_legacy.specs.Text.{legacy_text}
@@ -17,12 +17,12 @@ pub data Meaning : Type 0 where
   OfFit : (tree : ImageTree) → Meaning
 
 -- The file, within the limits, means this.
-abbrev pub Means : Bounds → List ℕ → Meaning → Type 0
+abbrev pub Means : Limits → List ℕ → Meaning → Type 0
 Means limits file (OfLegacy image) = LegacyMeans limits file image
 Means limits file (OfFit tree) = FitMeans limits file tree
 
 -- The file means nothing within the limits.
-abbrev pub MeansNothing : Bounds → List ℕ → Type 0
+abbrev pub MeansNothing : Limits → List ℕ → Type 0
 MeansNothing limits file = (meaning : Meaning) → ¬ (Means limits file meaning)
 
 -- The normal text of a meaning in a form, which has no effect on a legacy image (profile of this
@@ -32,6 +32,6 @@ normal_text form (OfLegacy image) = legacy_text image
 normal_text form (OfFit tree) = fit_text form tree
 
 -- How many signature nodes there are: none in a legacy image.
-abbrev pub signature_count : Meaning → ℕ
-signature_count (OfLegacy image) = 0
-signature_count (OfFit tree) = signatures_of_tree tree
+abbrev pub meaning_signature_count : Meaning → ℕ
+meaning_signature_count (OfLegacy image) = 0
+meaning_signature_count (OfFit tree) = signatures_of_tree tree

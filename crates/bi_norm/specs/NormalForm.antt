@@ -3,7 +3,7 @@ use Rattle.bi_base.specs.declared.fault.Error.{Error}
 use Rattle.bi_base.specs.declared.fault.Error.TheVariants.{Refused, OutOfMemory, ReadFailed}
 use Rattle.bi_base.specs.declared.fault.Error.TheVariants.{WriteFailed}
 use Rattle.bi_base.specs.Commands.{CommandPromise, PromiseLaws}
-use Rattle.bi_base.specs.Limits.{Bounds}
+use Rattle.bi_base.specs.Limits.{Limits}
 use Rattle.bi_base.specs.Reading.{too_large}
 use Rattle.bi_blob.specs.BlobFaults.{HasNoFaultBeforeTree}
 use Rattle.bi_fit.specs.declared.form.Form.{Form}
@@ -16,13 +16,14 @@ use Rattle.bi_legacy.specs.Meaning.{LegacyImage}
 use Rattle.bi_norm.specs.declared.kind.Kind.TheVariants.{Legacy}
 use Rattle.bi_norm.specs.Faults.{IsFileFault}
 use Rattle.bi_norm.specs.Kinds.{BeginsAs}
-use Rattle.bi_norm.specs.Meaning.{Meaning, Means, MeansNothing, normal_text, signature_count}
+use Rattle.bi_norm.specs.Meaning.{Meaning, Means, MeansNothing, normal_text}
+use Rattle.bi_norm.specs.Meaning.{meaning_signature_count}
 
 -- What normalising promises: two accepted files of one kind have the same normal form exactly if
 -- they mean the same (profile of this project).
 
 -- The text is the normal form of the file.
-pub record IsNormalForm (limits : Bounds) (form : Form) (file text : List ℕ) : Type 0 where
+pub record IsNormalForm (limits : Limits) (form : Form) (file text : List ℕ) : Type 0 where
   -- The file means this, and nothing else.
   pub meaning : Meaning
   pub means : Means limits file meaning
@@ -40,14 +41,14 @@ pub record IsNormalForm (limits : Bounds) (form : Form) (file text : List ℕ) :
       → FitMeans limits text other → judgement other ≡ judgement tree
 
 -- The text is the normal form of the file, and this is the number of its signature nodes.
-pub record Normalised (limits : Bounds) (form : Form) (count : ℕ) (file text : List ℕ) : Type 0
+pub record Normalised (limits : Limits) (form : Form) (count : ℕ) (file text : List ℕ) : Type 0
   where
     pub normal : IsNormalForm limits form file text
-    pub signatures : count ≡ signature_count normal.meaning
+    pub signatures : count ≡ meaning_signature_count normal.meaning
 
 -- The file means a flattened image tree whose normal text in this form is longer than the limit. No
 -- legacy image has such a text.
-pub record IsTooLong (limits : Bounds) (form : Form) (file : List ℕ) : Type 0 where
+pub record IsTooLong (limits : Limits) (form : Form) (file : List ℕ) : Type 0 where
   pub tree : ImageTree
   pub means : FitMeans limits file tree
   pub longer : limits.file < length (fit_text form tree)
@@ -55,12 +56,12 @@ pub record IsTooLong (limits : Bounds) (form : Form) (file : List ℕ) : Type 0 
 -- Memory is needed only for a file that passes all checks that need none: a legacy image, or a file
 -- that does not begin as one and whose header and reservation block, as those of a blob, have no
 -- fault.
-pub data NeedsMemory (limits : Bounds) (file : List ℕ) : Type 0 where
+pub data NeedsMemory (limits : Limits) (file : List ℕ) : Type 0 where
   ForLegacyImage : (image : LegacyImage) → LegacyMeans limits file image → NeedsMemory limits file
   ForTree : ¬ (BeginsAs file Legacy) → HasNoFaultBeforeTree limits file → NeedsMemory limits file
 
 -- The error that reading a file in memory can have.
-abbrev pub IsOpenError : Bounds → List ℕ → Error → Type 0
+abbrev pub IsOpenError : Limits → List ℕ → Error → Type 0
 IsOpenError limits file (Refused fault) = IsFileFault limits file fault × MeansNothing limits file
 IsOpenError limits file OutOfMemory = NeedsMemory limits file
 IsOpenError limits file ReadFailed = ⊥
@@ -68,14 +69,14 @@ IsOpenError limits file WriteFailed = ⊥
 
 -- The error that normalising a file in memory can have: one of reading it, or its normal text is
 -- longer than the limit.
-abbrev pub IsNormaliseError : Bounds → Form → List ℕ → Error → Type 0
+abbrev pub IsNormaliseError : Limits → Form → List ℕ → Error → Type 0
 IsNormaliseError limits form file (Refused fault) =
     IsOpenError limits file (Refused fault)
     ⊎ (IsTooLong limits form file × (fault ≡ too_large limits.file))
 IsNormaliseError limits form file error = IsOpenError limits file error
 
 -- What normalising promises as a command.
-abbrev pub normalise_promise : Form → Bounds → CommandPromise ℕ Error
+abbrev pub normalise_promise : Form → Limits → CommandPromise ℕ Error
 normalise_promise form limits = record {
   is_output = λ count file text. Normalised limits form count file text;
   is_text = IsNormalForm limits form;
@@ -83,7 +84,7 @@ normalise_promise form limits = record {
   wraps = λ error. error;
 }
 
-pub normalise_laws : (form : Form) (limits : Bounds) → PromiseLaws (normalise_promise form limits)
+pub normalise_laws : (form : Form) (limits : Limits) → PromiseLaws (normalise_promise form limits)
 normalise_laws form limits = record {
   is_text = λ count file text is. is.normal;
   wraps_once = λ a b same. same;

@@ -1,5 +1,5 @@
 use Rattle.std.specs.Prelude.{ℕ, List}
-use Rattle.bi_base.specs.Limits.{Bounds}
+use Rattle.bi_base.specs.Limits.{Limits}
 use Rattle.bi_fit.specs.Reading.{IsReadFrom}
 use Rattle.bi_legacy.specs.Reading.{IsParsedImage}
 use Rattle.bi_norm.specs.declared.image.BootImage.{BootImage}
@@ -8,6 +8,6 @@ use Rattle.bi_norm.specs.declared.image.BootImage.TheVariants.{Legacy, Fit}
 -- What opening a boot image returns.
 
 -- A boot image that was read from a file.
-abbrev pub IsOpened : Bounds → List ℕ → BootImage → Type 0
-IsOpened limits file (Legacy image) = IsParsedImage limits file image
-IsOpened limits file (Fit content) = IsReadFrom limits file content
+abbrev pub IsBootImage : Limits → List ℕ → BootImage → Type 0
+IsBootImage limits file (Legacy image) = IsParsedImage limits file image
+IsBootImage limits file (Fit content) = IsReadFrom limits file content

@@ -1,5 +1,5 @@
 use Rattle.std.specs.Prelude.{ℕ, List, [], ◌++◌, Option}
-use Rattle.bi_lay.specs.Contents.{Content, text_of}
+use Rattle.bi_lay.specs.Contents.{Doc, text_of}
 use Rattle.bi_fit.specs.declared.form.Form.{Form}
 use Rattle.bi_fit.specs.declared.form.Form.TheVariants.{Embedded, External}
 use Rattle.bi_fit.specs.Text.{payload_area}
@@ -12,5 +12,5 @@ payloads_after Embedded payloads = []
 payloads_after External payloads = payload_area 0 payloads
 
 -- The text of a document and what follows its blob.
-abbrev pub whole_text : Form → Content → List (Option (List ℕ)) → List ℕ
+abbrev pub whole_text : Form → Doc → List (Option (List ℕ)) → List ℕ
 whole_text form document payloads = text_of document ++ payloads_after form payloads

@@ -4,9 +4,9 @@ ghost use Rattle.std.specs.Prelude.{OnOk, IfOk, IfErr};
 ghost use Rattle.std.specs.List.{AllByRecursion};
 ghost use Rattle.bi_fit.specs.Building.{CanBeBuilt};
 ghost use Rattle.bi_fit.specs.Documents.{IsDocumentError};
-ghost use Rattle.bi_norm.specs.Building.{head_of, specifications_of, tree_of_images, IsTextOfTree};
-ghost use Rattle.bi_norm.specs.Building.{HasBuildableType};
-ghost use Rattle.bi_norm.specs.Building.{IsBuilt, IsBuildError};
+ghost use Rattle.bi_norm.specs.BuildCalls.{head_model, spec_models, tree_of_images, IsTextOfTree};
+ghost use Rattle.bi_norm.specs.BuildCalls.{HasBuildableType};
+ghost use Rattle.bi_norm.specs.BuildCalls.{IsBuilt, IsBuildError};
 ghost use Rattle.bi_base.specs.Commands.{Appended, AppendFailed};
 
 mod checks;
@@ -94,7 +94,7 @@ pub fn build_fit_into<S: Sink>(
     limits: Limits,
     sink: &mut S,
 ) -> Result<(), Error>
-    ensures built { OnOk result (Appended S.appends (IsBuilt limits form head.entry images.now)
+    ensures appended { OnOk result (Appended S.appends (IsBuilt limits form head.entry images.now)
         sink.old sink.new) }
     ensures failed { IfErr result (AppendFailed S.fails
         (IsBuilt limits form head.entry images.now)
@@ -117,7 +117,7 @@ pub(crate) fn append_tree<S: Sink>(
     limits: Limits,
     sink: &mut S,
 ) -> Result<(), Error>
-    requires can { CanBeBuilt (head_of head) (specifications_of images.now) }
+    requires can { CanBeBuilt (head_model head) (spec_models images.now) }
     requires types { AllByRecursion HasBuildableType images.now }
     ensures appended { let tree = tree_of_images head.entry images.entry.now in
         OnOk result (Appended S.appends (IsTextOfTree limits form tree) sink.old sink.new) }

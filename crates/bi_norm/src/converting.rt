@@ -43,7 +43,7 @@ pub fn convert_into<S: Sink>(
     limits: Limits,
     sink: &mut S,
 ) -> Result<(), Error>
-    ensures converted { OnOk result (Appended S.appends (IsConvertedFile limits file.now)
+    ensures appended { OnOk result (Appended S.appends (IsConvertedFile limits file.now)
         sink.old sink.new) }
     ensures failed { IfErr result (AppendFailed S.fails (IsConvertedFile limits file.now)
         (IsConvertError limits file.now) sink.old sink.new) }

@@ -35,8 +35,8 @@ pub fn cut<'a>(alloc: Global, input: &'a [u8], lengths: &[u32]) -> Result<Vec<&'
 /// with OutOfMemory.
 fn check_lengths(input: &[u8], lengths: &[u32]) -> Result<(), Fault>
     requires { length input.now ≤ longest_text }
-    ensures whole { OnOk result (sum lengths.now ≡ length input.now) }
-    ensures refused { IfErr result (IsCutFault input.now lengths.now) }
+    ensures ok { OnOk result (sum lengths.now ≡ length input.now) }
+    ensures fault { IfErr result (IsCutFault input.now lengths.now) }
 {
     let mut start = 0;
     for piece_length in lengths {

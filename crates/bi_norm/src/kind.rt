@@ -22,7 +22,7 @@ pub enum Kind {
 pub fn kind_of(file: &[u8]) -> Result<Kind, Fault>
     ensures ok { IfOk result (BeginsAs file.now) }
     ensures exactly { (kind : Kind) → BeginsAs file.now kind → result ≡ Ok kind }
-    ensures refused { IfErr result (IsKindFault file.now) }
+    ensures fault { IfErr result (IsKindFault file.now) }
 {
     match be32_at(file, 0) {
         None => refuse(Cause::Truncated, 0),

@@ -4,10 +4,10 @@ ghost use Rattle.std.specs.Prelude.{◌≡◌, ◌≤◌, ◌+◌, ◌++◌, len
 ghost use Rattle.bi_base.specs.Cells.{up4 as up4_of};
 ghost use Rattle.bi_base.specs.Sinks.{Wrote};
 ghost use Rattle.bi_blob.specs.Layout.{longest_text, padding_to_4};
-ghost use Rattle.bi_fit.specs.Content.{read_image};
+ghost use Rattle.bi_fit.specs.Content.{image_model};
 ghost use Rattle.bi_fit.specs.Text.{payload_area, payloads_end};
-ghost use Rattle.bi_norm.specs.Building.{specifications_of};
-ghost use Rattle.bi_norm.specs.BuiltNodes.{payloads_of};
+ghost use Rattle.bi_norm.specs.BuildCalls.{spec_models};
+ghost use Rattle.bi_norm.specs.BuiltNodes.{built_payloads};
 
 use crate::building::ImageSpec;
 use bi_base::{Error, Sink, up4};
@@ -16,10 +16,10 @@ use bi_fit::Image;
 /// Appends the payloads of images in their order, each after zeros up to a multiple of four, also
 /// an empty one. Fails as the sink does.
 pub(crate) fn put_payloads<S: Sink>(images: &[Image<'_>], sink: &mut S) -> Result<(), Error>
-    requires { payloads_end 0 (map (λ image. (read_image image).payload) images.now)
+    requires { payloads_end 0 (map (λ image. (image_model image).payload) images.now)
         ≤ longest_text }
     ensures { Wrote S.appends S.fails sink.old
-        (payload_area 0 (map (λ image. (read_image image).payload) images.now)) result sink.new }
+        (payload_area 0 (map (λ image. (image_model image).payload) images.now)) result sink.new }
 {
     let mut end = 0;
     for image in images {
@@ -36,8 +36,8 @@ pub(crate) fn put_built_payloads<S: Sink>(
     images: &[ImageSpec<'_>],
     sink: &mut S,
 ) -> Result<(), Error>
-    requires { payloads_end 0 (payloads_of (specifications_of images.now)) ≤ longest_text }
-    ensures { let payloads = payloads_of (specifications_of images.now) in
+    requires { payloads_end 0 (built_payloads (spec_models images.now)) ≤ longest_text }
+    ensures { let payloads = built_payloads (spec_models images.now) in
         Wrote S.appends S.fails sink.old (payload_area 0 payloads) result sink.new }
 {
     let mut end = 0;

@@ -11,7 +11,8 @@ use Rattle.bootimg.specs.CommandLine.{IsAllowed, IsKindWord, NoneIs}
 
 -- Nothing is allowed if each kind is not.
 pub allows_nothing : (allowed : Allowed)
-    → (allowed.bad_hash ≡ false) × ((allowed.unhashed ≡ false) × ((allowed.weak_hash ≡ false) × ((allowed.bad_list ≡ false) × ((allowed.missing ≡ false)
+    → (allowed.bad_hash ≡ false) ×
+    ((allowed.unhashed ≡ false) × ((allowed.weak_hash ≡ false) × ((allowed.bad_list ≡ false) × ((allowed.missing ≡ false)
     × ((allowed.bad_default ≡ false) × (allowed.trailing ≡ false))))))
     → (kind : ConcernKind) → allows allowed kind ≡ false
 allows_nothing allowed none kind.BadHash = none.0
@@ -35,14 +36,16 @@ pub only_kind : (word : List ℕ) (kind : ConcernKind) (result : Option ConcernK
 only_kind word kind result was exactly other same = let e : Some other ≡ Some kind = sym (exactly other same) ∙ was in cc
 
 -- A word that was not parsed is that for no kind.
-pub no_kind : (word : List ℕ) (result : Option ConcernKind) → result ≡ None → ((other : ConcernKind) → word ≡ kind_word other → result ≡ Some other)
+pub no_kind : (word : List ℕ) (result : Option ConcernKind) → result ≡ None →
+    ((other : ConcernKind) → word ≡ kind_word other → result ≡ Some other)
     → (kind : ConcernKind) → word ≡ kind_word kind → ⊥
 no_kind word result was exactly kind same = absurd (let e : None ≡ Some kind = sym was ∙ exactly kind same in cc)
 
 -- One more word allows its kind beside the others.
 pub one_more_allowed : (words : List (List ℕ)) (word : List ℕ) (kind : ConcernKind) (old new : Allowed) → IsAllowed words old
     → word ≡ kind_word kind → ((other : ConcernKind) → word ≡ kind_word other → other ≡ kind)
-    → ((other : ConcernKind) → IsTrue (allows new other) ↔ (IsTrue (allows old other) ⊎ (other ≡ kind))) → IsAllowed (words ++ word ∷ []) new
+    → ((other : ConcernKind) → IsTrue (allows new other) ↔ (IsTrue (allows old other) ⊎ (other ≡ kind))) →
+    IsAllowed (words ++ word ∷ []) new
 one_more_allowed words word kind old new is same only more = record {
   known = each-append IsKindWord words (word ∷ []) is.known ((kind, same), tt);
   allows = λ other. (λ now. is_there other ((more other).0 now), λ has. (more other).1 (was_there other (Contains-append_cases words (word ∷ []) (kind_word other) has)));
@@ -62,5 +65,6 @@ one_more_allowed words word kind old new is same only more = record {
         one_word other (inr has) = absurd (Contains-none (kind_word other) has)
 
 -- Words among which one is that for no kind allow nothing.
-pub unknown_word : (words : List (List ℕ)) (word : List ℕ) → Contains words word → ((kind : ConcernKind) → word ≡ kind_word kind → ⊥) → NoneIs (IsAllowed words)
+pub unknown_word : (words : List (List ℕ)) (word : List ℕ) → Contains words word → ((kind : ConcernKind) → word ≡ kind_word kind → ⊥) →
+    NoneIs (IsAllowed words)
 unknown_word words word has none allowed is = let known = each-contains IsKindWord words word is.known has in none known.0 known.1

@@ -3,6 +3,6 @@ use Rattle.std.specs.List.{flat_map}
 use Rattle.std.proofs.lemmas.Grind.{common_steps}
 
 -- One more line after the lines of the first elements of a list.
-pub one_more : {X : Type 0} (f : X → List ℕ) (xs : List X) (d : X) (i : ℕ) (now next : List ℕ) → i < length xs →
+pub one_more_cause : {X : Type 0} (f : X → List ℕ) (xs : List X) (d : X) (i : ℕ) (now next : List ℕ) → i < length xs →
     now ≡ flat_map f (take i xs) → next ≡ now ++ f (get_or xs i d) → next ≡ flat_map f (take (i + 1) xs)
-one_more f xs d i now next within before more = grind (arith, common_steps)
+one_more_cause f xs d i now next within before more = grind (arith, common_steps)

@@ -1,4 +1,6 @@
-use Rattle.std.proofs.Common.{◌≡◌, ◌≢◌, ◌==◌, ◌∙◌, false, inl, inr, is_some, count_by, true, Bool, ◌+◌, zero, suc, take, get_or, map, option_map, unwrap_or, slice_get, codes, ◌<◌, ◌++◌, ℕ, Bor, List, [], ◌∷◌, Option, Some, None, Result, Ok, Err, IfNone, IfSome, IfErr, MatchOption, length, ap, sym, subst, refl, arith}
+use Rattle.std.proofs.Common.{◌≡◌, ◌≢◌, ◌==◌, ◌∙◌, false, inl, inr, is_some, count_by, true, Bool, ◌+◌, zero, suc, take, get_or, map}
+use Rattle.std.proofs.Common.{option_map, unwrap_or, slice_get, codes, ◌<◌, ◌++◌, ℕ, Bor, List, [], ◌∷◌, Option, Some, None, Result, Ok}
+use Rattle.std.proofs.Common.{Err, IfNone, IfSome, IfErr, MatchOption, length, ap, sym, subst, refl, arith}
 use Rattle.std.specs.List.{AllZip, position_or_len, before_first, after_first}
 use Rattle.std.specs.Option.{ok_or, option_map_or}
 use Rattle.std.specs.Result.{IsErrAnd}
@@ -11,7 +13,9 @@ use Rattle.bi_norm.specs.declared.building.ImageSpec.{ImageSpec}
 use Rattle.bootimg.specs.CodeWords.{IsCode}
 use Rattle.clap.specs.Matches.{raw_values}
 use Rattle.clap.specs.declared.parser.matches.MatchedArg.{MatchedArg}
-use Rattle.bootimg.specs.CommandLine.{given_count, list_of, option_of, parts_of, texts_of, AreEscaped, AreGiven, AreImages, ArePartSources, FailsWith, IsEntry, IsFirstBad, IsSelection, IsSelectionFailure, IsTaskFailure, IsTaskOutcome, IsAddress, IsBadValue, IsImage, IsImageText, IsNameOf, IsPartSource, NoneIs, SelectsDefault}
+use Rattle.bootimg.specs.CommandLine.{given_count, list_of, option_of, parts_of, texts_of, AreEscaped, AreGiven, AreImages, ArePartSources}
+use Rattle.bootimg.specs.CommandLine.{FailsWith, IsEntry, IsFirstBad, IsSelection, IsSelectionFailure, IsTaskFailure, IsTaskOutcome}
+use Rattle.bootimg.specs.CommandLine.{IsAddress, IsBadValue, IsImage, IsImageText, IsNameOf, IsPartSource, NoneIs, SelectsDefault}
 use Rattle.bootimg.specs.Numbers.{IsNumber}
 use Rattle.bootimg.specs.declared.codes.CodeField.TheVariants.{Os, Arch, ImageType, Compression}
 use Rattle.bootimg.specs.declared.command_line.image.ImageTexts.{ImageTexts}
@@ -37,13 +41,15 @@ none_weaker (Some value) P Q weaker holds = tt
 none_weaker None P Q weaker holds = weaker holds
 
 -- The failure of a text that has no value.
-pub bad_value : {T : Type 0} (Is : T → Type 0) (option : Option T) (result : Result T Failure) → result ≡ ok_or option BadValue → ((value : T) → Is value → option ≡ Some value) → IfErr result (IsBadValue Is)
+pub bad_value : {T : Type 0} (Is : T → Type 0) (option : Option T) (result : Result T Failure) → result ≡ ok_or option BadValue →
+    ((value : T) → Is value → option ≡ Some value) → IfErr result (IsBadValue Is)
 bad_value Is (Some value) result same exactly = subst (λ r. IfErr r (IsBadValue Is)) (sym same) tt
 bad_value Is None result same exactly =
     subst (λ r. IfErr r (IsBadValue Is)) (sym same) (refl, λ value is. absurd (let e = exactly value is in cc))
 
 -- The failure of a text that was not parsed.
-pub not_parsed : {T : Type 0} (Is : T → Type 0) (option : Option T) (result : Result T Failure) → result ≡ ok_or option BadValue → IfNone option (NoneIs Is) → IfErr result (IsBadValue Is)
+pub not_parsed : {T : Type 0} (Is : T → Type 0) (option : Option T) (result : Result T Failure) → result ≡ ok_or option BadValue →
+    IfNone option (NoneIs Is) → IfErr result (IsBadValue Is)
 not_parsed Is (Some value) result same none = subst (λ r. IfErr r (IsBadValue Is)) (sym same) tt
 not_parsed Is None result same none = subst (λ r. IfErr r (IsBadValue Is)) (sym same) (refl, none)
 
@@ -53,17 +59,24 @@ no_address word differs none None is = differs is
 no_address word differs none (Some number) is = none number is
 
 -- A word that is neither a number nor begins with `@` is no part.
-pub no_source : (word : List ℕ) → ((rest : List ℕ) → word ≡ 64 ∷ rest → ⊥) → ((number : ℕ) → IsNumber word number → ⊥) → NoneIs (IsPartSource word)
+pub no_source : (word : List ℕ) → ((rest : List ℕ) → word ≡ 64 ∷ rest → ⊥) → ((number : ℕ) → IsNumber word number → ⊥) →
+    NoneIs (IsPartSource word)
 no_source word no_name none (source.Input size) is = none size is
 no_source word no_name none (source.File name) is = no_name name.now is
 
 -- A text that is split at its first colon.
-pub field_split : (word : List ℕ) (result : Option (Bor (List ℕ) × Bor (List ℕ))) → MatchOption result (position_or_len (λ b. b == 58) word ≡ length word) (λ x. (x.0.now ≡ before_first (λ b. b == 58) word) × (x.1.now ≡ after_first (λ b. b == 58) word) × (position_or_len (λ b. b == 58) word < length word)) → IfSome result (λ split. parts_of word ≡ split.0.now ∷ parts_of split.1.now)
+pub field_split : (word : List ℕ) (result : Option (Bor (List ℕ) × Bor (List ℕ))) →
+    MatchOption result (position_or_len (λ b. b == 58) word ≡ length word)
+    (λ x. (x.0.now ≡ before_first (λ b. b == 58) word) × (x.1.now ≡ after_first (λ b. b == 58) word)
+    × (position_or_len (λ b. b == 58) word < length word)) → IfSome result (λ split. parts_of word ≡ split.0.now ∷ parts_of split.1.now)
 field_split word None is = tt
 field_split word (Some split) is = rw (is.0, is.1) (slice_split_first (λ b. b == 58) word 0 is.2)
 
 -- A text without a colon.
-pub no_field : (word : List ℕ) (result : Option (Bor (List ℕ) × Bor (List ℕ))) → MatchOption result (position_or_len (λ b. b == 58) word ≡ length word) (λ x. (x.0.now ≡ before_first (λ b. b == 58) word) × (x.1.now ≡ after_first (λ b. b == 58) word) × (position_or_len (λ b. b == 58) word < length word)) → IfNone result (parts_of word ≡ word ∷ [])
+pub no_field : (word : List ℕ) (result : Option (Bor (List ℕ) × Bor (List ℕ))) →
+    MatchOption result (position_or_len (λ b. b == 58) word ≡ length word)
+    (λ x. (x.0.now ≡ before_first (λ b. b == 58) word) × (x.1.now ≡ after_first (λ b. b == 58) word)
+    × (position_or_len (λ b. b == 58) word < length word)) → IfNone result (parts_of word ≡ word ∷ [])
 no_field word (Some split) is = tt
 no_field word None is =
     slice_split_none (λ b. b == 58) word
@@ -78,7 +91,8 @@ parts_not_empty word empty =
     omega arith
 
 -- The image of the same fields.
-pub same_image : (texts others : ImageTexts) (image : ImageSpec × PartSource) → list_of texts ≡ list_of others → IsImage others image → IsImage texts image
+pub same_image : (texts others : ImageTexts) (image : ImageSpec × PartSource) → list_of texts ≡ list_of others → IsImage others image →
+    IsImage texts image
 same_image texts others image same is =
     let name : others.name.now ≡ texts.name.now = cc in
     let image_type : others.image_type.now ≡ texts.image_type.now = cc in
@@ -101,18 +115,22 @@ same_image texts others image same is =
     }
 
 -- A text is no image if its fields are none.
-pub no_image : (word : List ℕ) (texts : ImageTexts) → parts_of word ≡ list_of texts → NoneIs (IsImage texts) → NoneIs (IsImageText word)
-no_image word texts same none image is = none image (same_image texts is.0 image (sym same ∙ is.1) is.2)
+pub no_image_text : (word : List ℕ) (texts : ImageTexts) → parts_of word ≡ list_of texts → NoneIs (IsImage texts) →
+    NoneIs (IsImageText word)
+no_image_text word texts same none image is = none image (same_image texts is.0 image (sym same ∙ is.1) is.2)
 
 -- Two lists, place by place, and one more of each.
-pub zip_push : {A B : Type 0} (R : A → B → Type 0) (xs : List A) (ys : List B) (x : A) (y : B) → AllZip R xs ys → R x y → AllZip R (xs ++ x ∷ []) (ys ++ y ∷ [])
+pub zip_push : {A B : Type 0} (R : A → B → Type 0) (xs : List A) (ys : List B) (x : A) (y : B) → AllZip R xs ys → R x y →
+    AllZip R (xs ++ x ∷ []) (ys ++ y ∷ [])
 zip_push R [] [] x y all one = (one, tt)
 zip_push R [] (b ∷ ys) x y all one = absurd all
 zip_push R (a ∷ xs) [] x y all one = absurd all
 zip_push R (a ∷ xs) (b ∷ ys) x y all one = (all.0, zip_push R xs ys x y all.1 one)
 
 -- A text with eight colons does not have eight fields.
-pub nine_fields : (word a b1 b c1 c d1 d e1 e f1 f g1 g h1 h i1 : List ℕ) (texts : ImageTexts) → parts_of word ≡ a ∷ parts_of b1 → parts_of b1 ≡ b ∷ parts_of c1 → parts_of c1 ≡ c ∷ parts_of d1 → parts_of d1 ≡ d ∷ parts_of e1 → parts_of e1 ≡ e ∷ parts_of f1 → parts_of f1 ≡ f ∷ parts_of g1 → parts_of g1 ≡ g ∷ parts_of h1 → parts_of h1 ≡ h ∷ parts_of i1 → parts_of word ≢ list_of texts
+pub nine_fields : (word a b1 b c1 c d1 d e1 e f1 f g1 g h1 h i1 : List ℕ) (texts : ImageTexts) → parts_of word ≡ a ∷ parts_of b1 →
+    parts_of b1 ≡ b ∷ parts_of c1 → parts_of c1 ≡ c ∷ parts_of d1 → parts_of d1 ≡ d ∷ parts_of e1 → parts_of e1 ≡ e ∷ parts_of f1 →
+    parts_of f1 ≡ f ∷ parts_of g1 → parts_of g1 ≡ g ∷ parts_of h1 → parts_of h1 ≡ h ∷ parts_of i1 → parts_of word ≢ list_of texts
 nine_fields word a b1 b c1 c d1 d e1 e f1 f g1 g h1 h i1 texts e0 e2 e3 e4 e5 e6 e7 e8 same =
     let empty : parts_of i1 ≡ [] = cc in
     parts_not_empty i1 empty
@@ -124,19 +142,23 @@ not_dash word result is not same =
     absurd (let e : true ≡ false = sym yes ∙ sym is ∙ not in cc)
 
 -- The words of an argument are none if it has no entry.
-pub words_are : (found : Option (Bor (List (Bor (List ℕ))))) (entry : Option MatchedArg) (none result : Bor (List (Bor (List ℕ)))) → option_map (λ s. map (λ v. v.now) s.now) found ≡ option_map raw_values entry → result ≡ unwrap_or found none → none.now ≡ [] → texts_of result.now ≡ option_map_or raw_values entry []
+pub words_are : (found : Option (Bor (List (Bor (List ℕ))))) (entry : Option MatchedArg) (none result : Bor (List (Bor (List ℕ)))) →
+    option_map (λ s. map (λ v. v.now) s.now) found ≡ option_map raw_values entry → result ≡ unwrap_or found none → none.now ≡ [] →
+    texts_of result.now ≡ option_map_or raw_values entry []
 words_are None None none result same is empty = rw (is, empty) refl
 words_are None (Some entry) none result same is empty = absurd cc
 words_are (Some words) None none result same is empty = absurd cc
 words_are (Some words) (Some entry) none result same is empty = rw (is) (cc)
 
 -- One more word of a list.
-pub texts_push : (words : List (Bor (List ℕ))) (index : ℕ) (d : Bor (List ℕ)) → index < length words → texts_of (take (index + 1) words) ≡ texts_of (take index words) ++ (get_or words index d).now ∷ []
+pub texts_push : (words : List (Bor (List ℕ))) (index : ℕ) (d : Bor (List ℕ)) → index < length words →
+    texts_of (take (index + 1) words) ≡ texts_of (take index words) ++ (get_or words index d).now ∷ []
 texts_push words index d within =
     ap texts_of (take_more words index d within) ∙ map-append (λ (word : Bor (List ℕ)). word.now) (take index words) (get_or words index d ∷ [])
 
 -- A word that is no part is in no list of parts.
-pub no_parts : (words : List (Bor (List ℕ))) (index : ℕ) (d : Bor (List ℕ)) → index < length words → NoneIs (IsPartSource (get_or words index d).now) → NoneIs (ArePartSources (texts_of words))
+pub no_parts : (words : List (Bor (List ℕ))) (index : ℕ) (d : Bor (List ℕ)) → index < length words →
+    NoneIs (IsPartSource (get_or words index d).now) → NoneIs (ArePartSources (texts_of words))
 no_parts [] index d within none parts are = absurd (omega (arith, within))
 no_parts (word ∷ words) index d within none [] are = absurd are
 no_parts (word ∷ words) zero d within none (part ∷ parts) are = none part are.0
@@ -144,7 +166,9 @@ no_parts (word ∷ words) (suc index) d within none (part ∷ parts) are =
     no_parts words index d (omega (arith, within)) none parts are.1
 
 -- One more image.
-pub images_push : (words : List (List ℕ)) (images : List ImageSpec) (payloads : List PartSource) (word : List ℕ) (image : ImageSpec) (payload : PartSource) → AreImages words images payloads → IsImageText word (image, payload) → AreImages (words ++ word ∷ []) (images ++ image ∷ []) (payloads ++ payload ∷ [])
+pub images_push : (words : List (List ℕ)) (images : List ImageSpec) (payloads : List PartSource) (word : List ℕ) (image : ImageSpec)
+    (payload : PartSource) → AreImages words images payloads → IsImageText word (image, payload) →
+    AreImages (words ++ word ∷ []) (images ++ image ∷ []) (payloads ++ payload ∷ [])
 images_push [] [] [] word image payload are is = (is, tt)
 images_push [] [] (s ∷ payloads) word image payload are is = absurd are
 images_push [] (i ∷ images) payloads word image payload are is = absurd are
@@ -153,7 +177,8 @@ images_push (w ∷ words) (i ∷ images) [] word image payload are is = absurd a
 images_push (w ∷ words) (i ∷ images) (s ∷ payloads) word image payload are is = (are.0, images_push words images payloads word image payload are.1 is)
 
 -- Each of words that are images is one.
-pub image_at : (words : List (List ℕ)) (images : List ImageSpec) (payloads : List PartSource) (index : ℕ) (word : List ℕ) → AreImages words images payloads → slice_get words index ≡ Some word → (image : ImageSpec × PartSource) × IsImageText word image
+pub image_at : (words : List (List ℕ)) (images : List ImageSpec) (payloads : List PartSource) (index : ℕ) (word : List ℕ) →
+    AreImages words images payloads → slice_get words index ≡ Some word → (image : ImageSpec × PartSource) × IsImageText word image
 image_at [] images payloads index word are is = absurd cc
 image_at (w ∷ words) [] payloads index word are is = absurd are
 image_at (w ∷ words) (i ∷ images) [] index word are is = absurd are
@@ -162,7 +187,8 @@ image_at (w ∷ words) (i ∷ images) (s ∷ payloads) zero word are is =
 image_at (w ∷ words) (i ∷ images) (s ∷ payloads) (suc index) word are is = image_at words images payloads index word are.1 is
 
 -- As many images as payloads.
-pub images_long : (words : List (List ℕ)) (images : List ImageSpec) (payloads : List PartSource) → AreImages words images payloads → length payloads ≡ length images
+pub images_long : (words : List (List ℕ)) (images : List ImageSpec) (payloads : List PartSource) → AreImages words images payloads →
+    length payloads ≡ length images
 images_long [] [] [] are = refl
 images_long [] [] (s ∷ payloads) are = absurd are
 images_long [] (i ∷ images) payloads are = absurd are
@@ -171,7 +197,8 @@ images_long (w ∷ words) (i ∷ images) [] are = absurd are
 images_long (w ∷ words) (i ∷ images) (s ∷ payloads) are = let e = images_long words images payloads are.1 in cc
 
 -- What is known of the value that was taken out of an option.
-pub ok_or_is : {T E : Type 0} (P : T → Type 0) (option : Option T) (error : E) (result : Result T E) (value : T) → result ≡ ok_or option error → result ≡ Ok value → IfSome option P → P value
+pub ok_or_is : {T E : Type 0} (P : T → Type 0) (option : Option T) (error : E) (result : Result T E) (value : T) →
+    result ≡ ok_or option error → result ≡ Ok value → IfSome option P → P value
 ok_or_is P None error result value is was holds = absurd (let e : Err error ≡ Ok value = sym is ∙ was in cc)
 ok_or_is P (Some other) error result value is was holds =
     let e : Ok other ≡ Ok value = sym is ∙ was in
@@ -179,7 +206,8 @@ ok_or_is P (Some other) error result value is was holds =
     subst P same holds
 
 -- An option without a value, and its failure.
-pub ok_or_failed : {T E : Type 0} (option : Option T) (error failed : E) (result : Result T E) → result ≡ ok_or option error → result ≡ Err failed → (option ≡ None) × (failed ≡ error)
+pub ok_or_failed : {T E : Type 0} (option : Option T) (error failed : E) (result : Result T E) → result ≡ ok_or option error →
+    result ≡ Err failed → (option ≡ None) × (failed ≡ error)
 ok_or_failed None error failed result is was = (refl, let e : Err error ≡ Err failed = sym is ∙ was in cc)
 ok_or_failed (Some value) error failed result is was = absurd (let e : Ok value ≡ Err failed = sym is ∙ was in cc)
 
@@ -189,18 +217,23 @@ none_given None P holds none = holds
 none_given (Some value) P holds none = absurd cc
 
 -- The outcome of a failure.
-pub fails_with : {T : Type 0} (Is : Failure → Type 0) (result : Result T Outcome) (failure : Failure) → IsErrAnd result (λ given. given ≡ outcome.Failure failure) → Is failure → IfErr result (FailsWith Is)
+pub fails_with : {T : Type 0} (Is : Failure → Type 0) (result : Result T Outcome) (failure : Failure) →
+    IsErrAnd result (λ given. given ≡ outcome.Failure failure) → Is failure → IfErr result (FailsWith Is)
 fails_with Is (Ok value) failure is holds = tt
 fails_with Is (Err given) failure is holds = subst (λ o. FailsWith Is o) (sym is) (inl holds)
 
 -- The failure of a value that another one is made of.
-pub bad_part : {T U V : Type 0} (IsPart : T → Type 0) (IsWhole : U → Type 0) (result : Result V Failure) (failure : Failure) → IsErrAnd result (λ given. given ≡ failure) → IsBadValue IsPart failure → ((whole : U) → IsWhole whole → (part : T) × IsPart part) → IfErr result (IsBadValue IsWhole)
+pub bad_part : {T U V : Type 0} (IsPart : T → Type 0) (IsWhole : U → Type 0) (result : Result V Failure) (failure : Failure) →
+    IsErrAnd result (λ given. given ≡ failure) → IsBadValue IsPart failure → ((whole : U) → IsWhole whole → (part : T) × IsPart part) →
+    IfErr result (IsBadValue IsWhole)
 bad_part IsPart IsWhole (Ok value) failure is bad part = tt
 bad_part IsPart IsWhole (Err given) failure is bad part =
     (is ∙ bad.0, λ whole holds. let p = part whole holds in bad.1 p.0 p.1)
 
 -- The outcome of an outcome.
-pub outcome_weaker : {T : Type 0} (P Q : Failure → Type 0) (result : Result T Outcome) (failed : Outcome) → IsErrAnd result (λ given. given ≡ failed) → FailsWith P failed → ((failure : Failure) → P failure → Q failure) → IfErr result (FailsWith Q)
+pub outcome_weaker : {T : Type 0} (P Q : Failure → Type 0) (result : Result T Outcome) (failed : Outcome) →
+    IsErrAnd result (λ given. given ≡ failed) → FailsWith P failed → ((failure : Failure) → P failure → Q failure) →
+    IfErr result (FailsWith Q)
 outcome_weaker P Q (Ok value) failed is fails weaker = tt
 outcome_weaker P Q (Err given) (outcome.Text text) is fails weaker = absurd fails
 outcome_weaker P Q (Err given) (outcome.Failure failure) is fails weaker =
@@ -210,7 +243,9 @@ outcome_weaker P Q (Err given) (outcome.Failure failure) is fails weaker =
     ])
 
 -- The outcome of a command.
-pub task_outcome : {T : Type 0} (name : List ℕ) (options : ArgMatches) (P : Failure → Type 0) (result : Result T Outcome) (failed : Outcome) → IsErrAnd result (λ given. given ≡ failed) → FailsWith P failed → ((failure : Failure) → P failure → IsTaskFailure name options failure) → IfErr result (IsTaskOutcome name options)
+pub task_outcome : {T : Type 0} (name : List ℕ) (options : ArgMatches) (P : Failure → Type 0) (result : Result T Outcome)
+    (failed : Outcome) → IsErrAnd result (λ given. given ≡ failed) → FailsWith P failed →
+    ((failure : Failure) → P failure → IsTaskFailure name options failure) → IfErr result (IsTaskOutcome name options)
 task_outcome name options P (Ok value) failed is fails task = tt
 task_outcome name options P (Err given) (outcome.Text text) is fails task = absurd fails
 task_outcome name options P (Err given) (outcome.Failure failure) is fails task =
@@ -220,25 +255,32 @@ task_outcome name options P (Err given) (outcome.Failure failure) is fails task 
     ])
 
 -- The parts so far, and one more.
-pub parts_next : (words : List (Bor (List ℕ))) (index : ℕ) (d : Bor (List ℕ)) (parts next : List PartSource) (part : PartSource) → index < length words → ArePartSources (texts_of (take index words)) parts → next ≡ parts ++ part ∷ [] → IsPartSource (get_or words index d).now part → ArePartSources (texts_of (take (index + 1) words)) next
+pub parts_next : (words : List (Bor (List ℕ))) (index : ℕ) (d : Bor (List ℕ)) (parts next : List PartSource) (part : PartSource) →
+    index < length words → ArePartSources (texts_of (take index words)) parts → next ≡ parts ++ part ∷ [] →
+    IsPartSource (get_or words index d).now part → ArePartSources (texts_of (take (index + 1) words)) next
 parts_next words index d parts next part within are is one =
     rw (texts_push words index d within, is)
     (zip_push IsPartSource (texts_of (take index words)) parts (get_or words index d).now part are one)
 
 -- The images so far, and one more.
-pub images_next : (words : List (Bor (List ℕ))) (index : ℕ) (d : Bor (List ℕ)) (images more : List ImageSpec) (payloads longer : List PartSource) (image : ImageSpec) (payload : PartSource) → index < length words → AreImages (texts_of (take index words)) images payloads → more ≡ images ++ image ∷ [] → longer ≡ payloads ++ payload ∷ [] → IsImageText (get_or words index d).now (image, payload) → AreImages (texts_of (take (index + 1) words)) more longer
+pub images_next : (words : List (Bor (List ℕ))) (index : ℕ) (d : Bor (List ℕ)) (images more : List ImageSpec)
+    (payloads longer : List PartSource) (image : ImageSpec) (payload : PartSource) → index < length words →
+    AreImages (texts_of (take index words)) images payloads → more ≡ images ++ image ∷ [] → longer ≡ payloads ++ payload ∷ [] →
+    IsImageText (get_or words index d).now (image, payload) → AreImages (texts_of (take (index + 1) words)) more longer
 images_next words index d images more payloads longer image payload within are is lengths one =
     rw (texts_push words index d within, is, lengths)
     (images_push (texts_of (take index words)) images payloads (get_or words index d).now image payload are one)
 
 -- The text of a word.
-text_at : (words : List (Bor (List ℕ))) (index : ℕ) (d : Bor (List ℕ)) → index < length words → slice_get (texts_of words) index ≡ Some (get_or words index d).now
+text_at : (words : List (Bor (List ℕ))) (index : ℕ) (d : Bor (List ℕ)) → index < length words →
+    slice_get (texts_of words) index ≡ Some (get_or words index d).now
 text_at [] index d within = absurd (omega (arith, within))
 text_at (word ∷ words) zero d within = refl
 text_at (word ∷ words) (suc index) d within = text_at words index d (omega (arith, within))
 
 -- A word before an index is among the first words.
-before_taken : (words : List (Bor (List ℕ))) (index other : ℕ) (text : List ℕ) → other < index → slice_get (texts_of words) other ≡ Some text → slice_get (texts_of (take index words)) other ≡ Some text
+before_taken : (words : List (Bor (List ℕ))) (index other : ℕ) (text : List ℕ) → other < index →
+    slice_get (texts_of words) other ≡ Some text → slice_get (texts_of (take index words)) other ≡ Some text
 before_taken [] index other text before is = absurd cc
 before_taken (word ∷ words) zero other text before is = absurd (omega (arith, before))
 before_taken (word ∷ words) (suc index) zero text before is = is
@@ -246,7 +288,9 @@ before_taken (word ∷ words) (suc index) (suc other) text before is =
     before_taken words index other text (omega (arith, before)) is
 
 -- The first word that is no image.
-pub first_bad : (words : List (Bor (List ℕ))) (index : ℕ) (d : Bor (List ℕ)) (images : List ImageSpec) (payloads : List PartSource) → index < length words → AreImages (texts_of (take index words)) images payloads → NoneIs (IsImageText (get_or words index d).now) → IsFirstBad (texts_of words) index
+pub first_bad : (words : List (Bor (List ℕ))) (index : ℕ) (d : Bor (List ℕ)) (images : List ImageSpec) (payloads : List PartSource) →
+    index < length words → AreImages (texts_of (take index words)) images payloads → NoneIs (IsImageText (get_or words index d).now) →
+    IsFirstBad (texts_of words) index
 first_bad words index d images payloads within are none = record {
   word = (get_or words index d).now;
   is = text_at words index d within;
@@ -255,7 +299,10 @@ first_bad words index d images payloads within are none = record {
 }
 
 -- The selections that are given, from the results of the calls.
-pub given_by : (options : ArgMatches) (part image config p i c : Option (Bor (List ℕ))) (default : Bool) → option_map (λ s. s.now) part ≡ option_of options (codes "part") → option_map (λ s. s.now) image ≡ option_of options (codes "image") → option_map (λ s. s.now) config ≡ option_of options (codes "config") → SelectsDefault options default → part ≡ p → image ≡ i → config ≡ c → AreGiven options (option_map (λ s. s.now) p) (option_map (λ s. s.now) i) (option_map (λ s. s.now) c) default
+pub given_by : (options : ArgMatches) (part image config p i c : Option (Bor (List ℕ))) (default : Bool) →
+    option_map (λ s. s.now) part ≡ option_of options (codes "part") → option_map (λ s. s.now) image ≡ option_of options (codes "image") →
+    option_map (λ s. s.now) config ≡ option_of options (codes "config") → SelectsDefault options default → part ≡ p → image ≡ i →
+    config ≡ c → AreGiven options (option_map (λ s. s.now) p) (option_map (λ s. s.now) i) (option_map (λ s. s.now) c) default
 given_by options part image config p i c default parts images configs flag is_part is_image is_config = record {
   part_is = sym parts ∙ ap (option_map (λ s. s.now)) is_part;
   image_is = sym images ∙ ap (option_map (λ s. s.now)) is_image;
@@ -264,18 +311,20 @@ given_by options part image config p i c default parts images configs flag is_pa
 }
 
 -- How many of these are given.
-abbrev pub count_of : (part image config : Option (List ℕ)) → Bool → ℕ
-count_of part image config default = count_by (λ given. given) (is_some part ∷ is_some image ∷ is_some config ∷ default ∷ [])
+abbrev pub number_given : (part image config : Option (List ℕ)) → Bool → ℕ
+number_given part image config default = count_by (λ given. given) (is_some part ∷ is_some image ∷ is_some config ∷ default ∷ [])
 
 -- How many are given.
-pub count_given : (options : ArgMatches) (part image config : Option (List ℕ)) (default : Bool) → AreGiven options part image config default → given_count options default ≡ count_of part image config default
+pub count_given : (options : ArgMatches) (part image config : Option (List ℕ)) (default : Bool) →
+    AreGiven options part image config default → given_count options default ≡ number_given part image config default
 count_given options part image config default given =
-    ap (λ p. count_of p (option_of options (codes "image")) (option_of options (codes "config")) default) given.part_is
-    ∙ ap (λ i. count_of part i (option_of options (codes "config")) default) given.image_is
-    ∙ ap (λ c. count_of part image c default) given.config_is
+    ap (λ p. number_given p (option_of options (codes "image")) (option_of options (codes "config")) default) given.part_is
+    ∙ ap (λ i. number_given part i (option_of options (codes "config")) default) given.image_is
+    ∙ ap (λ c. number_given part image c default) given.config_is
 
 -- More or fewer than one is given.
-pub no_one : (options : ArgMatches) (part image config : Option (List ℕ)) (default : Bool) → AreGiven options part image config default → count_of part image config default ≢ 1 → IsSelectionFailure options NoSelection
+pub no_one : (options : ArgMatches) (part image config : Option (List ℕ)) (default : Bool) → AreGiven options part image config default →
+    number_given part image config default ≢ 1 → IsSelectionFailure options NoSelection
 no_one options part image config default given other =
     (default, given.default_is, λ one. other (sym (count_given options part image config default given) ∙ one))
 
@@ -288,7 +337,8 @@ not_both : {A : Type 0} {one : A} {P : Type 0} (option : Option A) → option �
 not_both option is also = absurd (let e = sym is ∙ also in cc)
 
 -- The index of a part is no number.
-pub no_part : (options : ArgMatches) (escaped : Bool) (word : List ℕ) → AreGiven options (Some word) None None false → AreEscaped options escaped → NoneIs (IsNumber word) → IsSelectionFailure options BadValue
+pub no_part : (options : ArgMatches) (escaped : Bool) (word : List ℕ) → AreGiven options (Some word) None None false →
+    AreEscaped options escaped → NoneIs (IsNumber word) → IsSelectionFailure options BadValue
 no_part options escaped word given flag none = record {
   default = false;
   default_is = given.default_is;
@@ -307,7 +357,8 @@ no_part options escaped word given flag none = record {
     no_select (Default key index) is = let other = is.0 in not_both (option_of options (codes "part")) other.part_is given.part_is
 
 -- The name of an image is not the one of any bytes.
-pub no_image_name : (options : ArgMatches) (escaped : Bool) (word : List ℕ) → AreGiven options None (Some word) None false → AreEscaped options escaped → NoneIs (IsNameOf escaped word) → IsSelectionFailure options BadValue
+pub no_image_name : (options : ArgMatches) (escaped : Bool) (word : List ℕ) → AreGiven options None (Some word) None false →
+    AreEscaped options escaped → NoneIs (IsNameOf escaped word) → IsSelectionFailure options BadValue
 no_image_name options escaped word given flag none = record {
   default = false;
   default_is = given.default_is;
@@ -326,7 +377,8 @@ no_image_name options escaped word given flag none = record {
     no_select (Default key index) is = let other = is.0 in not_both (option_of options (codes "image")) other.image_is given.image_is
 
 -- So is the name of a configuration.
-pub no_config_name : (options : ArgMatches) (escaped : Bool) (word : List ℕ) → AreGiven options None None (Some word) false → AreEscaped options escaped → NoneIs (IsNameOf escaped word) → IsSelectionFailure options BadValue
+pub no_config_name : (options : ArgMatches) (escaped : Bool) (word : List ℕ) → AreGiven options None None (Some word) false →
+    AreEscaped options escaped → NoneIs (IsNameOf escaped word) → IsSelectionFailure options BadValue
 no_config_name options escaped word given flag none = record {
   default = false;
   default_is = given.default_is;
@@ -345,8 +397,10 @@ no_config_name options escaped word given flag none = record {
     no_select (Default key index) is = let other = is.0 in not_both (option_of options (codes "config")) other.config_is given.config_is
 
 -- The key or the index is bad.
-pub no_entry : (options : ArgMatches) (escaped : Bool) (part image config : Option (List ℕ)) (default : Bool) → AreGiven options part image config default → AreEscaped options escaped → count_of part image config default ≡ 1 → NoneIs (IsEntry options) → IsSelectionFailure options BadValue
-no_entry options escaped part image config default given flag one none = record {
+pub no_selected_entry : (options : ArgMatches) (escaped : Bool) (part image config : Option (List ℕ)) (default : Bool) →
+    AreGiven options part image config default → AreEscaped options escaped → number_given part image config default ≡ 1 →
+    NoneIs (IsEntry options) → IsSelectionFailure options BadValue
+no_selected_entry options escaped part image config default given flag one none = record {
   default = default;
   default_is = given.default_is;
   escaped = escaped;
@@ -362,10 +416,12 @@ no_entry options escaped part image config default given flag one none = record 
     no_select (Default key index) is = none (key, index) is.1
 
 -- What is known of a failure.
-pub err_if : {T E : Type 0} (P : E → Type 0) (result : Result T E) {Q : E → Type 0} → IsErrAnd result Q → ((error : E) → Q error → P error) → IfErr result P
+pub err_if : {T E : Type 0} (P : E → Type 0) (result : Result T E) {Q : E → Type 0} → IsErrAnd result Q →
+    ((error : E) → Q error → P error) → IfErr result P
 err_if P (Ok value) is gives = tt
 err_if P (Err error) is gives = gives error is
 
 -- An option that was found has this text.
-pub text_given : (options : ArgMatches) (id : List ℕ) (found : Option (Bor (List ℕ))) (text : Bor (List ℕ)) → option_map (λ s. s.now) found ≡ option_of options id → found ≡ Some text → option_of options id ≡ Some text.now
+pub text_given : (options : ArgMatches) (id : List ℕ) (found : Option (Bor (List ℕ))) (text : Bor (List ℕ)) →
+    option_map (λ s. s.now) found ≡ option_of options id → found ≡ Some text → option_of options id ≡ Some text.now
 text_given options id found text is was = sym is ∙ ap (option_map (λ s. s.now)) was

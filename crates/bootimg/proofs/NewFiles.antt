@@ -1,4 +1,5 @@
-use Rattle.std.proofs.Common.{◌≡◌, ◌++◌, ◌∷◌, [], ◌∙◌, ◌<◌, ◌≤◌, ◌+◌, ◌⊎◌, ℕ, List, Option, Some, None, option_map, map, Contains, Result, OnOk, OnErr, IfErr, Ok, Err, ap, subst, sym, inl, inr, refl, arith}
+use Rattle.std.proofs.Common.{◌≡◌, ◌++◌, ◌∷◌, [], ◌∙◌, ◌<◌, ◌≤◌, ◌+◌, ◌⊎◌, ℕ, List, Option, Some, None, option_map, map, Contains, Result}
+use Rattle.std.proofs.Common.{OnOk, OnErr, IfErr, Ok, Err, ap, subst, sym, inl, inr, refl, arith}
 use Rattle.bi_base.specs.Sinks.{Wrote}
 use Rattle.bi_base.specs.Traces.{WriteTrace}
 use Rattle.bi_base.specs.Writing.{WroteAndFlushed, WriteOrFlushStopped}
@@ -8,7 +9,9 @@ use Rattle.bootimg.specs.declared.failure.Failure.TheVariants.{NotWritten}
 use Rattle.std.proofs.lemmas.Bool.{cases_lt}
 use Rattle.std.proofs.lemmas.List.{append_assoc, append-nil, map_push}
 use Rattle.std.proofs.lemmas.List.Elements.{All-nil, All-push, Contains-push, Contains-append_left}
-use Rattle.bootimg.specs.Files.{AreTaken, Closed, ClosingFailed, FilePromise, FileStep, IsBeside, IsMadeBeside, IsNotFilled, IsNotMade, IsNotPutInPlace, IsNotSaved, IsTried, MakingFailed, NameTaken, NewFileFailed, NotClosed, NotMade, NotRemoved, Removed, SavesNothing, TookSteps, WritingStopped, no_files}
+use Rattle.bootimg.specs.Files.{AreNamesTaken, Closed, ClosingFailed, FilePromise, FileStep, IsBeside, IsMadeBeside, IsNotFilled, IsNotMade}
+use Rattle.bootimg.specs.Files.{IsNotPutInPlace, IsNotSaved, IsTried, MakingFailed, NameTaken, NewFileFailed, NotClosed, NotMade}
+use Rattle.bootimg.specs.Files.{NotRemoved, Removed, SavesNothing, TookSteps, WritingStopped, no_files}
 
 -- New files beside a file.
 
@@ -32,7 +35,7 @@ steps_in_turn old middle new first second one other = other ∙ ap (option_map (
 -- ---- names that were tried
 
 -- No name was tried.
-pub none_tried : (name : List ℕ) (now : Option (List FileStep)) → AreTaken name 0 now now
+pub none_tried : (name : List ℕ) (now : Option (List FileStep)) → AreNamesTaken name 0 now now
 none_tried name now = record {
   taken = [];
   each_is_beside = All-nil _;
@@ -57,8 +60,8 @@ more_tried name taken more count before last kept number below = by_order (cases
     by_order (inr not_less) = subst (IsTried name more) (omega arith) last
 
 -- The next name is that of the file itself.
-pub own_name_tried : (name beside shown : List ℕ) (number : ℕ) (old new : Option (List FileStep)) → AreTaken name number old new
-    → IsBeside name number beside → shown ≡ beside → shown ≡ name → AreTaken name (number + 1) old new
+pub own_name_tried : (name beside shown : List ℕ) (number : ℕ) (old new : Option (List FileStep)) → AreNamesTaken name number old new
+    → IsBeside name number beside → shown ≡ beside → shown ≡ name → AreNamesTaken name (number + 1) old new
 own_name_tried name beside shown number old new are is shows same = record {
   taken = are.taken;
   each_is_beside = are.each_is_beside;
@@ -68,8 +71,8 @@ own_name_tried name beside shown number old new are is shows same = record {
 
 -- Something has the next name.
 pub taken_name_tried : (name beside shown : List ℕ) (number : ℕ) (old middle new : Option (List FileStep))
-    → AreTaken name number old middle → IsBeside name number beside → shown ≡ beside → TookSteps middle new (NameTaken shown ∷ [])
-    → AreTaken name (number + 1) old new
+    → AreNamesTaken name number old middle → IsBeside name number beside → shown ≡ beside → TookSteps middle new (NameTaken shown ∷ [])
+    → AreNamesTaken name (number + 1) old new
 taken_name_tried name beside shown number old middle new are is shows took = record {
   taken = are.taken ++ beside ∷ [];
   each_is_beside = All-push (λ other. (n : ℕ) × IsBeside name n other) are.taken beside are.each_is_beside (number, is);
@@ -81,7 +84,8 @@ taken_name_tried name beside shown number old middle new are is shows took = rec
 }
 
 -- A file of the next name could not be made.
-pub making_failed : (name beside shown : List ℕ) (number : ℕ) (old middle new : Option (List FileStep)) → AreTaken name number old middle
+pub making_failed : (name beside shown : List ℕ) (number : ℕ) (old middle new : Option (List FileStep)) →
+    AreNamesTaken name number old middle
     → IsBeside name number beside → shown ≡ beside → TookSteps middle new (NotMade shown ∷ []) → IsNotMade name NotWritten old new
 making_failed name beside shown number old middle new are is shows took =
     MakingFailed number beside middle are is (subst (λ s. TookSteps middle new (NotMade s ∷ [])) shows took) refl

@@ -4,14 +4,15 @@ use Rattle.bi_base.specs.Sinks.{Wrote}
 use Rattle.bi_base.specs.Traces.{ReadsWell, WriteTrace, WritesWell}
 use Rattle.bi_base.specs.Writing.{WroteAll, WriteStopped}
 use Rattle.bi_base.specs.declared.fault.Error.{Error}
-use Rattle.bi_base.specs.Limits.{Bounds}
+use Rattle.bi_base.specs.Limits.{Limits}
 use Rattle.bi_base.specs.Pipes.{IsTracedPipe}
 use Rattle.bootimg.specs.declared.command_line.Task.{Task}
 use Rattle.bootimg.specs.declared.command_line.source.ImageSource.{ImageSource}
 use Rattle.bootimg.specs.declared.failure.Failure.{Failure}
 use Rattle.bootimg.specs.Files.{FileStep, FilePromise}
 use Rattle.bootimg.specs.declared.tasks.Done.{Done}
-use Rattle.bootimg.specs.Runs.{IsPlainRun, IsRun, IsTaskWork, Logs, IsLogged, HasStopped, IsRejection, Reports, Run, Work, Succeeded, HasFailed, problem}
+use Rattle.bootimg.specs.Runs.{IsPlainRun, IsRun, IsTaskWork, Logs, IsLogged, HasStopped, IsRejection, Reports, Run, Work, Succeeded}
+use Rattle.bootimg.specs.Runs.{HasFailed, problem}
 use Rattle.bootimg.specs.Tasks.{task_promise}
 
 -- What the program did to its streams, from what its calls did.
@@ -23,10 +24,10 @@ both_written old mid new first second (Ok done) wrote then = wrote_in_turn old m
 both_written old mid new first second (Err error) wrote then = stopped_after old mid new first second error wrote then
 
 -- Bytes that were written are logged, and so are those of which writing stopped.
-pub logged : (old new : WriteTrace) (bytes : List ℕ) (result : Result (Unit {0}) Error)
+pub line_is_logged : (old new : WriteTrace) (bytes : List ℕ) (result : Result (Unit {0}) Error)
     → Wrote WroteAll WriteStopped old bytes result new → Logs old bytes new
-logged old new bytes (Ok done) wrote = IsLogged wrote
-logged old new bytes (Err error) wrote = HasStopped error wrote
+line_is_logged old new bytes (Ok done) wrote = IsLogged wrote
+line_is_logged old new bytes (Err error) wrote = HasStopped error wrote
 
 -- A run over traced streams is one over plain streams with what the traces say.
 pub plain_run : (files : FilePromise) (steps new_steps : Option (List FileStep)) (run : Run)
@@ -54,10 +55,10 @@ plain_run files steps new_steps run remaining new_remaining contents new_content
 }
 
 -- A failure was reported, and nothing else was done.
-pub rejected : (source : ImageSource) (failure : Failure) (run : Run) → run.new_input ≡ run.input → run.new_output ≡ run.output
+pub run_is_rejected : (source : ImageSource) (failure : Failure) (run : Run) → run.new_input ≡ run.input → run.new_output ≡ run.output
     → run.new_steps ≡ run.steps → Reports source failure run.errors run.new_errors → run.status ≡ 2
     → IsRejection source failure run
-rejected source failure run read written changed reports status = record {
+run_is_rejected source failure run read written changed reports status = record {
   nothing_read = read;
   nothing_written = written;
   nothing_changed = changed;
@@ -66,18 +67,18 @@ rejected source failure run read written changed reports status = record {
 }
 
 -- A task that was done, or that failed, is work on it.
-pub succeeded : (task : Task) (limits : Bounds) (source : ImageSource) (work : Work) (result : Result Done Failure) (done : Done)
+pub run_succeeds : (task : Task) (limits : Limits) (source : ImageSource) (work : Work) (result : Result Done Failure) (done : Done)
     → result ≡ Ok done
     → IsTracedPipe (task_promise task limits) limits work.input work.new_input work.output work.new_output result
     → work.outcome ≡ Ok done → IsTaskWork task limits source work
-succeeded task limits source work result done same piped outcome =
+run_succeeds task limits source work result done same piped outcome =
     Succeeded done
     (subst
     (λ (r : Result Done Failure). IsTracedPipe (task_promise task limits) limits work.input work.new_input work.output work.new_output r)
     same piped)
     outcome
 
-pub has_failed : (task : Task) (limits : Bounds) (source : ImageSource) (work : Work) (result : Result Done Failure) (failure : Failure)
+pub has_failed : (task : Task) (limits : Limits) (source : ImageSource) (work : Work) (result : Result Done Failure) (failure : Failure)
     → result ≡ Err failure
     → IsTracedPipe (task_promise task limits) limits work.input work.new_input work.output work.new_output result
     → work.outcome ≡ Err (problem source failure) → IsTaskWork task limits source work

@@ -1,6 +1,6 @@
 use Rattle.std.proofs.Common.{◌≡◌, ◌∙◌, ℕ, List, Option, Bor, Result, ap}
 use Rattle.bi_base.specs.declared.fault.Cause.{Cause}
-use Rattle.bi_base.specs.Limits.{Bounds}
+use Rattle.bi_base.specs.Limits.{Limits}
 use Rattle.bi_base.specs.Traces.{ReadTrace, WriteTrace}
 use Rattle.bi_commands.specs.declared.parts.Part.{Part}
 use Rattle.bootimg.specs.declared.command_line.Job.{Job}
@@ -14,7 +14,15 @@ use Rattle.bootimg.specs.Files.{FileStep, FilePromise}
 use Rattle.bootimg.specs.declared.command_line.Request.{Request}
 use Rattle.bootimg.specs.declared.jobs.Problem.{Problem}
 use Rattle.bootimg.specs.declared.tasks.Done.{Done}
-use Rattle.bootimg.specs.Runs.{Run, Work, work_of, with_input, Logs, IsLogged, HasStopped, Reports, ReportsFailure, ReportsMemory, Notes, HasNone, HasSome, IsRejection, IsTaskWork, Succeeded, HasFailed, IsImageWork, DoneOnInput, DoneOnFile, FileNotOpened, IsImageRead, InputRead, FileRead, IsImageNotRead, InputNotRead, FileNotRead, IsComparedWork, WroteDifferences, NotAllWritten, NotCompared, IsCompareWork, BothRead, OneNotRead, OtherNotRead, IsExplainWork, WroteExplanation, ExplanationNotWritten, NoMemoryForExplanation, IsBuiltWork, WasBuilt, WasNotBuilt, IsBuildWork, BuiltWithInput, BuiltOfFiles, PartNotRead, NoRoom, IsJobWork, IsHeldWork, IsSavedWork, OutputSaved, OutputNotSaved, NoOutput, IsOutputRun, ToStandardOutput, ToFile, IsEnd, EndsWell, EndsWithFailure, IsRequestRun, IsTextRun, IsWritten, IsNotWritten, IsUsage, IsRun, RanJob, Rejected, WroteText}
+use Rattle.bootimg.specs.Runs.{Run, Work, work_of, with_input, Logs, IsLogged, HasStopped, Reports, ReportsFailure, ReportsMemory, Notes}
+use Rattle.bootimg.specs.Runs.{HasNone, HasSome, IsRejection, IsTaskWork, Succeeded, HasFailed, IsImageWork, DoneOnInput, DoneOnFile}
+use Rattle.bootimg.specs.Runs.{FileNotOpened, IsImageRead, InputRead, FileRead, IsImageNotRead, InputNotRead, FileNotRead, IsComparedWork}
+use Rattle.bootimg.specs.Runs.{WroteDifferences, NotAllWritten, NotCompared, IsCompareWork, BothRead, OneNotRead, OtherNotRead}
+use Rattle.bootimg.specs.Runs.{IsExplainWork, WroteExplanation, ExplanationNotWritten, NoMemoryForExplanation, IsBuiltWork, WasBuilt}
+use Rattle.bootimg.specs.Runs.{WasNotBuilt, IsBuildWork, BuiltWithInput, BuiltOfFiles, PartNotRead, NoRoom, IsJobWork, IsHeldWork}
+use Rattle.bootimg.specs.Runs.{IsSavedWork, OutputSaved, OutputNotSaved, NoOutput, IsOutputRun, ToStandardOutput, ToFile, IsEnd, EndsWell}
+use Rattle.bootimg.specs.Runs.{EndsWithFailure, IsRequestRun, IsTextRun, IsWritten, IsNotWritten, IsUsage, IsRun, RanJob, Rejected}
+use Rattle.bootimg.specs.Runs.{WroteText}
 
 -- A run has the same streams before and after it.
 
@@ -38,12 +46,12 @@ notes_keep signatures old new (HasNone none same) = ap (λ trace. trace.writer) 
 notes_keep signatures old new (HasSome some logs) = logs_keep _ _ _ logs
 
 -- The reader is the same after an image was read, or not read, from its source.
-read_keeps : (files : FilePromise) (limits : Bounds) (old new : ReadTrace) (image : List ℕ) (source : ImageSource)
+read_keeps : (files : FilePromise) (limits : Limits) (old new : ReadTrace) (image : List ℕ) (source : ImageSource)
     → IsImageRead files limits old new image source → new.reader ≡ old.reader
 read_keeps files limits old new image source (InputRead read) = read.same_reader
 read_keeps files limits old new image source (FileRead name read same) = ap (λ trace. trace.reader) same
 
-not_read_keeps : (files : FilePromise) (limits : Bounds) (old new : ReadTrace) (failure : Failure) (source : ImageSource)
+not_read_keeps : (files : FilePromise) (limits : Limits) (old new : ReadTrace) (failure : Failure) (source : ImageSource)
     → IsImageNotRead files limits old new failure source → new.reader ≡ old.reader
 not_read_keeps files limits old new failure source (InputNotRead read) = read.same_reader
 not_read_keeps files limits old new failure source (FileNotRead name read same) = ap (λ trace. trace.reader) same
@@ -60,14 +68,14 @@ pub record KeepsWork (work : Work) : Type 0 where
   pub reader : work.new_input.reader ≡ work.input.reader
   pub writer : work.new_output.writer ≡ work.output.writer
 
-task_work_keeps : (task : Task) (limits : Bounds) (source : ImageSource) (work : Work) → IsTaskWork task limits source work
+task_work_keeps : (task : Task) (limits : Limits) (source : ImageSource) (work : Work) → IsTaskWork task limits source work
     → KeepsWork work
 task_work_keeps task limits source work (Succeeded done piped outcome) =
     record { reader = piped.same_streams.same_reader; writer = piped.same_streams.same_writer }
 task_work_keeps task limits source work (HasFailed failure piped outcome) =
     record { reader = piped.same_streams.same_reader; writer = piped.same_streams.same_writer }
 
-image_work_keeps : (files : FilePromise) (task : Task) (limits : Bounds) (work : Work) (source : ImageSource)
+image_work_keeps : (files : FilePromise) (task : Task) (limits : Limits) (work : Work) (source : ImageSource)
     → IsImageWork files task limits work source → KeepsWork work
 image_work_keeps files task limits work source (DoneOnInput done) = task_work_keeps _ _ _ _ done
 image_work_keeps files task limits work source (DoneOnFile name opened end is done same) =
@@ -76,13 +84,13 @@ image_work_keeps files task limits work source (FileNotOpened name none failed s
     record { reader = ap (λ trace. trace.reader) same; writer = ap (λ trace. trace.writer) failed.nothing_written }
 
 -- The output is the same after two images were compared.
-compared_keeps_writer : (plan : ComparePlan) (limits : Bounds) (one other : List ℕ) (work : Work)
+compared_keeps_writer : (plan : ComparePlan) (limits : Limits) (one other : List ℕ) (work : Work)
     → IsComparedWork plan limits one other work → work.new_output.writer ≡ work.output.writer
 compared_keeps_writer plan limits one other work (WroteDifferences same text is wrote done ended outcome) = wrote.same_writer
 compared_keeps_writer plan limits one other work (NotAllWritten same text is error stopped outcome) = stopped.same_writer
 compared_keeps_writer plan limits one other work (NotCompared error is failed) = ap (λ trace. trace.writer) failed.nothing_written
 
-compare_work_keeps : (files : FilePromise) (plan : ComparePlan) (limits : Bounds) (work : Work) → IsCompareWork files plan limits work
+compare_work_keeps : (files : FilePromise) (plan : ComparePlan) (limits : Limits) (work : Work) → IsCompareWork files plan limits work
     → KeepsWork work
 compare_work_keeps files plan limits work (BothRead one other middle one_read other_read compared) = record {
   reader = read_keeps _ _ _ _ _ _ other_read ∙ read_keeps _ _ _ _ _ _ one_read;
@@ -106,14 +114,14 @@ explain_work_keeps cause work (NoMemoryForExplanation failed input) =
     record { reader = ap (λ trace. trace.reader) input; writer = ap (λ trace. trace.writer) failed.nothing_written }
 
 -- Building keeps the input and the output.
-built_keeps : (plan : BuildPlan) (parts : List Part) (limits : Bounds) (work : Work) → IsBuiltWork plan parts limits work
+built_keeps : (plan : BuildPlan) (parts : List Part) (limits : Limits) (work : Work) → IsBuiltWork plan parts limits work
     → KeepsWork work
 built_keeps plan parts limits work (WasBuilt done piped ended outcome) =
     record { reader = piped.same_streams.same_reader; writer = piped.same_streams.same_writer }
 built_keeps plan parts limits work (WasNotBuilt error piped outcome) =
     record { reader = piped.same_streams.same_reader; writer = piped.same_streams.same_writer }
 
-build_work_keeps : (files : FilePromise) (plan : BuildPlan) (limits : Bounds) (work : Work) → IsBuildWork files plan limits work
+build_work_keeps : (files : FilePromise) (plan : BuildPlan) (limits : Limits) (work : Work) → IsBuildWork files plan limits work
     → KeepsWork work
 build_work_keeps files plan limits work (BuiltWithInput parts are reads built) = built_keeps _ _ _ _ built
 build_work_keeps files plan limits work (BuiltOfFiles parts are reads nothing end empty built same) =
@@ -124,18 +132,18 @@ build_work_keeps files plan limits work (NoRoom is same) =
     record { reader = ap (λ trace. trace.reader) same; writer = ap (λ trace. trace.writer) is.nothing_written }
 
 -- A job keeps its input and its output.
-pub job_work_keeps : (files : FilePromise) (job : Job) (limits : Bounds) (work : Work) → IsJobWork files job limits work
+pub job_work_keeps : (files : FilePromise) (job : Job) (limits : Limits) (work : Work) → IsJobWork files job limits work
     → KeepsWork work
 job_work_keeps files (RunTask task source) limits work done = image_work_keeps _ _ _ _ _ done
 job_work_keeps files (Compare plan) limits work done = compare_work_keeps _ _ _ _ done
 job_work_keeps files (Explain cause) limits work done = explain_work_keeps _ _ done
 job_work_keeps files (Build plan) limits work done = build_work_keeps _ _ _ _ done
 
-held_work_keeps : (files : FilePromise) (job : Job) (limits : Bounds) (input new_input : ReadTrace) (outcome : Result Done Problem)
+held_work_keeps : (files : FilePromise) (job : Job) (limits : Limits) (input new_input : ReadTrace) (outcome : Result Done Problem)
     (held : Option (List ℕ)) → IsHeldWork files job limits input new_input outcome held → new_input.reader ≡ input.reader
 held_work_keeps files job limits input new_input outcome held is = (job_work_keeps files job limits _ is.work).reader
 
-saved_work_keeps : (files : FilePromise) (job : Job) (limits : Bounds) (name : Bor (List ℕ)) (input new_input : ReadTrace)
+saved_work_keeps : (files : FilePromise) (job : Job) (limits : Limits) (name : Bor (List ℕ)) (input new_input : ReadTrace)
     (steps new_steps : Option (List FileStep)) (outcome : Result Done Problem)
     → IsSavedWork files job limits name input new_input steps new_steps outcome → new_input.reader ≡ input.reader
 saved_work_keeps files job limits name input new_input steps new_steps outcome (OutputSaved done output is saved same) =
@@ -145,7 +153,7 @@ saved_work_keeps files job limits name input new_input steps new_steps outcome (
 saved_work_keeps files job limits name input new_input steps new_steps outcome (NoOutput failed is kept same) =
     held_work_keeps _ job limits _ _ _ _ is.work
 
-output_run_keeps : (files : FilePromise) (job : Job) (limits : Bounds) (run : Run) (outcome : Result Done Problem)
+output_run_keeps : (files : FilePromise) (job : Job) (limits : Limits) (run : Run) (outcome : Result Done Problem)
     (output : Option (Bor (List ℕ))) → IsOutputRun files job limits run outcome output → KeepsWork (work_of run outcome)
 output_run_keeps files job limits run outcome output (ToStandardOutput work kept) = job_work_keeps files job limits _ work
 output_run_keeps files job limits run outcome output (ToFile name saved same) =

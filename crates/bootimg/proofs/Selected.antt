@@ -1,7 +1,7 @@
 use Rattle.std.proofs.Common.{◌≡◌, ◌∙◌, ℕ, List, Bor, refl, sym, ap, subst}
 use Rattle.bi_base.specs.Commands.{CommandFailed, WasRefused, SinkFailed}
 use Rattle.bi_base.specs.declared.fault.Error.{Error}
-use Rattle.bi_base.specs.Limits.{Bounds}
+use Rattle.bi_base.specs.Limits.{Limits}
 use Rattle.bi_fit.specs.declared.key.Key.{Key}
 use Rattle.bi_norm.specs.Meaning.{Meaning, OfLegacy, OfFit}
 use Rattle.bi_commands.specs.declared.extract.Select.{Select}
@@ -12,20 +12,25 @@ use Rattle.bi_commands.specs.Extracting.{choice_of, choice_by_name, choice_by_co
 
 -- What a selection chooses depends on the bytes of its name alone.
 
-pub same_image : (one other : Bor (List ℕ)) → one.now ≡ other.now → (meaning : Meaning) → choice_of (Image one) meaning ≡ choice_of (Image other) meaning
-same_image one other same (OfLegacy image) = refl
-same_image one other same (OfFit tree) = ap (choice_by_name tree) same
+pub same_choice_of_image : (one other : Bor (List ℕ)) → one.now ≡ other.now → (meaning : Meaning) →
+    choice_of (Image one) meaning ≡ choice_of (Image other) meaning
+same_choice_of_image one other same (OfLegacy image) = refl
+same_choice_of_image one other same (OfFit tree) = ap (choice_by_name tree) same
 
-pub same_config : (one other : Bor (List ℕ)) (key : Key) (index : ℕ) → one.now ≡ other.now → (meaning : Meaning) → choice_of (Config one key index) meaning ≡ choice_of (Config other key index) meaning
+pub same_config : (one other : Bor (List ℕ)) (key : Key) (index : ℕ) → one.now ≡ other.now → (meaning : Meaning) →
+    choice_of (Config one key index) meaning ≡ choice_of (Config other key index) meaning
 same_config one other key index same (OfLegacy image) = refl
 same_config one other key index same (OfFit tree) = ap (λ name. choice_by_configuration tree name key index) same
 
 -- Selections that choose the same of each meaning choose the same of each file.
-pub same_chosen : (one other : Select) → ((meaning : Meaning) → choice_of one meaning ≡ choice_of other meaning) → (limits : Bounds) (file bytes : List ℕ) → IsChosen one limits file bytes → IsChosen other limits file bytes
+pub same_chosen : (one other : Select) → ((meaning : Meaning) → choice_of one meaning ≡ choice_of other meaning) →
+    (limits : Limits) (file bytes : List ℕ) → IsChosen one limits file bytes → IsChosen other limits file bytes
 same_chosen one other same limits file bytes is =
     record { meaning = is.meaning; means = is.means; holds = sym (same is.meaning) ∙ is.holds }
 
-pub same_error : (one other : Select) → ((meaning : Meaning) → choice_of one meaning ≡ choice_of other meaning) → (limits : Bounds) (file : List ℕ) (failed : ExtractError) → IsExtractError one limits file failed → IsExtractError other limits file failed
+pub same_error : (one other : Select) → ((meaning : Meaning) → choice_of one meaning ≡ choice_of other meaning) →
+    (limits : Limits) (file : List ℕ) (failed : ExtractError) → IsExtractError one limits file failed →
+    IsExtractError other limits file failed
 same_error one other same limits file (error.Failed failed) is = is
 same_error one other same limits file error.WrongKind is = record { meaning = is.meaning; means = is.means; holds = sym (same is.meaning) ∙ is.holds }
 same_error one other same limits file error.NoPart is = record { meaning = is.meaning; means = is.means; holds = sym (same is.meaning) ∙ is.holds }
@@ -36,8 +41,9 @@ same_error one other same limits file error.NoIndex is = record { meaning = is.m
 same_error one other same limits file error.NoPayload is = record { meaning = is.meaning; means = is.means; holds = sym (same is.meaning) ∙ is.holds }
 
 -- So does a call that failed.
-pub same_failure : {S : Type 0} (fails : S → List ℕ → S → Error → Type 0) (one other : Select) → ((meaning : Meaning) → choice_of one meaning ≡ choice_of other meaning)
-    → (limits : Bounds) (file : List ℕ) (old new : S) (failed : ExtractError)
+pub same_failure : {S : Type 0} (fails : S → List ℕ → S → Error → Type 0) (one other : Select) →
+    ((meaning : Meaning) → choice_of one meaning ≡ choice_of other meaning)
+    → (limits : Limits) (file : List ℕ) (old new : S) (failed : ExtractError)
     → CommandFailed fails (λ cause. error.Failed cause) (IsChosen one limits file) (IsExtractError one limits file) old new failed
     → CommandFailed fails (λ cause. error.Failed cause) (IsChosen other limits file) (IsExtractError other limits file) old new failed
 same_failure fails one other same limits file old new failed (WasRefused is kept) = WasRefused (same_error one other same limits file failed is) kept

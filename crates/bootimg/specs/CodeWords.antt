@@ -9,15 +9,15 @@ use Rattle.bootimg.specs.Numbers.{IsNumber}
 -- Codes of legacy headers on the command line (profile of this project).
 
 -- The names of the codes of a field.
-abbrev pub names_of : CodeField → List CodeName
-names_of Os = os_names
-names_of Arch = arch_names
-names_of ImageType = type_names
-names_of Compression = compression_names
+abbrev pub codes_of : CodeField → List CodeName
+codes_of Os = os_names
+codes_of Arch = arch_names
+codes_of ImageType = type_names
+codes_of Compression = compression_names
 
 -- The word is this code of a field: its name, or if no code of the field has this name, a number of
 -- at most 255.
 pub data IsCode (field : CodeField) (word : List ℕ) (code : ℕ) : Type 0 where
-  Named : name_of_code (names_of field) code ≡ Some word → IsCode field word code
-  Numbered : ((named : ℕ) → name_of_code (names_of field) named ≢ Some word) → IsNumber word code
+  Named : name_of_code (codes_of field) code ≡ Some word → IsCode field word code
+  Numbered : ((named : ℕ) → name_of_code (codes_of field) named ≢ Some word) → IsNumber word code
       → code < 2 ^ 8 → IsCode field word code

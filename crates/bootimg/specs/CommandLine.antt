@@ -5,7 +5,7 @@ use Rattle.std.specs.Prelude.{map, ◌++◌, Bool, true, false, IsTrue, IsFalse}
 use Rattle.std.specs.Borrow.{Bor}
 use Rattle.std.specs.List.{AllByRecursion, AllZip, Contains, list_any, slice_split}
 use Rattle.std.specs.Option.{option_map_or}
-use Rattle.bi_base.specs.Limits.{Bounds}
+use Rattle.bi_base.specs.Limits.{Limits}
 use Rattle.bi_base.specs.Causes.{name_of}
 use Rattle.bi_base.specs.declared.fault.Cause.{Cause}
 use Rattle.bi_base.specs.declared.fault.Error.TheVariants.{OutOfMemory}
@@ -83,8 +83,8 @@ abbrev pub texts_of : List (Bor (List ℕ)) → List (List ℕ)
 texts_of words = map (λ word. word.now) words
 
 -- The arguments that are no options, under this name.
-abbrev pub words_of : ArgMatches → List ℕ → List (List ℕ)
-words_of options id = option_map_or raw_values (matched_of (found_of options) id) []
+abbrev pub values_of : ArgMatches → List ℕ → List (List ℕ)
+values_of options id = option_map_or raw_values (matched_of (found_of options) id) []
 
 -- No value is one of these.
 abbrev pub NoneIs : {T : Type 0} → (T → Type 0) → Type 0
@@ -106,7 +106,7 @@ abbrev pub limit_of : ArgMatches → List ℕ
 limit_of options = value_of options (codes "limit") (codes "2147483647")
 
 -- The word is a number, which is the most bytes of an image. A tree may have 64 levels.
-pub record IsLimits (word : List ℕ) (limits : Bounds) : Type 0 where
+pub record IsLimits (word : List ℕ) (limits : Limits) : Type 0 where
   pub file : IsNumber word limits.file
   pub least : 64 ≤ limits.file
   pub most : limits.file ≤ 0x7fffffff
@@ -217,13 +217,13 @@ IsChangesFailure options failure = ⊥
 -- ---- explain
 
 -- The word is the name of this cause.
-abbrev pub IsCauseName : List ℕ → Cause → Type 0
-IsCauseName word cause = word ≡ name_of cause
+abbrev pub NamesCause : List ℕ → Cause → Type 0
+NamesCause word cause = word ≡ name_of cause
 
 -- The argument is the name of this cause. Without an argument there is no cause.
 abbrev pub IsExplained : Option (List ℕ) → Option Cause → Type 0
 IsExplained None None = ⊤
-IsExplained (Some word) (Some cause) = IsCauseName word cause
+IsExplained (Some word) (Some cause) = NamesCause word cause
 IsExplained word cause = ⊥
 
 -- ---- extract
@@ -350,7 +350,7 @@ pub record IsFields (options : ArgMatches) (fields : Fields) : Type 0 where
 -- The options of `build-legacy` are this plan.
 pub record IsLegacyPlan (options : ArgMatches) (plan : LegacyPlan) : Type 0 where
   pub fields : IsFields options plan.fields
-  pub parts : ArePartSources (words_of options (codes "lengths")) plan.parts.items
+  pub parts : ArePartSources (values_of options (codes "lengths")) plan.parts.items
 
 -- ---- build-fit
 
@@ -396,7 +396,7 @@ AreImages words images payloads = ⊥
 pub record IsFitPlan (options : ArgMatches) (plan : FitPlan) : Type 0 where
   pub description : plan.head.description.now ≡ value_of options (codes "description") []
   pub time : IsNumber (value_of options (codes "time") (codes "0")) plan.head.time
-  pub images : AreImages (words_of options (codes "images")) plan.images.items
+  pub images : AreImages (values_of options (codes "images")) plan.images.items
       plan.payloads.items
   pub form : IsForm options plan.form
 
@@ -419,7 +419,7 @@ IsFitPlanFailure options BadValue =
     NoneIs (IsNumber (value_of options (codes "time") (codes "0")))
 IsFitPlanFailure options (BadImage index) =
     ((time : ℕ) × IsNumber (value_of options (codes "time") (codes "0")) time)
-    × IsFirstBad (words_of options (codes "images")) index
+    × IsFirstBad (values_of options (codes "images")) index
 IsFitPlanFailure options failure = ⊥
 
 -- ---- tasks and jobs
@@ -465,7 +465,7 @@ pub data IsTaskFailure (name : List ℕ) (options : ArgMatches) (failure : Failu
       → IsTaskFailure name options failure
   NotLimited : name ≡ codes "build-fit" → IsBadValue (IsLimits (limit_of options)) failure
       → IsTaskFailure name options failure
-  NotFit : name ≡ codes "build-fit" → (limits : Bounds) → IsLimits (limit_of options) limits
+  NotFit : name ≡ codes "build-fit" → (limits : Limits) → IsLimits (limit_of options) limits
       → IsFitPlanFailure options failure → IsTaskFailure name options failure
   NotCompared : name ≡ codes "compare" → IsBadValue (IsComparePlan options) failure
       → IsTaskFailure name options failure

@@ -1,6 +1,6 @@
 use Rattle.std.specs.Prelude.{◌≡◌, ℕ, Bool, true, false, List, []}
 use Rattle.bi_base.specs.declared.fault.Error.TheVariants.{Refused, OutOfMemory as NoMemory}
-use Rattle.bi_base.specs.Limits.{Bounds}
+use Rattle.bi_base.specs.Limits.{Limits}
 use Rattle.bi_commands.specs.Comparing.{IsComparison, IsComparisonError, IsReadingError}
 use Rattle.bi_commands.specs.declared.compare.CompareError.{CompareError}
 use Rattle.bi_commands.specs.declared.compare.CompareError.TheVariants.{One, Other, OutOfMemory}
@@ -20,13 +20,13 @@ compare_status false = 1
 
 -- What `compare` writes for two files, and whether they mean the same. With `--quiet` it writes
 -- nothing.
-abbrev pub IsCompareOutput : (quiet : Bool) → Bounds → (one other : List ℕ) → (same : Bool)
+abbrev pub IsCompareOutput : (quiet : Bool) → Limits → (one other : List ℕ) → (same : Bool)
     → (text : List ℕ) → Type 0
 IsCompareOutput true limits one other same text = AreCompared limits one other same × (text ≡ [])
 IsCompareOutput false limits one other same text = IsComparison limits one other same text
 
 -- Why `compare` fails for two files. With `--quiet` they need not be described.
-abbrev pub IsCompareFailure : (quiet : Bool) → Bounds → (one other : List ℕ) → CompareError → Type 0
+abbrev pub IsCompareFailure : (quiet : Bool) → Limits → (one other : List ℕ) → CompareError → Type 0
 IsCompareFailure true limits one other error = IsReadingError limits one other error
 IsCompareFailure false limits one other error = IsComparisonError limits one other error
 

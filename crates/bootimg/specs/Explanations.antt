@@ -118,6 +118,6 @@ abbrev pub all_explanations : List ℕ
 all_explanations = flat_map line_of_cause all_causes
 
 -- What `explain` writes for this cause, or without one.
-abbrev pub explained : Option Cause → List ℕ
-explained None = all_explanations
-explained (Some cause) = explanation_of cause
+abbrev pub explain_text : Option Cause → List ℕ
+explain_text None = all_explanations
+explain_text (Some cause) = explanation_of cause

@@ -4,7 +4,7 @@ use Rattle.bi_base.specs.declared.fault.Error.{Error}
 use Rattle.bi_base.specs.declared.fault.Error.TheVariants.{Refused, OutOfMemory, ReadFailed}
 use Rattle.bi_base.specs.declared.fault.Error.TheVariants.{WriteFailed}
 use Rattle.bi_base.specs.Causes.{name_of}
-use Rattle.bi_commands.specs.Shown.{shown}
+use Rattle.bi_commands.specs.Shown.{shown_text}
 use Rattle.bi_fit.specs.declared.configurations.ConfigError.TheVariants as list
 use Rattle.bi_commands.specs.declared.extract.ExtractError.{ExtractError}
 use Rattle.bi_commands.specs.declared.extract.ExtractError.TheVariants as extract
@@ -77,4 +77,5 @@ is_about_image failure = true
 -- image is read from, or of the output file, if the failure is about it.
 abbrev pub name_text : ImageSource → Failure → List ℕ
 name_text Standard failure = []
-name_text (File name) failure = if is_about_image failure then shown name.now ++ codes ": " else []
+name_text (File name) failure =
+    if is_about_image failure then shown_text name.now ++ codes ": " else []

@@ -42,7 +42,7 @@ any_files = record {
 -- The file of this name was opened, and this is its reader before the first call. What the calls
 -- made of it is known by their own promises alone: the file is closed after them, and no one else
 -- sees its reader.
-pub record IsOpened (files : FilePromise) (name : List ℕ) (trace : ReadTrace) : Type 0 where
+pub record IsOpenFile (files : FilePromise) (name : List ℕ) (trace : ReadTrace) : Type 0 where
   pub is_file : files.has_file name trace.remaining
   pub reads_well : ReadsWell trace
   pub none_taken : trace.taken ≡ 0
@@ -105,7 +105,7 @@ IsTried name taken number =
 
 -- No file was made of a name beside this file with a number below this one: something has each of
 -- these names.
-pub record AreTaken (name : List ℕ) (count : ℕ) (old new : Option (List FileStep)) : Type 0 where
+pub record AreNamesTaken (name : List ℕ) (count : ℕ) (old new : Option (List FileStep)) : Type 0 where
   pub taken : List (List ℕ)
   pub each_is_beside : All (λ beside. (number : ℕ) × IsBeside name number beside) taken
   pub each_is_tried : (number : ℕ) → number < count → IsTried name taken number
@@ -118,7 +118,7 @@ pub record IsMadeBeside (name beside : List ℕ) (file : WriteTrace)
   where
     pub number : ℕ
     pub tried : Option (List FileStep)
-    pub are_taken : AreTaken name number old tried
+    pub are_taken : AreNamesTaken name number old tried
     pub is_beside : IsBeside name number beside
     pub is_another : beside ≢ name
     pub is_new : IsNewFile file
@@ -127,12 +127,12 @@ pub record IsMadeBeside (name beside : List ℕ) (file : WriteTrace)
 -- No new file was made beside the file of this name, for this reason.
 pub data IsNotMade (name : List ℕ) (failure : Failure) (old new : Option (List FileStep)) : Type 0
   where
-    NoMemoryForName : (number : ℕ) → AreTaken name number old new → failure ≡ Call OutOfMemory
+    NoMemoryForName : (number : ℕ) → AreNamesTaken name number old new → failure ≡ Call OutOfMemory
         → IsNotMade name failure old new
-    AllNamesTaken : AreTaken name 10000 old new → failure ≡ NotWritten
+    AllNamesTaken : AreNamesTaken name 10000 old new → failure ≡ NotWritten
         → IsNotMade name failure old new
     MakingFailed : (number : ℕ) (beside : List ℕ) (tried : Option (List FileStep))
-        → AreTaken name number old tried → IsBeside name number beside
+        → AreNamesTaken name number old tried → IsBeside name number beside
         → TookSteps tried new (NotMade beside ∷ []) → failure ≡ NotWritten
         → IsNotMade name failure old new
 

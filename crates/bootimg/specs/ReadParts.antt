@@ -1,5 +1,5 @@
 use Rattle.std.specs.Prelude.{◌≡◌, ◌⊎◌, List}
-use Rattle.bi_base.specs.Limits.{Bounds}
+use Rattle.bi_base.specs.Limits.{Limits}
 use Rattle.bi_base.specs.declared.fault.Error.TheVariants.{OutOfMemory}
 use Rattle.bi_commands.specs.declared.parts.Part.{Part}
 use Rattle.bi_commands.specs.declared.parts.Part.TheVariants.{Bytes, Length}
@@ -16,20 +16,20 @@ use Rattle.bootimg.specs.Runs.{problem, IsFileNotRead, IsFileRead, IsPartNotRead
 -- The parts of an image to be built, once their files are read (profile of this project).
 
 -- This is the part: of this length, or with the bytes of the whole file.
-abbrev pub WasRead : FilePromise → Bounds → PartSource → ReadPart → Type 0
+abbrev pub WasRead : FilePromise → Limits → PartSource → ReadPart → Type 0
 WasRead files limits (part.Input size) (read.Input other) = other ≡ size
 WasRead files limits (part.File name) (read.File bytes) =
     IsFileRead files limits name.now bytes.items
 WasRead files limits source other = ⊥
 
 -- The file of this part was not read.
-abbrev pub IsSourceProblem : FilePromise → Bounds → PartSource → Problem → Type 0
+abbrev pub IsSourceProblem : FilePromise → Limits → PartSource → Problem → Type 0
 IsSourceProblem files limits (part.Input size) failed = ⊥
 IsSourceProblem files limits (part.File name) failed =
     IsFileNotRead files limits name.now failed.failure × (failed.source ≡ File name)
 
 -- The file of the first of these parts that could not be read was not read, or memory ran out.
-abbrev pub IsReadingProblem : FilePromise → Bounds → List PartSource → Problem → Type 0
+abbrev pub IsReadingProblem : FilePromise → Limits → List PartSource → Problem → Type 0
 IsReadingProblem files limits sources failed =
     IsPartNotRead files limits sources failed ⊎ (failed ≡ problem Standard (Call OutOfMemory))
 

@@ -7,13 +7,13 @@ use Rattle.bi_base.specs.declared.fault.Cause.{Cause}
 use Rattle.std.specs.List.{AllZip}
 use Rattle.bi_base.specs.declared.fault.Error.{Error}
 use Rattle.bi_base.specs.declared.fault.Error.TheVariants.{OutOfMemory, WriteFailed}
-use Rattle.bi_base.specs.Limits.{Bounds}
+use Rattle.bi_base.specs.Limits.{Limits}
 use Rattle.bi_base.specs.Pipes.{IsTracedPipe}
 use Rattle.bi_base.specs.Reading.{IsReadError, ReadWhole, TracedTakesAtMost}
 use Rattle.bi_base.specs.Traces.{ReadTrace, WriteTrace, ReadsWell, WritesWell, MustStopReading}
 use Rattle.bi_base.specs.Writing.{WroteAll, WriteStopped, WroteAndFlushed, WriteOrFlushStopped}
 use Rattle.bi_base.specs.Commands.{CommandPromise}
-use Rattle.bi_commands.specs.Building.{build_legacy_promise, build_fit_promise}
+use Rattle.bi_commands.specs.BuildCommands.{build_legacy_promise, build_fit_promise}
 use Rattle.bi_commands.specs.declared.compare.CompareError.{CompareError}
 use Rattle.bi_commands.specs.declared.parts.Part.{Part}
 use Rattle.bi_commands.specs.declared.parts.Part.TheVariants.{Bytes, Length}
@@ -37,9 +37,9 @@ use Rattle.bootimg.specs.CommandLine.{HasJobLengths, IsRejected, IsRequest, read
 use Rattle.bootimg.specs.CommandLine.{sources_of}
 use Rattle.bootimg.specs.ComparedFiles.{IsCompareOutput, IsCompareFailure, compare_status}
 use Rattle.bootimg.specs.ComparedFiles.{failure_of_comparing, refused_source}
-use Rattle.bootimg.specs.Explanations.{explained}
+use Rattle.bootimg.specs.Explanations.{explain_text}
 use Rattle.bootimg.specs.Failures.{failure_text, name_text}
-use Rattle.bootimg.specs.Files.{FileStep, FilePromise, IsOpened, IsSaved, IsNotSaved}
+use Rattle.bootimg.specs.Files.{FileStep, FilePromise, IsOpenFile, IsSaved, IsNotSaved}
 use Rattle.bootimg.specs.Tasks.{EndedWith, task_promise}
 
 -- What a run of the program does: which bytes it writes to which stream, and its exit status
@@ -102,7 +102,7 @@ pub record IsFailedWork (source : ImageSource) (failure : Failure) (work : Work)
 -- ---- a task
 
 -- The task was done, from `input` to its output. The source is only for the line of a failure.
-pub data IsTaskWork (task : Task) (limits : Bounds) (source : ImageSource) (work : Work) : Type 0
+pub data IsTaskWork (task : Task) (limits : Limits) (source : ImageSource) (work : Work) : Type 0
   where
     Succeeded : (done : Done)
         → IsTracedPipe (task_promise task limits) limits work.input work.new_input work.output
@@ -115,11 +115,11 @@ pub data IsTaskWork (task : Task) (limits : Bounds) (source : ImageSource) (work
 
 -- The task was done with an image from its source: standard input, or a file that was opened.
 -- Standard input is not read beside a file.
-pub data IsImageWork (files : FilePromise) (task : Task) (limits : Bounds) (work : Work)
+pub data IsImageWork (files : FilePromise) (task : Task) (limits : Limits) (work : Work)
     : (source : ImageSource) → Type 0
   where
     DoneOnInput : IsTaskWork task limits Standard work → IsImageWork files task limits work Standard
-    DoneOnFile : (name : Bor (List ℕ)) (opened end : ReadTrace) → IsOpened files name.now opened
+    DoneOnFile : (name : Bor (List ℕ)) (opened end : ReadTrace) → IsOpenFile files name.now opened
         → IsTaskWork task limits (File name) (with_input work opened end)
         → work.new_input ≡ work.input → IsImageWork files task limits work (File name)
     FileNotOpened : (name : Bor (List ℕ)) → files.has_no_file name.now
@@ -129,7 +129,7 @@ pub data IsImageWork (files : FilePromise) (task : Task) (limits : Bounds) (work
 -- ---- whole inputs and files
 
 -- A whole input of at most this many bytes was read, and no failed read was ignored.
-pub record IsRead (limits : Bounds) (old new : ReadTrace) (input : List ℕ) : Type 0 where
+pub record IsRead (limits : Limits) (old new : ReadTrace) (input : List ℕ) : Type 0 where
   pub whole : ReadWhole old.remaining new.remaining input
   pub within : length input ≤ limits.file
   pub takes_at_most_one_byte_more : TracedTakesAtMost old new (limits.file + 1)
@@ -137,7 +137,7 @@ pub record IsRead (limits : Bounds) (old new : ReadTrace) (input : List ℕ) : T
   pub same_reader : new.reader ≡ old.reader
 
 -- Reading a whole input failed.
-pub record IsNotRead (limits : Bounds) (old new : ReadTrace) (failure : Failure) : Type 0 where
+pub record IsNotRead (limits : Limits) (old new : ReadTrace) (failure : Failure) : Type 0 where
   pub error : Error
   pub has_error : IsReadError old.remaining limits.file (MustStopReading new) error
   pub is : failure ≡ Call error
@@ -145,25 +145,25 @@ pub record IsNotRead (limits : Bounds) (old new : ReadTrace) (failure : Failure)
   pub same_reader : new.reader ≡ old.reader
 
 -- The whole file of this name was opened and read.
-pub record IsFileRead (files : FilePromise) (limits : Bounds) (name bytes : List ℕ) : Type 0 where
+pub record IsFileRead (files : FilePromise) (limits : Limits) (name bytes : List ℕ) : Type 0 where
   pub opened : ReadTrace
   pub end : ReadTrace
-  pub is_opened : IsOpened files name opened
+  pub is_opened : IsOpenFile files name opened
   pub is_read : IsRead limits opened end bytes
 
 -- The file of this name was not read, for this reason.
-pub data IsFileNotRead (files : FilePromise) (limits : Bounds) (name : List ℕ) (failure : Failure)
+pub data IsFileNotRead (files : FilePromise) (limits : Limits) (name : List ℕ) (failure : Failure)
     : Type 0
   where
     NotOpened : files.has_no_file name → failure ≡ CannotOpen
         → IsFileNotRead files limits name failure
-    OpenedNotRead : (opened end : ReadTrace) → IsOpened files name opened
+    OpenedNotRead : (opened end : ReadTrace) → IsOpenFile files name opened
         → IsNotRead limits opened end failure → IsFileNotRead files limits name failure
 
 -- ---- comparing
 
 -- The image was read from its source. Standard input is as before if it is a file.
-pub data IsImageRead (files : FilePromise) (limits : Bounds) (old new : ReadTrace) (image : List ℕ)
+pub data IsImageRead (files : FilePromise) (limits : Limits) (old new : ReadTrace) (image : List ℕ)
     : (source : ImageSource) → Type 0
   where
     InputRead : IsRead limits old new image → IsImageRead files limits old new image Standard
@@ -171,7 +171,7 @@ pub data IsImageRead (files : FilePromise) (limits : Bounds) (old new : ReadTrac
         → IsImageRead files limits old new image (File name)
 
 -- The image was not read from its source, for this reason.
-pub data IsImageNotRead (files : FilePromise) (limits : Bounds) (old new : ReadTrace)
+pub data IsImageNotRead (files : FilePromise) (limits : Limits) (old new : ReadTrace)
     (failure : Failure) : (source : ImageSource) → Type 0
   where
     InputNotRead : IsNotRead limits old new failure
@@ -181,7 +181,7 @@ pub data IsImageNotRead (files : FilePromise) (limits : Bounds) (old new : ReadT
 
 -- Two images were compared: their differences were written, or that failed, or they could not be
 -- compared.
-pub data IsComparedWork (plan : ComparePlan) (limits : Bounds) (one other : List ℕ) (work : Work)
+pub data IsComparedWork (plan : ComparePlan) (limits : Limits) (one other : List ℕ) (work : Work)
     : Type 0
   where
     WroteDifferences : (same : Bool) (text : List ℕ)
@@ -199,7 +199,7 @@ pub data IsComparedWork (plan : ComparePlan) (limits : Bounds) (one other : List
         → IsComparedWork plan limits one other work
 
 -- The first image was read, then the second one, and then both were compared.
-pub data IsCompareWork (files : FilePromise) (plan : ComparePlan) (limits : Bounds) (work : Work)
+pub data IsCompareWork (files : FilePromise) (plan : ComparePlan) (limits : Limits) (work : Work)
     : Type 0
   where
     BothRead : (one other : List ℕ) (middle : ReadTrace)
@@ -218,11 +218,11 @@ pub data IsCompareWork (files : FilePromise) (plan : ComparePlan) (limits : Boun
 
 -- What this cause means, or what each one means, was written, or that failed. Nothing was read.
 pub data IsExplainWork (cause : Option Cause) (work : Work) : Type 0 where
-  WroteExplanation : WroteAndFlushed work.output (explained cause) work.new_output
+  WroteExplanation : WroteAndFlushed work.output (explain_text cause) work.new_output
       → (done : Done) → EndedWith 0 done → work.outcome ≡ Ok done → work.new_input ≡ work.input
       → IsExplainWork cause work
   ExplanationNotWritten : (error : Error)
-      → WriteOrFlushStopped work.output (explained cause) work.new_output error
+      → WriteOrFlushStopped work.output (explain_text cause) work.new_output error
       → work.outcome ≡ Err (problem Standard (Call error)) → work.new_input ≡ work.input
       → IsExplainWork cause work
   NoMemoryForExplanation : IsFailedWork Standard (Call OutOfMemory) work
@@ -231,13 +231,13 @@ pub data IsExplainWork (cause : Option Cause) (work : Work) : Type 0 where
 -- ---- building
 
 -- This is the part: of this length, or with the bytes of the whole file.
-abbrev pub IsPart : FilePromise → Bounds → PartSource → Part → Type 0
+abbrev pub IsPart : FilePromise → Limits → PartSource → Part → Type 0
 IsPart files limits (part.Input size) (Length other) = other ≡ size
 IsPart files limits (part.File name) (Bytes bytes) = IsFileRead files limits name.now bytes.now
 IsPart files limits source other = ⊥
 
 -- The file of a part was not read, for this reason, and those of the parts before it were.
-pub record IsPartNotRead (files : FilePromise) (limits : Bounds) (sources : List PartSource)
+pub record IsPartNotRead (files : FilePromise) (limits : Limits) (sources : List PartSource)
     (failed : Problem) : Type 0 where
   pub before : List PartSource
   pub name : Bor (List ℕ)
@@ -249,13 +249,13 @@ pub record IsPartNotRead (files : FilePromise) (limits : Bounds) (sources : List
   pub named : failed.source ≡ File name
 
 -- What building an image of these parts promises as a command.
-abbrev pub build_promise : BuildPlan → List Part → Bounds → CommandPromise (Unit {0}) Error
+abbrev pub build_promise : BuildPlan → List Part → Limits → CommandPromise (Unit {0}) Error
 build_promise (Legacy plan) parts = build_legacy_promise plan.fields parts
 build_promise (Fit plan) parts =
     build_fit_promise plan.form plan.head plan.images.items parts
 
 -- The image of these parts was built, from `input` to its output, or that failed.
-pub data IsBuiltWork (plan : BuildPlan) (parts : List Part) (limits : Bounds) (work : Work) : Type 0
+pub data IsBuiltWork (plan : BuildPlan) (parts : List Part) (limits : Limits) (work : Work) : Type 0
   where
     WasBuilt : (done : Done)
         → IsTracedPipe (build_promise plan parts limits) limits work.input work.new_input
@@ -275,7 +275,7 @@ pub record IsNoInput (trace : ReadTrace) : Type 0 where
 -- The files of the parts were read, in their order, and then the image was built: with standard
 -- input if it is to be read, and else with an input without bytes. Or that failed before standard
 -- input was read.
-pub data IsBuildWork (files : FilePromise) (plan : BuildPlan) (limits : Bounds) (work : Work)
+pub data IsBuildWork (files : FilePromise) (plan : BuildPlan) (limits : Limits) (work : Work)
     : Type 0
   where
     BuiltWithInput : (parts : List Part) → AllZip (IsPart files limits) (sources_of plan) parts
@@ -296,7 +296,7 @@ pub data IsBuildWork (files : FilePromise) (plan : BuildPlan) (limits : Bounds) 
 -- ---- a job
 
 -- The job was done.
-abbrev pub IsJobWork : FilePromise → Job → Bounds → Work → Type 0
+abbrev pub IsJobWork : FilePromise → Job → Limits → Work → Type 0
 IsJobWork files (RunTask task source) limits work = IsImageWork files task limits work source
 IsJobWork files (Compare plan) limits work = IsCompareWork files plan limits work
 IsJobWork files (Explain cause) limits work = IsExplainWork cause work
@@ -305,7 +305,7 @@ IsJobWork files (Build plan) limits work = IsBuildWork files plan limits work
 -- ---- an output in a file
 
 -- A job was done with an output that is held in memory, which was empty before.
-pub record IsHeldWork (files : FilePromise) (job : Job) (limits : Bounds)
+pub record IsHeldWork (files : FilePromise) (job : Job) (limits : Limits)
     (input new_input : ReadTrace) (outcome : Result Done Problem) (held : Option (List ℕ)) : Type 0
   where
     pub memory : WriteTrace
@@ -327,7 +327,7 @@ failure_in_memory (Call WriteFailed) = Call OutOfMemory
 failure_in_memory failure = failure
 
 -- A job failed with this problem, with an output that is held in memory.
-pub record IsHeldFailure (files : FilePromise) (job : Job) (limits : Bounds)
+pub record IsHeldFailure (files : FilePromise) (job : Job) (limits : Limits)
     (input new_input : ReadTrace) (failed : Problem) : Type 0 where
   pub cause : Problem
   pub held : Option (List ℕ)
@@ -337,7 +337,7 @@ pub record IsHeldFailure (files : FilePromise) (job : Job) (limits : Bounds)
 
 -- A job was done, and its whole output was saved in the file of this name; or that failed, or the
 -- job did, and the file is as it was.
-pub data IsSavedWork (files : FilePromise) (job : Job) (limits : Bounds) (name : Bor (List ℕ))
+pub data IsSavedWork (files : FilePromise) (job : Job) (limits : Limits) (name : Bor (List ℕ))
     (input new_input : ReadTrace) (steps new_steps : Option (List FileStep))
     (outcome : Result Done Problem) : Type 0
   where
@@ -390,7 +390,7 @@ pub record IsRejection (source : ImageSource) (failure : Failure) (run : Run) : 
 
 -- A job was done with this output: standard output if no file is named, or else the file of this
 -- name, and then nothing was written to standard output.
-pub data IsOutputRun (files : FilePromise) (job : Job) (limits : Bounds) (run : Run)
+pub data IsOutputRun (files : FilePromise) (job : Job) (limits : Limits) (run : Run)
     (outcome : Result Done Problem) : (output : Option (Bor (List ℕ))) → Type 0
   where
     ToStandardOutput : IsJobWork files job limits (work_of run outcome)

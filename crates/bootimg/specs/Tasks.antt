@@ -4,7 +4,7 @@ use Rattle.bi_base.specs.declared.fault.Error.{Error}
 use Rattle.bi_base.specs.declared.fault.Error.TheVariants.{Refused, OutOfMemory, ReadFailed}
 use Rattle.bi_base.specs.declared.fault.Error.TheVariants.{WriteFailed}
 use Rattle.bi_base.specs.Commands.{CommandPromise, PromiseLaws}
-use Rattle.bi_base.specs.Limits.{Bounds}
+use Rattle.bi_base.specs.Limits.{Limits}
 use Rattle.bi_norm.specs.Converting.{IsConvertedFile, IsConvertError}
 use Rattle.bi_norm.specs.NormalForm.{IsNormalForm, IsNormaliseError, IsOpenError, Normalised}
 use Rattle.bi_commands.specs.declared.extract.ExtractError.{ExtractError}
@@ -40,7 +40,7 @@ pub record EndedWith (status : ℕ) (done : Done) : Type 0 where
   pub no_signatures : done.signatures ≡ 0
 
 -- The task makes this output of the input, and ends so.
-abbrev pub TaskDone : Task → Bounds → Done → (input output : List ℕ) → Type 0
+abbrev pub TaskDone : Task → Limits → Done → (input output : List ℕ) → Type 0
 TaskDone (Normalise form) limits done input output =
     Normalised limits form done.signatures input output × (done.status ≡ 0)
 TaskDone ListImage limits done input output = IsListing limits input output × EndedWith 0 done
@@ -56,7 +56,7 @@ TaskDone (Extract selection) limits done input output =
 TaskDone Convert limits done input output = IsConvertedFile limits input output × EndedWith 0 done
 
 -- The task may begin to write this output for the input.
-abbrev pub TaskText : Task → Bounds → (input output : List ℕ) → Type 0
+abbrev pub TaskText : Task → Limits → (input output : List ℕ) → Type 0
 TaskText (Normalise form) limits input output = IsNormalForm limits form input output
 TaskText ListImage limits input output = IsListing limits input output
 TaskText Describe limits input output = IsDescription limits input output
@@ -80,7 +80,7 @@ pub record IsExtractFailure (HasError : ExtractError → Type 0) (failure : Fail
   pub is : failure ≡ failure_of error
 
 -- The task fails so for the input.
-abbrev pub TaskFails : Task → Bounds → (input : List ℕ) → Failure → Type 0
+abbrev pub TaskFails : Task → Limits → (input : List ℕ) → Failure → Type 0
 TaskFails (Normalise form) limits input failure =
     IsCallFailure (IsNormaliseError limits form input) failure
 TaskFails ListImage limits input failure = IsCallFailure (IsOpenError limits input) failure
@@ -94,7 +94,7 @@ TaskFails (Extract selection) limits input failure =
 TaskFails Convert limits input failure = IsCallFailure (IsConvertError limits input) failure
 
 -- What a task promises as a command.
-abbrev pub task_promise : Task → Bounds → CommandPromise Done Failure
+abbrev pub task_promise : Task → Limits → CommandPromise Done Failure
 task_promise task limits = record {
   is_output = λ done input output. TaskDone task limits done input output;
   is_text = λ input output. TaskText task limits input output;
@@ -103,7 +103,7 @@ task_promise task limits = record {
 }
 
 -- An output of a task is one that it may begin to write.
-task_text : (task : Task) (limits : Bounds) (done : Done) (input output : List ℕ)
+task_text : (task : Task) (limits : Limits) (done : Done) (input output : List ℕ)
     → TaskDone task limits done input output → TaskText task limits input output
 task_text (Normalise form) limits done input output is = is.0.normal
 task_text ListImage limits done input output is = is.0
@@ -115,9 +115,9 @@ task_text (Extract selection) limits done input output is = is.0
 task_text Convert limits done input output is = is.0
 
 -- The error of a call that a failure has inside.
-abbrev cause_of : Failure → Error
-cause_of (Call error) = error
-cause_of other = OutOfMemory
+abbrev error_in_failure : Failure → Error
+error_in_failure (Call error) = error
+error_in_failure other = OutOfMemory
 
 -- The failure is not that a read or a write failed.
 abbrev IsNoStreamFailure : Failure → Type 0
@@ -159,7 +159,7 @@ extract_in_memory HasError no_read no_write failure is =
       by extract.NoPayload has = tt
 
 -- A task neither reads nor writes.
-task_in_memory : (task : Task) (limits : Bounds) (input : List ℕ) (failure : Failure)
+task_in_memory : (task : Task) (limits : Limits) (input : List ℕ) (failure : Failure)
     → TaskFails task limits input failure → IsNoStreamFailure failure
 task_in_memory (Normalise form) limits input failure is =
     call_in_memory (IsNormaliseError limits form input) (λ no. no) (λ no. no) failure is
@@ -179,10 +179,10 @@ task_in_memory (Extract selection) limits input failure is =
 task_in_memory Convert limits input failure is =
     call_in_memory (IsConvertError limits input) (λ no. no) (λ no. no) failure is
 
-pub task_laws : (task : Task) (limits : Bounds) → PromiseLaws (task_promise task limits)
+pub task_laws : (task : Task) (limits : Limits) → PromiseLaws (task_promise task limits)
 task_laws task limits = record {
   is_text = task_text task limits;
-  wraps_once = λ a b same. ap cause_of same;
+  wraps_once = λ a b same. ap error_in_failure same;
   no_read_error = λ input is. task_in_memory task limits input (Call ReadFailed) is;
   no_write_error = λ input is. task_in_memory task limits input (Call WriteFailed) is;
 }

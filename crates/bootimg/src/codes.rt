@@ -2,7 +2,7 @@
 
 ghost use Rattle.std.specs.Prelude.{◌≡◌, ℕ, Some, IfSome, option_map};
 ghost use Rattle.bi_legacy.specs.Codes.{name_of_code};
-ghost use Rattle.bootimg.specs.CodeWords.{names_of, IsCode};
+ghost use Rattle.bootimg.specs.CodeWords.{codes_of, IsCode};
 
 use crate::numbers::parse_number;
 use bi_legacy::codes::{arch_name, compression_name, os_name, type_name};
@@ -23,7 +23,7 @@ pub enum CodeField {
 impl CodeField {
     /// The name of a code of this field. None if the code has no name.
     fn name(self, code: u8) -> Option<&'static str>
-        ensures { option_map (λ name. name.now) result ≡ name_of_code (names_of self) code }
+        ensures { option_map (λ name. name.now) result ≡ name_of_code (codes_of self) code }
     {
         match self {
             CodeField::Os => os_name(code),
@@ -48,8 +48,8 @@ pub fn parse_code(field: CodeField, word: &str) -> Option<u8>
 
 /// Returns the code of this field that has this name. None exactly if no code has it.
 fn named_code(field: CodeField, name: &str) -> Option<u8>
-    ensures some { IfSome result (λ code. name_of_code (names_of field) code ≡ Some name.now) }
-    ensures exactly { (code : ℕ) → name_of_code (names_of field) code ≡ Some name.now → result
+    ensures some { IfSome result (λ code. name_of_code (codes_of field) code ≡ Some name.now) }
+    ensures exactly { (code : ℕ) → name_of_code (codes_of field) code ≡ Some name.now → result
         ≡ Some code }
 {
     for code in 0..=u8::MAX {

@@ -1,8 +1,8 @@
 //! What the causes of refusals mean.
 
 ghost use Rattle.std.specs.Prelude.{◌≡◌, ◌++◌, IfNone, IfOk, IfSome, OnOk, string_bytes};
-ghost use Rattle.bootimg.specs.CommandLine.{IsCauseName, NoneIs};
-ghost use Rattle.bootimg.specs.Explanations.{all_explanations, explained, explanation_of};
+ghost use Rattle.bootimg.specs.CommandLine.{NamesCause, NoneIs};
+ghost use Rattle.bootimg.specs.Explanations.{all_explanations, explain_text, explanation_of};
 ghost use Rattle.bootimg.specs.Explanations.{line_of_cause, sentence_of};
 
 use bi_base::Cause;
@@ -40,8 +40,8 @@ const CAUSES: [Cause; 26] = [
 
 /// Parses the name of a cause. Returns None exactly for any other text.
 pub fn parse_cause(word: &str) -> Option<Cause>
-    ensures some { IfSome result (IsCauseName word.now) }
-    ensures none { IfNone result (NoneIs (IsCauseName word.now)) }
+    ensures some { IfSome result (NamesCause word.now) }
+    ensures none { IfNone result (NoneIs (NamesCause word.now)) }
 {
     match word {
         "Truncated" => Some(Cause::Truncated),
@@ -76,7 +76,7 @@ pub fn parse_cause(word: &str) -> Option<Cause>
 
 /// Returns what `explain` writes: what this cause means, or what each one means.
 pub fn explanation(alloc: Global, cause: Option<Cause>) -> Result<String, AllocError>
-    ensures { IfOk result (λ text. string_bytes text ≡ explained cause) }
+    ensures { IfOk result (λ text. string_bytes text ≡ explain_text cause) }
 {
     match cause {
         Some(cause) => explanation_of_cause(alloc, cause),

@@ -169,17 +169,17 @@ fn compare_images<'a, S: TracedRead, T: TracedWrite, F: FileSystem>(
 {
     let one = match read_image(alloc, plan.one, limits, files, input) {
         Ok(one) => one,
-        Err(failure) => return failed(plan.one, failure),
+        Err(failure) => return job_failed(plan.one, failure),
     };
     let other = match read_image(alloc, plan.other, limits, files, input) {
         Ok(other) => other,
-        Err(failure) => return failed(plan.other, failure),
+        Err(failure) => return job_failed(plan.other, failure),
     };
     compare_files(alloc, plan, &one, &other, limits, output)
 }
 
 /// The end of a job that failed with an image from this source.
-fn failed<'a>(source: ImageSource<'a>, failure: Failure) -> Result<Done, Problem<'a>>
+fn job_failed<'a>(source: ImageSource<'a>, failure: Failure) -> Result<Done, Problem<'a>>
     ensures { result ≡ Err (problem source.entry failure) }
 {
     Err(Problem { source, failure })
@@ -261,7 +261,7 @@ fn compare_files<'a, T: TracedWrite>(
     match differences(alloc, one, other, plan.quiet, limits) {
         Ok(comparison) => match write_and_flush(output, comparison.differences.as_bytes()) {
             Ok(()) => Ok(Done::with_status(status(comparison.same))),
-            Err(error) => failed(ImageSource::Standard, Failure::Call(error)),
+            Err(error) => job_failed(ImageSource::Standard, Failure::Call(error)),
         },
         Err(error) => Err(problem_of(plan, error)),
     }
@@ -327,9 +327,9 @@ fn explain<'a, T: TracedWrite>(
     match explanation(alloc, cause) {
         Ok(text) => match write_and_flush(output, text.as_bytes()) {
             Ok(()) => Ok(Done::with_status(EXPLAINED)),
-            Err(error) => failed(ImageSource::Standard, Failure::Call(error)),
+            Err(error) => job_failed(ImageSource::Standard, Failure::Call(error)),
         },
-        Err(error) => failed(ImageSource::Standard, Failure::from(error)),
+        Err(error) => job_failed(ImageSource::Standard, Failure::from(error)),
     }
 }
 

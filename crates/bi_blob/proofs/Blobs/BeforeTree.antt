@@ -1,22 +1,23 @@
 use Rattle.std.proofs.Common.{◌⊎◌, List, ℕ, inl, inr}
 use Rattle.bi_base.specs.declared.fault.Fault.{Fault}
-use Rattle.bi_base.specs.Limits.{Bounds}
+use Rattle.bi_base.specs.Limits.{Limits}
 use Rattle.bi_blob.specs.Blob.{off_mem_rsvmap, totalsize, tree_blocks}
-use Rattle.bi_blob.specs.BlobFaults.{HeaderPasses, header_checks, header_fault, HasNoHeaderFault, IsHeaderFault, HasNoFaultBeforeTree, IsFaultBeforeTree, IsStructureFault, IsBlobFault, InHeader, InReservations, InStructure}
+use Rattle.bi_blob.specs.BlobFaults.{HeaderPasses, header_checks, header_fault, HasNoHeaderFault, IsHeaderFault, HasNoFaultBeforeTree}
+use Rattle.bi_blob.specs.BlobFaults.{IsFaultBeforeTree, IsStructureFault, IsBlobFault, InHeader, InReservations, InStructure}
 use Rattle.bi_blob.specs.BlobLaws.{FaultBeforeTreeComesFirst}
 use Rattle.bi_base.proofs.FirstFault.{not_both, fault_or_none}
 use Rattle.bi_blob.proofs.Blobs.Decided.{header_decided}
 use Rattle.bi_blob.proofs.Blobs.Headers.{HasNoHeaderFault-Header}
-use Rattle.bi_blob.proofs.Blobs.ReservationFaults.{Found, reservations_or_fault, no_reservations_with_fault}
+use Rattle.bi_blob.proofs.Blobs.ReservationFaults.{HasSomeOrFault, reservations_or_fault, no_reservations_with_fault}
 
 -- The faults of a file before its structure block.
 
 -- A file has no fault before the tree, or has one.
-before_tree : (bounds : Bounds) (file : List ℕ) → HasNoFaultBeforeTree bounds file ⊎ ((fault : Fault) × IsFaultBeforeTree bounds file fault)
+before_tree : (bounds : Limits) (file : List ℕ) → HasNoFaultBeforeTree bounds file ⊎ ((fault : Fault) × IsFaultBeforeTree bounds file fault)
 before_tree bounds file =
     by_header (fault_or_none (HeaderPasses bounds file) (header_fault bounds) (header_decided bounds file) header_checks)
   where
-    by_reservations : HasNoHeaderFault bounds file → Found file (off_mem_rsvmap file) (totalsize file) → HasNoFaultBeforeTree bounds file ⊎ ((fault : Fault) × IsFaultBeforeTree bounds file fault)
+    by_reservations : HasNoHeaderFault bounds file → HasSomeOrFault file (off_mem_rsvmap file) (totalsize file) → HasNoFaultBeforeTree bounds file ⊎ ((fault : Fault) × IsFaultBeforeTree bounds file fault)
     by_reservations fine (inl some) = inl (record { header = fine; count = some.count; reservations = some.has })
     by_reservations fine (inr faulty) = inr (faulty.0, inr (fine, faulty.1))
 
@@ -26,19 +27,21 @@ before_tree bounds file =
     by_header (inr first) = inr (first.0, inl first.1)
 
 -- Not both.
-not_both_before : (bounds : Bounds) (file : List ℕ) (fault : Fault) → HasNoFaultBeforeTree bounds file → IsFaultBeforeTree bounds file fault → ⊥
+not_both_before : (bounds : Limits) (file : List ℕ) (fault : Fault) → HasNoFaultBeforeTree bounds file →
+    IsFaultBeforeTree bounds file fault → ⊥
 not_both_before bounds file fault fine (inl first) =
     not_both (HeaderPasses bounds file) (header_fault bounds) header_checks fault fine.header first
 not_both_before bounds file fault fine (inr faulty) =
     no_reservations_with_fault file (off_mem_rsvmap file) (totalsize file) fine.count fault fine.reservations faulty.1
 
 -- A fault before the tree is the fault of the file.
-pub first_fault : (bounds : Bounds) (file : List ℕ) (fault : Fault) → IsFaultBeforeTree bounds file fault → IsBlobFault bounds file fault
+pub first_fault : (bounds : Limits) (file : List ℕ) (fault : Fault) → IsFaultBeforeTree bounds file fault → IsBlobFault bounds file fault
 first_fault bounds file fault (inl first) = InHeader first
 first_fault bounds file fault (inr faulty) = InReservations faulty.0 faulty.1
 
 -- Where there is none, the fault of the file is in its structure block.
-structure_fault : (bounds : Bounds) (file : List ℕ) (fault : Fault) → HasNoFaultBeforeTree bounds file → IsBlobFault bounds file fault → IsStructureFault (tree_blocks file) bounds.depth fault
+structure_fault : (bounds : Limits) (file : List ℕ) (fault : Fault) → HasNoFaultBeforeTree bounds file → IsBlobFault bounds file fault →
+    IsStructureFault (tree_blocks file) bounds.depth fault
 structure_fault bounds file fault fine (InHeader first) = absurd (not_both_before bounds file fault fine (inl first))
 structure_fault bounds file fault fine (InReservations header faulty) = absurd (not_both_before bounds file fault fine (inr (header, faulty)))
 structure_fault bounds file fault fine (InStructure header count has faulty) = faulty

@@ -2,13 +2,15 @@ use Rattle.std.proofs.Common.{◌≡◌, ℕ, ◌+◌, ◌-◌, ◌≤◌, List,
 use Rattle.std.proofs.lemmas.List.{length-append, length-take, map-append}
 use Rattle.bi_base.specs.Cells.{slice}
 use Rattle.bi_blob.specs.Tokens.{Token, BeginNode, EndNode, Prop, Nop, End, width, name_from}
-use Rattle.bi_blob.specs.Tree.{Nodes, none, node, Root, Property, FileProperty, FileNode, property_of, properties_of, tree_without_places, with_each, depth, depth_of}
-use Rattle.bi_blob.specs.Events.{NodeStart, NodeProperty, NodeEnd, events, events_of, FileEvent, FileNodeStart, FileNodeProperty, FileNodeEnd, file_events, file_events_of, EncodeEvents}
+use Rattle.bi_blob.specs.Tree.{Nodes, none, node, Root, Property, FileProperty, FileNode, property_of, properties_of, tree_without_places}
+use Rattle.bi_blob.specs.Tree.{with_each, depth, depth_of}
+use Rattle.bi_blob.specs.Events.{NodeStart, NodeProperty, NodeEnd, events, events_of, FileEvent, FileNodeStart, FileNodeProperty}
+use Rattle.bi_blob.specs.Events.{FileNodeEnd, file_events, file_events_of, EncodeEvents}
 use Rattle.bi_blob.specs.Stages.{BeforeRoot, next_stage}
 use Rattle.bi_blob.specs.Following.{MayFollow}
 use Rattle.bi_blob.specs.Blob.{TreeBlocks, HoldsTree}
 use Rattle.bi_blob.specs.BlobFaults.{stage_after, place_after, ArePassed}
-use Rattle.bi_blob.proofs.Blobs.Names.{name_from-IsNameAt}
+use Rattle.bi_blob.proofs.Blobs.BytesBeforeZero.{name_from-IsNameAt}
 use Rattle.bi_blob.proofs.Blobs.TokenEncoding.{place_after_all, AllStand, AreEncodings-length}
 use Rattle.bi_blob.proofs.Blobs.OneBlob.{HoldsTree-stand}
 use Rattle.bi_blob.proofs.Blobs.OneFault.{IsEnded}
@@ -33,7 +35,8 @@ events_without_places (node name with_places children later) =
       properties_without_places [] = refl
       properties_without_places (p ∷ ps) = ap (λ l. NodeProperty (property_of p) ∷ l) (properties_without_places ps)
 
-pub tree_events_without_places : (root : Root FileNode) → map event_without_place (file_events_of root) ≡ events_of (tree_without_places root)
+pub tree_events_without_places : (root : Root FileNode) →
+    map event_without_place (file_events_of root) ≡ events_of (tree_without_places root)
 tree_events_without_places root = events_without_places (node [] root.own root.children none)
 
 -- The places make a tree no deeper.
@@ -47,7 +50,12 @@ depth-properties_of root = depth-with_each properties_of (node [] root.own root.
 
 module _ (blocks : TreeBlocks) (depth_limit : ℕ) where
   -- The block ends after tokens that pass, where the tokens after them encode events that may follow.
-  pub ends_from : (ts : List Token) (before : List Token) (token_events : List FileEvent) → ArePassed blocks depth_limit before → AllStand blocks.file (place_after blocks before) (ts ++ End ∷ []) → place_after_all (place_after blocks before) (ts ++ End ∷ []) ≤ blocks.end → EncodeEvents blocks.strings (place_after blocks before) ts token_events → FollowToEnd (MayFollow depth_limit) (stage_after blocks.strings before) (map event_without_place token_events) → (tokens : List Token) × IsEnded blocks depth_limit tokens
+  pub ends_from : (ts : List Token) (before : List Token) (token_events : List FileEvent) → ArePassed blocks depth_limit before →
+      AllStand blocks.file (place_after blocks before) (ts ++ End ∷ []) →
+      place_after_all (place_after blocks before) (ts ++ End ∷ []) ≤ blocks.end →
+      EncodeEvents blocks.strings (place_after blocks before) ts token_events →
+      FollowToEnd (MayFollow depth_limit) (stage_after blocks.strings before) (map event_without_place token_events) →
+      (tokens : List Token) × IsEnded blocks depth_limit tokens
   ends_from [] before [] passed stand within encodes follow = (
     before,
     record {
@@ -119,7 +127,8 @@ module _ (blocks : TreeBlocks) (depth_limit : ℕ) where
   ends_from ts before token_events passed stand within encodes follow = absurd encodes
 
   -- The tokens of a block that holds a tree end in the block.
-  holds_within : (root : Root FileNode) (holds : HoldsTree blocks root) → blocks.begin ≤ blocks.end → place_after_all blocks.begin (holds.tokens ++ End ∷ []) ≤ blocks.end
+  holds_within : (root : Root FileNode) (holds : HoldsTree blocks root) → blocks.begin ≤ blocks.end →
+      place_after_all blocks.begin (holds.tokens ++ End ∷ []) ≤ blocks.end
   holds_within root holds ordered =
       let size : ℕ = blocks.end - blocks.begin in
       let whole : blocks.begin + length holds.structure ≡ place_after_all blocks.begin (holds.tokens ++ End ∷ []) =
@@ -131,7 +140,8 @@ module _ (blocks : TreeBlocks) (depth_limit : ℕ) where
       omega arith
 
   -- A block that holds a tree within the depth limit ends.
-  pub tree_ends : (root : Root FileNode) → HoldsTree blocks root → blocks.begin ≤ blocks.end → depth_of root ≤ depth_limit → (tokens : List Token) × IsEnded blocks depth_limit tokens
+  pub tree_ends : (root : Root FileNode) → HoldsTree blocks root → blocks.begin ≤ blocks.end → depth_of root ≤ depth_limit →
+      (tokens : List Token) × IsEnded blocks depth_limit tokens
   tree_ends root holds ordered shallow =
       ends_from holds.tokens [] (file_events_of root) tt (HoldsTree-stand blocks root holds) (holds_within root holds ordered) holds.encodes
       (subst (FollowToEnd (MayFollow depth_limit) BeforeRoot) (sym (tree_events_without_places root))

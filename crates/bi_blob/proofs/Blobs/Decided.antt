@@ -3,44 +3,45 @@ use Rattle.std.specs.Bool.{Decides}
 use Rattle.std.specs.Prelude.{◌==◌, ◌&&◌, nat_le}
 use Rattle.std.proofs.lemmas.Bool.Decides.{not_from_Decides}
 use Rattle.bi_base.specs.Cells.{u64_at}
-use Rattle.bi_base.specs.Limits.{Bounds}
+use Rattle.bi_base.specs.Limits.{Limits}
 use Rattle.bi_blob.specs.Stages.{Stage}
 use Rattle.bi_blob.specs.Blob.{TreeBlocks}
 use Rattle.bi_blob.specs.BlobFaults.{HeaderCheck, HeaderPasses, TokenCheck, TokenPasses, IsEndPair}
-use Rattle.bi_blob.proofs.CheckTests.{le_decides, eq_decides, both_decide}
-use Rattle.bi_blob.proofs.HeaderTests.{test, header_decides}
-use Rattle.bi_blob.proofs.TokenTests.{token_test, token_decides}
+use Rattle.bi_blob.proofs.CheckDecisions.{le_decides, eq_decides, both_decide}
+use Rattle.bi_blob.proofs.HeaderDecisions.{test, header_decides}
+use Rattle.bi_blob.proofs.TokenDecisions.{token_test, token_decides}
 
 -- Each check passes or fails, as its test finds.
 
 -- A fact holds or fails.
-abbrev pub Decided : Type 0 → Type 0
-Decided P = P ⊎ ¬ P
+abbrev pub IsDecided : Type 0 → Type 0
+IsDecided P = P ⊎ ¬ P
 
 -- A fact that a test decides holds or fails.
-decided_by : {P : Type 0} (b : Bool) → Decides b P → Decided P
+decided_by : {P : Type 0} (b : Bool) → Decides b P → IsDecided P
 decided_by {P = P} b decides = where_test b refl
   where
-    where_test : (found : Bool) → b ≡ found → Decided P
+    where_test : (found : Bool) → b ≡ found → IsDecided P
     where_test true is = inl (decides.0 is)
     where_test false is = inr (not_from_Decides b decides is)
 
-pub le_decided : (m n : ℕ) → Decided (m ≤ n)
+pub le_decided : (m n : ℕ) → IsDecided (m ≤ n)
 le_decided m n = decided_by (nat_le m n) (le_decides m n)
 
 -- Each check of a token passes or fails.
-pub token_decided : (blocks : TreeBlocks) (depth_limit place : ℕ) (stage : Stage) (check : TokenCheck) → Decided (TokenPasses blocks depth_limit place stage check)
+pub token_decided : (blocks : TreeBlocks) (depth_limit place : ℕ) (stage : Stage) (check : TokenCheck) →
+    IsDecided (TokenPasses blocks depth_limit place stage check)
 token_decided blocks depth_limit place stage check =
     decided_by (token_test blocks depth_limit place stage check) (token_decides blocks depth_limit place stage check)
 
 -- Each check of a header passes or fails.
-pub header_decided : (bounds : Bounds) (file : List ℕ) (check : HeaderCheck) → Decided (HeaderPasses bounds file check)
+pub header_decided : (bounds : Limits) (file : List ℕ) (check : HeaderCheck) → IsDecided (HeaderPasses bounds file check)
 header_decided bounds file check = decided_by (test bounds file check) (header_decides bounds file check)
 
 -- An end pair is at an offset, or not.
-pub IsEndPair_decided : (file : List ℕ) (at : ℕ) → Decided (IsEndPair file at)
+pub IsEndPair_decided : (file : List ℕ) (at : ℕ) → IsDecided (IsEndPair file at)
 IsEndPair_decided file at =
     by_parts (decided_by (u64_at file at == 0 && u64_at file (at + 8) == 0) (both_decide (u64_at file at == 0) (u64_at file (at + 8) == 0) (eq_decides (u64_at file at) 0) (eq_decides (u64_at file (at + 8)) 0))) where
-      by_parts : Decided ((u64_at file at ≡ 0) × (u64_at file (at + 8) ≡ 0)) → Decided (IsEndPair file at)
+      by_parts : IsDecided ((u64_at file at ≡ 0) × (u64_at file (at + 8) ≡ 0)) → IsDecided (IsEndPair file at)
       by_parts (inl parts) = inl (record { address = parts.0; size = parts.1 })
       by_parts (inr fails) = inr (λ is. fails (is.address, is.size))

@@ -17,7 +17,8 @@ slice-split : (file : List ℕ) (at m k n : ℕ) → n ≡ m + k → slice file 
 slice-split file at m k n e = ap (λ l. take l (drop at file)) e ∙ take-add m k (drop at file)
 
 -- FDT_END after the root ends the structure block: it holds the tree that was read, which is no deeper than the limit.
-pub last_token : (blocks : TreeBlocks) (depth_limit place : ℕ) (root : Root FileNode) → IsOpenAt blocks depth_limit place (WholeTree root) → IsNext blocks depth_limit place AfterRoot end_number → HoldsTree blocks root × (depth_of root ≤ depth_limit)
+pub last_token : (blocks : TreeBlocks) (depth_limit place : ℕ) (root : Root FileNode) → IsOpenAt blocks depth_limit place (WholeTree root) →
+    IsNext blocks depth_limit place AfterRoot end_number → HoldsTree blocks root × (depth_of root ≤ depth_limit)
 last_token blocks depth_limit place root position next =
     let tokens : List Token = reverse position.tokens in
     let before : place_after_all blocks.begin tokens ≡ place = place_after_all-reverse blocks position.tokens ∙ position.is_place in

@@ -3,11 +3,12 @@ use Rattle.std.specs.List.{AllByRecursion}
 use Rattle.bi_blob.specs.Tokens.{Token, BeginNode, EndNode, Prop, Nop, End, width}
 use Rattle.bi_blob.specs.Tree.{FileProperty}
 use Rattle.bi_blob.specs.Events.{FileEvent, FileNodeStart, FileNodeProperty, FileNodeEnd, EncodeEvents, EncodesProperty}
-use Rattle.bi_blob.proofs.Blobs.Names.{one_name}
+use Rattle.bi_blob.proofs.Blobs.BytesBeforeZero.{one_name}
 use Rattle.bi_blob.proofs.Blobs.TokenEncoding.{place_after_all}
 
 -- A token encodes at most one property.
-one_property : (strings : List ℕ) (at o : ℕ) (v : List ℕ) (p q : FileProperty) → EncodesProperty strings at o v p → EncodesProperty strings at o v q → p ≡ q
+one_property : (strings : List ℕ) (at o : ℕ) (v : List ℕ) (p q : FileProperty) → EncodesProperty strings at o v p →
+    EncodesProperty strings at o v q → p ≡ q
 one_property strings at o v p q one other =
     let same_name : p.name ≡ q.name = one_name strings o p.name q.name one.name other.name in
     let same_value : p.value ≡ q.value = sym one.value ∙ other.value in
@@ -15,7 +16,8 @@ one_property strings at o v p q one other =
     λ i. record { name = same_name i; value = same_value i; place = same_place i }
 
 -- Tokens encode at most one list of events.
-pub one_event_list : (strings : List ℕ) (at : ℕ) (tokens : List Token) (a b : List FileEvent) → EncodeEvents strings at tokens a → EncodeEvents strings at tokens b → a ≡ b
+pub one_event_list : (strings : List ℕ) (at : ℕ) (tokens : List Token) (a b : List FileEvent) → EncodeEvents strings at tokens a →
+    EncodeEvents strings at tokens b → a ≡ b
 one_event_list strings at [] [] [] one other = refl
 one_event_list strings at (Nop ∷ tokens) a b one other = one_event_list strings (at + width Nop) tokens a b one other
 one_event_list strings at (BeginNode n ∷ tokens) (FileNodeStart p k ∷ a) (FileNodeStart q m ∷ b) one other =
@@ -32,7 +34,8 @@ one_event_list strings at (EndNode ∷ tokens) (FileNodeEnd ∷ a) (FileNodeEnd 
 one_event_list strings at tokens a b one other = absurd (assumption (one, other))
 
 -- Tokens that encode events have no FDT_END among them.
-pub EncodeEvents-no_end : (strings : List ℕ) (at : ℕ) (tokens : List Token) (token_events : List FileEvent) → EncodeEvents strings at tokens token_events → AllByRecursion (λ t. t ≢ End) tokens
+pub EncodeEvents-no_end : (strings : List ℕ) (at : ℕ) (tokens : List Token) (token_events : List FileEvent) →
+    EncodeEvents strings at tokens token_events → AllByRecursion (λ t. t ≢ End) tokens
 EncodeEvents-no_end strings at [] [] encodes = tt
 EncodeEvents-no_end strings at (Nop ∷ tokens) token_events encodes = ((λ (e : Nop ≡ End). absurd cc), EncodeEvents-no_end strings (at + width Nop) tokens token_events encodes)
 EncodeEvents-no_end strings at (BeginNode n ∷ tokens) (FileNodeStart p k ∷ token_events) encodes =
@@ -44,7 +47,8 @@ EncodeEvents-no_end strings at (EndNode ∷ tokens) (FileNodeEnd ∷ token_event
 EncodeEvents-no_end strings at tokens token_events encodes = absurd encodes
 
 -- Tokens that encode events, and then tokens that encode others, encode all of them.
-pub EncodeEvents-append : (strings : List ℕ) (at : ℕ) (ts us : List Token) (a b : List FileEvent) → EncodeEvents strings at ts a → EncodeEvents strings (place_after_all at ts) us b → EncodeEvents strings at (ts ++ us) (a ++ b)
+pub EncodeEvents-append : (strings : List ℕ) (at : ℕ) (ts us : List Token) (a b : List FileEvent) → EncodeEvents strings at ts a →
+    EncodeEvents strings (place_after_all at ts) us b → EncodeEvents strings at (ts ++ us) (a ++ b)
 EncodeEvents-append strings at [] us [] b first second = second
 EncodeEvents-append strings at (Nop ∷ ts) us a b first second = EncodeEvents-append strings (at + width Nop) ts us a b first second
 EncodeEvents-append strings at (BeginNode n ∷ ts) us (FileNodeStart p k ∷ a) b first second =

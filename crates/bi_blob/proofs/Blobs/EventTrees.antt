@@ -1,13 +1,17 @@
 use Rattle.std.proofs.Common.{◌≡◌, ℕ, suc, ◌<◌, ◌≤◌, List, [], ◌∷◌, ◌++◌, length, map, refl, sym, ap, ap₂, subst, ◌∙◌, arith}
 use Rattle.std.proofs.lemmas.List.{append_assoc, append-nil, map-append}
-use Rattle.bi_blob.specs.Tree.{Nodes, none, node, Root, Property, FileProperty, FileNode, with_each, with_each_node, properties_of, property_of, tree_without_places, as_nodes}
-use Rattle.bi_blob.specs.Events.{Event, NodeStart, NodeProperty, NodeEnd, events, events_of, FileEvent, FileNodeStart, FileNodeProperty, FileNodeEnd, file_events, file_events_of}
+use Rattle.bi_blob.specs.Tree.{Nodes, none, node, Root, Property, FileProperty, FileNode, with_each, with_each_node, properties_of}
+use Rattle.bi_blob.specs.Tree.{property_of, tree_without_places, as_nodes}
+use Rattle.bi_blob.specs.Events.{Event, NodeStart, NodeProperty, NodeEnd, events, events_of, FileEvent, FileNodeStart, FileNodeProperty}
+use Rattle.bi_blob.specs.Events.{FileNodeEnd, file_events, file_events_of}
 use Rattle.bi_blob.specs.Stages.{BeforeRoot, Inside, AfterRoot, next_stage}
 use Rattle.bi_blob.specs.Following.{MayFollow, AreClosedEvents}
 use Rattle.bi_blob.specs.BlobLaws.{HasOneTree, ClosedEventsHaveOneTree}
-use Rattle.bi_blob.proofs.Blobs.Trees.{trees_agree}
-use Rattle.bi_blob.specs.OpenNodes.{TreeSoFar, NoTree, OpenTree, WholeTree, new_node, with_one_property, with_one_child, outer_nodes_of, stage_of, events_so_far, IsTreeSoFar, IsWholeTree}
-use Rattle.bi_blob.proofs.Blobs.OpenNodes.{root_of, AreProperties-push, open_node_of-property, open_node_of-child, events_of_open_nodes-property, events_of_open_nodes-child, events_of_open_nodes-root}
+use Rattle.bi_blob.proofs.Blobs.OneTree.{trees_agree}
+use Rattle.bi_blob.specs.OpenNodes.{TreeSoFar, NoTree, OpenTree, WholeTree, new_node, with_one_property, with_one_child, outer_nodes_of}
+use Rattle.bi_blob.specs.OpenNodes.{stage_of, events_so_far, IsTreeSoFar, IsWholeTree}
+use Rattle.bi_blob.proofs.Blobs.OpenNodes.{ended_root, AreProperties-push, open_node_of-property, open_node_of-child}
+use Rattle.bi_blob.proofs.Blobs.OpenNodes.{events_of_open_nodes-property, events_of_open_nodes-child, events_of_open_nodes-root}
 use Rattle.bi_blob.proofs.Blobs.Steps.{AreOpenNodes-property, AreOpenNodes-child, innermost_properties, length-outer_nodes_of}
 use Rattle.bi_blob.proofs.Blobs.Passing.{event_without_place}
 use Rattle.bi_blob.proofs.Blobs.Complete.{tree_events_without_places, depth-properties_of}
@@ -46,7 +50,8 @@ properties-at_0 [] = refl
 properties-at_0 (property ∷ later) = ap (λ l. property ∷ l) (properties-at_0 later)
 
 -- The events of properties at place 0.
-property_events-at_0 : (properties : List Property) → map FileNodeProperty (map property_at_0 properties) ≡ map event_at_0 (map NodeProperty properties)
+property_events-at_0 : (properties : List Property) →
+    map FileNodeProperty (map property_at_0 properties) ≡ map event_at_0 (map NodeProperty properties)
 property_events-at_0 [] = refl
 property_events-at_0 (property ∷ later) = ap (λ l. FileNodeProperty (property_at_0 property) ∷ l) (property_events-at_0 later)
 
@@ -88,7 +93,8 @@ pub record HasGrown (depth_limit : ℕ) (so_far : TreeSoFar) (event : Event) : T
 
 module _ (depth_limit : ℕ) where
   -- A tree grows by each event that may follow.
-  grow : (so_far : TreeSoFar) (event : Event) → IsTreeSoFar depth_limit so_far → MayFollow depth_limit (stage_of so_far) event → HasGrown depth_limit so_far event
+  grow : (so_far : TreeSoFar) (event : Event) → IsTreeSoFar depth_limit so_far → MayFollow depth_limit (stage_of so_far) event →
+      HasGrown depth_limit so_far event
   grow NoTree (NodeStart name) is may = record {
     after = OpenTree (new_node name 0) [];
     is_tree_so_far = (record { properties = record { named = tt; distinct = tt }; children = tt; shallow = omega (arith, may.0) }, may.1);
@@ -122,7 +128,7 @@ module _ (depth_limit : ℕ) where
   grow (OpenTree outermost []) NodeEnd is may =
       let shallow = is.0.shallow in
       record {
-        after = WholeTree (root_of outermost);
+        after = WholeTree (ended_root outermost);
         is_tree_so_far = record { is_tree = record { is_own = is.0.properties; children = is.0.children }; shallow = omega (arith, shallow) };
         is_stage = refl;
         adds_event = events_of_open_nodes-root outermost is.1;
@@ -136,13 +142,16 @@ module _ (depth_limit : ℕ) where
   grow (WholeTree root) NodeEnd is may = absurd may
 
   -- A tree that has ended.
-  ended : (so_far : TreeSoFar) → IsTreeSoFar depth_limit so_far → stage_of so_far ≡ AfterRoot → (root : Root FileNode) × (file_events_of root ≡ events_so_far so_far) × IsWholeTree depth_limit root
+  ended : (so_far : TreeSoFar) → IsTreeSoFar depth_limit so_far → stage_of so_far ≡ AfterRoot →
+      (root : Root FileNode) × (file_events_of root ≡ events_so_far so_far) × IsWholeTree depth_limit root
   ended NoTree is closed = absurd cc
   ended (OpenTree innermost outer) is closed = absurd cc
   ended (WholeTree root) is closed = (root, refl, is)
 
   -- A tree grows by events that follow to the end, and ends.
-  grow_to_end : (so_far : TreeSoFar) (later : List Event) → IsTreeSoFar depth_limit so_far → FollowToEnd (MayFollow depth_limit) (stage_of so_far) later → (root : Root FileNode) × (file_events_of root ≡ events_so_far so_far ++ map event_at_0 later) × IsWholeTree depth_limit root
+  grow_to_end : (so_far : TreeSoFar) (later : List Event) → IsTreeSoFar depth_limit so_far →
+      FollowToEnd (MayFollow depth_limit) (stage_of so_far) later →
+      (root : Root FileNode) × (file_events_of root ≡ events_so_far so_far ++ map event_at_0 later) × IsWholeTree depth_limit root
   grow_to_end so_far [] is follow =
       let done = ended so_far is follow in
       (done.0, done.1 ∙ sym (append-nil (events_so_far so_far)), done.2)

@@ -1,15 +1,18 @@
 use Rattle.std.proofs.Common.{◌⊎◌, ℕ, List, length, refl, inl, inr}
 use Rattle.bi_base.specs.declared.fault.Fault.{Fault}
 use Rattle.bi_base.specs.Cells.{AreBytes}
-use Rattle.bi_base.specs.Limits.{Bounds}
+use Rattle.bi_base.specs.Limits.{Limits}
 use Rattle.bi_blob.specs.Tokens.{Token}
 use Rattle.bi_blob.specs.Blob.{Header, IsBlobWithin, tree_blocks, off_mem_rsvmap, totalsize, boot_cpuid_phys, reservations_at}
-use Rattle.bi_blob.specs.BlobFaults.{HeaderPasses, header_checks, header_fault, HasNoHeaderFault, IsHeaderFault, HasReservations, IsStructureFault, IsBlobFault, InHeader, InReservations, InStructure}
+use Rattle.bi_blob.specs.BlobFaults.{HeaderPasses, header_checks, header_fault, HasNoHeaderFault, IsHeaderFault, HasReservations}
+use Rattle.bi_blob.specs.BlobFaults.{IsStructureFault, IsBlobFault, InHeader, InReservations, InStructure}
 use Rattle.bi_blob.specs.BlobLaws.{BlobHasNoFault, OneBlobFault, BlobOrFault, BlobWhereNoFault}
 use Rattle.bi_base.proofs.FirstFault.{one_fault, not_both, fault_or_none}
 use Rattle.bi_blob.proofs.Blobs.Decided.{header_decided}
 use Rattle.bi_blob.proofs.Blobs.Headers.{HasNoHeaderFault-Header, Header-HasNoHeaderFault, Header-IsReadable}
-use Rattle.bi_blob.proofs.Blobs.ReservationFaults.{Found, reservations_or_fault, one_reservations_fault, no_reservations_with_fault, HasReservations-BeginsWithReservations, BeginsWithReservations-HasReservations}
+use Rattle.bi_blob.proofs.Blobs.ReservationFaults.{HasSomeOrFault, reservations_or_fault, one_reservations_fault}
+use Rattle.bi_blob.proofs.Blobs.ReservationFaults.{no_reservations_with_fault, HasReservations-BeginsWithReservations}
+use Rattle.bi_blob.proofs.Blobs.ReservationFaults.{BeginsWithReservations-HasReservations}
 use Rattle.bi_blob.proofs.Blobs.Whole.{HasTree, tree_or_fault}
 use Rattle.bi_blob.proofs.Blobs.OneFault.{IsEnded, one_structure_fault, no_fault_in_ended}
 use Rattle.bi_blob.proofs.Blobs.Complete.{tree_ends}
@@ -30,7 +33,7 @@ blob_has_no_fault bounds file fault within (InStructure fine count has faulty) =
     no_fault_in_ended (tree_blocks file) bounds.depth ends.0 fault ends.1 faulty
 
 -- A header has no fault where its checks pass.
-no_fault_or_fault : (bounds : Bounds) (file : List ℕ) (fault : Fault) → HasNoHeaderFault bounds file → IsHeaderFault bounds file fault → ⊥
+no_fault_or_fault : (bounds : Limits) (file : List ℕ) (fault : Fault) → HasNoHeaderFault bounds file → IsHeaderFault bounds file fault → ⊥
 no_fault_or_fault bounds file fault fine first = not_both (HeaderPasses bounds file) (header_fault bounds) header_checks fault fine first
 
 pub one_blob_fault : OneBlobFault
@@ -49,7 +52,8 @@ one_blob_fault bounds file f g (InStructure fine count has one) (InStructure too
     one_structure_fault (tree_blocks file) bounds.depth f g one other
 
 -- A file with a header without fault, reservations and a tree is a blob within the limits.
-pub blob_of_parts : (bounds : Bounds) (file : List ℕ) (count : ℕ) → AreBytes file → HasNoHeaderFault bounds file → HasReservations file (off_mem_rsvmap file) (totalsize file) count → HasTree (tree_blocks file) bounds.depth → IsBlobWithin bounds file
+pub blob_of_parts : (bounds : Limits) (file : List ℕ) (count : ℕ) → AreBytes file → HasNoHeaderFault bounds file →
+    HasReservations file (off_mem_rsvmap file) (totalsize file) count → HasTree (tree_blocks file) bounds.depth → IsBlobWithin bounds file
 blob_of_parts bounds file count bytes fine has tree =
     let header : Header file = HasNoHeaderFault-Header bounds file fine in
     record {
@@ -77,7 +81,7 @@ blob_or_fault bounds file bytes =
       by_tree fine count has (inl tree) = inl (blob_of_parts bounds file count bytes fine has tree)
       by_tree fine count has (inr faulty) = inr (faulty.0, InStructure fine count has faulty.1)
 
-      by_reservations : HasNoHeaderFault bounds file → Found file (off_mem_rsvmap file) (totalsize file) → Outcome
+      by_reservations : HasNoHeaderFault bounds file → HasSomeOrFault file (off_mem_rsvmap file) (totalsize file) → Outcome
       by_reservations fine (inl some) =
           by_tree fine some.count some.has
           (tree_or_fault (tree_blocks file) bounds.depth (Header-IsReadable file bytes (HasNoHeaderFault-Header bounds file fine)))

@@ -1,8 +1,9 @@
 use Rattle.std.proofs.Common.{◌≡◌, ℕ, ◌+◌, ◌≤◌, Bool, true, false, if◌then◌else◌, List, length, ap, arith}
 use Rattle.std.specs.Prelude.{◌==◌}
 use Rattle.bi_base.specs.Cells.{AreBytes}
-use Rattle.bi_base.specs.Limits.{Bounds}
-use Rattle.bi_blob.specs.Blob.{Header, version, version_without_structure_size, lacks_structure_size, header_length, tree_blocks, totalsize, off_dt_struct, size_dt_struct, structure_end, IsReadable}
+use Rattle.bi_base.specs.Limits.{Limits}
+use Rattle.bi_blob.specs.Blob.{Header, version, version_without_structure_size, lacks_structure_size, header_length, tree_blocks, totalsize}
+use Rattle.bi_blob.specs.Blob.{off_dt_struct, size_dt_struct, structure_end, IsReadable}
 use Rattle.bi_blob.specs.BlobFaults.{HasNoHeaderFault}
 
 -- The checks of a header and the conditions of a header are the same.
@@ -25,7 +26,7 @@ structure_end-17 file is_17 =
     ap (λ n. if n == version_without_structure_size then totalsize file else off_dt_struct file + size_dt_struct file) is_17
 
 -- A header whose checks pass meets the conditions.
-pub HasNoHeaderFault-Header : (bounds : Bounds) (file : List ℕ) → HasNoHeaderFault bounds file → Header file
+pub HasNoHeaderFault-Header : (bounds : Limits) (file : List ℕ) → HasNoHeaderFault bounds file → Header file
 HasNoHeaderFault-Header bounds file fine =
     let version = fine.1.1.1.1 in
     let total = version.1.1 in
@@ -49,7 +50,7 @@ HasNoHeaderFault-Header bounds file fine =
     }
 
 -- A header that meets the conditions passes its checks, in a file that is no longer than the limit.
-pub Header-HasNoHeaderFault : (bounds : Bounds) (file : List ℕ) → length file ≤ bounds.file → Header file → HasNoHeaderFault bounds file
+pub Header-HasNoHeaderFault : (bounds : Limits) (file : List ℕ) → length file ≤ bounds.file → Header file → HasNoHeaderFault bounds file
 Header-HasNoHeaderFault bounds file short header =
     let whole : header_length file ≤ length file = header.whole in
     let magic : 4 ≤ header_length file = header_length-magic file in (

@@ -14,7 +14,8 @@ module _ {X : Type 0} (name_of : X → List ℕ) where
   by_name things = map (λ thing. (name_of thing, thing)) things
 
   -- What is at an index of a list, and has a name that is new among the names of the list, is not there.
-  not_new : (name : List ℕ) (things : List X) (index : ℕ) (thing : X) → slice_get things index ≡ Some thing → name_of thing ≡ name → IsNew name (map name_of things) → ⊥
+  not_new : (name : List ℕ) (things : List X) (index : ℕ) (thing : X) → slice_get things index ≡ Some thing → name_of thing ≡ name →
+      IsNew name (map name_of things) → ⊥
   not_new name [] index thing there is_name is_new = absurd cc
   not_new name (first ∷ later) zero thing there is_name is_new =
       let same : first ≡ thing = cc in
@@ -22,7 +23,8 @@ module _ {X : Type 0} (name_of : X → List ℕ) where
   not_new name (first ∷ later) (suc index) thing there is_name is_new = not_new name later index thing there is_name is_new.1
 
   -- What is at an index is found by its name.
-  found_at : (things : List X) (index : ℕ) (thing : X) → AreDistinct (map name_of things) → slice_get things index ≡ Some thing → lookup (λ other. bytes_eq other (name_of thing)) (by_name things) ≡ Some thing
+  found_at : (things : List X) (index : ℕ) (thing : X) → AreDistinct (map name_of things) → slice_get things index ≡ Some thing →
+      lookup (λ other. bytes_eq other (name_of thing)) (by_name things) ≡ Some thing
   found_at [] index thing distinct there = absurd cc
   found_at (first ∷ later) zero thing distinct there =
       let same : first ≡ thing = cc in
@@ -38,7 +40,8 @@ module _ {X : Type 0} (name_of : X → List ℕ) where
       where_first false is rest = rw is rest
 
   -- What is found by a name has the name, and is at an index.
-  at_found : (things : List X) (name : List ℕ) (thing : X) → lookup (λ other. bytes_eq other name) (by_name things) ≡ Some thing → (name_of thing ≡ name) × (index : ℕ) × (slice_get things index ≡ Some thing)
+  at_found : (things : List X) (name : List ℕ) (thing : X) → lookup (λ other. bytes_eq other name) (by_name things) ≡ Some thing →
+      (name_of thing ≡ name) × (index : ℕ) × (slice_get things index ≡ Some thing)
   at_found [] name thing found = absurd cc
   at_found (first ∷ later) name thing found =
       where_first (bytes_eq (name_of first) name) refl found (λ found. at_found later name thing found)
@@ -68,11 +71,13 @@ siblings_from-first none = refl
 siblings_from-first (node name own children later) = refl
 
 -- From a node on, there are the node and those from the next one on.
-pub siblings_from-next : {Own : Type 0} (next after : Option (Sibling Own)) (first : Sibling Own) → next ≡ Some first → after ≡ node_at first.later 0 → siblings_from next ≡ first ∷ siblings_from after
+pub siblings_from-next : {Own : Type 0} (next after : Option (Sibling Own)) (first : Sibling Own) → next ≡ Some first →
+    after ≡ node_at first.later 0 → siblings_from next ≡ first ∷ siblings_from after
 siblings_from-next next after first is after_is = ap siblings_from is ∙ ap (λ l. first ∷ l) (sym (ap siblings_from after_is ∙ siblings_from-first first.later))
 
 -- After a node comes the first of its later siblings.
-next_node : {Own : Type 0} (nodes : Nodes Own) (index : ℕ) (sibling : Sibling Own) → node_at nodes index ≡ Some sibling → node_at sibling.later 0 ≡ node_at nodes (suc index)
+next_node : {Own : Type 0} (nodes : Nodes Own) (index : ℕ) (sibling : Sibling Own) → node_at nodes index ≡ Some sibling →
+    node_at sibling.later 0 ≡ node_at nodes (suc index)
 next_node none index sibling there = absurd cc
 next_node {Own = Own} (node name own children later) zero sibling there =
     let same : ◌≡◌ {A = Sibling Own} (record { name = name; own = own; children = children; later = later }) sibling = cc in

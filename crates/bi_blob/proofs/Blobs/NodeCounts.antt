@@ -25,7 +25,8 @@ events_at_least (node name own children later) =
     omega arith
 
 -- Tokens that encode events have at least as many bytes.
-tokens_at_least : (strings : List ℕ) (at : ℕ) (tokens : List Token) (token_events : List FileEvent) → EncodeEvents strings at tokens token_events → at + length token_events ≤ place_after_all at tokens
+tokens_at_least : (strings : List ℕ) (at : ℕ) (tokens : List Token) (token_events : List FileEvent) →
+    EncodeEvents strings at tokens token_events → at + length token_events ≤ place_after_all at tokens
 tokens_at_least strings at [] [] encodes = omega arith
 tokens_at_least strings at (Nop ∷ tokens) token_events encodes =
     let rest : at + width Nop + length token_events ≤ place_after_all (at + width Nop) tokens = tokens_at_least strings (at + width Nop) tokens token_events encodes in
@@ -45,7 +46,8 @@ tokens_at_least strings at (EndNode ∷ tokens) (FileNodeEnd ∷ later) encodes 
 tokens_at_least strings at tokens token_events encodes = absurd encodes
 
 -- A structure block that holds a tree has more bytes than the tree has nodes, and the file has all of them.
-pub fewer_nodes_than_bytes : (file : List ℕ) (cpu : ℕ) (reservations : List Reservation) (root : Root FileNode) → IsBlob file cpu reservations root → node_count_of root < length file
+pub fewer_nodes_than_bytes : (file : List ℕ) (cpu : ℕ) (reservations : List Reservation) (root : Root FileNode) →
+    IsBlob file cpu reservations root → node_count_of root < length file
 fewer_nodes_than_bytes file cpu reservations root blob =
     let blocks = tree_blocks file in
     let held = blob.holds in
@@ -61,7 +63,8 @@ fewer_nodes_than_bytes file cpu reservations root blob =
     omega arith
 
 -- The nodes of a list and their children are among the nodes.
-pub siblings_and_children : {Own : Type 0} (nodes : Nodes Own) → length (siblings nodes) + length (flat_map (λ sibling. siblings sibling.children) (siblings nodes)) ≤ node_count nodes
+pub siblings_and_children : {Own : Type 0} (nodes : Nodes Own) →
+    length (siblings nodes) + length (flat_map (λ sibling. siblings sibling.children) (siblings nodes)) ≤ node_count nodes
 siblings_and_children none = omega arith
 siblings_and_children (node name own children later) =
     let below : length (siblings children) + length (flat_map (λ sibling. siblings sibling.children) (siblings children)) ≤ node_count children = siblings_and_children children in

@@ -7,11 +7,12 @@ use Rattle.bi_blob.specs.Blob.{TreeBlocks, HoldsTree, tree_blocks}
 use Rattle.bi_blob.specs.BlobLaws.{OneBlob}
 use Rattle.bi_blob.proofs.Blobs.TokenEncoding.{AllStand, AreEncodings-stand, one_token_list}
 use Rattle.bi_blob.proofs.Blobs.EventEncoding.{one_event_list, EncodeEvents-no_end}
-use Rattle.bi_blob.proofs.Blobs.Trees.{trees_agree}
+use Rattle.bi_blob.proofs.Blobs.OneTree.{trees_agree}
 use Rattle.bi_blob.proofs.Blobs.Reservations.{reservations_agree}
 
 -- The tokens of a block's tree are at the block's beginning.
-pub HoldsTree-stand : (blocks : TreeBlocks) (root : Root FileNode) (holds : HoldsTree blocks root) → AllStand blocks.file blocks.begin (holds.tokens ++ End ∷ [])
+pub HoldsTree-stand : (blocks : TreeBlocks) (root : Root FileNode) (holds : HoldsTree blocks root) →
+    AllStand blocks.file blocks.begin (holds.tokens ++ End ∷ [])
 HoldsTree-stand blocks root holds =
     let size : ℕ = blocks.end - blocks.begin in
     AreEncodings-stand blocks.file blocks.begin (holds.tokens ++ End ∷ []) holds.structure (holds.trailing ++ drop size (drop blocks.begin blocks.file)) holds.is_encoded

@@ -27,7 +27,8 @@ module _ (blocks : TreeBlocks) (depth_limit : ℕ) where
       fault
 
   -- Two equally long lists of tokens that pass are one.
-  pub one_beginning : (ts us : List Token) → ArePassed blocks depth_limit ts → ArePassed blocks depth_limit us → length ts ≡ length us → ts ≡ us
+  pub one_beginning : (ts us : List Token) → ArePassed blocks depth_limit ts → ArePassed blocks depth_limit us → length ts ≡ length us →
+      ts ≡ us
   one_beginning [] [] one other e = refl
   one_beginning [] (u ∷ us) one other e = absurd (omega arith)
   one_beginning (t ∷ ts) [] one other e = absurd (omega arith)
@@ -38,7 +39,8 @@ module _ (blocks : TreeBlocks) (depth_limit : ℕ) where
       λ i. same i ∷ before i
 
   -- Where a longer list of tokens passes, the token after a shorter one passes.
-  pub passed_after : (ts us : List Token) → ArePassed blocks depth_limit ts → ArePassed blocks depth_limit us → length ts < length us → (u : Token) × IsPassed blocks depth_limit ts u
+  pub passed_after : (ts us : List Token) → ArePassed blocks depth_limit ts → ArePassed blocks depth_limit us → length ts < length us →
+      (u : Token) × IsPassed blocks depth_limit ts u
   passed_after ts [] one other less = absurd (omega arith)
   passed_after ts (u ∷ us) one other less =
       elim (cases_order (length ts) (length us)) [
@@ -50,7 +52,8 @@ module _ (blocks : TreeBlocks) (depth_limit : ℕ) where
       ]
 
   -- There is no fault before the end of tokens that pass.
-  pub no_fault_before : (ts us : List Token) (fault : Fault) → ArePassed blocks depth_limit ts → ArePassed blocks depth_limit us → length ts < length us → TokenFault ts fault → ⊥
+  pub no_fault_before : (ts us : List Token) (fault : Fault) → ArePassed blocks depth_limit ts → ArePassed blocks depth_limit us →
+      length ts < length us → TokenFault ts fault → ⊥
   no_fault_before ts us fault one other less first =
       let next : (u : Token) × IsPassed blocks depth_limit ts u = passed_after ts us one other less in
       not_both _ _ (token_checks (u32_at blocks.file (place_after blocks ts))) fault next.1.passes first

@@ -1,13 +1,15 @@
-use Rattle.std.proofs.Common.{◌≡◌, ℕ, ◌+◌, ◌-◌, ◌<◌, ◌≤◌, List, [], ◌∷◌, ◌++◌, length, take, drop, reverse, refl, sym, ap, subst, ◌∙◌, arith}
+use Rattle.std.proofs.Common.{◌≡◌, ℕ, ◌+◌, ◌-◌, ◌<◌, ◌≤◌, List, [], ◌∷◌, ◌++◌, length, take, drop, reverse, refl, sym, ap, subst, ◌∙◌}
+use Rattle.std.proofs.Common.{arith}
 use Rattle.std.proofs.lemmas.List.{length-append, append_assoc, take-append-drop, take-append-le, drop-append-le, length-drop}
 use Rattle.bi_base.specs.Cells.{slice, u32_at}
 use Rattle.bi_base.specs.Checks.{HasNoFault}
-use Rattle.bi_blob.specs.Tokens.{Token, BeginNode, EndNode, Prop, Nop, End, token_bytes, width, AreEncodings, IsTokenAt, IsNameAt, name_from}
+use Rattle.bi_blob.specs.Tokens.{Token, BeginNode, EndNode, Prop, Nop, End, token_bytes, width, AreEncodings, IsTokenAt, IsNameAt}
+use Rattle.bi_blob.specs.Tokens.{name_from}
 use Rattle.bi_blob.specs.Stages.{Stage}
 use Rattle.bi_blob.specs.Blob.{TreeBlocks, IsReadable}
 use Rattle.bi_blob.specs.BlobFaults.{TokenPasses, token_checks, stage_after, place_after, ArePassed}
 use Rattle.bi_blob.specs.BlobLaws.{AllTokensPass, PassedWhereEncoded}
-use Rattle.bi_blob.proofs.Blobs.Names.{one_name, HasName-IsNameAt}
+use Rattle.bi_blob.proofs.Blobs.BytesBeforeZero.{one_name, HasName-IsNameAt}
 use Rattle.bi_blob.proofs.Blobs.Tokens.{number, length-token_bytes, IsTokenAt-number, IsTokenAt-within, BeginNode-name, Prop-parts}
 use Rattle.bi_blob.proofs.Blobs.TokenEncoding.{place_after_all, AllStand, AreEncodings-stand}
 use Rattle.bi_blob.proofs.Blobs.Passing.{length-Prop}
@@ -28,13 +30,15 @@ IsTokenAt-trailing file trailing at token is_at = record {
   is_at = slice-trailing file trailing at (length (token_bytes token)) (IsTokenAt-within file at token is_at) ∙ is_at.is_at;
 }
 
-AllStand-trailing : (file trailing : List ℕ) (at : ℕ) (tokens : List Token) → AllStand file at tokens → AllStand (file ++ trailing) at tokens
+AllStand-trailing : (file trailing : List ℕ) (at : ℕ) (tokens : List Token) → AllStand file at tokens →
+    AllStand (file ++ trailing) at tokens
 AllStand-trailing file trailing at [] stand = tt
 AllStand-trailing file trailing at (token ∷ later) stand =
     (IsTokenAt-trailing file trailing at token stand.0, AllStand-trailing file trailing (at + width token) later stand.1)
 
 -- Tokens that pass, pass.
-ArePassed-AllTokensPass : (blocks : TreeBlocks) (depth_limit : ℕ) (tokens : List Token) → ArePassed blocks depth_limit tokens → AllTokensPass blocks depth_limit tokens
+ArePassed-AllTokensPass : (blocks : TreeBlocks) (depth_limit : ℕ) (tokens : List Token) → ArePassed blocks depth_limit tokens →
+    AllTokensPass blocks depth_limit tokens
 ArePassed-AllTokensPass blocks depth_limit [] passed = tt
 ArePassed-AllTokensPass blocks depth_limit (token ∷ before) passed =
     (passed.0.no_end, passed.0.passes, ArePassed-AllTokensPass blocks depth_limit before passed.1)
@@ -45,7 +49,8 @@ unfolding u32_at
 u32_at-trailing file trailing at within = rw (slice-trailing file trailing at 4 within) refl
 
 -- A name in a file is in the longer file.
-IsNameAt-trailing : (file trailing : List ℕ) (at : ℕ) (name : List ℕ) → at ≤ length file → IsNameAt file at name → IsNameAt (file ++ trailing) at name
+IsNameAt-trailing : (file trailing : List ℕ) (at : ℕ) (name : List ℕ) → at ≤ length file → IsNameAt file at name →
+    IsNameAt (file ++ trailing) at name
 IsNameAt-trailing file trailing at name within named = record {
   no_zero = named.no_zero;
   trailing = named.trailing ++ trailing;
@@ -53,7 +58,8 @@ IsNameAt-trailing file trailing at name within named = record {
 }
 
 -- A token in the longer file whose bytes the file has is in the file.
-IsTokenAt-shorter : (file trailing : List ℕ) (at : ℕ) (token : Token) → at + length (token_bytes token) ≤ length file → IsTokenAt (file ++ trailing) at token → IsTokenAt file at token
+IsTokenAt-shorter : (file trailing : List ℕ) (at : ℕ) (token : Token) → at + length (token_bytes token) ≤ length file →
+    IsTokenAt (file ++ trailing) at token → IsTokenAt file at token
 IsTokenAt-shorter file trailing at token within is_at = record {
   is_token = is_at.is_token;
   is_at = sym (slice-trailing file trailing at (length (token_bytes token)) within) ∙ is_at.is_at;
@@ -61,7 +67,9 @@ IsTokenAt-shorter file trailing at token within is_at = record {
 
 module _ (blocks : TreeBlocks) (depth_limit place : ℕ) (stage : Stage) (trailing : List ℕ) (readable : IsReadable blocks) where
   -- The bytes of a token that passes are within the file.
-  passes_within : (token : Token) → IsTokenAt (blocks.file ++ trailing) place token → HasNoFault (TokenPasses blocks depth_limit place stage) (token_checks (u32_at blocks.file place)) → place + length (token_bytes token) ≤ length blocks.file
+  passes_within : (token : Token) → IsTokenAt (blocks.file ++ trailing) place token →
+      HasNoFault (TokenPasses blocks depth_limit place stage) (token_checks (u32_at blocks.file place)) →
+      place + length (token_bytes token) ≤ length blocks.file
   passes_within token is_at passes = by_token token is_at (subst (λ n. HasNoFault (TokenPasses blocks depth_limit place stage) (token_checks n)) same passes) where
     word : place + 4 ≤ length blocks.file
     word = let here : place + 4 ≤ blocks.end = passes.0 in let inside : blocks.end ≤ length blocks.file = readable.within in omega arith
@@ -94,14 +102,17 @@ module _ (blocks : TreeBlocks) (depth_limit place : ℕ) (stage : Stage) (traili
     by_token End is_at checks = let long : length (token_bytes End) ≡ 4 = length-token_bytes End in omega arith
 
 -- Where tokens with one more at their end are in a file, the tokens are, and the last one is after them.
-AllStand-last : (file : List ℕ) (at : ℕ) (tokens : List Token) (t : Token) → AllStand file at (tokens ++ t ∷ []) → AllStand file at tokens × IsTokenAt file (place_after_all at tokens) t
+AllStand-last : (file : List ℕ) (at : ℕ) (tokens : List Token) (t : Token) → AllStand file at (tokens ++ t ∷ []) →
+    AllStand file at tokens × IsTokenAt file (place_after_all at tokens) t
 AllStand-last file at [] t stand = (tt, stand.0)
 AllStand-last file at (u ∷ tokens) t stand =
     let rest : AllStand file (at + width u) tokens × IsTokenAt file (place_after_all (at + width u) tokens) t = AllStand-last file (at + width u) tokens t stand.1 in
     ((stand.0, rest.0), rest.1)
 
 -- Tokens in the longer file that pass their checks are passed.
-AllTokensPass-ArePassed : (blocks : TreeBlocks) (depth_limit : ℕ) (tokens : List Token) (trailing : List ℕ) → IsReadable blocks → AllTokensPass blocks depth_limit tokens → AllStand (blocks.file ++ trailing) blocks.begin (reverse tokens) → ArePassed blocks depth_limit tokens
+AllTokensPass-ArePassed : (blocks : TreeBlocks) (depth_limit : ℕ) (tokens : List Token) (trailing : List ℕ) → IsReadable blocks →
+    AllTokensPass blocks depth_limit tokens → AllStand (blocks.file ++ trailing) blocks.begin (reverse tokens) →
+    ArePassed blocks depth_limit tokens
 AllTokensPass-ArePassed blocks depth_limit [] trailing readable pass stand = tt
 AllTokensPass-ArePassed blocks depth_limit (token ∷ before) trailing readable pass stand =
     let place : ℕ = place_after blocks before in
@@ -120,7 +131,9 @@ AllTokensPass-ArePassed blocks depth_limit (token ∷ before) trailing readable 
     )
 
 -- Tokens that pass are encoded in the longer file: the last of them ends at most three bytes after the file.
-ArePassed-is_encoded : (blocks : TreeBlocks) (depth_limit : ℕ) (tokens : List Token) (trailing : List ℕ) → length trailing ≡ 3 → ArePassed blocks depth_limit tokens → AreEncodings (reverse tokens) (slice (blocks.file ++ trailing) blocks.begin (place_after blocks tokens - blocks.begin))
+ArePassed-is_encoded : (blocks : TreeBlocks) (depth_limit : ℕ) (tokens : List Token) (trailing : List ℕ) → length trailing ≡ 3 →
+    ArePassed blocks depth_limit tokens →
+    AreEncodings (reverse tokens) (slice (blocks.file ++ trailing) blocks.begin (place_after blocks tokens - blocks.begin))
 ArePassed-is_encoded blocks depth_limit [] trailing three passed =
     ap (λ n. take n (drop blocks.begin (blocks.file ++ trailing))) (none blocks.begin) where
       none : (n : ℕ) → n - n ≡ 0

@@ -24,7 +24,8 @@ pub reverse-cons : (t : Token) (before : List Token) → reverse (t ∷ before) 
 reverse-cons t before = reverse-append (t ∷ []) before
 
 -- The offset after tokens listed with the newest first, and with the oldest first, is the same.
-pub place_after_all-reverse : (blocks : TreeBlocks) (tokens : List Token) → place_after_all blocks.begin (reverse tokens) ≡ place_after blocks tokens
+pub place_after_all-reverse : (blocks : TreeBlocks) (tokens : List Token) →
+    place_after_all blocks.begin (reverse tokens) ≡ place_after blocks tokens
 place_after_all-reverse blocks [] = refl
 place_after_all-reverse blocks (t ∷ before) =
     ap (place_after_all blocks.begin) (reverse-cons t before)
@@ -32,12 +33,14 @@ place_after_all-reverse blocks (t ∷ before) =
     ∙ ap (λ p. p + width t) (place_after_all-reverse blocks before)
 
 -- Tokens one after the other, and one more after them.
-AllStand-push : (file : List ℕ) (at : ℕ) (tokens : List Token) (t : Token) → AllStand file at tokens → IsTokenAt file (place_after_all at tokens) t → AllStand file at (tokens ++ t ∷ [])
+AllStand-push : (file : List ℕ) (at : ℕ) (tokens : List Token) (t : Token) → AllStand file at tokens →
+    IsTokenAt file (place_after_all at tokens) t → AllStand file at (tokens ++ t ∷ [])
 AllStand-push file at [] t all last = (last, tt)
 AllStand-push file at (u ∷ tokens) t all last = (all.0, AllStand-push file (at + width u) tokens t all.1 last)
 
 -- Tokens that pass are in the file one after the other, with one more after them.
-pub ArePassed-stand : (blocks : TreeBlocks) (depth_limit : ℕ) (tokens : List Token) → ArePassed blocks depth_limit tokens → AllStand blocks.file blocks.begin (reverse tokens)
+pub ArePassed-stand : (blocks : TreeBlocks) (depth_limit : ℕ) (tokens : List Token) → ArePassed blocks depth_limit tokens →
+    AllStand blocks.file blocks.begin (reverse tokens)
 ArePassed-stand blocks depth_limit [] passed = tt
 ArePassed-stand blocks depth_limit (t ∷ before) passed =
     subst (AllStand blocks.file blocks.begin) (sym (reverse-cons t before))
@@ -45,7 +48,8 @@ ArePassed-stand blocks depth_limit (t ∷ before) passed =
     (subst (λ p. IsTokenAt blocks.file p t) (sym (place_after_all-reverse blocks before)) passed.0.is_at))
 
 -- The same with a token after them.
-pub ArePassed-stand-push : (blocks : TreeBlocks) (depth_limit : ℕ) (tokens : List Token) (t : Token) → ArePassed blocks depth_limit tokens → IsTokenAt blocks.file (place_after blocks tokens) t → AllStand blocks.file blocks.begin (reverse tokens ++ t ∷ [])
+pub ArePassed-stand-push : (blocks : TreeBlocks) (depth_limit : ℕ) (tokens : List Token) (t : Token) → ArePassed blocks depth_limit tokens →
+    IsTokenAt blocks.file (place_after blocks tokens) t → AllStand blocks.file blocks.begin (reverse tokens ++ t ∷ [])
 ArePassed-stand-push blocks depth_limit tokens t passed last =
     AllStand-push blocks.file blocks.begin (reverse tokens) t (ArePassed-stand blocks depth_limit tokens passed)
     (subst (λ p. IsTokenAt blocks.file p t) (sym (place_after_all-reverse blocks tokens)) last)
@@ -56,7 +60,8 @@ place_after_all-past at [] = omega arith
 place_after_all-past at (t ∷ later) = let rest : at + width t ≤ place_after_all (at + width t) later = place_after_all-past (at + width t) later in omega arith
 
 -- The bytes at the offset of a token are its encoding, where the file has them all.
-IsTokenAt-encoded : (file : List ℕ) (at : ℕ) (t : Token) → IsTokenAt file at t → at + width t ≤ length file → IsEncoding t (slice file at (width t))
+IsTokenAt-encoded : (file : List ℕ) (at : ℕ) (t : Token) → IsTokenAt file at t → at + width t ≤ length file →
+    IsEncoding t (slice file at (width t))
 IsTokenAt-encoded file at t is_at within =
     let long : ℕ = length (token_bytes t) in
     let padded : long ≤ width t = (width-at_least t).1 in
@@ -71,7 +76,8 @@ IsTokenAt-encoded file at t is_at within =
       sum {a} {b} le = omega arith
 
 -- The bytes at the offset of tokens are their encodings, where the file has them all.
-pub AllStand-encoded : (file : List ℕ) (at : ℕ) (tokens : List Token) → AllStand file at tokens → place_after_all at tokens ≤ length file → AreEncodings tokens (slice file at (place_after_all at tokens - at))
+pub AllStand-encoded : (file : List ℕ) (at : ℕ) (tokens : List Token) → AllStand file at tokens → place_after_all at tokens ≤ length file →
+    AreEncodings tokens (slice file at (place_after_all at tokens - at))
 AllStand-encoded file at [] stand within = ap (λ n. slice file at n) (none at) where
   none : (n : ℕ) → n - n ≡ 0
   none n = omega arith
@@ -89,7 +95,12 @@ AllStand-encoded file at (t ∷ later) stand within =
     )
 
 -- The state of a reader after one more token that passes, where what was read grows by the events of the token.
-pub after_token : (blocks : TreeBlocks) (depth_limit place : ℕ) (old new : TreeSoFar) (t : Token) (more : List FileEvent) → IsOpenAt blocks depth_limit place old → t ≢ End → IsTokenAt blocks.file place t → HasNoFault (TokenPasses blocks depth_limit place (stage_of old)) (token_checks (u32_at blocks.file place)) → EncodeEvents blocks.strings place (t ∷ []) more → events_so_far new ≡ events_so_far old ++ more → fold next_stage (stage_of old) (token_events blocks.strings t) ≡ stage_of new → IsTreeSoFar depth_limit new → IsOpenAt blocks depth_limit (place + width t) new
+pub after_token : (blocks : TreeBlocks) (depth_limit place : ℕ) (old new : TreeSoFar) (t : Token) (more : List FileEvent) →
+    IsOpenAt blocks depth_limit place old → t ≢ End → IsTokenAt blocks.file place t →
+    HasNoFault (TokenPasses blocks depth_limit place (stage_of old)) (token_checks (u32_at blocks.file place)) →
+    EncodeEvents blocks.strings place (t ∷ []) more → events_so_far new ≡ events_so_far old ++ more →
+    fold next_stage (stage_of old) (token_events blocks.strings t) ≡ stage_of new → IsTreeSoFar depth_limit new →
+    IsOpenAt blocks depth_limit (place + width t) new
 after_token blocks depth_limit place old new t more position no_end is_at passes encodes_events grown staged is_tree_so_far = record {
   readable = position.readable;
   tokens = t ∷ position.tokens;

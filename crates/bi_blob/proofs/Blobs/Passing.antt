@@ -3,7 +3,8 @@ use Rattle.std.specs.Prelude.{IsTrue}
 use Rattle.std.proofs.lemmas.List.{length-append}
 use Rattle.bi_base.specs.Cells.{u32_at}
 use Rattle.bi_base.specs.Checks.{HasNoFault}
-use Rattle.bi_blob.specs.Tokens.{Token, BeginNode, EndNode, Prop, Nop, End, token_bytes, width, IsTokenAt, name_from, IsNameAt, nop_number, begin_node_number, prop_number, end_number}
+use Rattle.bi_blob.specs.Tokens.{Token, BeginNode, EndNode, Prop, Nop, End, token_bytes, width, IsTokenAt, name_from, IsNameAt, nop_number}
+use Rattle.bi_blob.specs.Tokens.{begin_node_number, prop_number, end_number}
 use Rattle.bi_blob.specs.Tree.{Property, property_of, IsNew, IsPropertyName}
 use Rattle.bi_blob.specs.Events.{Event, NodeStart, NodeProperty, NodeEnd, FileEvent, FileNodeStart, FileNodeProperty, FileNodeEnd}
 use Rattle.bi_blob.specs.Stages.{Stage, BeforeRoot, Inside, AfterRoot, open_nodes, child_names, property_names, is_expected}
@@ -11,10 +12,10 @@ use Rattle.bi_blob.specs.Following.{MayFollow}
 use Rattle.bi_blob.specs.Blob.{TreeBlocks}
 use Rattle.bi_blob.specs.BlobFaults.{TokenPasses, token_checks, MayBeNamed, HasName}
 use Rattle.bi_base.proofs.CellLaws.{length-cell}
-use Rattle.bi_blob.proofs.Blobs.Names.{name_from-IsNameAt, IsNameAt-HasName}
+use Rattle.bi_blob.proofs.Blobs.BytesBeforeZero.{name_from-IsNameAt, IsNameAt-HasName}
 use Rattle.bi_blob.proofs.Blobs.Tokens.{number, length-token_bytes, IsTokenAt-number, BeginNode-name, IsPropAt, Prop-parts, width-at_least}
 use Rattle.bi_blob.proofs.Blobs.Following.{start_passes, property_passes}
-use Rattle.bi_blob.proofs.Blobs.Following.{end_passes as end_node_expected}
+use Rattle.bi_blob.proofs.Blobs.Following.{end_node_is_expected as end_node_expected}
 
 -- The tokens of a block that holds a tree within the depth limit pass their checks.
 
@@ -30,33 +31,41 @@ length-Prop offset value = simp (length-append, length-cell) (omega arith)
 
 module _ (blocks : TreeBlocks) (depth_limit place : ℕ) (stage : Stage) where
   -- The number of a token is in the block, and may come there.
-  number_passes : (token : Token) → IsTokenAt blocks.file place token → place + width token ≤ blocks.end → IsTrue (is_expected stage (number token)) → (place + 4 ≤ blocks.end) × IsTrue (is_expected stage (u32_at blocks.file place))
+  number_passes : (token : Token) → IsTokenAt blocks.file place token → place + width token ≤ blocks.end →
+      IsTrue (is_expected stage (number token)) → (place + 4 ≤ blocks.end) × IsTrue (is_expected stage (u32_at blocks.file place))
   number_passes token is_at within may =
       let wide : 4 ≤ width token = (width-at_least token).0 in
       (omega arith, subst (λ n. IsTrue (is_expected stage n)) (sym (IsTokenAt-number blocks.file place token is_at)) may)
 
   -- A token that passes the checks of its number passes those of the number that is read.
-  by_number : (token : Token) → IsTokenAt blocks.file place token → HasNoFault (TokenPasses blocks depth_limit place stage) (token_checks (number token)) → HasNoFault (TokenPasses blocks depth_limit place stage) (token_checks (u32_at blocks.file place))
+  by_number : (token : Token) → IsTokenAt blocks.file place token →
+      HasNoFault (TokenPasses blocks depth_limit place stage) (token_checks (number token)) →
+      HasNoFault (TokenPasses blocks depth_limit place stage) (token_checks (u32_at blocks.file place))
   by_number token is_at passes =
       subst (λ n. HasNoFault (TokenPasses blocks depth_limit place stage) (token_checks n)) (sym (IsTokenAt-number blocks.file place token is_at)) passes
 
-  pub nop_passes : IsTokenAt blocks.file place Nop → place + width Nop ≤ blocks.end → HasNoFault (TokenPasses blocks depth_limit place stage) (token_checks (u32_at blocks.file place))
+  pub nop_passes : IsTokenAt blocks.file place Nop → place + width Nop ≤ blocks.end →
+      HasNoFault (TokenPasses blocks depth_limit place stage) (token_checks (u32_at blocks.file place))
   nop_passes is_at within =
       let word : (place + 4 ≤ blocks.end) × IsTrue (is_expected stage (u32_at blocks.file place)) = number_passes Nop is_at within (nop_is_expected stage) in
       by_number Nop is_at (word.0, (word.1, tt))
 
-  pub end_node_passes : IsTokenAt blocks.file place EndNode → place + width EndNode ≤ blocks.end → MayFollow depth_limit stage NodeEnd → HasNoFault (TokenPasses blocks depth_limit place stage) (token_checks (u32_at blocks.file place))
+  pub end_node_passes : IsTokenAt blocks.file place EndNode → place + width EndNode ≤ blocks.end → MayFollow depth_limit stage NodeEnd →
+      HasNoFault (TokenPasses blocks depth_limit place stage) (token_checks (u32_at blocks.file place))
   end_node_passes is_at within may =
       let word : (place + 4 ≤ blocks.end) × IsTrue (is_expected stage (u32_at blocks.file place)) = number_passes EndNode is_at within (end_node_expected stage may) in
       by_number EndNode is_at (word.0, (word.1, tt))
 
-  pub end_passes : IsTokenAt blocks.file place End → place + width End ≤ blocks.end → stage ≡ AfterRoot → HasNoFault (TokenPasses blocks depth_limit place stage) (token_checks (u32_at blocks.file place))
+  pub end_passes : IsTokenAt blocks.file place End → place + width End ≤ blocks.end → stage ≡ AfterRoot →
+      HasNoFault (TokenPasses blocks depth_limit place stage) (token_checks (u32_at blocks.file place))
   end_passes is_at within ended =
       let word : (place + 4 ≤ blocks.end) × IsTrue (is_expected stage (u32_at blocks.file place)) =
       number_passes End is_at within (subst (λ s. IsTrue (is_expected s end_number)) (sym ended) refl) in
       by_number End is_at (word.0, (word.1, tt))
 
-  pub begin_passes : (name : List ℕ) → IsTokenAt blocks.file place (BeginNode name) → place + width (BeginNode name) ≤ blocks.end → MayFollow depth_limit stage (NodeStart name) → HasNoFault (TokenPasses blocks depth_limit place stage) (token_checks (u32_at blocks.file place))
+  pub begin_passes : (name : List ℕ) → IsTokenAt blocks.file place (BeginNode name) → place + width (BeginNode name) ≤ blocks.end →
+      MayFollow depth_limit stage (NodeStart name) →
+      HasNoFault (TokenPasses blocks depth_limit place stage) (token_checks (u32_at blocks.file place))
   begin_passes name is_at within may_begin =
       let may : IsTrue (is_expected stage begin_node_number) × (length (open_nodes stage) < depth_limit) × MayBeNamed stage name × IsNew name (child_names stage) =
       start_passes depth_limit stage name may_begin in
@@ -84,7 +93,10 @@ module _ (blocks : TreeBlocks) (depth_limit place : ℕ) (stage : Stage) where
         ),
       )
 
-  pub prop_passes : (offset : ℕ) (value : List ℕ) (property : Property) → IsTokenAt blocks.file place (Prop offset value) → place + width (Prop offset value) ≤ blocks.end → IsNameAt blocks.strings offset property.0 → MayFollow depth_limit stage (NodeProperty property) → HasNoFault (TokenPasses blocks depth_limit place stage) (token_checks (u32_at blocks.file place))
+  pub prop_passes : (offset : ℕ) (value : List ℕ) (property : Property) → IsTokenAt blocks.file place (Prop offset value) →
+      place + width (Prop offset value) ≤ blocks.end → IsNameAt blocks.strings offset property.0 →
+      MayFollow depth_limit stage (NodeProperty property) →
+      HasNoFault (TokenPasses blocks depth_limit place stage) (token_checks (u32_at blocks.file place))
   prop_passes offset value property is_at within named may_have =
       let may : IsTrue (is_expected stage prop_number) × (child_names stage ≡ []) × IsPropertyName property.0 × IsNew property.0 (property_names stage) =
       property_passes stage property.0 may_have in

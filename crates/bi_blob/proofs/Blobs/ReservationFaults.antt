@@ -1,4 +1,5 @@
-use Rattle.std.proofs.Common.{◌≡◌, ◌⊎◌, ℕ, zero, suc, ◌+◌, ◌-◌, ◌*◌, ◌<◌, ◌≤◌, ◌^◌, List, [], ◌∷◌, ◌++◌, length, take, drop, refl, sym, ap, subst, ◌∙◌, inl, inr, arith, lit<}
+use Rattle.std.proofs.Common.{◌≡◌, ◌⊎◌, ℕ, zero, suc, ◌+◌, ◌-◌, ◌*◌, ◌<◌, ◌≤◌, ◌^◌, List, [], ◌∷◌, ◌++◌, length, take, drop, refl, sym, ap}
+use Rattle.std.proofs.Common.{subst, ◌∙◌, inl, inr, arith, lit<}
 use Rattle.std.specs.List.{AllByRecursion, flat_map}
 use Rattle.std.proofs.lemmas.Bool.{cases_lt}
 use Rattle.std.proofs.lemmas.List.{length-append, append_assoc, take-append-drop}
@@ -6,10 +7,12 @@ use Rattle.std.proofs.Math.Seq.{take-add}
 use Rattle.bi_base.specs.declared.fault.Cause.TheVariants.{Truncated}
 use Rattle.bi_base.specs.declared.fault.Fault.{Fault}
 use Rattle.bi_base.specs.Cells.{cell8, slice, u64_at, AreBytes}
-use Rattle.bi_blob.specs.Blob.{Reservation, IsReservation, pair_bytes, end_pair, reservation_block, BeginsWithReservations, pair_at, reservations_at}
+use Rattle.bi_blob.specs.Blob.{Reservation, IsReservation, pair_bytes, end_pair, reservation_block, BeginsWithReservations, pair_at}
+use Rattle.bi_blob.specs.Blob.{reservations_at}
 use Rattle.bi_blob.specs.BlobFaults.{IsEndPair, HasReservations, IsReservationsFault}
 use Rattle.bi_base.proofs.CellLaws.{length-slice}
-use Rattle.bi_blob.proofs.Blobs.Cells.{BytesAt, BytesAt-from, BytesAt-left, BytesAt-right, BytesAt-join, BytesAt-cell8, u64_at-BytesAt, u64_at-fits, length-cell8}
+use Rattle.bi_blob.proofs.Blobs.Cells.{BytesAt, BytesAt-from, BytesAt-left, BytesAt-right, BytesAt-join, BytesAt-cell8, u64_at-BytesAt}
+use Rattle.bi_blob.proofs.Blobs.Cells.{u64_at-fits, length-cell8}
 use Rattle.bi_blob.proofs.Blobs.Decided.{IsEndPair_decided}
 
 -- Proves that a reservation block has reservations and an end pair, or a fault, and that they are those read at their offsets.
@@ -18,7 +21,8 @@ pub length-pair_bytes : (pair : Reservation) → length (pair_bytes pair) ≡ 16
 length-pair_bytes pair = simp (length-append, length-cell8) refl
 
 -- The block of a first reservation and others is its pair and their block.
-pub reservation_block-first : (pair : Reservation) (later : List Reservation) → reservation_block (pair ∷ later) ≡ pair_bytes pair ++ reservation_block later
+pub reservation_block-first : (pair : Reservation) (later : List Reservation) →
+    reservation_block (pair ∷ later) ≡ pair_bytes pair ++ reservation_block later
 reservation_block-first pair later = append_assoc (pair_bytes pair) (flat_map pair_bytes later) (pair_bytes end_pair)
 
 pub length-reservation_block : (reservations : List Reservation) → length (reservation_block reservations) ≡ 16 * length reservations + 16
@@ -39,7 +43,8 @@ pair_is_there file at bytes within =
     (BytesAt-cell8 file (at + 8) bytes (omega arith)))
 
 -- A pair at an offset is read there.
-pub pair_read : (file : List ℕ) (at : ℕ) (pair : Reservation) → pair.address < 2 ^ 64 → pair.size < 2 ^ 64 → BytesAt file at (pair_bytes pair) → (u64_at file at ≡ pair.address) × (u64_at file (at + 8) ≡ pair.size)
+pub pair_read : (file : List ℕ) (at : ℕ) (pair : Reservation) → pair.address < 2 ^ 64 → pair.size < 2 ^ 64 →
+    BytesAt file at (pair_bytes pair) → (u64_at file at ≡ pair.address) × (u64_at file (at + 8) ≡ pair.size)
 pair_read file at pair address_fits size_fits is_at = (
   u64_at-BytesAt file at pair.address address_fits (BytesAt-left file at (cell8 pair.address) (cell8 pair.size) is_at),
   u64_at-BytesAt file (at + 8) pair.size size_fits
@@ -79,7 +84,9 @@ from_first P at holds = subst P (same at) holds where
   same a = omega arith
 
 -- No pair before an index ends the block, where neither the first nor those after it do.
-none_before : (file : List ℕ) (at count : ℕ) → ¬ (IsEndPair file at) → ((index : ℕ) → index < count → ¬ (IsEndPair file (at + 16 + 16 * index))) → (index : ℕ) → index < count + 1 → ¬ (IsEndPair file (at + 16 * index))
+none_before : (file : List ℕ) (at count : ℕ) → ¬ (IsEndPair file at) →
+    ((index : ℕ) → index < count → ¬ (IsEndPair file (at + 16 + 16 * index))) → (index : ℕ) → index < count + 1 →
+    ¬ (IsEndPair file (at + 16 * index))
 none_before file at count first later zero below = λ is. first (from_first (IsEndPair file) at is)
 none_before file at count first later (suc index) below =
     let below_there : index < count = omega arith in
@@ -88,7 +95,8 @@ none_before file at count first later (suc index) below =
       one_more n = omega arith
 
 -- One more reservation before those of a block.
-pub HasReservations-cons : (file : List ℕ) (at total count : ℕ) → ¬ (IsEndPair file at) → HasReservations file (at + 16) total count → HasReservations file at total (count + 1)
+pub HasReservations-cons : (file : List ℕ) (at total count : ℕ) → ¬ (IsEndPair file at) → HasReservations file (at + 16) total count →
+    HasReservations file at total (count + 1)
 HasReservations-cons file at total count first later =
     let within : at + 16 + 16 * count + 16 ≤ total = later.within in
     record {
@@ -98,7 +106,8 @@ HasReservations-cons file at total count first later =
     }
 
 -- One more reservation before the pair that gives the fault.
-IsReservationsFault-cons : (file : List ℕ) (at total : ℕ) (fault : Fault) → ¬ (IsEndPair file at) → IsReservationsFault file (at + 16) total fault → IsReservationsFault file at total fault
+IsReservationsFault-cons : (file : List ℕ) (at total : ℕ) (fault : Fault) → ¬ (IsEndPair file at) →
+    IsReservationsFault file (at + 16) total fault → IsReservationsFault file at total fault
 IsReservationsFault-cons file at total fault first later =
     let fits : at + 16 + 16 * later.index ≤ total = later.fits in
     let past : total < at + 16 + 16 * later.index + 16 = later.past in
@@ -124,7 +133,8 @@ ends_here file at total room end = record {
 }
 
 -- The first pair extends past the blob.
-past_here : (file : List ℕ) (at total : ℕ) → at ≤ total → total < at + 16 → IsReservationsFault file at total (record { cause = Truncated; offset = at })
+past_here : (file : List ℕ) (at total : ℕ) → at ≤ total → total < at + 16 →
+    IsReservationsFault file at total (record { cause = Truncated; offset = at })
 past_here file at total fits past = record {
   index = 0;
   before = λ index below. absurd (omega arith);
@@ -134,32 +144,33 @@ past_here file at total fits past = record {
 }
 
 -- What there is from an offset on: reservations and an end pair, or a fault.
-abbrev pub Found : List ℕ → ℕ → ℕ → Type 0
-Found file at total = HasSome file at total ⊎ ((fault : Fault) × IsReservationsFault file at total fault)
+abbrev pub HasSomeOrFault : List ℕ → ℕ → ℕ → Type 0
+HasSomeOrFault file at total = HasSome file at total ⊎ ((fault : Fault) × IsReservationsFault file at total fault)
 
 -- The same with a first pair that is no end pair.
-found_after : (file : List ℕ) (at total : ℕ) → ¬ (IsEndPair file at) → Found file (at + 16) total → Found file at total
+found_after : (file : List ℕ) (at total : ℕ) → ¬ (IsEndPair file at) → HasSomeOrFault file (at + 16) total → HasSomeOrFault file at total
 found_after file at total first (inl later) = inl (record { count = later.count + 1; has = HasReservations-cons file at total later.count first later.has })
 found_after file at total first (inr later) = inr (later.0, IsReservationsFault-cons file at total later.0 first later.1)
 
-found_from : (steps : ℕ) (file : List ℕ) (at total : ℕ) → at ≤ total → total ≤ at + steps → Found file at total
+found_from : (steps : ℕ) (file : List ℕ) (at total : ℕ) → at ≤ total → total ≤ at + steps → HasSomeOrFault file at total
 found_from zero file at total fits left = inr (record { cause = Truncated; offset = at }, past_here file at total fits (omega arith))
 found_from (suc steps) file at total fits left =
     by_room (cases_lt total (at + 16)) (λ room. found_from steps file (at + 16) total room (omega arith)) where
-      by_pair : at + 16 ≤ total → IsEndPair file at ⊎ ¬ (IsEndPair file at) → (at + 16 ≤ total → Found file (at + 16) total) → Found file at total
+      by_pair : at + 16 ≤ total → IsEndPair file at ⊎ ¬ (IsEndPair file at) → (at + 16 ≤ total → HasSomeOrFault file (at + 16) total) → HasSomeOrFault file at total
       by_pair room (inl end) later = inl (record { count = 0; has = ends_here file at total room end })
       by_pair room (inr other) later = found_after file at total other (later room)
 
-      by_room : (total < at + 16) ⊎ (at + 16 ≤ total) → (at + 16 ≤ total → Found file (at + 16) total) → Found file at total
+      by_room : (total < at + 16) ⊎ (at + 16 ≤ total) → (at + 16 ≤ total → HasSomeOrFault file (at + 16) total) → HasSomeOrFault file at total
       by_room (inl past) later = inr (record { cause = Truncated; offset = at }, past_here file at total fits past)
       by_room (inr room) later = by_pair room (IsEndPair_decided file at) later
 
 -- From an offset on there are reservations and an end pair, or a fault.
-pub reservations_or_fault : (file : List ℕ) (at total : ℕ) → at ≤ total → Found file at total
+pub reservations_or_fault : (file : List ℕ) (at total : ℕ) → at ≤ total → HasSomeOrFault file at total
 reservations_or_fault file at total fits = found_from total file at total fits (omega arith)
 
 -- There is one fault at most.
-pub one_reservations_fault : (file : List ℕ) (at total : ℕ) (f g : Fault) → IsReservationsFault file at total f → IsReservationsFault file at total g → f ≡ g
+pub one_reservations_fault : (file : List ℕ) (at total : ℕ) (f g : Fault) → IsReservationsFault file at total f →
+    IsReservationsFault file at total g → f ≡ g
 one_reservations_fault file at total f g one other =
     let a : at + 16 * one.index ≤ total = one.fits in
     let b : total < at + 16 * one.index + 16 = one.past in
@@ -169,14 +180,16 @@ one_reservations_fault file at total f g one other =
     one.is ∙ ap (λ n. record { cause = Truncated; offset = at + 16 * n }) same ∙ sym other.is
 
 -- There are no reservations with an end pair where there is a fault.
-pub no_reservations_with_fault : (file : List ℕ) (at total count : ℕ) (fault : Fault) → HasReservations file at total count → IsReservationsFault file at total fault → ⊥
+pub no_reservations_with_fault : (file : List ℕ) (at total count : ℕ) (fault : Fault) → HasReservations file at total count →
+    IsReservationsFault file at total fault → ⊥
 no_reservations_with_fault file at total count fault has faulty =
     let within : at + 16 * count + 16 ≤ total = has.within in
     let past : total < at + 16 * faulty.index + 16 = faulty.past in
     faulty.before count (omega arith) has.end
 
 -- The reservations after the first one of a block.
-HasReservations-later : (file : List ℕ) (at total count : ℕ) → HasReservations file at total (suc count) → HasReservations file (at + 16) total count
+HasReservations-later : (file : List ℕ) (at total count : ℕ) → HasReservations file at total (suc count) →
+    HasReservations file (at + 16) total count
 HasReservations-later file at total count has =
     let within : at + 16 * suc count + 16 ≤ total = has.within in
     let one_more : suc count ≡ count + 1 = omega arith in
@@ -189,7 +202,8 @@ HasReservations-later file at total count has =
     }
 
 -- They are reservations.
-are_reservations_at : (file : List ℕ) (at total count : ℕ) → AreBytes file → HasReservations file at total count → AllByRecursion IsReservation (reservations_at file at count)
+are_reservations_at : (file : List ℕ) (at total count : ℕ) → AreBytes file → HasReservations file at total count →
+    AllByRecursion IsReservation (reservations_at file at count)
 are_reservations_at file at total zero bytes has = tt
 are_reservations_at file at total (suc count) bytes has =
     let first : 0 < suc count = omega arith in (
@@ -198,12 +212,14 @@ are_reservations_at file at total (suc count) bytes has =
     )
 
 -- The end pair is where both of its numbers are zero.
-end_pair_is_there : (file : List ℕ) (at : ℕ) → AreBytes file → at + 16 ≤ length file → IsEndPair file at → BytesAt file at (pair_bytes end_pair)
+end_pair_is_there : (file : List ℕ) (at : ℕ) → AreBytes file → at + 16 ≤ length file → IsEndPair file at →
+    BytesAt file at (pair_bytes end_pair)
 end_pair_is_there file at bytes within is =
     subst (λ (pair : Reservation). BytesAt file at (pair_bytes pair)) (λ i. record { address = is.address i; size = is.size i }) (pair_is_there file at bytes within)
 
 -- Their block is at the offset.
-reservations_are_there : (file : List ℕ) (at total count : ℕ) → AreBytes file → total ≤ length file → HasReservations file at total count → BytesAt file at (reservation_block (reservations_at file at count))
+reservations_are_there : (file : List ℕ) (at total count : ℕ) → AreBytes file → total ≤ length file → HasReservations file at total count →
+    BytesAt file at (reservation_block (reservations_at file at count))
 reservations_are_there file at total zero bytes inside has =
     let within : at + 16 * 0 + 16 ≤ total = has.within in
     end_pair_is_there file at bytes (omega arith) (from_first (IsEndPair file) at has.end)
@@ -220,7 +236,8 @@ length-reservations_at file at zero = refl
 length-reservations_at file at (suc count) = ap suc (length-reservations_at file (at + 16) count)
 
 -- The bytes up to an end begin with the bytes at an offset.
-begins : (file : List ℕ) (at total : ℕ) (bytes : List ℕ) → BytesAt file at bytes → length bytes ≤ total - at → slice file at (total - at) ≡ bytes ++ take ((total - at) - length bytes) (drop (length bytes) (drop at file))
+begins : (file : List ℕ) (at total : ℕ) (bytes : List ℕ) → BytesAt file at bytes → length bytes ≤ total - at →
+    slice file at (total - at) ≡ bytes ++ take ((total - at) - length bytes) (drop (length bytes) (drop at file))
 begins file at total bytes is_at fits =
     ap (λ n. take n (drop at file)) sum
     ∙ take-add (length bytes) ((total - at) - length bytes) (drop at file)
@@ -229,7 +246,8 @@ begins file at total bytes is_at fits =
       sum = omega arith
 
 -- A block of reservations is one, byte by byte.
-pub HasReservations-BeginsWithReservations : (file : List ℕ) (at total count : ℕ) → AreBytes file → total ≤ length file → HasReservations file at total count → BeginsWithReservations (slice file at (total - at)) (reservations_at file at count)
+pub HasReservations-BeginsWithReservations : (file : List ℕ) (at total count : ℕ) → AreBytes file → total ≤ length file →
+    HasReservations file at total count → BeginsWithReservations (slice file at (total - at)) (reservations_at file at count)
 HasReservations-BeginsWithReservations file at total count bytes inside has =
     let all : List Reservation = reservations_at file at count in
     let within : at + 16 * count + 16 ≤ total = has.within in
@@ -242,7 +260,8 @@ HasReservations-BeginsWithReservations file at total count bytes inside has =
     }
 
 -- A block at an offset has as many reservations as its list.
-block_has : (file : List ℕ) (at total : ℕ) (all : List Reservation) → AllByRecursion IsReservation all → BytesAt file at (reservation_block all) → at + (16 * length all + 16) ≤ total → HasReservations file at total (length all)
+block_has : (file : List ℕ) (at total : ℕ) (all : List Reservation) → AllByRecursion IsReservation all →
+    BytesAt file at (reservation_block all) → at + (16 * length all + 16) ≤ total → HasReservations file at total (length all)
 block_has file at total [] are is_at fits =
     let read : (u64_at file at ≡ 0) × (u64_at file (at + 8) ≡ 0) = pair_read file at end_pair (lit< tt) (lit< tt) is_at in
     ends_here file at total (omega arith) (record { address = read.0; size = read.1 })
@@ -269,7 +288,8 @@ block_has file at total (pair ∷ later) are is_at fits =
           omega arith
 
 -- Reserved bytes have as many reservations as they are made of.
-pub BeginsWithReservations-HasReservations : (file : List ℕ) (at total : ℕ) (all : List Reservation) → at ≤ total → total ≤ length file → BeginsWithReservations (slice file at (total - at)) all → HasReservations file at total (length all)
+pub BeginsWithReservations-HasReservations : (file : List ℕ) (at total : ℕ) (all : List Reservation) → at ≤ total → total ≤ length file →
+    BeginsWithReservations (slice file at (total - at)) all → HasReservations file at total (length all)
 BeginsWithReservations-HasReservations file at total all ordered inside reserved =
     let size : ℕ = total - at in
     let long : length (slice file at size) ≡ size = length-slice file at size (omega arith) in

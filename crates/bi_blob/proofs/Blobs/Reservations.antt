@@ -7,7 +7,8 @@ use Rattle.bi_base.proofs.CellLaws.{parts_agree}
 use Rattle.bi_blob.proofs.Blobs.Cells.{length-cell8, cell8_agree}
 
 -- Both numbers of a pair are read from its bytes.
-pairs_agree : (a b : Reservation) (x y : List ℕ) → a.address < 2 ^ 64 → a.size < 2 ^ 64 → b.address < 2 ^ 64 → b.size < 2 ^ 64 → pair_bytes a ++ x ≡ pair_bytes b ++ y → (a ≡ b) × (x ≡ y)
+pairs_agree : (a b : Reservation) (x y : List ℕ) → a.address < 2 ^ 64 → a.size < 2 ^ 64 → b.address < 2 ^ 64 → b.size < 2 ^ 64 →
+    pair_bytes a ++ x ≡ pair_bytes b ++ y → (a ≡ b) × (x ≡ y)
 pairs_agree a b x y a1 a2 b1 b2 e =
     let first : (cell8 a.address ≡ cell8 b.address) × (cell8 a.size ++ x ≡ cell8 b.size ++ y) =
     parts_agree (cell8 a.address) (cell8 b.address) (cell8 a.size ++ x) (cell8 b.size ++ y)
@@ -20,13 +21,15 @@ pairs_agree a b x y a1 a2 b1 b2 e =
     ((λ i. record { address = address i; size = size i }), second.1)
 
 -- A block with a range begins with its pair.
-pub reservation_block-cons : (reservation : Reservation) (later : List Reservation) (x : List ℕ) → reservation_block (reservation ∷ later) ++ x ≡ pair_bytes reservation ++ (reservation_block later ++ x)
+pub reservation_block-cons : (reservation : Reservation) (later : List Reservation) (x : List ℕ) →
+    reservation_block (reservation ∷ later) ++ x ≡ pair_bytes reservation ++ (reservation_block later ++ x)
 reservation_block-cons reservation later x =
     ap (λ l. l ++ x) (append_assoc (pair_bytes reservation) (flat_map pair_bytes later) (pair_bytes end_pair))
     ∙ append_assoc (pair_bytes reservation) (reservation_block later) x
 
 -- A pair of a range is not the end pair.
-no_end_pair : (reservation : Reservation) (x y : List ℕ) → IsReservation reservation → pair_bytes reservation ++ x ≡ pair_bytes end_pair ++ y → ⊥
+no_end_pair : (reservation : Reservation) (x y : List ℕ) → IsReservation reservation →
+    pair_bytes reservation ++ x ≡ pair_bytes end_pair ++ y → ⊥
 no_end_pair reservation x y is e =
     let same : reservation ≡ end_pair = (pairs_agree reservation end_pair x y is.address_fits is.size_fits (lit< tt) (lit< tt) e).0 in
     let address : reservation.address ≡ 0 = ap (λ (r : Reservation). r.address) same in
@@ -35,7 +38,8 @@ no_end_pair reservation x y is e =
     omega arith
 
 -- Two blocks of reservations that begin one list have the same reservations.
-pub reservations_agree : (rs ss : List Reservation) (x y : List ℕ) → AllByRecursion IsReservation rs → AllByRecursion IsReservation ss → reservation_block rs ++ x ≡ reservation_block ss ++ y → rs ≡ ss
+pub reservations_agree : (rs ss : List Reservation) (x y : List ℕ) → AllByRecursion IsReservation rs → AllByRecursion IsReservation ss →
+    reservation_block rs ++ x ≡ reservation_block ss ++ y → rs ≡ ss
 reservations_agree [] [] x y are_rs are_ss e = refl
 reservations_agree [] (b ∷ ss) x y are_rs are_ss e =
     absurd (no_end_pair b (reservation_block ss ++ y) x are_ss.0 (sym (reservation_block-cons b ss y) ∙ sym e))

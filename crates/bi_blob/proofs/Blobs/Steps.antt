@@ -2,16 +2,21 @@ use Rattle.std.proofs.Common.{◌≡◌, ℕ, suc, ◌+◌, ◌-◌, ◌<◌, �
 use Rattle.std.proofs.lemmas.List.{append-nil}
 use Rattle.bi_base.specs.Cells.{slice, u32_at}
 use Rattle.bi_base.specs.Checks.{HasNoFault}
-use Rattle.bi_blob.specs.Tokens.{Token, BeginNode, EndNode, Prop, Nop, End, width, IsTokenAt, IsNameAt, name_from, begin_node_number, end_node_number, prop_number, nop_number}
+use Rattle.bi_blob.specs.Tokens.{Token, BeginNode, EndNode, Prop, Nop, End, width, IsTokenAt, IsNameAt, name_from, begin_node_number}
+use Rattle.bi_blob.specs.Tokens.{end_node_number, prop_number, nop_number}
 use Rattle.bi_blob.specs.Tree.{FileProperty, names, with_each, depth, properties_of, AreNodes, AreProperties, IsNew}
 use Rattle.bi_blob.specs.Events.{FileNodeStart, FileNodeProperty, FileNodeEnd}
 use Rattle.bi_blob.specs.Stages.{Stage, BeforeRoot, Inside}
 use Rattle.bi_blob.specs.Blob.{TreeBlocks, IsReadable}
 use Rattle.bi_blob.specs.BlobFaults.{TokenPasses, token_checks}
-use Rattle.bi_blob.specs.OpenNodes.{OpenFileNode, TreeSoFar, NoTree, OpenTree, WholeTree, new_node, with_one_property, with_one_child, with_last, own_of, outer_nodes_of, stage_of, events_so_far, IsOpenNode, AreOpenNodes, MayBeChild, IsOpenAt}
-use Rattle.bi_blob.proofs.Blobs.Names.{HasName-IsNameAt}
+use Rattle.bi_blob.specs.OpenNodes.{OpenFileNode, TreeSoFar, NoTree, OpenTree, WholeTree, new_node, with_one_property, with_one_child}
+use Rattle.bi_blob.specs.OpenNodes.{with_last, own_of, outer_nodes_of, stage_of, events_so_far, IsOpenNode, AreOpenNodes, MayBeChild}
+use Rattle.bi_blob.specs.OpenNodes.{IsOpenAt}
+use Rattle.bi_blob.proofs.Blobs.BytesBeforeZero.{HasName-IsNameAt}
 use Rattle.bi_blob.proofs.Blobs.Tokens.{BeginNode-is_at, EndNode-is_at, Prop-is_at, Nop-is_at}
-use Rattle.bi_blob.proofs.Blobs.OpenNodes.{root_of, with_each-with_last, depth-with_last, AreNodes-with_last, AreProperties-push, open_node_of-property, open_node_of-child, events_of_open_nodes-property, events_of_open_nodes-child, events_of_open_nodes-root}
+use Rattle.bi_blob.proofs.Blobs.OpenNodes.{ended_root, with_each-with_last, depth-with_last, AreNodes-with_last, AreProperties-push}
+use Rattle.bi_blob.proofs.Blobs.OpenNodes.{open_node_of-property, open_node_of-child, events_of_open_nodes-property}
+use Rattle.bi_blob.proofs.Blobs.OpenNodes.{events_of_open_nodes-child, events_of_open_nodes-root}
 use Rattle.bi_blob.proofs.Blobs.PassedTokens.{after_token}
 use Rattle.bi_blob.proofs.Blobs.Lookups.{names-with_each}
 
@@ -22,12 +27,14 @@ pub record IsNext (blocks : TreeBlocks) (depth_limit place : ℕ) (stage : Stage
   pub is_number : u32_at blocks.file place ≡ number
   pub passes : HasNoFault (TokenPasses blocks depth_limit place stage) (token_checks number)
 
-passes_there : (blocks : TreeBlocks) (depth_limit place number : ℕ) (stage : Stage) → IsNext blocks depth_limit place stage number → HasNoFault (TokenPasses blocks depth_limit place stage) (token_checks (u32_at blocks.file place))
+passes_there : (blocks : TreeBlocks) (depth_limit place number : ℕ) (stage : Stage) → IsNext blocks depth_limit place stage number →
+    HasNoFault (TokenPasses blocks depth_limit place stage) (token_checks (u32_at blocks.file place))
 passes_there blocks depth_limit place number stage next =
     subst (λ n. HasNoFault (TokenPasses blocks depth_limit place stage) (token_checks n)) (sym next.is_number) next.passes
 
 -- The token's number is within the file.
-pub number_within : (blocks : TreeBlocks) (depth_limit place number : ℕ) (stage : Stage) → IsReadable blocks → IsNext blocks depth_limit place stage number → place + 4 ≤ length blocks.file
+pub number_within : (blocks : TreeBlocks) (depth_limit place number : ℕ) (stage : Stage) → IsReadable blocks →
+    IsNext blocks depth_limit place stage number → place + 4 ≤ length blocks.file
 number_within blocks depth_limit place number stage readable next =
     let word : place + 4 ≤ blocks.end = next.passes.0 in
     let within : blocks.end ≤ length blocks.file = readable.within in
@@ -38,7 +45,8 @@ length-outer_nodes_of name [] = refl
 length-outer_nodes_of name (parent ∷ outer) = ap suc (length-outer_nodes_of parent.name outer)
 
 -- After FDT_NOP all is as it was.
-pub next_nop : (blocks : TreeBlocks) (depth_limit place : ℕ) (so_far : TreeSoFar) → IsOpenAt blocks depth_limit place so_far → IsNext blocks depth_limit place (stage_of so_far) nop_number → IsOpenAt blocks depth_limit (place + width Nop) so_far
+pub next_nop : (blocks : TreeBlocks) (depth_limit place : ℕ) (so_far : TreeSoFar) → IsOpenAt blocks depth_limit place so_far →
+    IsNext blocks depth_limit place (stage_of so_far) nop_number → IsOpenAt blocks depth_limit (place + width Nop) so_far
 next_nop blocks depth_limit place so_far position next =
     after_token blocks depth_limit place so_far so_far Nop [] position
     (λ (e : Nop ≡ End). absurd cc)
@@ -50,14 +58,18 @@ next_nop blocks depth_limit place so_far position next =
     position.is_tree_so_far
 
 -- FDT_BEGIN_NODE that passes its checks is there with its name.
-start_is_there : (blocks : TreeBlocks) (depth_limit place : ℕ) (stage : Stage) → IsReadable blocks → IsNext blocks depth_limit place stage begin_node_number → IsTokenAt blocks.file place (BeginNode (name_from blocks.file (place + 4)))
+start_is_there : (blocks : TreeBlocks) (depth_limit place : ℕ) (stage : Stage) → IsReadable blocks →
+    IsNext blocks depth_limit place stage begin_node_number → IsTokenAt blocks.file place (BeginNode (name_from blocks.file (place + 4)))
 start_is_there blocks depth_limit place stage readable next =
     BeginNode-is_at blocks.file place (name_from blocks.file (place + 4)) readable.bytes
     (number_within blocks depth_limit place begin_node_number stage readable next) next.is_number
     (HasName-IsNameAt blocks.file (place + 4) blocks.end readable.within next.passes.1.1.1.0)
 
 -- FDT_BEGIN_NODE before the root begins the root.
-pub next_root : (blocks : TreeBlocks) (depth_limit place : ℕ) → IsOpenAt blocks depth_limit place NoTree → IsNext blocks depth_limit place BeforeRoot begin_node_number → IsOpenAt blocks depth_limit (place + width (BeginNode (name_from blocks.file (place + 4)))) (OpenTree (new_node (name_from blocks.file (place + 4)) place) [])
+pub next_root : (blocks : TreeBlocks) (depth_limit place : ℕ) → IsOpenAt blocks depth_limit place NoTree →
+    IsNext blocks depth_limit place BeforeRoot begin_node_number →
+    IsOpenAt blocks depth_limit (place + width (BeginNode (name_from blocks.file (place + 4))))
+    (OpenTree (new_node (name_from blocks.file (place + 4)) place) [])
 next_root blocks depth_limit place position next =
     let name : List ℕ = name_from blocks.file (place + 4) in
     let few : 0 < depth_limit = next.passes.1.1.0 in
@@ -72,7 +84,11 @@ next_root blocks depth_limit place position next =
     (record { properties = record { named = tt; distinct = tt }; children = tt; shallow = omega arith }, unnamed)
 
 -- FDT_BEGIN_NODE inside a node begins a child of it.
-pub next_child : (blocks : TreeBlocks) (depth_limit place : ℕ) (parent : OpenFileNode) (outer : List OpenFileNode) → IsOpenAt blocks depth_limit place (OpenTree parent outer) → IsNext blocks depth_limit place (stage_of (OpenTree parent outer)) begin_node_number → IsOpenAt blocks depth_limit (place + width (BeginNode (name_from blocks.file (place + 4)))) (OpenTree (new_node (name_from blocks.file (place + 4)) place) (parent ∷ outer))
+pub next_child : (blocks : TreeBlocks) (depth_limit place : ℕ) (parent : OpenFileNode) (outer : List OpenFileNode) →
+    IsOpenAt blocks depth_limit place (OpenTree parent outer) →
+    IsNext blocks depth_limit place (stage_of (OpenTree parent outer)) begin_node_number →
+    IsOpenAt blocks depth_limit (place + width (BeginNode (name_from blocks.file (place + 4))))
+    (OpenTree (new_node (name_from blocks.file (place + 4)) place) (parent ∷ outer))
 next_child blocks depth_limit place parent outer position next =
     let name : List ℕ = name_from blocks.file (place + 4) in
     let stage : Stage = stage_of (OpenTree parent outer) in
@@ -91,7 +107,9 @@ next_child blocks depth_limit place parent outer position next =
     )
 
 -- Good open nodes stay so with one more property of the innermost.
-pub AreOpenNodes-property : (depth_limit : ℕ) (o : OpenFileNode) (outer : List OpenFileNode) (p : FileProperty) → AreOpenNodes depth_limit o outer → AreProperties (map (λ (q : FileProperty). (q.name, q.value)) (o.properties ++ p ∷ [])) → AreOpenNodes depth_limit (with_one_property o p) outer
+pub AreOpenNodes-property : (depth_limit : ℕ) (o : OpenFileNode) (outer : List OpenFileNode) (p : FileProperty) →
+    AreOpenNodes depth_limit o outer → AreProperties (map (λ (q : FileProperty). (q.name, q.value)) (o.properties ++ p ∷ [])) →
+    AreOpenNodes depth_limit (with_one_property o p) outer
 AreOpenNodes-property depth_limit o [] p are good = (record { properties = good; children = are.0.children; shallow = are.0.shallow }, are.1)
 AreOpenNodes-property depth_limit o (parent ∷ outer) p are good = (
   record { properties = good; children = are.0.children; shallow = are.0.shallow },
@@ -100,7 +118,8 @@ AreOpenNodes-property depth_limit o (parent ∷ outer) p are good = (
 )
 
 -- The properties of the innermost open node.
-pub innermost_properties : (depth_limit : ℕ) (o : OpenFileNode) (outer : List OpenFileNode) → AreOpenNodes depth_limit o outer → AreProperties (map (λ (q : FileProperty). (q.name, q.value)) o.properties)
+pub innermost_properties : (depth_limit : ℕ) (o : OpenFileNode) (outer : List OpenFileNode) → AreOpenNodes depth_limit o outer →
+    AreProperties (map (λ (q : FileProperty). (q.name, q.value)) o.properties)
 innermost_properties depth_limit o [] are = are.0.properties
 innermost_properties depth_limit o (parent ∷ outer) are = are.0.properties
 
@@ -117,7 +136,10 @@ abbrev pub property_token : TreeBlocks → ℕ → Token
 property_token blocks place = Prop (u32_at blocks.file (place + 8)) (slice blocks.file (place + 12) (u32_at blocks.file (place + 4)))
 
 -- FDT_PROP adds a property to the innermost node.
-pub next_property : (blocks : TreeBlocks) (depth_limit place : ℕ) (o : OpenFileNode) (outer : List OpenFileNode) → IsOpenAt blocks depth_limit place (OpenTree o outer) → IsNext blocks depth_limit place (stage_of (OpenTree o outer)) prop_number → IsOpenAt blocks depth_limit (place + width (property_token blocks place)) (OpenTree (with_one_property o (property_at blocks place)) outer)
+pub next_property : (blocks : TreeBlocks) (depth_limit place : ℕ) (o : OpenFileNode) (outer : List OpenFileNode) →
+    IsOpenAt blocks depth_limit place (OpenTree o outer) → IsNext blocks depth_limit place (stage_of (OpenTree o outer)) prop_number →
+    IsOpenAt blocks depth_limit (place + width (property_token blocks place))
+    (OpenTree (with_one_property o (property_at blocks place)) outer)
 next_property blocks depth_limit place o outer position next =
     let p : FileProperty = property_at blocks place in
     let offset : ℕ = u32_at blocks.file (place + 8) in
@@ -139,7 +161,8 @@ next_property blocks depth_limit place o outer position next =
     next.passes.1.1.1.1.1.0 next.passes.1.1.1.1.1.1.0))
 
 -- An open node and one more child.
-IsOpenNode-child : (depth_limit above : ℕ) (parent child : OpenFileNode) → IsOpenNode depth_limit above parent → IsOpenNode depth_limit (above + 1) child → MayBeChild parent child → IsOpenNode depth_limit above (with_one_child parent child)
+IsOpenNode-child : (depth_limit above : ℕ) (parent child : OpenFileNode) → IsOpenNode depth_limit above parent →
+    IsOpenNode depth_limit (above + 1) child → MayBeChild parent child → IsOpenNode depth_limit above (with_one_child parent child)
 IsOpenNode-child depth_limit above parent child is is_child may =
     let deep : depth parent.children + above + 1 ≤ depth_limit = is.shallow in
     let child_deep : depth child.children + (above + 1) + 1 ≤ depth_limit = is_child.shallow in
@@ -154,7 +177,8 @@ IsOpenNode-child depth_limit above parent child is is_child may =
       shallow = omega arith;
     }
 
-pub AreOpenNodes-child : (depth_limit : ℕ) (child parent : OpenFileNode) (outer : List OpenFileNode) → AreOpenNodes depth_limit child (parent ∷ outer) → AreOpenNodes depth_limit (with_one_child parent child) outer
+pub AreOpenNodes-child : (depth_limit : ℕ) (child parent : OpenFileNode) (outer : List OpenFileNode) →
+    AreOpenNodes depth_limit child (parent ∷ outer) → AreOpenNodes depth_limit (with_one_child parent child) outer
 AreOpenNodes-child depth_limit child parent [] are =
     (IsOpenNode-child depth_limit 0 parent child are.2.0 are.0 are.1, are.2.1)
 AreOpenNodes-child depth_limit child parent (grandparent ∷ outer) are = (
@@ -164,8 +188,11 @@ AreOpenNodes-child depth_limit child parent (grandparent ∷ outer) are = (
 )
 
 -- FDT_END_NODE in a node with a parent ends a child of the parent.
-pub next_end : (blocks : TreeBlocks) (depth_limit place : ℕ) (child parent : OpenFileNode) (outer : List OpenFileNode) → IsOpenAt blocks depth_limit place (OpenTree child (parent ∷ outer)) → IsNext blocks depth_limit place (stage_of (OpenTree child (parent ∷ outer))) end_node_number → IsOpenAt blocks depth_limit (place + width EndNode) (OpenTree (with_one_child parent child) outer)
-next_end blocks depth_limit place child parent outer position next =
+pub next_end_of_child : (blocks : TreeBlocks) (depth_limit place : ℕ) (child parent : OpenFileNode) (outer : List OpenFileNode) →
+    IsOpenAt blocks depth_limit place (OpenTree child (parent ∷ outer)) →
+    IsNext blocks depth_limit place (stage_of (OpenTree child (parent ∷ outer))) end_node_number →
+    IsOpenAt blocks depth_limit (place + width EndNode) (OpenTree (with_one_child parent child) outer)
+next_end_of_child blocks depth_limit place child parent outer position next =
     let stage : Stage = stage_of (OpenTree child (parent ∷ outer)) in
     after_token blocks depth_limit place (OpenTree child (parent ∷ outer)) (OpenTree (with_one_child parent child) outer) EndNode (FileNodeEnd ∷ []) position
     (λ (e : EndNode ≡ End). absurd cc)
@@ -177,12 +204,15 @@ next_end blocks depth_limit place child parent outer position next =
     (AreOpenNodes-child depth_limit child parent outer position.is_tree_so_far)
 
 -- FDT_END_NODE in the root ends the tree.
-pub next_last : (blocks : TreeBlocks) (depth_limit place : ℕ) (outermost : OpenFileNode) → IsOpenAt blocks depth_limit place (OpenTree outermost []) → IsNext blocks depth_limit place (stage_of (OpenTree outermost [])) end_node_number → IsOpenAt blocks depth_limit (place + width EndNode) (WholeTree (root_of outermost))
+pub next_last : (blocks : TreeBlocks) (depth_limit place : ℕ) (outermost : OpenFileNode) →
+    IsOpenAt blocks depth_limit place (OpenTree outermost []) →
+    IsNext blocks depth_limit place (stage_of (OpenTree outermost [])) end_node_number →
+    IsOpenAt blocks depth_limit (place + width EndNode) (WholeTree (ended_root outermost))
 next_last blocks depth_limit place outermost position next =
     let stage : Stage = stage_of (OpenTree outermost []) in
     let good : IsOpenNode depth_limit 0 outermost = position.is_tree_so_far.0 in
     let shallow : depth outermost.children + 0 + 1 ≤ depth_limit = good.shallow in
-    after_token blocks depth_limit place (OpenTree outermost []) (WholeTree (root_of outermost)) EndNode (FileNodeEnd ∷ []) position
+    after_token blocks depth_limit place (OpenTree outermost []) (WholeTree (ended_root outermost)) EndNode (FileNodeEnd ∷ []) position
     (λ (e : EndNode ≡ End). absurd cc)
     (EndNode-is_at blocks.file place position.readable.bytes (number_within blocks depth_limit place end_node_number stage position.readable next) next.is_number)
     (passes_there blocks depth_limit place end_node_number stage next)

@@ -20,7 +20,8 @@ AllStand file at [] = Unit {0}
 AllStand file at (token ∷ later) = IsTokenAt file at token × AllStand file (at + width token) later
 
 -- A token whose encoding follows an offset is there.
-IsEncoding-is_at : (file : List ℕ) (at : ℕ) (token : Token) (bytes rest : List ℕ) → IsEncoding token bytes → drop at file ≡ bytes ++ rest → IsTokenAt file at token
+IsEncoding-is_at : (file : List ℕ) (at : ℕ) (token : Token) (bytes rest : List ℕ) → IsEncoding token bytes → drop at file ≡ bytes ++ rest →
+    IsTokenAt file at token
 IsEncoding-is_at file at token bytes rest is_padded_encoding e = record {
   is_token = is_padded_encoding.is_token;
   is_at = BytesAt-from file at (token_bytes token) (is_padded_encoding.padding ++ rest)
@@ -35,7 +36,8 @@ AreEncodings-first token bytes is_padded_encoding =
     omega arith
 
 -- Tokens whose encodings follow an offset are there.
-pub AreEncodings-stand : (file : List ℕ) (at : ℕ) (tokens : List Token) (bytes rest : List ℕ) → AreEncodings tokens bytes → drop at file ≡ bytes ++ rest → AllStand file at tokens
+pub AreEncodings-stand : (file : List ℕ) (at : ℕ) (tokens : List Token) (bytes rest : List ℕ) → AreEncodings tokens bytes →
+    drop at file ≡ bytes ++ rest → AllStand file at tokens
 AreEncodings-stand file at [] bytes rest is_encoded e = tt
 AreEncodings-stand file at (token ∷ later) bytes rest is_encoded e = (
   IsEncoding-is_at file at token (take (width token) bytes) (drop (width token) bytes ++ rest) is_encoded.0
@@ -45,7 +47,8 @@ AreEncodings-stand file at (token ∷ later) bytes rest is_encoded e = (
 )
 
 -- The encodings of tokens are as long as the tokens.
-pub AreEncodings-length : (at : ℕ) (tokens : List Token) (bytes : List ℕ) → AreEncodings tokens bytes → at + length bytes ≡ place_after_all at tokens
+pub AreEncodings-length : (at : ℕ) (tokens : List Token) (bytes : List ℕ) → AreEncodings tokens bytes →
+    at + length bytes ≡ place_after_all at tokens
 AreEncodings-length at [] bytes is_encoded = let none : length bytes ≡ 0 = ap length is_encoded in omega arith
 AreEncodings-length at (token ∷ later) bytes is_encoded =
     let rest : at + width token + length (drop (width token) bytes) ≡ place_after_all (at + width token) later =
@@ -56,7 +59,8 @@ AreEncodings-length at (token ∷ later) bytes is_encoded =
     same ∙ rest
 
 -- The encoding of a token and then those of others are the encodings of all.
-pub AreEncodings-cons : (token : Token) (later : List Token) (a b : List ℕ) → IsEncoding token a → AreEncodings later b → AreEncodings (token ∷ later) (a ++ b)
+pub AreEncodings-cons : (token : Token) (later : List Token) (a b : List ℕ) → IsEncoding token a → AreEncodings later b →
+    AreEncodings (token ∷ later) (a ++ b)
 AreEncodings-cons token later a b is_padded_encoding is_encoded = (
   subst (IsEncoding token) (sym (take_at a b (width token) is_padded_encoding.whole)) is_padded_encoding,
   subst (AreEncodings later) (sym (drop_at a b (width token) is_padded_encoding.whole)) is_encoded,
@@ -71,7 +75,8 @@ AreEncodings-append (token ∷ ts) us a b first second =
     (AreEncodings-cons token (ts ++ us) (take w a) (drop w a ++ b) first.0 (AreEncodings-append ts us (drop w a) b first.1 second))
 
 -- At most one list of tokens that has one FDT_END, at its end, is at an offset.
-pub one_token_list : (file : List ℕ) (at : ℕ) (ts us : List Token) → AllByRecursion (λ t. t ≢ End) ts → AllByRecursion (λ t. t ≢ End) us → AllStand file at (ts ++ End ∷ []) → AllStand file at (us ++ End ∷ []) → ts ≡ us
+pub one_token_list : (file : List ℕ) (at : ℕ) (ts us : List Token) → AllByRecursion (λ t. t ≢ End) ts → AllByRecursion (λ t. t ≢ End) us →
+    AllStand file at (ts ++ End ∷ []) → AllStand file at (us ++ End ∷ []) → ts ≡ us
 one_token_list file at [] [] no_end_ts no_end_us one other = refl
 one_token_list file at [] (u ∷ us) no_end_ts no_end_us one other = absurd (no_end_us.0 (one_token file at u End other.0 one.0))
 one_token_list file at (t ∷ ts) [] no_end_ts no_end_us one other = absurd (no_end_ts.0 (one_token file at t End one.0 other.0))

@@ -1,10 +1,12 @@
 use Rattle.std.proofs.Common.{◌≡◌, ℕ, ◌+◌, ◌<◌, ◌≤◌, ◌^◌, List, [], ◌∷◌, ◌++◌, length, drop, refl, sym, ap, subst, ◌∙◌, arith, lit<}
 use Rattle.std.proofs.lemmas.List.{length-append, append-nil, append_assoc}
 use Rattle.bi_base.specs.Cells.{cell, slice, u32_at, AreBytes}
-use Rattle.bi_blob.specs.Tokens.{Token, BeginNode, EndNode, Prop, Nop, End, token_bytes, width, IsTokenAt, IsNameAt, begin_node_number, end_node_number, prop_number, nop_number, end_number}
+use Rattle.bi_blob.specs.Tokens.{Token, BeginNode, EndNode, Prop, Nop, End, token_bytes, width, IsTokenAt, IsNameAt, begin_node_number}
+use Rattle.bi_blob.specs.Tokens.{end_node_number, prop_number, nop_number, end_number}
 use Rattle.bi_base.proofs.CellLaws.{length-cell, length-slice}
-use Rattle.bi_blob.proofs.Blobs.Names.{one_name}
-use Rattle.bi_blob.proofs.Blobs.Cells.{BytesAt, BytesAt-from, BytesAt-drop, BytesAt-within, BytesAt-left, BytesAt-right, BytesAt-join, BytesAt-cell, u32_at-BytesAt}
+use Rattle.bi_blob.proofs.Blobs.BytesBeforeZero.{one_name}
+use Rattle.bi_blob.proofs.Blobs.Cells.{BytesAt, BytesAt-from, BytesAt-drop, BytesAt-within, BytesAt-left, BytesAt-right, BytesAt-join}
+use Rattle.bi_blob.proofs.Blobs.Cells.{BytesAt-cell, u32_at-BytesAt}
 use Rattle.bi_base.proofs.CellLaws.{u32_at-fits}
 
 -- The number of a token.
@@ -40,7 +42,8 @@ pub length-token_bytes : (token : Token) → length (token_bytes token) ≡ 4 + 
 length-token_bytes token = ap length (token_bytes-number token) ∙ simp (length-append, length-cell) refl
 
 -- The bytes after the number of a token.
-pub IsTokenAt-bytes : (file : List ℕ) (at : ℕ) (token : Token) → IsTokenAt file at token → BytesAt file at (cell (number token) ++ operands token)
+pub IsTokenAt-bytes : (file : List ℕ) (at : ℕ) (token : Token) → IsTokenAt file at token →
+    BytesAt file at (cell (number token) ++ operands token)
 IsTokenAt-bytes file at token is_at = subst (BytesAt file at) (token_bytes-number token) is_at.is_at
 
 -- Its number is read there.
@@ -75,7 +78,8 @@ pub record IsPropAt (file : List ℕ) (at name_offset : ℕ) (value : List ℕ) 
   pub is_offset : u32_at file (at + 8) ≡ name_offset
   pub is_value : BytesAt file (at + 12) value
 
-pub Prop-parts : (file : List ℕ) (at name_offset : ℕ) (value : List ℕ) → IsTokenAt file at (Prop name_offset value) → IsPropAt file at name_offset value
+pub Prop-parts : (file : List ℕ) (at name_offset : ℕ) (value : List ℕ) → IsTokenAt file at (Prop name_offset value) →
+    IsPropAt file at name_offset value
 Prop-parts file at name_offset value is_at =
     let all : BytesAt file (at + 4) (cell (length value) ++ (cell name_offset ++ value)) =
     IsTokenAt-operands file at (Prop name_offset value) is_at in
@@ -116,7 +120,8 @@ one_token file at t u one other =
 token_is_there : (file : List ℕ) (at n : ℕ) → AreBytes file → at + 4 ≤ length file → u32_at file at ≡ n → BytesAt file at (cell n)
 token_is_there file at n bytes within e = subst (λ m. BytesAt file at (cell m)) e (BytesAt-cell file at bytes within)
 
-pub EndNode-is_at : (file : List ℕ) (at : ℕ) → AreBytes file → at + 4 ≤ length file → u32_at file at ≡ end_node_number → IsTokenAt file at EndNode
+pub EndNode-is_at : (file : List ℕ) (at : ℕ) → AreBytes file → at + 4 ≤ length file → u32_at file at ≡ end_node_number →
+    IsTokenAt file at EndNode
 EndNode-is_at file at bytes within e = record { is_token = tt; is_at = token_is_there file at end_node_number bytes within e }
 
 pub Nop-is_at : (file : List ℕ) (at : ℕ) → AreBytes file → at + 4 ≤ length file → u32_at file at ≡ nop_number → IsTokenAt file at Nop
@@ -126,7 +131,8 @@ pub End-is_at : (file : List ℕ) (at : ℕ) → AreBytes file → at + 4 ≤ le
 End-is_at file at bytes within e = record { is_token = tt; is_at = token_is_there file at end_number bytes within e }
 
 -- FDT_BEGIN_NODE is where its number is read and a name follows.
-pub BeginNode-is_at : (file : List ℕ) (at : ℕ) (name : List ℕ) → AreBytes file → at + 4 ≤ length file → u32_at file at ≡ begin_node_number → IsNameAt file (at + 4) name → IsTokenAt file at (BeginNode name)
+pub BeginNode-is_at : (file : List ℕ) (at : ℕ) (name : List ℕ) → AreBytes file → at + 4 ≤ length file → u32_at file at ≡ begin_node_number →
+    IsNameAt file (at + 4) name → IsTokenAt file at (BeginNode name)
 BeginNode-is_at file at name bytes within e named = record {
   is_token = named.no_zero;
   is_at = BytesAt-join file at (cell begin_node_number) (name ++ 0 ∷ [])
@@ -136,7 +142,8 @@ BeginNode-is_at file at name bytes within e named = record {
 }
 
 -- FDT_PROP is where its number is read and the file has the value.
-pub Prop-is_at : (file : List ℕ) (at : ℕ) → AreBytes file → at + 12 + u32_at file (at + 4) ≤ length file → u32_at file at ≡ prop_number → IsTokenAt file at (Prop (u32_at file (at + 8)) (slice file (at + 12) (u32_at file (at + 4))))
+pub Prop-is_at : (file : List ℕ) (at : ℕ) → AreBytes file → at + 12 + u32_at file (at + 4) ≤ length file → u32_at file at ≡ prop_number →
+    IsTokenAt file at (Prop (u32_at file (at + 8)) (slice file (at + 12) (u32_at file (at + 4))))
 Prop-is_at file at bytes within e =
     let n : ℕ = u32_at file (at + 4) in
     let value : List ℕ = slice file (at + 12) n in

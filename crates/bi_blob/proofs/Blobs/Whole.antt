@@ -4,16 +4,19 @@ use Rattle.std.proofs.lemmas.Bool.{eqb-true, or_cases}
 use Rattle.bi_base.specs.declared.fault.Fault.{Fault}
 use Rattle.bi_base.specs.Cells.{u32_at}
 use Rattle.bi_base.specs.Checks.{IsFirstFault, HasNoFault}
-use Rattle.bi_blob.specs.Tokens.{Token, BeginNode, EndNode, Nop, width, name_from, begin_node_number, end_node_number, prop_number, nop_number, end_number}
+use Rattle.bi_blob.specs.Tokens.{Token, BeginNode, EndNode, Nop, width, name_from, begin_node_number, end_node_number, prop_number}
+use Rattle.bi_blob.specs.Tokens.{nop_number, end_number}
 use Rattle.bi_blob.specs.Tree.{Root, FileNode, depth_of}
 use Rattle.bi_blob.specs.Stages.{Stage, BeforeRoot, AfterRoot}
 use Rattle.bi_blob.specs.Blob.{TreeBlocks, HoldsTree, IsReadable}
 use Rattle.bi_blob.specs.BlobFaults.{HasTokenNumber, TokenPasses, token_checks, token_fault, stage_after, IsStructureFault}
 use Rattle.bi_base.proofs.FirstFault.{fault_or_none}
-use Rattle.bi_blob.specs.OpenNodes.{OpenFileNode, TreeSoFar, NoTree, OpenTree, WholeTree, new_node, with_one_property, with_one_child, stage_of, IsOpenAt}
-use Rattle.bi_blob.proofs.Blobs.OpenNodes.{root_of}
+use Rattle.bi_blob.specs.OpenNodes.{OpenFileNode, TreeSoFar, NoTree, OpenTree, WholeTree, new_node, with_one_property, with_one_child}
+use Rattle.bi_blob.specs.OpenNodes.{stage_of, IsOpenAt}
+use Rattle.bi_blob.proofs.Blobs.OpenNodes.{ended_root}
 use Rattle.bi_blob.proofs.Blobs.Tokens.{width-at_least}
-use Rattle.bi_blob.proofs.Blobs.Steps.{IsNext, next_nop, next_root, next_child, property_at, property_token, next_property, next_end, next_last}
+use Rattle.bi_blob.proofs.Blobs.Steps.{IsNext, next_nop, next_root, next_child, property_at, property_token, next_property}
+use Rattle.bi_blob.proofs.Blobs.Steps.{next_end_of_child, next_last}
 use Rattle.bi_blob.proofs.Blobs.Ending.{last_token}
 use Rattle.bi_blob.proofs.Blobs.Decided.{token_decided}
 
@@ -45,7 +48,10 @@ at_begin blocks depth_limit readable = record {
 }
 
 -- The first check of the next token that fails gives the fault of the block.
-pub fault_there : (blocks : TreeBlocks) (depth_limit place : ℕ) (so_far : TreeSoFar) (fault : Fault) → IsOpenAt blocks depth_limit place so_far → IsFirstFault (TokenPasses blocks depth_limit place (stage_of so_far)) (token_fault place) (token_checks (u32_at blocks.file place)) fault → IsStructureFault blocks depth_limit fault
+pub fault_there : (blocks : TreeBlocks) (depth_limit place : ℕ) (so_far : TreeSoFar) (fault : Fault) →
+    IsOpenAt blocks depth_limit place so_far →
+    IsFirstFault (TokenPasses blocks depth_limit place (stage_of so_far)) (token_fault place) (token_checks (u32_at blocks.file place))
+    fault → IsStructureFault blocks depth_limit fault
 fault_there blocks depth_limit place so_far fault position first = record {
   before = position.tokens;
   passed = position.passed;
@@ -56,12 +62,15 @@ fault_there blocks depth_limit place so_far fault position first = record {
 
 module _ (blocks : TreeBlocks) (depth_limit place : ℕ) where
   -- A token that passes its checks is next, where its number is read.
-  next_is : (stage : Stage) (number : ℕ) → HasNoFault (TokenPasses blocks depth_limit place stage) (token_checks (u32_at blocks.file place)) → (u32_at blocks.file place == number) ≡ true → IsNext blocks depth_limit place stage number
+  next_is : (stage : Stage) (number : ℕ) →
+      HasNoFault (TokenPasses blocks depth_limit place stage) (token_checks (u32_at blocks.file place)) →
+      (u32_at blocks.file place == number) ≡ true → IsNext blocks depth_limit place stage number
   next_is stage number passes same =
       let e : u32_at blocks.file place ≡ number = eqb-true (u32_at blocks.file place) number same in
       record { is_number = e; passes = subst (λ n. HasNoFault (TokenPasses blocks depth_limit place stage) (token_checks n)) e passes }
 
-  continues : (so_far : TreeSoFar) (token : Token) → IsOpenAt blocks depth_limit (place + width token) so_far → Continues blocks depth_limit place
+  continues : (so_far : TreeSoFar) (token : Token) → IsOpenAt blocks depth_limit (place + width token) so_far →
+      Continues blocks depth_limit place
   continues so_far token position = record {
     next = place + width token;
     so_far = so_far;
@@ -70,13 +79,16 @@ module _ (blocks : TreeBlocks) (depth_limit place : ℕ) where
   }
 
   -- FDT_END_NODE in a node.
-  past_end : (o : OpenFileNode) (outer : List OpenFileNode) → IsOpenAt blocks depth_limit place (OpenTree o outer) → IsNext blocks depth_limit place (stage_of (OpenTree o outer)) end_node_number → Continues blocks depth_limit place
-  past_end o [] position next = continues (WholeTree (root_of o)) EndNode (next_last blocks depth_limit place o position next)
+  past_end : (o : OpenFileNode) (outer : List OpenFileNode) → IsOpenAt blocks depth_limit place (OpenTree o outer) →
+      IsNext blocks depth_limit place (stage_of (OpenTree o outer)) end_node_number → Continues blocks depth_limit place
+  past_end o [] position next = continues (WholeTree (ended_root o)) EndNode (next_last blocks depth_limit place o position next)
   past_end o (parent ∷ outer) position next =
-      continues (OpenTree (with_one_child parent o) outer) EndNode (next_end blocks depth_limit place o parent outer position next)
+      continues (OpenTree (with_one_child parent o) outer) EndNode (next_end_of_child blocks depth_limit place o parent outer position next)
 
   -- A token that passes its checks takes a reader on, or it ends the block.
-  past_token : (so_far : TreeSoFar) → IsOpenAt blocks depth_limit place so_far → HasNoFault (TokenPasses blocks depth_limit place (stage_of so_far)) (token_checks (u32_at blocks.file place)) → Continues blocks depth_limit place ⊎ HasTree blocks depth_limit
+  past_token : (so_far : TreeSoFar) → IsOpenAt blocks depth_limit place so_far →
+      HasNoFault (TokenPasses blocks depth_limit place (stage_of so_far)) (token_checks (u32_at blocks.file place)) →
+      Continues blocks depth_limit place ⊎ HasTree blocks depth_limit
   past_token NoTree position passes =
       elim (or_cases _ _ passes.1.0) [
         | inl nop ↦ inl (continues NoTree Nop (next_nop blocks depth_limit place NoTree position (next_is BeforeRoot nop_number passes nop)))
@@ -106,7 +118,8 @@ module _ (blocks : TreeBlocks) (depth_limit place : ℕ) where
         ended whole = record { root = root; holds = whole.0; shallow = whole.1 }
 
 -- From the state of a reader on, the block holds a tree or has a fault.
-tree_or_fault_from : (steps : ℕ) (blocks : TreeBlocks) (depth_limit place : ℕ) (so_far : TreeSoFar) → blocks.end ≤ place + steps → IsOpenAt blocks depth_limit place so_far → HasTree blocks depth_limit ⊎ ((fault : Fault) × IsStructureFault blocks depth_limit fault)
+tree_or_fault_from : (steps : ℕ) (blocks : TreeBlocks) (depth_limit place : ℕ) (so_far : TreeSoFar) → blocks.end ≤ place + steps →
+    IsOpenAt blocks depth_limit place so_far → HasTree blocks depth_limit ⊎ ((fault : Fault) × IsStructureFault blocks depth_limit fault)
 tree_or_fault_from zero blocks depth_limit place so_far left position =
     inr (token_fault place HasTokenNumber, fault_there blocks depth_limit place so_far (token_fault place HasTokenNumber) position (inl ((λ (word : place + 4 ≤ blocks.end). omega arith), refl)))
 tree_or_fault_from (suc steps) blocks depth_limit place so_far left position =
@@ -127,6 +140,7 @@ tree_or_fault_from (suc steps) blocks depth_limit place so_far left position =
       by_checks (inr first) continue = inr (first.0, fault_there blocks depth_limit place so_far first.0 position first.1)
 
 -- A structure block in a file of bytes holds a tree within the depth limit, or it has a fault.
-pub tree_or_fault : (blocks : TreeBlocks) (depth_limit : ℕ) → IsReadable blocks → HasTree blocks depth_limit ⊎ ((fault : Fault) × IsStructureFault blocks depth_limit fault)
+pub tree_or_fault : (blocks : TreeBlocks) (depth_limit : ℕ) → IsReadable blocks →
+    HasTree blocks depth_limit ⊎ ((fault : Fault) × IsStructureFault blocks depth_limit fault)
 tree_or_fault blocks depth_limit readable =
     tree_or_fault_from blocks.end blocks depth_limit blocks.begin NoTree (omega arith) (at_begin blocks depth_limit readable)

@@ -1,5 +1,5 @@
 use Rattle.std.proofs.Common.{ℕ, ◌≤◌, List, ◌++◌, length, sym, subst}
-use Rattle.bi_base.specs.Limits.{Bounds}
+use Rattle.bi_base.specs.Limits.{Limits}
 use Rattle.bi_blob.specs.Tree.{Root, Property}
 use Rattle.bi_blob.specs.Blob.{Reservation, IsWithin}
 use Rattle.bi_blob.specs.Layout.{text_of_tree, tree_with_places, longest_text}
@@ -10,7 +10,9 @@ use Rattle.bi_blob.proofs.Texts.TextBlob.{text_is_blob}
 -- A text is accepted under limits that hold it.
 
 -- A file that is a blob of these within limits is accepted.
-pub is_accepted : (bounds : Bounds) (file : List ℕ) (cpu : ℕ) (reservations : List Reservation) (root : Root (List Property)) → IsBlobOf file cpu reservations root → IsWithin bounds file (tree_with_places reservations root) → IsAccepted bounds file cpu reservations root
+pub is_accepted : (bounds : Limits) (file : List ℕ) (cpu : ℕ) (reservations : List Reservation) (root : Root (List Property)) →
+    IsBlobOf file cpu reservations root → IsWithin bounds file (tree_with_places reservations root) →
+    IsAccepted bounds file cpu reservations root
 is_accepted bounds file cpu reservations root is within = record {
   is_blob = is;
   is_within = within;

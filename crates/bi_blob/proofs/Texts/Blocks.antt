@@ -21,7 +21,8 @@ third_slice a b c d at n is_at is_n =
     ∙ second_slice (a ++ b) c d at n (length-append a b ∙ is_at) is_n
 
 -- The fourth of five lists is the slice where the first three end.
-pub fourth_slice : (a b c d e : List ℕ) (at n : ℕ) → length a + length b + length c ≡ at → length d ≡ n → slice (a ++ (b ++ (c ++ (d ++ e)))) at n ≡ d
+pub fourth_slice : (a b c d e : List ℕ) (at n : ℕ) → length a + length b + length c ≡ at → length d ≡ n →
+    slice (a ++ (b ++ (c ++ (d ++ e)))) at n ≡ d
 fourth_slice a b c d e at n is_at is_n =
     ap (λ file. slice file at n) (sym (append_assoc a b (c ++ (d ++ e))))
     ∙ third_slice (a ++ b) c d e at n (omega (arith, length-append a b)) is_n
@@ -38,7 +39,11 @@ pub after_five : (a b c d e rest : List ℕ) → (a ++ (b ++ (c ++ (d ++ e)))) +
 after_five a b c d e rest = simp append_assoc
 
 -- A text with any bytes after it: its header and its three blocks in turn.
-pub text_parts : (cpu : ℕ) (reserved structure strings rest : List ℕ) → text_of_blocks cpu reserved structure strings ++ rest ≡ blob_header cpu (length reserved) (length structure) (length strings) ++ (reserved ++ (structure ++ (strings ++ (padding_to_4 (length_before_padding (length reserved) (length structure) (length strings)) ++ rest))))
+pub text_parts : (cpu : ℕ) (reserved structure strings rest : List ℕ) →
+    text_of_blocks cpu reserved structure strings ++ rest
+    ≡ blob_header cpu (length reserved) (length structure) (length strings)
+    ++ (reserved ++ (structure ++ (strings
+    ++ (padding_to_4 (length_before_padding (length reserved) (length structure) (length strings)) ++ rest))))
 unfolding text_of_blocks
 text_parts cpu reserved structure strings rest =
     after_five (blob_header cpu (length reserved) (length structure) (length strings)) reserved structure strings (padding_to_4 (length_before_padding (length reserved) (length structure) (length strings))) rest
@@ -62,7 +67,8 @@ reserved-aligned reservations =
     length-pair = simp (length-append, length-cell8)
 
 -- What has the cells of a text, and is as long at least, has the header of a blob.
-pub text_header : (file : List ℕ) (cpu reserved structure strings : ℕ) → HasCells file cpu reserved structure strings → reserved % 8 ≡ 0 → up4 (length_before_padding reserved structure strings) ≤ length file → Header file
+pub text_header : (file : List ℕ) (cpu reserved structure strings : ℕ) → HasCells file cpu reserved structure strings → reserved % 8 ≡ 0 →
+    up4 (length_before_padding reserved structure strings) ≤ length file → Header file
 text_header file cpu reserved structure strings cells aligned long =
     let header : header_length file ≡ 40 = header_length-17 file cells.is_version in
     let structure_ends : structure_end file ≡ off_dt_struct file + size_dt_struct file = structure_end-17 file cells.is_version in

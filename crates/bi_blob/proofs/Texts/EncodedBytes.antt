@@ -44,7 +44,9 @@ name_bytes strings offset name are there =
     AreBytes-left name (0 ∷ there.trailing) (subst AreBytes there.is_at (AreBytes-drop offset strings are))
 
 -- The events of tokens of bytes over strings of bytes are of bytes.
-pub event_bytes : (strings : List ℕ) (at : ℕ) (tokens : List Token) (token_events : List FileEvent) → AreBytes strings → AllByRecursion TokenHasBytes tokens → EncodeEvents strings at tokens token_events → AllByRecursion (λ event. AreEventBytes (event_without_place event)) token_events
+pub event_bytes : (strings : List ℕ) (at : ℕ) (tokens : List Token) (token_events : List FileEvent) → AreBytes strings →
+    AllByRecursion TokenHasBytes tokens → EncodeEvents strings at tokens token_events →
+    AllByRecursion (λ event. AreEventBytes (event_without_place event)) token_events
 event_bytes strings at [] [] are bytes encodes = tt
 event_bytes strings at (Nop ∷ tokens) token_events are bytes encodes = event_bytes strings (at + width Nop) tokens token_events are bytes.1 encodes
 event_bytes strings at (BeginNode token_name ∷ tokens) (FileNodeStart place name ∷ token_events) are bytes encodes = (
@@ -59,7 +61,8 @@ event_bytes strings at (EndNode ∷ tokens) (FileNodeEnd ∷ token_events) are b
 event_bytes strings at tokens token_events are bytes encodes = absurd encodes
 
 -- The events of properties without places.
-properties_of-marks_of_properties : (properties : List FileProperty) → map NodeProperty (map property_of properties) ≡ map event_without_place (map FileNodeProperty properties)
+properties_of-marks_of_properties : (properties : List FileProperty) →
+    map NodeProperty (map property_of properties) ≡ map event_without_place (map FileNodeProperty properties)
 properties_of-marks_of_properties [] = refl
 properties_of-marks_of_properties (property ∷ later) = ap (λ l. NodeProperty (property_of property) ∷ l) (properties_of-marks_of_properties later)
 
@@ -74,7 +77,9 @@ properties_of-events (node name with_places children later) =
     ∙ sym (map-append event_without_place (map FileNodeProperty with_places.properties) (file_events children ++ (FileNodeEnd ∷ file_events later))))
 
 -- A tree that tokens of bytes encode is of bytes.
-pub tree_bytes : (strings : List ℕ) (at : ℕ) (tokens : List Token) (root : Root FileNode) → AreBytes strings → AllByRecursion TokenHasBytes tokens → EncodeEvents strings at tokens (file_events_of root) → AllByRecursion AreEventBytes (events_of (tree_without_places root))
+pub tree_bytes : (strings : List ℕ) (at : ℕ) (tokens : List Token) (root : Root FileNode) → AreBytes strings →
+    AllByRecursion TokenHasBytes tokens → EncodeEvents strings at tokens (file_events_of root) →
+    AllByRecursion AreEventBytes (events_of (tree_without_places root))
 tree_bytes strings at tokens root are bytes encodes =
     subst (AllByRecursion AreEventBytes) (sym (properties_of-events (as_nodes root)))
     (each-map AreEventBytes event_without_place (file_events_of root) (event_bytes strings at tokens (file_events_of root) are bytes encodes))

@@ -36,7 +36,8 @@ among_found (first ∷ others) name found = where_first (bytes_eq first name) re
     where_first false is found among = Contains-others first others name (among (rw is at found))
 
 -- One more name is one more of the first ones, if it was not there.
-pub distinct_names-push : (names : List (List ℕ)) (name : List ℕ) → distinct_names (names ++ name ∷ []) ≡ cond (is_among name names) (distinct_names names) (distinct_names names ++ name ∷ [])
+pub distinct_names-push : (names : List (List ℕ)) (name : List ℕ) →
+    distinct_names (names ++ name ∷ []) ≡ cond (is_among name names) (distinct_names names) (distinct_names names ++ name ∷ [])
 distinct_names-push [] name = refl
 distinct_names-push (first ∷ others) name =
     ap (λ l. first ∷ filter (λ other. not (bytes_eq first other)) l) (distinct_names-push others name)
@@ -56,12 +57,14 @@ distinct_names-push (first ∷ others) name =
         ∙ ap (λ b. filter (λ other. not (bytes_eq first other)) (distinct_names others) ++ cond (not b) (name ∷ []) []) is))
 
 -- The first ones stay where the name was there.
-pub distinct_names-known : (names : List (List ℕ)) (name : List ℕ) → Contains names name → distinct_names (names ++ name ∷ []) ≡ distinct_names names
+pub distinct_names-known : (names : List (List ℕ)) (name : List ℕ) → Contains names name →
+    distinct_names (names ++ name ∷ []) ≡ distinct_names names
 distinct_names-known names name has =
     distinct_names-push names name ∙ ap (λ b. cond b (distinct_names names) (distinct_names names ++ name ∷ [])) (found_among names name has)
 
 -- It is added at their end where it was not there.
-pub distinct_names-new : (names : List (List ℕ)) (name : List ℕ) → (Contains names name → ⊥) → distinct_names (names ++ name ∷ []) ≡ distinct_names names ++ name ∷ []
+pub distinct_names-new : (names : List (List ℕ)) (name : List ℕ) → (Contains names name → ⊥) →
+    distinct_names (names ++ name ∷ []) ≡ distinct_names names ++ name ∷ []
 distinct_names-new names name lacks = distinct_names-push names name ∙ where_found (is_among name names) refl
   where
     where_found : (b : Bool) → is_among name names ≡ b → cond (is_among name names) (distinct_names names) (distinct_names names ++ name ∷ []) ≡ distinct_names names ++ name ∷ []
@@ -69,7 +72,8 @@ distinct_names-new names name lacks = distinct_names-push names name ∙ where_f
     where_found false is = rw is refl
 
 -- The names that events use, with one more property.
-pub used_names-push : (events : List Event) (property : Property) → used_names (events ++ NodeProperty property ∷ []) ≡ used_names events ++ property.0 ∷ []
+pub used_names-push : (events : List Event) (property : Property) →
+    used_names (events ++ NodeProperty property ∷ []) ≡ used_names events ++ property.0 ∷ []
 used_names-push events property = flat_map-append event_names events (NodeProperty property ∷ [])
 
 -- The strings block grows in the order of use.

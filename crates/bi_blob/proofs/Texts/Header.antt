@@ -20,7 +20,9 @@ pub record HasCells (file : List ℕ) (cpu reserved structure strings : ℕ) : T
   pub is_size_struct : size_dt_struct file ≡ structure
 
 -- What begins with the header of a text has its numbers, where they are cells.
-pub has_cells : (cpu reserved structure strings : ℕ) (trailing : List ℕ) → cpu < 2 ^ 32 → up4 (length_before_padding reserved structure strings) < 2 ^ 32 → HasCells (blob_header cpu reserved structure strings ++ trailing) cpu reserved structure strings
+pub has_cells : (cpu reserved structure strings : ℕ) (trailing : List ℕ) → cpu < 2 ^ 32 →
+    up4 (length_before_padding reserved structure strings) < 2 ^ 32 →
+    HasCells (blob_header cpu reserved structure strings ++ trailing) cpu reserved structure strings
 unfolding cell u32_at
 has_cells cpu reserved structure strings trailing cpu_fits fits = record {
   is_magic = refl;

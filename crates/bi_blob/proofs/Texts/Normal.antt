@@ -6,8 +6,8 @@ use Rattle.std.proofs.lemmas.Cmp.{nat_list_cmp_total}
 use Rattle.bi_blob.specs.Tree.{Nodes, none, node, Root, Property, PropertyMap, with_each, tree_without_order, EachOwn, IsNormal}
 use Rattle.bi_blob.specs.Layout.{in_byte_order, text_of_tree, longest_text}
 use Rattle.bi_blob.specs.TextLaws.{EachTreeHasOneOrder, NormalTextTellsContent}
-use Rattle.bi_blob.proofs.Texts.Ordering.{order_tells}
-use Rattle.bi_blob.proofs.Texts.Content.{text_has_one_content}
+use Rattle.bi_blob.proofs.Texts.PropertyOrder.{order_tells}
+use Rattle.bi_blob.proofs.Texts.TextContent.{text_has_one_content}
 
 -- The normal order of properties, and the content of normal texts.
 
@@ -18,14 +18,16 @@ made_again properties =
     (λ name. get-from_entries nat_list_cmp_total (entries properties) name ∙ sym (get-entries properties name))
 
 -- Properties that are in order, taken by name and put in order again, are the same.
-pub ordered_again : (properties : List Property) → T (is_sorted (slice_cmp nat_cmp) properties) → entries (from_entries {R = slice_cmp nat_cmp} properties) ≡ properties
+pub ordered_again : (properties : List Property) → T (is_sorted (slice_cmp nat_cmp) properties) →
+    entries (from_entries {R = slice_cmp nat_cmp} properties) ≡ properties
 ordered_again properties sorted =
     same_entries (slice_cmp nat_cmp) nat_list_cmp_total order_tells (entries (from_entries {R = slice_cmp nat_cmp} properties)) properties
     (entries_sorted (from_entries {R = slice_cmp nat_cmp} properties)) sorted
     (λ name. sym (get-entries (from_entries {R = slice_cmp nat_cmp} properties) name) ∙ get-from_entries nat_list_cmp_total properties name)
 
 -- Nodes whose properties are put in order are normal.
-pub normal-nodes : (nodes : Nodes PropertyMap) → EachOwn (λ properties. T (is_sorted (slice_cmp nat_cmp) properties)) (with_each entries nodes)
+pub normal-nodes : (nodes : Nodes PropertyMap) →
+    EachOwn (λ properties. T (is_sorted (slice_cmp nat_cmp) properties)) (with_each entries nodes)
 normal-nodes none = tt
 normal-nodes (node name properties children later) = (entries_sorted properties, normal-nodes children, normal-nodes later)
 
@@ -37,7 +39,8 @@ same-nodes (node name properties children later) =
     ∙ ap₂ (λ inner outer. node name properties inner outer) (same-nodes children) (same-nodes later)
 
 -- Nodes that are normal are in the order of their names.
-pub ordered-nodes : (nodes : Nodes (List Property)) → EachOwn (λ properties. T (is_sorted (slice_cmp nat_cmp) properties)) nodes → with_each entries (with_each (from_entries {R = slice_cmp nat_cmp}) nodes) ≡ nodes
+pub ordered-nodes : (nodes : Nodes (List Property)) → EachOwn (λ properties. T (is_sorted (slice_cmp nat_cmp) properties)) nodes →
+    with_each entries (with_each (from_entries {R = slice_cmp nat_cmp}) nodes) ≡ nodes
 ordered-nodes none normal = refl
 ordered-nodes (node name properties children later) normal =
     ap (λ own. node name own (with_each entries (with_each (from_entries {R = slice_cmp nat_cmp}) children)) (with_each entries (with_each (from_entries {R = slice_cmp nat_cmp}) later))) (ordered_again properties normal.0)

@@ -1,4 +1,5 @@
-use Rattle.std.proofs.Common.{◌≡◌, ◌≢◌, ℕ, Bool, true, false, T, List, [], ◌∷◌, ◌++◌, length, map, Option, Some, None, Ordering, Less, Equal, Greater, is_lt, refl, sym, ap, subst, ◌∙◌, arith, nat_cmp}
+use Rattle.std.proofs.Common.{◌≡◌, ◌≢◌, ℕ, Bool, true, false, T, List, [], ◌∷◌, ◌++◌, length, map, Option, Some, None, Ordering, Less}
+use Rattle.std.proofs.Common.{Equal, Greater, is_lt, refl, sym, ap, subst, ◌∙◌, arith, nat_cmp}
 use Rattle.std.specs.Prelude.{◌&&◌, IfSome, ⊤}
 use Rattle.std.specs.List.{AllByRecursion, slice_get}
 use Rattle.std.specs.Cmp.Lexicographic.{slice_cmp}
@@ -14,10 +15,10 @@ use Rattle.bi_blob.specs.Following.{most_open_nodes, last_name, MayFollow, MayFo
 use Rattle.bi_blob.specs.BlobLaws.{HasOneTree}
 use Rattle.bi_blob.specs.TextLaws.{NormalEventsHaveOneTree, HasOneNormalTree}
 use Rattle.bi_blob.proofs.Blobs.OpenNodes.{All-push}
-use Rattle.bi_blob.proofs.Blobs.Trees.{regrouped}
+use Rattle.bi_blob.proofs.Blobs.OneTree.{append-regroup}
 use Rattle.bi_blob.proofs.Blobs.Following.{open_with, property_names_of}
 use Rattle.bi_blob.proofs.Blobs.EventTrees.{closed_events_have_one_tree}
-use Rattle.bi_blob.proofs.Texts.Ordering.{both_pass, below_other}
+use Rattle.bi_blob.proofs.Texts.PropertyOrder.{both_pass, below_other}
 
 -- Events that may follow one another in a normal text are those of a normal tree.
 
@@ -39,7 +40,8 @@ abbrev pub IsRising : List (List ℕ) → Type 0
 IsRising ns = (name : List ℕ) → IfSome (last_name ns) (λ last. IsBefore last name) → AllByRecursion (λ n. IsBefore n name) ns
 
 -- Rising names stay so with one more that is after their last.
-IsRising-push : (ns : List (List ℕ)) (name : List ℕ) → IsRising ns → IfSome (last_name ns) (λ last. IsBefore last name) → IsRising (ns ++ name ∷ [])
+IsRising-push : (ns : List (List ℕ)) (name : List ℕ) → IsRising ns → IfSome (last_name ns) (λ last. IsBefore last name) →
+    IsRising (ns ++ name ∷ [])
 IsRising-push ns name rising next other after =
     let last : IsBefore name other = subst (λ o. IfSome o (λ last. IsBefore last other)) (last_name-push ns name) after in
     All-push (λ n. IsBefore n other) ns name
@@ -67,7 +69,8 @@ none_rise : IsRising []
 none_rise name next = tt
 
 -- What may follow in a normal text may follow in a blob, and in order.
-in_text : (stage : Stage) (event : Event) → AllRise stage → MayFollowInText stage event → MayFollow most_open_nodes stage event × IsInOrder stage event
+in_text : (stage : Stage) (event : Event) → AllRise stage → MayFollowInText stage event →
+    MayFollow most_open_nodes stage event × IsInOrder stage event
 in_text BeforeRoot (NodeStart name) rise may = (may, tt)
 in_text (Inside innermost outer) (NodeStart name) rise may = (may, tt)
 in_text AfterRoot (NodeStart name) rise may = (may, tt)
@@ -94,7 +97,8 @@ rise_more (Inside innermost (parent ∷ outer)) NodeEnd rise may = rise.1
 rise_more AfterRoot NodeEnd rise may = tt
 
 -- Events that may follow in a normal text may follow in a blob.
-follow_in_blob : (stage : Stage) (later : List Event) → AllRise stage → AllFollow MayFollowInText stage later → AllFollow (MayFollow most_open_nodes) stage later
+follow_in_blob : (stage : Stage) (later : List Event) → AllRise stage → AllFollow MayFollowInText stage later →
+    AllFollow (MayFollow most_open_nodes) stage later
 follow_in_blob stage [] rise follow = tt
 follow_in_blob stage (event ∷ later) rise follow = (
   (in_text stage event rise follow.0).0,
@@ -102,7 +106,8 @@ follow_in_blob stage (event ∷ later) rise follow = (
 )
 
 -- They follow in order.
-follow_in_order : (stage : Stage) (later : List Event) → AllRise stage → AllFollow MayFollowInText stage later → AllFollow IsInOrder stage later
+follow_in_order : (stage : Stage) (later : List Event) → AllRise stage → AllFollow MayFollowInText stage later →
+    AllFollow IsInOrder stage later
 follow_in_order stage [] rise follow = tt
 follow_in_order stage (event ∷ later) rise follow = (
   (in_text stage event rise follow.0).1,
@@ -117,7 +122,8 @@ in_blob (Inside innermost outer) (NodeProperty property) may ordered = (may.0, m
 in_blob AfterRoot (NodeProperty property) may ordered = absurd may
 in_blob stage NodeEnd may ordered = may
 
-follow_in_text : (stage : Stage) (later : List Event) → AllFollow (MayFollow most_open_nodes) stage later → AllFollow IsInOrder stage later → AllFollow MayFollowInText stage later
+follow_in_text : (stage : Stage) (later : List Event) → AllFollow (MayFollow most_open_nodes) stage later →
+    AllFollow IsInOrder stage later → AllFollow MayFollowInText stage later
 follow_in_text stage [] follow ordered = tt
 follow_in_text stage (event ∷ later) follow ordered =
     (in_blob stage event follow.0 ordered.0, follow_in_text (next_stage stage event) later follow.1 ordered.1)
@@ -138,7 +144,8 @@ is_Less Equal is = absurd is
 is_Less Greater is = absurd is
 
 -- What is before a name is before all that the name is before.
-below_more : (name other : List ℕ) (properties : List Property) → IsBefore name other → T (below_all (slice_cmp nat_cmp) other properties) → T (below_all (slice_cmp nat_cmp) name properties)
+below_more : (name other : List ℕ) (properties : List Property) → IsBefore name other → T (below_all (slice_cmp nat_cmp) other properties) →
+    T (below_all (slice_cmp nat_cmp) name properties)
 below_more name other [] before below = tt
 below_more name other (property ∷ later) before below =
     let both = both_pass (is_lt (slice_cmp nat_cmp other property.0)) (below_all (slice_cmp nat_cmp) other later) below in
@@ -147,7 +154,8 @@ below_more name other (property ∷ later) before below =
     (below_more name other later before both.1)
 
 -- Properties in a chain are in byte order, after the name before the chain.
-chain_sorted_after : (name : List ℕ) (properties : List Property) → AreChained (Some name) properties → T (below_all (slice_cmp nat_cmp) name properties) × T (is_sorted (slice_cmp nat_cmp) properties)
+chain_sorted_after : (name : List ℕ) (properties : List Property) → AreChained (Some name) properties →
+    T (below_all (slice_cmp nat_cmp) name properties) × T (is_sorted (slice_cmp nat_cmp) properties)
 chain_sorted_after name [] chained = (tt, tt)
 chain_sorted_after name (property ∷ later) chained =
     let rest = chain_sorted_after property.0 later chained.1 in (
@@ -163,7 +171,8 @@ chain_sorted (property ∷ later) chained =
     both_hold (below_all (slice_cmp nat_cmp) property.0 later) (is_sorted (slice_cmp nat_cmp) later) rest.0 rest.1
 
 -- Properties in byte order are a chain.
-sorted_chain_after : (name : List ℕ) (properties : List Property) → T (below_all (slice_cmp nat_cmp) name properties) → T (is_sorted (slice_cmp nat_cmp) properties) → AreChained (Some name) properties
+sorted_chain_after : (name : List ℕ) (properties : List Property) → T (below_all (slice_cmp nat_cmp) name properties) →
+    T (is_sorted (slice_cmp nat_cmp) properties) → AreChained (Some name) properties
 sorted_chain_after name [] below sorted = tt
 sorted_chain_after name (property ∷ later) below sorted =
     let first = both_pass (is_lt (slice_cmp nat_cmp name property.0)) (below_all (slice_cmp nat_cmp) name later) below in
@@ -181,7 +190,9 @@ abbrev pub AreSorted : Nodes (List Property) → Type 0
 AreSorted nodes = EachOwn (λ properties. T (is_sorted (slice_cmp nat_cmp) properties)) nodes
 
 -- Properties that follow in order are a chain.
-properties_chained : (ps : List Property) (ns : List (List ℕ)) (outer : List OpenNode) (later : List Event) → AllFollow IsInOrder (Inside (open_with ns []) outer) (map NodeProperty ps ++ later) → AreChained (last_name ns) ps × AllFollow IsInOrder (Inside (open_with (ns ++ property_names_of ps) []) outer) later
+properties_chained : (ps : List Property) (ns : List (List ℕ)) (outer : List OpenNode) (later : List Event) →
+    AllFollow IsInOrder (Inside (open_with ns []) outer) (map NodeProperty ps ++ later) →
+    AreChained (last_name ns) ps × AllFollow IsInOrder (Inside (open_with (ns ++ property_names_of ps) []) outer) later
 properties_chained [] ns outer later follow =
     (tt, subst (λ l. AllFollow IsInOrder (Inside (open_with l []) outer) later) (sym (append-nil ns)) follow)
 properties_chained (p ∷ ps) ns outer later follow =
@@ -191,7 +202,9 @@ properties_chained (p ∷ ps) ns outer later follow =
     )
 
 -- A chain of properties follows in order.
-chained_properties : (ps : List Property) (ns : List (List ℕ)) (outer : List OpenNode) (later : List Event) → AreChained (last_name ns) ps → AllFollow IsInOrder (Inside (open_with (ns ++ property_names_of ps) []) outer) later → AllFollow IsInOrder (Inside (open_with ns []) outer) (map NodeProperty ps ++ later)
+chained_properties : (ps : List Property) (ns : List (List ℕ)) (outer : List OpenNode) (later : List Event) → AreChained (last_name ns) ps →
+    AllFollow IsInOrder (Inside (open_with (ns ++ property_names_of ps) []) outer) later →
+    AllFollow IsInOrder (Inside (open_with ns []) outer) (map NodeProperty ps ++ later)
 chained_properties [] ns outer later chained follow =
     subst (λ l. AllFollow IsInOrder (Inside (open_with l []) outer) later) (append-nil ns) follow
 chained_properties (p ∷ ps) ns outer later chained follow = (
@@ -202,14 +215,16 @@ chained_properties (p ∷ ps) ns outer later chained follow = (
 )
 
 -- Nodes whose events follow in order have their properties in byte order.
-nodes_sorted : (nodes : Nodes (List Property)) (ns cs : List (List ℕ)) (outer : List OpenNode) (later : List Event) → AllFollow IsInOrder (Inside (open_with ns cs) outer) (events nodes ++ later) → AreSorted nodes × AllFollow IsInOrder (Inside (open_with ns (cs ++ names nodes)) outer) later
+nodes_sorted : (nodes : Nodes (List Property)) (ns cs : List (List ℕ)) (outer : List OpenNode) (later : List Event) →
+    AllFollow IsInOrder (Inside (open_with ns cs) outer) (events nodes ++ later) →
+    AreSorted nodes × AllFollow IsInOrder (Inside (open_with ns (cs ++ names nodes)) outer) later
 nodes_sorted none ns cs outer later follow =
     (tt, subst (λ l. AllFollow IsInOrder (Inside (open_with ns l) outer) later) (sym (append-nil cs)) follow)
 nodes_sorted (node name ps children siblings) ns cs outer later follow =
     let round : List OpenNode = open_with ns (cs ++ name ∷ []) ∷ outer in
     let trailing : List Event = NodeEnd ∷ (events siblings ++ later) in
     let inside : AllFollow IsInOrder (Inside (open_with [] []) round) (map NodeProperty ps ++ (events children ++ trailing)) =
-    subst (AllFollow IsInOrder (Inside (open_with [] []) round)) (regrouped (map NodeProperty ps) (events children) (NodeEnd ∷ events siblings) later) follow.1 in
+    subst (AllFollow IsInOrder (Inside (open_with [] []) round)) (append-regroup (map NodeProperty ps) (events children) (NodeEnd ∷ events siblings) later) follow.1 in
     let own : AreChained None ps × AllFollow IsInOrder (Inside (open_with (property_names_of ps) []) round) (events children ++ trailing) =
     properties_chained ps [] round (events children ++ trailing) inside in
     let below : AreSorted children × AllFollow IsInOrder (Inside (open_with (property_names_of ps) (names children)) round) trailing =
@@ -221,7 +236,9 @@ nodes_sorted (node name ps children siblings) ns cs outer later follow =
     )
 
 -- The events of nodes with their properties in byte order follow in order.
-sorted_nodes : (nodes : Nodes (List Property)) (ns cs : List (List ℕ)) (outer : List OpenNode) (later : List Event) → AreSorted nodes → AllFollow IsInOrder (Inside (open_with ns (cs ++ names nodes)) outer) later → AllFollow IsInOrder (Inside (open_with ns cs) outer) (events nodes ++ later)
+sorted_nodes : (nodes : Nodes (List Property)) (ns cs : List (List ℕ)) (outer : List OpenNode) (later : List Event) → AreSorted nodes →
+    AllFollow IsInOrder (Inside (open_with ns (cs ++ names nodes)) outer) later →
+    AllFollow IsInOrder (Inside (open_with ns cs) outer) (events nodes ++ later)
 sorted_nodes none ns cs outer later sorted follow =
     subst (λ l. AllFollow IsInOrder (Inside (open_with ns l) outer) later) (append-nil cs) follow
 sorted_nodes (node name ps children siblings) ns cs outer later sorted follow =
@@ -234,7 +251,7 @@ sorted_nodes (node name ps children siblings) ns cs outer later sorted follow =
     sorted_nodes children (property_names_of ps) [] round trailing sorted.1 (tt, after) in
     let inside : AllFollow IsInOrder (Inside (open_with [] []) round) (map NodeProperty ps ++ (events children ++ trailing)) =
     chained_properties ps [] round (events children ++ trailing) (sorted_chain ps sorted.0) below in
-    (tt, subst (AllFollow IsInOrder (Inside (open_with [] []) round)) (sym (regrouped (map NodeProperty ps) (events children) (NodeEnd ∷ events siblings) later)) inside)
+    (tt, subst (AllFollow IsInOrder (Inside (open_with [] []) round)) (sym (append-regroup (map NodeProperty ps) (events children) (NodeEnd ∷ events siblings) later)) inside)
 
 -- A tree whose events follow in order is normal.
 tree_sorted : (root : Root (List Property)) → AllFollow IsInOrder BeforeRoot (events_of root) → IsNormal root

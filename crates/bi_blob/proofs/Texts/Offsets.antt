@@ -1,11 +1,12 @@
-use Rattle.std.proofs.Common.{◌≡◌, ◌⊎◌, ℕ, ◌+◌, Bool, true, false, cond, List, [], ◌∷◌, ◌++◌, length, Contains, bytes_eq, inl, inr, refl, ap, subst, ◌∙◌, sym, arith, append_assoc, append-nil, length-append, true≢false}
+use Rattle.std.proofs.Common.{◌≡◌, ◌⊎◌, ℕ, ◌+◌, Bool, true, false, cond, List, [], ◌∷◌, ◌++◌, length, Contains, bytes_eq, inl, inr, refl}
+use Rattle.std.proofs.Common.{ap, subst, ◌∙◌, sym, arith, append_assoc, append-nil, length-append, true≢false}
 use Rattle.std.proofs.lemmas.Slice.Eq.{bytes_eq-Decides}
 use Rattle.std.proofs.lemmas.List.{length_push}
 use Rattle.std.proofs.lemmas.List.Concat.{flat_map-append}
 use Rattle.bi_base.proofs.ListMembers.{Contains-none, Contains-cases, Contains-first, Contains-others}
 use Rattle.bi_blob.specs.Layout.{event_names, used_names, distinct_names, strings_of, offset_in}
 use Rattle.bi_blob.specs.TextLaws.{OffsetsStay, NewOffsetIsAtEnd}
-use Rattle.bi_blob.proofs.Texts.Names.{distinct_names-all, distinct_names-only}
+use Rattle.bi_blob.proofs.Texts.NamesOnce.{distinct_names-all, distinct_names-only}
 use Rattle.bi_blob.proofs.Texts.FirstUse.{is_among, distinct_names-push, distinct_names-new, used_names-push}
 
 -- The offsets of names in a strings block that grows.
@@ -21,7 +22,8 @@ Contains-front {X = X} (first ∷ others) later x has =
     where_first (inr has) among = Contains-others first (others ++ later) x (among has)
 
 -- The offset of a name among names stays with further names at their end.
-offset_in-front : (names later : List (List ℕ)) (name : List ℕ) → Contains names name → offset_in (names ++ later) name ≡ offset_in names name
+offset_in-front : (names later : List (List ℕ)) (name : List ℕ) → Contains names name →
+    offset_in (names ++ later) name ≡ offset_in names name
 offset_in-front [] later name has = absurd (Contains-none name has)
 offset_in-front (first ∷ others) later name has =
     where_first (bytes_eq first name) refl (Contains-cases first others name has) (λ has. offset_in-front others later name has)
@@ -32,7 +34,8 @@ offset_in-front (first ∷ others) later name has =
     where_first false is (inr has) same = rw is (ap (λ n. length first + 1 + n) (same has))
 
 -- The offset of a name that is not among names, and is put after them, is their length.
-offset_in-last : (names : List (List ℕ)) (name : List ℕ) → ¬ (Contains names name) → offset_in (names ++ name ∷ []) name ≡ length (strings_of names)
+offset_in-last : (names : List (List ℕ)) (name : List ℕ) → ¬ (Contains names name) →
+    offset_in (names ++ name ∷ []) name ≡ length (strings_of names)
 offset_in-last [] name lacks = ap (λ b. cond b 0 (length name + 1 + 0)) ((bytes_eq-Decides name name).1 refl)
 offset_in-last (first ∷ others) name lacks =
     where_first (bytes_eq first name) refl (offset_in-last others name (λ has. lacks (Contains-others first others name has)))
@@ -44,7 +47,8 @@ offset_in-last (first ∷ others) name lacks =
         rw is (omega (arith, rest, length-append (first ++ 0 ∷ []) (strings_of others), length_push first 0))
 
 -- One more name changes no offset of a name that was there.
-offset-push : (names : List (List ℕ)) (other name : List ℕ) → Contains names name → offset_in (distinct_names (names ++ other ∷ [])) name ≡ offset_in (distinct_names names) name
+offset-push : (names : List (List ℕ)) (other name : List ℕ) → Contains names name →
+    offset_in (distinct_names (names ++ other ∷ [])) name ≡ offset_in (distinct_names names) name
 offset-push names other name has =
     ap (λ names. offset_in names name) (distinct_names-push names other) ∙ where_known (is_among other names)
   where
@@ -53,7 +57,8 @@ offset-push names other name has =
     where_known false = offset_in-front (distinct_names names) (other ∷ []) name (distinct_names-all names name has)
 
 -- Nor do further names.
-offset-append : (names later : List (List ℕ)) (name : List ℕ) → Contains names name → offset_in (distinct_names (names ++ later)) name ≡ offset_in (distinct_names names) name
+offset-append : (names later : List (List ℕ)) (name : List ℕ) → Contains names name →
+    offset_in (distinct_names (names ++ later)) name ≡ offset_in (distinct_names names) name
 offset-append names [] name has = ap (λ l. offset_in (distinct_names l) name) (append-nil names)
 offset-append names (other ∷ later) name has =
     ap (λ l. offset_in (distinct_names l) name) (sym (append_assoc names (other ∷ []) later))

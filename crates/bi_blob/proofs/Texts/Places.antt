@@ -23,15 +23,18 @@ pub place_after_events-none : (at : ℕ) → place_after_events at [] ≡ at
 place_after_events-none at = omega arith
 
 -- The tokens after a first one are after it.
-pub place_after_events-cons : (at : ℕ) (event : Event) (later : List Event) → place_after_events at (event ∷ later) ≡ place_after_events (at + event_width event) later
+pub place_after_events-cons : (at : ℕ) (event : Event) (later : List Event) →
+    place_after_events at (event ∷ later) ≡ place_after_events (at + event_width event) later
 place_after_events-cons at event later = omega (arith, sum_by-cons event_width event later)
 
 -- The tokens after some others are after them.
-pub place_after_events-append : (at : ℕ) (front later : List Event) → place_after_events at (front ++ later) ≡ place_after_events (place_after_events at front) later
+pub place_after_events-append : (at : ℕ) (front later : List Event) →
+    place_after_events at (front ++ later) ≡ place_after_events (place_after_events at front) later
 place_after_events-append at front later = omega (arith, sum_by-append event_width front later)
 
 -- Marks in two parts have their places part by part.
-pub placed_from-append : (at : ℕ) (front later : List Event) → placed_from at (front ++ later) ≡ placed_from at front ++ placed_from (place_after_events at front) later
+pub placed_from-append : (at : ℕ) (front later : List Event) →
+    placed_from at (front ++ later) ≡ placed_from at front ++ placed_from (place_after_events at front) later
 placed_from-append at [] later = ap (λ place. placed_from place later) (omega arith)
 placed_from-append at (event ∷ front) later =
     ap (λ l. event_with_place at event ∷ l)
@@ -39,13 +42,17 @@ placed_from-append at (event ∷ front) later =
     ∙ ap (λ place. placed_from (at + event_width event) front ++ placed_from place later) (sym (place_after_events-cons at event front)))
 
 -- The properties of a node have the places of their events.
-pub placed-properties : (at : ℕ) (properties : List Property) → map FileNodeProperty (properties_with_places at properties) ≡ placed_from at (map NodeProperty properties)
+pub placed-properties : (at : ℕ) (properties : List Property) →
+    map FileNodeProperty (properties_with_places at properties) ≡ placed_from at (map NodeProperty properties)
 placed-properties at [] = refl
 placed-properties at (property ∷ later) =
     ap (λ l. event_with_place at (NodeProperty property) ∷ l) (placed-properties (at + event_width (NodeProperty property)) later)
 
 -- The offset of the nodes after a first one.
-pub place_after_events-node : (at : ℕ) (name : List ℕ) (properties : List Property) (children : Nodes (List Property)) → place_after_events at (events (node name properties children none)) ≡ place_after_events (place_after_events (at + event_width (NodeStart name)) (map NodeProperty properties)) (events children) + event_width NodeEnd
+pub place_after_events-node : (at : ℕ) (name : List ℕ) (properties : List Property) (children : Nodes (List Property)) →
+    place_after_events at (events (node name properties children none))
+    ≡ place_after_events (place_after_events (at + event_width (NodeStart name)) (map NodeProperty properties)) (events children)
+    + event_width NodeEnd
 place_after_events-node at name properties children =
     place_after_events-cons at (NodeStart name) (map NodeProperty properties ++ (events children ++ (NodeEnd ∷ [])))
     ∙ place_after_events-append (at + event_width (NodeStart name)) (map NodeProperty properties) (events children ++ (NodeEnd ∷ []))
@@ -74,7 +81,8 @@ placed-nodes at (node name properties children later) =
     below = place_after_events (at + event_width (NodeStart name)) (map NodeProperty properties)
 
 -- The events of a tree with places are its events with places.
-pub placed-tree : (reservations : List Reservation) (root : Root (List Property)) → file_events_of (tree_with_places reservations root) ≡ placed_from (structure_place reservations) (events_of root)
+pub placed-tree : (reservations : List Reservation) (root : Root (List Property)) →
+    file_events_of (tree_with_places reservations root) ≡ placed_from (structure_place reservations) (events_of root)
 placed-tree reservations root = placed-nodes (structure_place reservations) (as_nodes root)
 
 -- Properties with their places are the same properties.
@@ -96,7 +104,8 @@ properties_of-nodes at (node name properties children later) =
     next = place_after_events at (events (node name properties children none))
 
 -- A tree with its places is the same tree.
-pub properties_of-tree : (reservations : List Reservation) (root : Root (List Property)) → tree_without_places (tree_with_places reservations root) ≡ root
+pub properties_of-tree : (reservations : List Reservation) (root : Root (List Property)) →
+    tree_without_places (tree_with_places reservations root) ≡ root
 properties_of-tree reservations root =
     ap₂ (λ own children. record { own = own; children = children })
     (properties_of-properties (structure_place reservations + event_width (NodeStart [])) root.own)
@@ -111,5 +120,6 @@ depth-nodes at (node name properties children later) =
     (depth-nodes (place_after_events at (events (node name properties children none))) later)
 
 -- A tree with its places is as deep.
-pub depth-tree : (reservations : List Reservation) (root : Root (List Property)) → depth_of (tree_with_places reservations root) ≡ depth_of root
+pub depth-tree : (reservations : List Reservation) (root : Root (List Property)) →
+    depth_of (tree_with_places reservations root) ≡ depth_of root
 depth-tree reservations root = depth-nodes (structure_place reservations) (as_nodes root)

@@ -4,20 +4,26 @@ use Rattle.bi_blob.specs.Blob.{Reservation, totalsize}
 use Rattle.bi_blob.specs.Layout.{text_of_tree, longest_text}
 use Rattle.bi_blob.specs.TextLaws.{TextWithRestHasOneContent, NormalTextWithRestTellsContent}
 use Rattle.bi_base.proofs.CellLaws.{parts_agree}
-use Rattle.bi_blob.proofs.Texts.Length.{length-text_of_tree}
+use Rattle.bi_blob.proofs.Texts.TextLength.{length-text_of_tree}
 use Rattle.bi_blob.proofs.Texts.TextBlob.{tree_text_has_parts}
-use Rattle.bi_blob.proofs.Texts.Content.{text_has_one_content}
+use Rattle.bi_blob.proofs.Texts.TextContent.{text_has_one_content}
 use Rattle.bi_blob.proofs.Texts.Normal.{normal_text_tells_content}
 
 -- Texts with other bytes after them.
 
 -- The total size of a text with other bytes after it is the length of the text.
-pub totalsize-text : (cpu : ℕ) (reservations : List Reservation) (root : Root (List Property)) (rest : List ℕ) → cpu < 2 ^ 32 → length (text_of_tree cpu reservations root) ≤ longest_text → totalsize (text_of_tree cpu reservations root ++ rest) ≡ length (text_of_tree cpu reservations root)
+pub totalsize-text : (cpu : ℕ) (reservations : List Reservation) (root : Root (List Property)) (rest : List ℕ) → cpu < 2 ^ 32 →
+    length (text_of_tree cpu reservations root) ≤ longest_text →
+    totalsize (text_of_tree cpu reservations root ++ rest) ≡ length (text_of_tree cpu reservations root)
 totalsize-text cpu reservations root rest cpu_fits short =
     (tree_text_has_parts cpu reservations root rest cpu_fits short).cells.is_total ∙ sym (length-text_of_tree cpu reservations root)
 
 -- Two files that begin with texts and are the same have the same texts and the same rests.
-pub texts_agree : (cpu other_cpu : ℕ) (reservations other_reservations : List Reservation) (root other_root : Root (List Property)) (rest other_rest : List ℕ) → cpu < 2 ^ 32 → other_cpu < 2 ^ 32 → length (text_of_tree cpu reservations root) ≤ longest_text → length (text_of_tree other_cpu other_reservations other_root) ≤ longest_text → text_of_tree cpu reservations root ++ rest ≡ text_of_tree other_cpu other_reservations other_root ++ other_rest → (text_of_tree cpu reservations root ≡ text_of_tree other_cpu other_reservations other_root) × (rest ≡ other_rest)
+pub texts_agree : (cpu other_cpu : ℕ) (reservations other_reservations : List Reservation) (root other_root : Root (List Property))
+    (rest other_rest : List ℕ) → cpu < 2 ^ 32 → other_cpu < 2 ^ 32 → length (text_of_tree cpu reservations root) ≤ longest_text →
+    length (text_of_tree other_cpu other_reservations other_root) ≤ longest_text →
+    text_of_tree cpu reservations root ++ rest ≡ text_of_tree other_cpu other_reservations other_root ++ other_rest →
+    (text_of_tree cpu reservations root ≡ text_of_tree other_cpu other_reservations other_root) × (rest ≡ other_rest)
 texts_agree cpu other_cpu reservations other_reservations root other_root rest other_rest cpu_fits other_fits short other_short same =
     parts_agree (text_of_tree cpu reservations root) (text_of_tree other_cpu other_reservations other_root) rest other_rest
     (sym (totalsize-text cpu reservations root rest cpu_fits short)

@@ -5,14 +5,15 @@ use Rattle.bi_blob.specs.Tokens.{IsToken, End}
 use Rattle.bi_blob.specs.Tree.{Root, Property}
 use Rattle.bi_blob.specs.Events.{Event, events_of, EncodeEvents}
 use Rattle.bi_blob.specs.Blob.{Reservation, reservation_block}
-use Rattle.bi_blob.specs.Layout.{used_names, distinct_names, encoding, tokens_of, structure_block, strings_block, structure_place, text_of_tree, length_before_padding}
+use Rattle.bi_blob.specs.Layout.{used_names, distinct_names, encoding, tokens_of, structure_block, strings_block, structure_place}
+use Rattle.bi_blob.specs.Layout.{text_of_tree, length_before_padding}
 use Rattle.bi_blob.specs.TextLaws.{TextEncodesItsTree}
-use Rattle.bi_blob.proofs.Texts.Names.{distinct_names-all}
-use Rattle.bi_blob.proofs.Texts.Trees.{names_end-tree}
-use Rattle.bi_blob.proofs.Texts.TokenEncoding.{is_encoded}
+use Rattle.bi_blob.proofs.Texts.NamesOnce.{distinct_names-all}
+use Rattle.bi_blob.proofs.Texts.EventNames.{names_end-tree}
+use Rattle.bi_blob.proofs.Texts.TextTokens.{is_encoded}
 use Rattle.bi_blob.proofs.Texts.Places.{placed-tree}
-use Rattle.bi_blob.proofs.Texts.EventEncoding.{named_in, encodes_events, are_tokens}
-use Rattle.bi_blob.proofs.Texts.Length.{length-text_of_tree, up4-le}
+use Rattle.bi_blob.proofs.Texts.TextEvents.{named_in, encodes_events, are_tokens}
+use Rattle.bi_blob.proofs.Texts.TextLength.{length-text_of_tree, up4-le}
 
 -- The structure block of a text encodes its tree.
 
@@ -23,7 +24,9 @@ tokens-le events =
     (omega (arith, length-append (flat_map encoding (tokens_of events)) (flat_map encoding (End ∷ []))))
 
 -- The blocks of a text are no longer than the text.
-pub blocks-le : (cpu : ℕ) (reservations : List Reservation) (root : Root (List Property)) → length_before_padding (length (reservation_block reservations)) (length (structure_block (events_of root))) (length (strings_block (events_of root))) ≤ length (text_of_tree cpu reservations root)
+pub blocks-le : (cpu : ℕ) (reservations : List Reservation) (root : Root (List Property)) →
+    length_before_padding (length (reservation_block reservations)) (length (structure_block (events_of root)))
+    (length (strings_block (events_of root))) ≤ length (text_of_tree cpu reservations root)
 blocks-le cpu reservations root =
     omega (arith, length-text_of_tree cpu reservations root, up4-le (length_before_padding (length (reservation_block reservations)) (length (structure_block (events_of root))) (length (strings_block (events_of root)))))
 

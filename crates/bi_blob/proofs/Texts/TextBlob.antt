@@ -1,14 +1,17 @@
-use Rattle.std.proofs.Common.{◌≡◌, ℕ, ◌-◌, ◌%◌, ◌^◌, ◌<◌, ◌≤◌, List, [], ◌++◌, length, take, sym, ap, subst, ◌∙◌, arith, append-nil, length-append}
+use Rattle.std.proofs.Common.{◌≡◌, ℕ, ◌-◌, ◌%◌, ◌^◌, ◌<◌, ◌≤◌, List, [], ◌++◌, length, take, sym, ap, subst, ◌∙◌, arith, append-nil}
+use Rattle.std.proofs.Common.{length-append}
 use Rattle.bi_base.specs.Cells.{slice, up4, AreBytes}
 use Rattle.bi_blob.specs.Tree.{Root, Property, IsTree, AreProperties}
 use Rattle.bi_blob.specs.Events.{events_of, file_events_of, EncodeEvents}
-use Rattle.bi_blob.specs.Blob.{Reservation, tree_blocks, HoldsTree, IsBlob, reservation_block, totalsize, off_dt_struct, off_dt_strings, off_mem_rsvmap, size_dt_strings, structure_end}
-use Rattle.bi_blob.specs.Layout.{blob_header, padding_to_4, length_before_padding, text_of_blocks, text_of_events, text_of_tree, tokens_of, structure_block, strings_block, tree_with_places, IsContent, longest_text}
+use Rattle.bi_blob.specs.Blob.{Reservation, tree_blocks, HoldsTree, IsBlob, reservation_block, totalsize, off_dt_struct, off_dt_strings}
+use Rattle.bi_blob.specs.Blob.{off_mem_rsvmap, size_dt_strings, structure_end}
+use Rattle.bi_blob.specs.Layout.{blob_header, padding_to_4, length_before_padding, text_of_blocks, text_of_events, text_of_tree, tokens_of}
+use Rattle.bi_blob.specs.Layout.{structure_block, strings_block, tree_with_places, IsContent, longest_text}
 use Rattle.bi_blob.specs.TextLaws.{EncodesTree, TextIsBlob, EachTextHasItsLength}
 use Rattle.bi_blob.proofs.Blobs.OneBlob.{one_blob}
 use Rattle.bi_blob.proofs.Blobs.Headers.{structure_end-17}
 use Rattle.bi_blob.proofs.Texts.Places.{properties_of-tree, depth-tree}
-use Rattle.bi_blob.proofs.Texts.Length.{length-header, length-text_of_blocks, length-text_of_tree, up4-whole}
+use Rattle.bi_blob.proofs.Texts.TextLength.{length-blob_header, length-text_of_blocks, length-text_of_tree, up4-whole}
 use Rattle.bi_blob.proofs.Texts.Structure.{says_tree}
 use Rattle.bi_blob.proofs.Texts.Header.{HasCells, has_cells}
 use Rattle.bi_blob.proofs.Texts.Blocks.{text_parts, slice_from_second, third_slice, fourth_slice, reserved-aligned, text_header}
@@ -26,8 +29,11 @@ pub record HasParts (file : List ℕ) (cpu : ℕ) (reserved structure strings : 
   pub is_strings : slice file (off_dt_strings file) (size_dt_strings file) ≡ strings
 
 -- A file that begins with the header of a text and then its blocks has them.
-pub parts_of : (cpu : ℕ) (reserved structure strings rest : List ℕ) → cpu < 2 ^ 32 → up4 (length_before_padding (length reserved) (length structure) (length strings)) < 2 ^ 32 → HasParts (blob_header cpu (length reserved) (length structure) (length strings) ++ (reserved ++ (structure ++ (strings ++ rest)))) cpu reserved structure strings
-parts_of cpu reserved structure strings rest cpu_fits fits = record {
+pub blocks_of_text : (cpu : ℕ) (reserved structure strings rest : List ℕ) → cpu < 2 ^ 32 →
+    up4 (length_before_padding (length reserved) (length structure) (length strings)) < 2 ^ 32 →
+    HasParts (blob_header cpu (length reserved) (length structure) (length strings) ++ (reserved ++ (structure ++ (strings ++ rest)))) cpu
+    reserved structure strings
+blocks_of_text cpu reserved structure strings rest cpu_fits fits = record {
   cells = cells;
   trailing = take (totalsize file - off_mem_rsvmap file - length reserved) (structure ++ (strings ++ rest));
   is_reserved = slice_from_second front reserved (structure ++ (strings ++ rest)) (off_mem_rsvmap file) (totalsize file - off_mem_rsvmap file)
@@ -51,23 +57,30 @@ parts_of cpu reserved structure strings rest cpu_fits fits = record {
     cells = has_cells cpu (length reserved) (length structure) (length strings) (reserved ++ (structure ++ (strings ++ rest))) cpu_fits fits
 
     long : length front ≡ 40
-    long = length-header cpu (length reserved) (length structure) (length strings)
+    long = length-blob_header cpu (length reserved) (length structure) (length strings)
 
 -- A text of three blocks, with any bytes after it, has them.
-pub text_has_parts : (cpu : ℕ) (reserved structure strings rest : List ℕ) → cpu < 2 ^ 32 → up4 (length_before_padding (length reserved) (length structure) (length strings)) < 2 ^ 32 → HasParts (text_of_blocks cpu reserved structure strings ++ rest) cpu reserved structure strings
+pub text_has_parts : (cpu : ℕ) (reserved structure strings rest : List ℕ) → cpu < 2 ^ 32 →
+    up4 (length_before_padding (length reserved) (length structure) (length strings)) < 2 ^ 32 →
+    HasParts (text_of_blocks cpu reserved structure strings ++ rest) cpu reserved structure strings
 text_has_parts cpu reserved structure strings rest cpu_fits fits =
     subst (λ file. HasParts file cpu reserved structure strings) (sym (text_parts cpu reserved structure strings rest))
-    (parts_of cpu reserved structure strings (padding_to_4 (length_before_padding (length reserved) (length structure) (length strings)) ++ rest) cpu_fits fits)
+    (blocks_of_text cpu reserved structure strings (padding_to_4 (length_before_padding (length reserved) (length structure) (length strings)) ++ rest) cpu_fits fits)
 
 -- The text of a tree has the blocks of the tree.
-pub tree_text_has_parts : (cpu : ℕ) (reservations : List Reservation) (root : Root (List Property)) (rest : List ℕ) → cpu < 2 ^ 32 → length (text_of_tree cpu reservations root) ≤ longest_text → HasParts (text_of_tree cpu reservations root ++ rest) cpu (reservation_block reservations) (structure_block (events_of root)) (strings_block (events_of root))
+pub tree_text_has_parts : (cpu : ℕ) (reservations : List Reservation) (root : Root (List Property)) (rest : List ℕ) → cpu < 2 ^ 32 →
+    length (text_of_tree cpu reservations root) ≤ longest_text →
+    HasParts (text_of_tree cpu reservations root ++ rest) cpu (reservation_block reservations) (structure_block (events_of root))
+    (strings_block (events_of root))
 unfolding text_of_events
 tree_text_has_parts cpu reservations root rest cpu_fits short =
     text_has_parts cpu (reservation_block reservations) (structure_block (events_of root)) (strings_block (events_of root)) rest cpu_fits
     (omega (arith, length-text_of_blocks cpu (reservation_block reservations) (structure_block (events_of root)) (strings_block (events_of root))))
 
 -- A file with the blocks of a tree holds it, where these encode it.
-pub holds_tree : (file : List ℕ) (cpu : ℕ) (reservations : List Reservation) (root : Root (List Property)) → HasParts file cpu (reservation_block reservations) (structure_block (events_of root)) (strings_block (events_of root)) → EncodesTree reservations root → IsTree AreProperties root → HoldsTree (tree_blocks file) (tree_with_places reservations root)
+pub holds_tree : (file : List ℕ) (cpu : ℕ) (reservations : List Reservation) (root : Root (List Property)) →
+    HasParts file cpu (reservation_block reservations) (structure_block (events_of root)) (strings_block (events_of root)) →
+    EncodesTree reservations root → IsTree AreProperties root → HoldsTree (tree_blocks file) (tree_with_places reservations root)
 holds_tree file cpu reservations root parts token_events is = record {
   tokens = tokens_of (events_of root);
   structure = structure_block (events_of root);
@@ -80,7 +93,9 @@ holds_tree file cpu reservations root parts token_events is = record {
 }
 
 -- The text of content, with any bytes after it, is a blob of the content at the places of the layout.
-pub text_blob : (cpu : ℕ) (reservations : List Reservation) (root : Root (List Property)) (rest : List ℕ) → IsContent cpu reservations root → length (text_of_tree cpu reservations root) ≤ longest_text → AreBytes rest → IsBlob (text_of_tree cpu reservations root ++ rest) cpu reservations (tree_with_places reservations root)
+pub text_blob : (cpu : ℕ) (reservations : List Reservation) (root : Root (List Property)) (rest : List ℕ) →
+    IsContent cpu reservations root → length (text_of_tree cpu reservations root) ≤ longest_text → AreBytes rest →
+    IsBlob (text_of_tree cpu reservations root ++ rest) cpu reservations (tree_with_places reservations root)
 text_blob cpu reservations root rest is short bytes = record {
   bytes = AreBytes-append (text_of_tree cpu reservations root) rest (AreBytes-text cpu reservations root is) bytes;
   header = text_header (text_of_tree cpu reservations root ++ rest) cpu (length (reservation_block reservations)) (length (structure_block (events_of root))) (length (strings_block (events_of root)))

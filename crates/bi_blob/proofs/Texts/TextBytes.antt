@@ -82,14 +82,16 @@ pub AreBytes-strings : (events : List Event) → AllByRecursion AreEventBytes ev
 AreBytes-strings events bytes = AreBytes-strings_of (distinct_names (used_names events)) (each-distinct_names AreBytes (used_names events) (AreBytes-used_names events bytes))
 
 -- A text of three blocks is, where they are.
-pub AreBytes-text_of_blocks : (cpu : ℕ) (reserved structure strings : List ℕ) → AreBytes reserved → AreBytes structure → AreBytes strings → AreBytes (text_of_blocks cpu reserved structure strings)
+pub AreBytes-text_of_blocks : (cpu : ℕ) (reserved structure strings : List ℕ) → AreBytes reserved → AreBytes structure → AreBytes strings →
+    AreBytes (text_of_blocks cpu reserved structure strings)
 unfolding text_of_blocks
 AreBytes-text_of_blocks cpu reserved structure strings first second third =
     AreBytes-append _ _ (AreBytes-header cpu (length reserved) (length structure) (length strings))
     (AreBytes-append _ _ first (AreBytes-append _ _ second (AreBytes-append _ _ third (AreBytes-zeros _))))
 
 -- The text of content is.
-pub AreBytes-text : (cpu : ℕ) (reservations : List Reservation) (root : Root (List Property)) → IsContent cpu reservations root → AreBytes (text_of_tree cpu reservations root)
+pub AreBytes-text : (cpu : ℕ) (reservations : List Reservation) (root : Root (List Property)) → IsContent cpu reservations root →
+    AreBytes (text_of_tree cpu reservations root)
 unfolding text_of_events
 AreBytes-text cpu reservations root is =
     AreBytes-text_of_blocks cpu (reservation_block reservations) (structure_block (events_of root)) (strings_block (events_of root))

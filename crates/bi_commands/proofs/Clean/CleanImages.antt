@@ -1,27 +1,32 @@
-use Rattle.std.proofs.Common.{◌≡◌, ℕ, Bool, true, false, ◌&&◌, List, [], ◌∷◌, ◌++◌, Option, Some, None, flat_map, Contains, IsFalse, IsSome, is_some, filter, bytes_eq, refl, sym, ap, ap₂, subst, ◌∙◌, true≢false}
+use Rattle.std.proofs.Common.{◌≡◌, ℕ, Bool, true, false, ◌&&◌, List, [], ◌∷◌, ◌++◌, Option, Some, None, flat_map, Contains, IsFalse, IsSome}
+use Rattle.std.proofs.Common.{is_some, filter, bytes_eq, refl, sym, ap, ap₂, subst, ◌∙◌, true≢false}
 use Rattle.std.specs.List.{AllByRecursion, list_any}
 use Rattle.std.proofs.lemmas.Bool.{and_parts}
 use Rattle.std.proofs.lemmas.Slice.Eq.{bytes_eq-Decides}
 use Rattle.bi_fit.specs.Judgement.{Image, CheckedHash}
 use Rattle.bi_hash.specs.declared.verdicts.Verdict.TheVariants.{Good}
 use Rattle.bi_commands.specs.declared.check.Allowed.{Allowed}
-use Rattle.bi_commands.specs.Checking.{bad_hash, concern_lines, hash_concerns, hashes_of_image, image_concerns, is_good, is_strong, is_strong_algorithm, payload_concerns, strong_algorithms, unhashed, weak_hash}
+use Rattle.bi_commands.specs.Checking.{bad_hash, concern_lines, hash_concerns, hashes_of_image, image_concerns, is_good, is_strong}
+use Rattle.bi_commands.specs.Checking.{is_strong_algorithm, payload_concerns, strong_algorithms, unhashed_image, weak_hash}
 use Rattle.bi_commands.specs.CleanFiles.{HasGoodHash, HasStrongHash, IsHashed, IsNotWeak}
 use Rattle.bi_commands.specs.Reports.{AreGood, is_verdict}
 use Rattle.bi_commands.proofs.CheckedHashes.{strong_only, unhashed_only, weak_allowed, weak_only}
 use Rattle.bi_commands.proofs.ConcernLines.{lines_allowed}
-use Rattle.bi_commands.proofs.Clean.NoLines.{HaveNoLine, all_have_none, both_have_none, each_has_none, found, one_is_allowed, parts_have_none, passed_has_none, passes_any, test_is_passed}
+use Rattle.bi_commands.proofs.Clean.NoLines.{HaveNoLine, all_have_none, both_have_none, each_has_none, any_is_found, one_is_allowed}
+use Rattle.bi_commands.proofs.Clean.NoLines.{parts_have_none, passed_has_none, passes_any, test_is_passed}
 use Rattle.bi_commands.proofs.Reported.{good_passes}
 
 -- Images without a line.
 
 -- Hash nodes without a line have Good verdicts, if others are not allowed.
-hashes_are_good : (allowed : Allowed) (hashes : List CheckedHash) → AllByRecursion (λ hash. HaveNoLine allowed (hash_concerns hash)) hashes → IsFalse allowed.bad_hash → AreGood hashes
+hashes_are_good : (allowed : Allowed) (hashes : List CheckedHash) →
+    AllByRecursion (λ hash. HaveNoLine allowed (hash_concerns hash)) hashes → IsFalse allowed.bad_hash → AreGood hashes
 hashes_are_good allowed [] each refused = tt
 hashes_are_good allowed (hash ∷ later) each refused =
     (good_passes hash.verdict (test_is_passed allowed (is_good hash) (bad_hash hash) each.0 refused), hashes_are_good allowed later each.1 refused)
 
-good_have_none : (allowed : Allowed) (hashes : List CheckedHash) → (IsFalse allowed.bad_hash → AreGood hashes) → AllByRecursion (λ hash. HaveNoLine allowed (hash_concerns hash)) hashes
+good_have_none : (allowed : Allowed) (hashes : List CheckedHash) → (IsFalse allowed.bad_hash → AreGood hashes) →
+    AllByRecursion (λ hash. HaveNoLine allowed (hash_concerns hash)) hashes
 good_have_none allowed [] good = tt
 good_have_none allowed (hash ∷ later) good =
     (passed_has_none allowed (is_good hash) (bad_hash hash) (λ refused. ap (is_verdict Good) (good refused).0), good_have_none allowed later (λ refused. (good refused).1))
@@ -29,27 +34,29 @@ good_have_none allowed (hash ∷ later) good =
 -- A Good verdict, and the test for one.
 good_of_test : (image : Image) → list_any is_good (hashes_of_image image) ≡ true → HasGoodHash image
 good_of_test image is =
-    let one = found is_good (hashes_of_image image) is in
+    let one = any_is_found is_good (hashes_of_image image) is in
     record { hash = one.0; is_there = one.1; is_good = good_passes one.0.verdict one.2 }
 
 test_of_good : (image : Image) → HasGoodHash image → list_any is_good (hashes_of_image image) ≡ true
 test_of_good image has = passes_any is_good (hashes_of_image image) has.hash has.is_there (ap (is_verdict Good) has.is_good)
 
 -- The name of a strong algorithm, and the test for one.
-strong_name : (algorithm : Option (List ℕ)) → is_strong_algorithm algorithm ≡ true → (name : List ℕ) × (algorithm ≡ Some name) × Contains strong_algorithms name
+strong_name : (algorithm : Option (List ℕ)) → is_strong_algorithm algorithm ≡ true →
+    (name : List ℕ) × (algorithm ≡ Some name) × Contains strong_algorithms name
 strong_name None is = absurd cc
 strong_name (Some name) is =
-    let one = found (bytes_eq name) strong_algorithms is in
+    let one = any_is_found (bytes_eq name) strong_algorithms is in
     (name, refl, subst (Contains strong_algorithms) (sym ((bytes_eq-Decides name one.0).0 one.2)) one.1)
 
-test_of_name : (algorithm : Option (List ℕ)) (name : List ℕ) → algorithm ≡ Some name → Contains strong_algorithms name → is_strong_algorithm algorithm ≡ true
+test_of_name : (algorithm : Option (List ℕ)) (name : List ℕ) → algorithm ≡ Some name → Contains strong_algorithms name →
+    is_strong_algorithm algorithm ≡ true
 test_of_name algorithm name is there =
     ap is_strong_algorithm is ∙ passes_any (bytes_eq name) strong_algorithms name there ((bytes_eq-Decides name name).1 refl)
 
 -- A Good verdict of a strong algorithm, and the test for one.
 strong_of_test : (image : Image) → list_any is_strong (hashes_of_image image) ≡ true → HasStrongHash image
 strong_of_test image is =
-    let one = found is_strong (hashes_of_image image) is in
+    let one = any_is_found is_strong (hashes_of_image image) is in
     let both = and_parts (is_good one.0) (is_strong_algorithm one.0.algo) one.2 in
     let name = strong_name one.0.algo both.1 in
     record { hash = one.0; is_there = one.1; is_good = good_passes one.0.verdict both.0; algorithm = name.0; has_algorithm = name.1; is_strong = name.2 }
@@ -83,14 +90,15 @@ module _ (allowed : Allowed) (image : Image) where
   payload_is_hashed (Some payload) is none = by (list_any is_good hashes) (list_any is_strong hashes) refl refl where
     by : (good strong : Bool) → list_any is_good hashes ≡ good → list_any is_strong hashes ≡ strong → (IsFalse allowed.unhashed → IsHashed image) × (IsFalse allowed.weak_hash → IsNotWeak image)
     by false strong no_good is_strong =
-        let fine = one_is_allowed allowed (unhashed name) (sym (ap (concern_lines allowed) (unhashed_only name hashes no_good)) ∙ none) in
+        let fine = one_is_allowed allowed (unhashed_image name) (sym (ap (concern_lines allowed) (unhashed_only name hashes no_good)) ∙ none) in
         (λ refused some. absurd (true≢false (sym fine ∙ refused)), λ refused some good. absurd (true≢false (sym (test_of_good image good) ∙ no_good)))
     by true false some_good no_strong =
         let fine = one_is_allowed allowed (weak_hash name (filter is_good hashes)) (sym (ap (concern_lines allowed) (weak_only name hashes some_good no_strong)) ∙ none) in
         (λ refused some. good_of_test image some_good, λ refused some good. absurd (true≢false (sym fine ∙ refused)))
     by true true some_good some_strong = (λ refused some. good_of_test image some_good, λ refused some good. strong_of_test image some_strong)
 
-  hashed_has_none : (payload : Option (List ℕ)) → image.payload ≡ payload → (IsFalse allowed.unhashed → IsHashed image) → (IsFalse allowed.weak_hash → IsNotWeak image) →
+  hashed_has_none : (payload : Option (List ℕ)) → image.payload ≡ payload → (IsFalse allowed.unhashed → IsHashed image) →
+      (IsFalse allowed.weak_hash → IsNotWeak image) →
       HaveNoLine allowed (payload_concerns name payload hashes)
   hashed_has_none None is hashed not_weak = refl
   hashed_has_none (Some payload) is hashed not_weak = by (list_any is_good hashes) (list_any is_strong hashes) refl refl where
@@ -98,7 +106,7 @@ module _ (allowed : Allowed) (image : Image) where
     there = ap is_some is
 
     unhashed_one : list_any is_good hashes ≡ false → (b : Bool) → allowed.unhashed ≡ b → HaveNoLine allowed (payload_concerns name (Some payload) hashes)
-    unhashed_one no_good true fine = ap (concern_lines allowed) (unhashed_only name hashes no_good) ∙ lines_allowed allowed (unhashed name) fine
+    unhashed_one no_good true fine = ap (concern_lines allowed) (unhashed_only name hashes no_good) ∙ lines_allowed allowed (unhashed_image name) fine
     unhashed_one no_good false refused = absurd (true≢false (sym (test_of_good image (hashed refused there)) ∙ no_good))
 
     weak_one : list_any is_good hashes ≡ true → list_any is_strong hashes ≡ false → (b : Bool) → allowed.weak_hash ≡ b → HaveNoLine allowed (payload_concerns name (Some payload) hashes)
@@ -138,7 +146,8 @@ pub record AreCleanImages (allowed : Allowed) (images : List Image) : Type 0 whe
   pub hashed : IsFalse allowed.unhashed → AllByRecursion IsHashed images
   pub not_weak : IsFalse allowed.weak_hash → AllByRecursion IsNotWeak images
 
-pub images_are_clean : (allowed : Allowed) (images : List Image) → HaveNoLine allowed (flat_map image_concerns images) → AreCleanImages allowed images
+pub images_are_clean : (allowed : Allowed) (images : List Image) → HaveNoLine allowed (flat_map image_concerns images) →
+    AreCleanImages allowed images
 images_are_clean allowed [] none = record { good = λ refused. tt; hashed = λ refused. tt; not_weak = λ refused. tt }
 images_are_clean allowed (image ∷ later) none =
     let both = parts_have_none allowed (image_concerns image) (flat_map image_concerns later) none in
@@ -150,7 +159,8 @@ images_are_clean allowed (image ∷ later) none =
       not_weak = λ refused. (first.not_weak refused, rest.not_weak refused);
     }
 
-pub clean_images_have_none : (allowed : Allowed) (images : List Image) → AreCleanImages allowed images → HaveNoLine allowed (flat_map image_concerns images)
+pub clean_images_have_none : (allowed : Allowed) (images : List Image) → AreCleanImages allowed images →
+    HaveNoLine allowed (flat_map image_concerns images)
 clean_images_have_none allowed [] are = refl
 clean_images_have_none allowed (image ∷ later) are =
     both_have_none allowed (image_concerns image) (flat_map image_concerns later)

@@ -1,23 +1,27 @@
-use Rattle.std.proofs.Common.{◌≡◌, ℕ, ◌-◌, true, ◌&&◌, ◌==◌, List, [], ◌∷◌, ◌++◌, IsFalse, drop, length, flat_map, refl, sym, ap, ap₂, subst, ◌∙◌, arith}
+use Rattle.std.proofs.Common.{◌≡◌, ℕ, ◌-◌, true, ◌&&◌, ◌==◌, List, [], ◌∷◌, ◌++◌, IsFalse, drop, length, flat_map, refl, sym, ap, ap₂}
+use Rattle.std.proofs.Common.{subst, ◌∙◌, arith}
 use Rattle.std.specs.List.{list_all}
 use Rattle.std.proofs.lemmas.Bool.{and_parts, eqb-true}
-use Rattle.bi_base.specs.Limits.{Bounds}
+use Rattle.bi_base.specs.Limits.{Limits}
 use Rattle.bi_blob.specs.Tree.{Nodes, FileNode, names}
 use Rattle.bi_blob.proofs.Blobs.OneBlob.{one_blob}
 use Rattle.bi_fit.specs.File.{FitMeans}
 use Rattle.bi_fit.specs.ImageTree.{ImageTree, image_nodes}
 use Rattle.bi_fit.specs.Judgement.{configuration_nodes, default_of, images_of}
-use Rattle.bi_fit.proofs.Meanings.{one_meaning, same_in_some}
+use Rattle.bi_fit.proofs.Meanings.{one_fit_meaning, same_in_some}
 use Rattle.bi_legacy.specs.Meaning.{LegacyImage}
 use Rattle.bi_legacy.specs.Parts.{parts_end}
-use Rattle.bi_legacy.specs.Reading.{ParsedImage, IsParsedImage}
+use Rattle.bi_legacy.specs.Reading.{LegacyModel, IsParsedImage}
 use Rattle.bi_norm.proofs.Opening.{means_legacy, means_tree}
 use Rattle.bi_commands.specs.declared.check.Allowed.{Allowed}
-use Rattle.bi_commands.specs.Checking.{Concern, AreConcerns, OfLegacyImage, OfImageTree, concern_lines, configuration_concerns, content_end, default_concerns, image_concerns, trailing, trailing_concerns, tree_concerns}
+use Rattle.bi_commands.specs.Checking.{Concern, AreConcerns, OfLegacyImage, OfImageTree, concern_lines, configuration_concerns, content_end}
+use Rattle.bi_commands.specs.Checking.{default_concerns, image_concerns, trailing, trailing_concerns, tree_concerns}
 use Rattle.bi_commands.specs.CleanFiles.{AreZeros, CleanImageTree, CleanLegacyImage, EmptyIsClean, IsClean, IsCleanTree, NamesConfiguration}
-use Rattle.bi_commands.proofs.Clean.CleanConfigurations.{clean_configurations_have_none, configurations_are_clean, default_has_none, default_is_there}
+use Rattle.bi_commands.proofs.Clean.CleanConfigurations.{clean_configurations_have_none, configurations_are_clean, default_has_none}
+use Rattle.bi_commands.proofs.Clean.CleanConfigurations.{default_is_there}
 use Rattle.bi_commands.proofs.Clean.CleanImages.{clean_images_have_none, images_are_clean}
-use Rattle.bi_commands.proofs.Clean.NoLines.{HaveNoLine, all_have_none, both_have_none, each_has_none, parts_have_none, passed_has_none, test_is_passed}
+use Rattle.bi_commands.proofs.Clean.NoLines.{HaveNoLine, all_have_none, both_have_none, each_has_none, parts_have_none, passed_has_none}
+use Rattle.bi_commands.proofs.Clean.NoLines.{test_is_passed}
 
 -- Checking a file writes nothing exactly if the file is clean.
 
@@ -37,10 +41,12 @@ test_of_zeros [] are = refl
 test_of_zeros (byte ∷ later) are = ap₂ (λ a b. a && b) (ap (λ n. n == 0) are.0) (test_of_zeros later are.1)
 
 -- Bytes after an image without a line.
-end_is_clean : (allowed : Allowed) (bytes : List ℕ) → HaveNoLine allowed (trailing_concerns bytes) → IsFalse allowed.trailing → AreZeros bytes
+end_is_clean : (allowed : Allowed) (bytes : List ℕ) → HaveNoLine allowed (trailing_concerns bytes) → IsFalse allowed.trailing →
+    AreZeros bytes
 end_is_clean allowed bytes none refused = zeros_of_test bytes (test_is_passed allowed (list_all (λ byte. byte == 0) bytes) (trailing (length bytes)) none refused)
 
-clean_end_has_none : (allowed : Allowed) (bytes : List ℕ) → (IsFalse allowed.trailing → AreZeros bytes) → HaveNoLine allowed (trailing_concerns bytes)
+clean_end_has_none : (allowed : Allowed) (bytes : List ℕ) → (IsFalse allowed.trailing → AreZeros bytes) →
+    HaveNoLine allowed (trailing_concerns bytes)
 clean_end_has_none allowed bytes are = passed_has_none allowed (list_all (λ byte. byte == 0) bytes) (trailing (length bytes)) (λ refused. test_of_zeros bytes (are refused))
 
 module _ (allowed : Allowed) (tree : ImageTree) where
@@ -76,20 +82,23 @@ module _ (allowed : Allowed) (tree : ImageTree) where
       record { name = one.name; is_default = one.is_default; is_there = one.is_there })))
 
 -- A file has one list of image nodes.
-one_list_of_nodes : (limits : Bounds) (file : List ℕ) (one other : ImageTree) (means : FitMeans limits file one) (also : FitMeans limits file other) → means.is_file.images ≡ also.is_file.images
+one_list_of_nodes : (limits : Limits) (file : List ℕ) (one other : ImageTree) (means : FitMeans limits file one)
+    (also : FitMeans limits file other) → means.is_file.images ≡ also.is_file.images
 one_list_of_nodes limits file one other means also =
     let same = one_blob file one.cpu other.cpu one.reservations other.reservations means.is_file.root also.is_file.root means.is_file.blob also.is_file.blob in
     same_in_some means.is_file.images also.is_file.images (sym means.is_file.has_images ∙ ap image_nodes same.same_root ∙ also.is_file.has_images)
 
 -- A legacy image has one number of bytes after it.
-one_unused : (limits : Bounds) (file : List ℕ) (one other : ParsedImage) → IsParsedImage limits file one → IsParsedImage limits file other → one.unused ≡ other.unused
+one_unused : (limits : Limits) (file : List ℕ) (one other : LegacyModel) → IsParsedImage limits file one → IsParsedImage limits file other →
+    one.unused ≡ other.unused
 one_unused limits file one other means also =
     let same : other.image ≡ one.image = means.only_meaning other.image also.means in
     let ends : parts_end other.image.image_type other.image.parts ≡ parts_end one.image.image_type one.image.parts = ap (λ (image : LegacyImage). parts_end image.image_type image.parts) same in
     omega (arith, means.unused, also.unused, ends)
 
 -- A file without a line is clean.
-file_is_clean : (allowed : Allowed) (limits : Bounds) (file : List ℕ) (concerns : List Concern) → AreConcerns limits file concerns → HaveNoLine allowed concerns → IsClean allowed limits file
+file_is_clean : (allowed : Allowed) (limits : Limits) (file : List ℕ) (concerns : List Concern) → AreConcerns limits file concerns →
+    HaveNoLine allowed concerns → IsClean allowed limits file
 file_is_clean allowed limits file concerns (OfLegacyImage parsed opened is) none =
     CleanLegacyImage parsed opened (end_is_clean allowed (drop (length file - parsed.unused) file) (sym (ap (concern_lines allowed) is) ∙ none))
 file_is_clean allowed limits file concerns (OfImageTree tree means is) none =
@@ -98,7 +107,8 @@ file_is_clean allowed limits file concerns (OfImageTree tree means is) none =
     CleanImageTree tree means (tree_is_clean allowed tree both.0) (end_is_clean allowed rest both.1)
 
 -- A clean file has no line.
-clean_file_has_none : (allowed : Allowed) (limits : Bounds) (file : List ℕ) (concerns : List Concern) → AreConcerns limits file concerns → IsClean allowed limits file → HaveNoLine allowed concerns
+clean_file_has_none : (allowed : Allowed) (limits : Limits) (file : List ℕ) (concerns : List Concern) → AreConcerns limits file concerns →
+    IsClean allowed limits file → HaveNoLine allowed concerns
 clean_file_has_none allowed limits file concerns (OfLegacyImage parsed opened is) (CleanLegacyImage other also zeros) =
     ap (concern_lines allowed) is
     ∙ clean_end_has_none allowed (drop (length file - parsed.unused) file)
@@ -108,7 +118,7 @@ clean_file_has_none allowed limits file concerns (OfLegacyImage parsed opened is
 clean_file_has_none allowed limits file concerns (OfImageTree tree means is) (CleanLegacyImage other also zeros) =
     absurd (means_tree limits file tree means (means_legacy limits file other.image also.means))
 clean_file_has_none allowed limits file concerns (OfImageTree tree means is) (CleanImageTree other also clean zeros) =
-    let same : other ≡ tree = one_meaning file other tree also.is_file means.is_file in
+    let same : other ≡ tree = one_fit_meaning file other tree also.is_file means.is_file in
     let nodes : also.is_file.images ≡ means.is_file.images = one_list_of_nodes limits file other tree also means in
     let end : content_end file also.is_file.images other.payloads ≡ content_end file means.is_file.images tree.payloads =
     ap₂ (λ (nodes : Nodes FileNode) (t : ImageTree). content_end file nodes t.payloads) nodes same in

@@ -1,4 +1,5 @@
-use Rattle.std.proofs.Common.{◌≡◌, ℕ, ◌<◌, ◌^◌, ◌&&◌, Bool, true, false, not, eqb, leb, List, [], ◌∷◌, Some, unwrap_or, bytes_eq, refl, sym, ap, subst, ◌∙◌, arith}
+use Rattle.std.proofs.Common.{◌≡◌, ℕ, ◌<◌, ◌^◌, ◌&&◌, Bool, true, false, not, eqb, leb, List, [], ◌∷◌, Some, unwrap_or, bytes_eq, refl, sym}
+use Rattle.std.proofs.Common.{ap, subst, ◌∙◌, arith}
 use Rattle.std.specs.Fmt.{decimal}
 use Rattle.std.specs.List.{list_all}
 use Rattle.std.proofs.lemmas.Bool.{cond-true, cond-false, and_parts, not-true, leb-true, eqb-true}
@@ -6,7 +7,7 @@ use Rattle.std.proofs.lemmas.Fmt.{decimal_injective}
 use Rattle.bi_base.proofs.EqualBytes.{other_bytes}
 use Rattle.bi_legacy.specs.Codes.{CodeName, name_of_code}
 use Rattle.bi_commands.specs.Listing.{code_word}
-use Rattle.bi_commands.proofs.Readable.Cuts.{goes_on}
+use Rattle.bi_commands.proofs.Readable.Cuts.{has_no_end}
 use Rattle.bi_commands.proofs.Readable.ShownNames.{is_blank}
 use Rattle.bi_commands.proofs.Readable.WordLines.{IsBare}
 use Rattle.bi_commands.proofs.Readable.Numbers.{AreDigits, decimal_above, decimal_below, above_bare}
@@ -39,7 +40,7 @@ entry_of entry later passes =
     let second = and_parts (begins_with_letter entry.name)
     (list_all (λ other. not (bytes_eq other.name entry.name)) later && is_table later) first.1 in
     let third = and_parts (list_all (λ other. not (bytes_eq other.name entry.name)) later) (is_table later) second.1 in
-    record { bare = goes_on is_blank entry.name first.0; letter = second.0; differs = third.0; rest = third.1 }
+    record { bare = has_no_end is_blank entry.name first.0; letter = second.0; differs = third.0; rest = third.1 }
 
 -- The word of a code that the first name is of.
 word_here : (entry : CodeName) (later : List CodeName) (code : ℕ) → eqb entry.code code ≡ true → code_word (entry ∷ later) code ≡ entry.name

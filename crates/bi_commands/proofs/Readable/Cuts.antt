@@ -6,8 +6,8 @@ use Rattle.std.specs.List.{AllByRecursion, list_all, flat_map}
 -- A list that goes on to the first byte that ends it is read back from what follows it.
 
 -- None of these bytes ends a list.
-abbrev pub GoesOn : (ℕ → Bool) → List ℕ → Type 0
-GoesOn ends bytes = AllByRecursion (λ byte. ends byte ≡ false) bytes
+abbrev pub HasNoEnd : (ℕ → Bool) → List ℕ → Type 0
+HasNoEnd ends bytes = AllByRecursion (λ byte. ends byte ≡ false) bytes
 
 -- Nothing, or a byte that ends a list and what follows it.
 abbrev pub Ends : (ℕ → Bool) → List ℕ → Type 0
@@ -15,7 +15,7 @@ Ends ends [] = ⊤
 Ends ends (byte ∷ later) = ends byte ≡ true
 
 -- Two lists that go on, each with an end, are equal if they are equal with their ends.
-pub cut_agrees : (ends : ℕ → Bool) (one other x y : List ℕ) → GoesOn ends one → GoesOn ends other → Ends ends x → Ends ends y →
+pub cut_agrees : (ends : ℕ → Bool) (one other x y : List ℕ) → HasNoEnd ends one → HasNoEnd ends other → Ends ends x → Ends ends y →
     one ++ x ≡ other ++ y → (one ≡ other) × (x ≡ y)
 cut_agrees ends [] [] x y goes others end ending same = (refl, same)
 cut_agrees ends [] (b ∷ other) [] y goes others end ending same = absurd cc
@@ -30,20 +30,20 @@ cut_agrees ends (a ∷ one) (b ∷ other) x y goes others end ending same =
     (cc, rest.1)
 
 -- Bytes that pass the test.
-pub goes_on : (ends : ℕ → Bool) (bytes : List ℕ) → list_all (λ byte. not (ends byte)) bytes ≡ true → GoesOn ends bytes
-goes_on ends [] passes = tt
-goes_on ends (byte ∷ later) passes =
+pub has_no_end : (ends : ℕ → Bool) (bytes : List ℕ) → list_all (λ byte. not (ends byte)) bytes ≡ true → HasNoEnd ends bytes
+has_no_end ends [] passes = tt
+has_no_end ends (byte ∷ later) passes =
     let both = and_parts (not (ends byte)) (list_all (λ byte. not (ends byte)) later) passes in
-    (not-true (ends byte) both.0, goes_on ends later both.1)
+    (not-true (ends byte) both.0, has_no_end ends later both.1)
 
 -- Two lists that go on.
-pub goes_on-append : (ends : ℕ → Bool) (one other : List ℕ) → GoesOn ends one → GoesOn ends other → GoesOn ends (one ++ other)
+pub goes_on-append : (ends : ℕ → Bool) (one other : List ℕ) → HasNoEnd ends one → HasNoEnd ends other → HasNoEnd ends (one ++ other)
 goes_on-append ends [] other goes others = others
 goes_on-append ends (byte ∷ later) other goes others = (goes.0, goes_on-append ends later other goes.1 others)
 
 -- Lists that go on, one after the other.
-pub goes_on-flat_map : {X : Type 0} (ends : ℕ → Bool) (f : X → List ℕ) (xs : List X) → AllByRecursion (λ x. GoesOn ends (f x)) xs →
-    GoesOn ends (flat_map f xs)
+pub goes_on-flat_map : {X : Type 0} (ends : ℕ → Bool) (f : X → List ℕ) (xs : List X) → AllByRecursion (λ x. HasNoEnd ends (f x)) xs →
+    HasNoEnd ends (flat_map f xs)
 goes_on-flat_map ends f [] each = tt
 goes_on-flat_map ends f (x ∷ xs) each = goes_on-append ends (f x) (flat_map f xs) each.0 (goes_on-flat_map ends f xs each.1)
 

@@ -12,13 +12,15 @@ use Rattle.bi_legacy.specs.Meaning.{LegacyImage}
 use Rattle.bi_norm.specs.Meaning.{Meaning, OfLegacy, OfFit}
 use Rattle.bi_commands.specs.FitListing.{hexadecimal_64}
 use Rattle.bi_commands.specs.Listing.{code_word}
-use Rattle.bi_commands.specs.Shown.{hexadecimal, shown}
-use Rattle.bi_commands.specs.ValueTexts.{quoted, hexadecimal_digits, value_words}
-use Rattle.bi_commands.specs.Descriptions.{PayloadDigest, digest_of_payload, digest_words, field_words, code_words, part_words, path, NodePayload, NotAnImage, OfImage, DescribedNode, plain_node, described_nodes, property_words, payload_words, own_lines, node_lines, reservation_words, tree_lines, description_lines}
-use Rattle.bi_commands.proofs.Readable.Cuts.{goes_on}
+use Rattle.bi_commands.specs.Shown.{hexadecimal, shown_text}
+use Rattle.bi_commands.specs.ValueTexts.{quoted_text, hexadecimal_digits, value_words}
+use Rattle.bi_commands.specs.Descriptions.{PayloadDigest, digest_of_payload, digest_words, field_words, code_words, part_words, path}
+use Rattle.bi_commands.specs.Descriptions.{NodePayload, NotAnImage, OfImage, DescribedNode, plain_node, described_nodes, property_words}
+use Rattle.bi_commands.specs.Descriptions.{payload_words, own_lines, node_lines, reservation_words, tree_lines, description_lines}
+use Rattle.bi_commands.proofs.Readable.Cuts.{has_no_end}
 use Rattle.bi_commands.proofs.Readable.ShownNames.{is_blank, shown_no_blank}
 use Rattle.bi_commands.proofs.Readable.QuotedValues.{ValueWords, Empty, Texts, Bytes, forms}
-use Rattle.bi_commands.proofs.Readable.WordLines.{IsBare, Quoted, AreWords, IsLine, Line}
+use Rattle.bi_commands.proofs.Readable.WordLines.{IsBare, Quoted, AreReadableWords, IsLine, Line}
 use Rattle.bi_commands.proofs.Readable.Paths.{path_no_blank}
 use Rattle.bi_commands.proofs.Readable.Numbers.{above, above_bare, above_later, decimal_above, digits_of_bytes_above, prefixed_above}
 use Rattle.bi_commands.proofs.Readable.CodeWords.{code_bare}
@@ -35,7 +37,7 @@ digest_line label word digest bare also =
     Line label (word ∷ digest_words digest) bare (
       also,
       (
-        goes_on is_blank (codes "size") refl,
+        has_no_end is_blank (codes "size") refl,
         (
           above_later (decimal digest.size) (decimal_above digest.size),
           (
@@ -49,15 +51,15 @@ digest_line label word digest bare also =
 -- The lines of the name and the numbers of a legacy image.
 each_field : (image : LegacyImage) → AllByRecursion IsLine (field_words image)
 each_field image = (
-  two_words (codes "name") (shown image.name) (goes_on is_blank (codes "name") refl) (shown_no_blank image.name),
+  two_words (codes "name") (shown_text image.name) (has_no_end is_blank (codes "name") refl) (shown_no_blank image.name),
   (
-    two_words (codes "time") (decimal image.time) (goes_on is_blank (codes "time") refl)
+    two_words (codes "time") (decimal image.time) (has_no_end is_blank (codes "time") refl)
         (above_bare (decimal image.time) (decimal_above image.time)),
     (
-      two_words (codes "load") (hexadecimal image.load) (goes_on is_blank (codes "load") refl)
+      two_words (codes "load") (hexadecimal image.load) (has_no_end is_blank (codes "load") refl)
           (above_bare (hexadecimal image.load) (prefixed_above (cell image.load))),
       (
-        two_words (codes "entry") (hexadecimal image.entry) (goes_on is_blank (codes "entry") refl)
+        two_words (codes "entry") (hexadecimal image.entry) (has_no_end is_blank (codes "entry") refl)
             (above_bare (hexadecimal image.entry) (prefixed_above (cell image.entry))),
         tt,
       ),
@@ -68,15 +70,15 @@ each_field image = (
 -- The lines of its codes.
 each_code : (image : LegacyImage) → AllByRecursion IsLine (code_words image)
 each_code image = (
-  two_words (codes "os") (code_word os_names image.os) (goes_on is_blank (codes "os") refl) (code_bare os_names image.os refl),
+  two_words (codes "os") (code_word os_names image.os) (has_no_end is_blank (codes "os") refl) (code_bare os_names image.os refl),
   (
-    two_words (codes "arch") (code_word arch_names image.arch) (goes_on is_blank (codes "arch") refl)
+    two_words (codes "arch") (code_word arch_names image.arch) (has_no_end is_blank (codes "arch") refl)
         (code_bare arch_names image.arch refl),
     (
-      two_words (codes "type") (code_word type_names image.image_type) (goes_on is_blank (codes "type") refl)
+      two_words (codes "type") (code_word type_names image.image_type) (has_no_end is_blank (codes "type") refl)
           (code_bare type_names image.image_type refl),
       (
-        two_words (codes "compression") (code_word compression_names image.compression) (goes_on is_blank (codes "compression") refl)
+        two_words (codes "compression") (code_word compression_names image.compression) (has_no_end is_blank (codes "compression") refl)
             (code_bare compression_names image.compression refl),
         tt,
       ),
@@ -88,45 +90,45 @@ each_code image = (
 each_part : (index : ℕ) (parts : List PayloadDigest) → AllByRecursion IsLine (part_words index parts)
 each_part index [] = tt
 each_part index (part ∷ later) = (
-  digest_line (codes "part") (decimal index) part (goes_on is_blank (codes "part") refl) (above_bare (decimal index) (decimal_above index)),
+  digest_line (codes "part") (decimal index) part (has_no_end is_blank (codes "part") refl) (above_bare (decimal index) (decimal_above index)),
   each_part (index + 1) later,
 )
 
 -- The words of a value.
-each_value_word : (value : List ℕ) → AreWords 0 (value_words value)
+each_value_word : (value : List ℕ) → AreReadableWords 0 (value_words value)
 each_value_word value = where_form (forms value)
   where
-    each_quoted : (texts : List (List ℕ)) → AreWords 0 (map quoted texts)
+    each_quoted : (texts : List (List ℕ)) → AreReadableWords 0 (map quoted_text texts)
     each_quoted [] = tt
     each_quoted (text ∷ later) = (Quoted text refl, each_quoted later)
 
-    where_form : ValueWords value → AreWords 0 (value_words value)
-    where_form (Empty is words) = subst (AreWords 0) (sym words) tt
-    where_form (Texts lists words) = subst (AreWords 0) (sym words) (each_quoted (listed_names value))
-    where_form (Bytes words) = subst (AreWords 0) (sym words)
+    where_form : ValueWords value → AreReadableWords 0 (value_words value)
+    where_form (Empty is words) = subst (AreReadableWords 0) (sym words) tt
+    where_form (Texts lists words) = subst (AreReadableWords 0) (sym words) (each_quoted (listed_names value))
+    where_form (Bytes words) = subst (AreReadableWords 0) (sym words)
         (above_later (codes "0x" ++ hexadecimal_digits value) (prefixed_above value), tt)
 
 -- The line of a property.
 property_line : (names : List (List ℕ)) (property : Property) → IsLine (property_words (path names) property)
 property_line names property =
-    Line (codes "property") (path names ∷ shown property.0 ∷ value_words property.1) (goes_on is_blank (codes "property") refl)
+    Line (codes "property") (path names ∷ shown_text property.0 ∷ value_words property.1) (has_no_end is_blank (codes "property") refl)
     (path_no_blank names, (shown_no_blank property.0, each_value_word property.1))
 
 -- The line of a payload, if there is one.
 each_payload : (names : List (List ℕ)) (payload : NodePayload) → AllByRecursion IsLine (payload_words (path names) payload)
 each_payload names NotAnImage = tt
 each_payload names (OfImage None) = (
-  Line (codes "payload") (path names ∷ codes "none" ∷ []) (goes_on is_blank (codes "payload") refl)
-      (path_no_blank names, (goes_on is_blank (codes "none") refl, tt)),
+  Line (codes "payload") (path names ∷ codes "none" ∷ []) (has_no_end is_blank (codes "payload") refl)
+      (path_no_blank names, (has_no_end is_blank (codes "none") refl, tt)),
   tt,
 )
 each_payload names (OfImage (Some digest)) =
-    (digest_line (codes "payload") (path names) digest (goes_on is_blank (codes "payload") refl) (path_no_blank names), tt)
+    (digest_line (codes "payload") (path names) digest (has_no_end is_blank (codes "payload") refl) (path_no_blank names), tt)
 
 -- The lines of a node without those of its children.
 each_own : (names : List (List ℕ)) (own : DescribedNode) → AllByRecursion IsLine (own_lines (path names) own)
 each_own names own = (
-  two_words (codes "node") (path names) (goes_on is_blank (codes "node") refl) (path_no_blank names),
+  two_words (codes "node") (path names) (has_no_end is_blank (codes "node") refl) (path_no_blank names),
   each-append IsLine (payload_words (path names) own.payload) (map (property_words (path names)) (entries own.properties))
       (each_payload names own.payload)
       (each-map IsLine (property_words (path names)) (entries own.properties) (each_property (entries own.properties))),
@@ -150,7 +152,7 @@ each_reservation : (reservations : List Reservation) → AllByRecursion IsLine (
 each_reservation [] = tt
 each_reservation (reservation ∷ later) = (
   Line (codes "reservation") (hexadecimal_64 reservation.address ∷ hexadecimal_64 reservation.size ∷ [])
-      (goes_on is_blank (codes "reservation") refl) (
+      (has_no_end is_blank (codes "reservation") refl) (
         above_bare (hexadecimal_64 reservation.address) (prefixed_above (cell8 reservation.address)),
         (above_bare (hexadecimal_64 reservation.size) (prefixed_above (cell8 reservation.size)), tt),
       ),
@@ -160,15 +162,15 @@ each_reservation (reservation ∷ later) = (
 -- The lines of a description.
 pub each_line : (meaning : Meaning) → AllByRecursion IsLine (description_lines meaning)
 each_line (OfLegacy image) = (
-  two_words (codes "kind") (codes "legacy") (goes_on is_blank (codes "kind") refl) (goes_on is_blank (codes "legacy") refl),
+  two_words (codes "kind") (codes "legacy") (has_no_end is_blank (codes "kind") refl) (has_no_end is_blank (codes "legacy") refl),
   each-append IsLine (field_words image) (code_words image ++ part_words 0 (map digest_of_payload image.parts)) (each_field image)
       (each-append IsLine (code_words image) (part_words 0 (map digest_of_payload image.parts)) (each_code image)
       (each_part 0 (map digest_of_payload image.parts))),
 )
 each_line (OfFit tree) = (
-  two_words (codes "kind") (codes "fit") (goes_on is_blank (codes "kind") refl) (goes_on is_blank (codes "fit") refl),
+  two_words (codes "kind") (codes "fit") (has_no_end is_blank (codes "kind") refl) (has_no_end is_blank (codes "fit") refl),
   (
-    two_words (codes "boot-cpu") (decimal tree.cpu) (goes_on is_blank (codes "boot-cpu") refl)
+    two_words (codes "boot-cpu") (decimal tree.cpu) (has_no_end is_blank (codes "boot-cpu") refl)
         (above_bare (decimal tree.cpu) (decimal_above tree.cpu)),
     each-append IsLine (map reservation_words tree.reservations) (tree_lines tree) (each_reservation tree.reservations)
         (each-append IsLine (own_lines (path []) (plain_node tree.root.own))

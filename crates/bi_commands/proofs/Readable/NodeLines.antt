@@ -12,14 +12,14 @@ use Rattle.bi_commands.proofs.Readable.OwnLines.{BeginsOther, IsSmall, words_apa
 -- Nodes are read back from their lines.
 
 -- A node with a name that a child may have, and with no payload or one whose size is a number of 64 bits.
-pub record IsReadable (name : List ℕ) (own : DescribedNode) : Type 0 where
+pub record IsReadableNode (name : List ℕ) (own : DescribedNode) : Type 0 where
   pub is_name : IsChildName name
   pub is_small : IsSmall own.payload
 
 -- Nodes that are, with all nodes below them.
 abbrev pub AreReadable : Nodes DescribedNode → Type 0
 AreReadable none = ⊤
-AreReadable (node name own children later) = IsReadable name own × (AreReadable children × AreReadable later)
+AreReadable (node name own children later) = IsReadableNode name own × (AreReadable children × AreReadable later)
 
 -- No lines, or lines the first of which is that of a node, and not of one below the node that these names lead to.
 data Outside (above : List (List ℕ)) (lines : List Words) : Type 0 where

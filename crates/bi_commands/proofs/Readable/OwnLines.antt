@@ -6,9 +6,10 @@ use Rattle.std.proofs.lemmas.Fmt.{decimal_injective}
 use Rattle.std.proofs.lemmas.List.{append_assoc}
 use Rattle.bi_base.proofs.EqualBytes.{other_bytes}
 use Rattle.bi_blob.specs.Tree.{Property}
-use Rattle.bi_commands.specs.Shown.{shown}
+use Rattle.bi_commands.specs.Shown.{shown_text}
 use Rattle.bi_commands.specs.ValueTexts.{value_words, hexadecimal_digits}
-use Rattle.bi_commands.specs.Descriptions.{Words, PayloadDigest, digest_words, NodePayload, NotAnImage, OfImage, DescribedNode, property_words, payload_words, own_lines}
+use Rattle.bi_commands.specs.Descriptions.{Words, PayloadDigest, digest_words, NodePayload, NotAnImage, OfImage, DescribedNode}
+use Rattle.bi_commands.specs.Descriptions.{property_words, payload_words, own_lines}
 use Rattle.bi_commands.proofs.Readable.Cuts.{first_same, later_same}
 use Rattle.bi_commands.proofs.Readable.ShownNames.{same_shown, same_digits}
 use Rattle.bi_commands.proofs.Readable.QuotedValues.{same_value}
@@ -91,9 +92,9 @@ properties_agree : (path : List ℕ) (one other : List Property) (x y : List Wor
     BeginsOther (codes "property") y → map (property_words path) one ++ x ≡ map (property_words path) other ++ y → (one ≡ other) × (x ≡ y)
 properties_agree path [] [] x y end ending same = (refl, same)
 properties_agree path [] (b ∷ other) x y end ending same =
-    absurd (not_there (codes "property") x (path ∷ shown b.0 ∷ value_words b.1) (map (property_words path) other ++ y) end same)
+    absurd (not_there (codes "property") x (path ∷ shown_text b.0 ∷ value_words b.1) (map (property_words path) other ++ y) end same)
 properties_agree path (a ∷ one) [] x y end ending same =
-    absurd (not_there (codes "property") y (path ∷ shown a.0 ∷ value_words a.1) (map (property_words path) one ++ x) ending (sym same))
+    absurd (not_there (codes "property") y (path ∷ shown_text a.0 ∷ value_words a.1) (map (property_words path) one ++ x) ending (sym same))
 properties_agree path (a ∷ one) (b ∷ other) x y end ending same =
     let head : a ≡ b = same_property path a b (first_same same) in
     let rest = properties_agree path one other x y end ending (later_same same) in
@@ -105,7 +106,7 @@ properties_begin : (path : List ℕ) (properties : List Property) (x : List Word
     BeginsOther (codes "payload") (map (property_words path) properties ++ x)
 properties_begin path [] x end = end
 properties_begin path (property ∷ later) x end =
-    λ others same. words_apart (codes "property") (codes "payload") (path ∷ shown property.0 ∷ value_words property.1) others refl same
+    λ others same. words_apart (codes "property") (codes "payload") (path ∷ shown_text property.0 ∷ value_words property.1) others refl same
 
 -- A node is read back from its lines and what follows them, but for its children.
 pub own_agrees : (path other_path : List ℕ) (one other : DescribedNode) (x y : List Words) → IsSmall one.payload → IsSmall other.payload →

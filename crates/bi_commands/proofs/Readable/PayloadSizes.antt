@@ -1,4 +1,5 @@
-use Rattle.std.proofs.Common.{◌≡◌, ℕ, ◌+◌, ◌<◌, ◌^◌, Bool, true, false, List, [], ◌∷◌, ◌++◌, map, length, take, drop, bytes_eq, Option, Some, None, refl, sym, ap, subst, ◌∙◌, arith}
+use Rattle.std.proofs.Common.{◌≡◌, ℕ, ◌+◌, ◌<◌, ◌^◌, Bool, true, false, List, [], ◌∷◌, ◌++◌, map, length, take, drop, bytes_eq, Option}
+use Rattle.std.proofs.Common.{Some, None, refl, sym, ap, subst, ◌∙◌, arith}
 use Rattle.std.specs.Prelude.{⊤}
 use Rattle.std.specs.Int.{from_be_bytes, w32}
 use Rattle.std.specs.List.{AllByRecursion, AllZip}
@@ -15,11 +16,12 @@ use Rattle.bi_blob.proofs.Blobs.TokenEncoding.{AllStand}
 use Rattle.bi_blob.proofs.Blobs.OneBlob.{HoldsTree-stand}
 use Rattle.bi_fit.specs.Names.{data_name, data_size_name, images_name}
 use Rattle.bi_fit.specs.ImageTree.{ImageTree, children_of, each_own}
-use Rattle.bi_fit.specs.Payloads.{PayloadSource, NoSource, Data, DataOffset, DataPosition, first_source, source_of, number_of, external_base, IsSizedRegion, IsPayload, HasPayload}
+use Rattle.bi_fit.specs.Payloads.{PayloadSource, NoSource, Data, DataOffset, DataPosition, first_source, source_of, cell_number}
+use Rattle.bi_fit.specs.Payloads.{external_base, IsSizedRegion, IsPayload, HasPayload}
 use Rattle.bi_fit.specs.File.{IsFitFile}
 use Rattle.bi_fit.proofs.Meanings.{same_in_some}
 use Rattle.bi_fit.proofs.FileTrees.{source_is_data}
-use Rattle.bi_fit.proofs.Values.{HasValue, HaveValues, named_value, image_values}
+use Rattle.bi_fit.proofs.FilePayloads.{HasValue, HaveValues, named_value, image_values}
 use Rattle.bi_commands.proofs.Readable.DescribedNodes.{HasSize}
 
 -- The payloads of a flattened image tree have lengths of 32 bits, as a file has them in cells.
@@ -92,7 +94,7 @@ named_fits name (first ∷ later) property fit found =
 
 -- The number of a cell whose bytes are in the file.
 number_fits : (file : List ℕ) (property : FileProperty) → AreBytes file → HasValue file property → length property.value ≡ 4 →
-    number_of property < 2 ^ 32
+    cell_number property < 2 ^ 32
 unfolding u32_at
 number_fits file property bytes has is_cell =
     let value : slice file (property.place + 12) 4 ≡ property.value = ap (slice file (property.place + 12)) (sym is_cell) ∙ has.is_slice in
@@ -116,12 +118,12 @@ position_size_is_named None None size None begin property is = absurd cc
 
 -- A region is no longer than its size.
 region_fits : (file : List ℕ) (base : ℕ) (begin : FileProperty) (size : Option FileProperty) (payload : Option (List ℕ)) →
-    ((property : FileProperty) → size ≡ Some property → length property.value ≡ 4 → number_of property < 2 ^ 32) →
+    ((property : FileProperty) → size ≡ Some property → length property.value ≡ 4 → cell_number property < 2 ^ 32) →
     IsSizedRegion file base begin size payload → HasSize payload
 region_fits file base begin None payload small is = absurd is
 region_fits file base begin (Some size) payload small is =
     subst HasSize (sym is.is_slice)
-    (shorter (number_of size) (drop (base + number_of begin) file) (small size refl is.size_cell))
+    (shorter (cell_number size) (drop (base + cell_number begin) file) (small size refl is.size_cell))
   where
     shorter : (n : ℕ) (bytes : List ℕ) → n < 2 ^ 32 → length (take n bytes) < 2 ^ 64
     shorter n bytes fits = omega (arith, fits, length-take n bytes)
@@ -132,7 +134,7 @@ payload_fits : (file : List ℕ) (own : FileNode) (payload : Option (List ℕ)) 
 payload_fits file own payload bytes have fit is = where_source (source_of own) refl is
   where
     size_fits : (property : FileProperty) → property_named own.properties data_size_name ≡ Some property → length property.value ≡ 4 →
-        number_of property < 2 ^ 32
+        cell_number property < 2 ^ 32
     size_fits property named is_cell =
         number_fits file property bytes (named_value file data_size_name own.properties property have named) is_cell
 

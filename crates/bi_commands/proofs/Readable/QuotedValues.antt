@@ -1,4 +1,5 @@
-use Rattle.std.proofs.Common.{◌≡◌, ◌||◌, ℕ, Bool, true, false, cond, eqb, List, [], ◌∷◌, ◌++◌, map, refl, sym, ap, subst, ◌∙◌, codes, bytes_eq}
+use Rattle.std.proofs.Common.{◌≡◌, ◌||◌, ℕ, Bool, true, false, cond, eqb, List, [], ◌∷◌, ◌++◌, map, refl, sym, ap, subst, ◌∙◌, codes}
+use Rattle.std.proofs.Common.{bytes_eq}
 use Rattle.std.specs.Prelude.{nat_eq}
 use Rattle.std.proofs.lemmas.Bool.{cond-true, cond-false, eqb-false, and_parts}
 use Rattle.std.proofs.lemmas.List.{append_assoc}
@@ -7,7 +8,7 @@ use Rattle.bi_base.proofs.EqualBytes.{same_bytes}
 use Rattle.bi_blob.specs.Layout.{strings_of}
 use Rattle.bi_fit.specs.Judgement.{listed_names}
 use Rattle.bi_fit.proofs.NameLists.{reads_names}
-use Rattle.bi_commands.specs.ValueTexts.{is_quotable, are_quotable_texts, escaped_byte, quoted, hexadecimal_digits, value_words}
+use Rattle.bi_commands.specs.ValueTexts.{is_quotable, are_quotable_texts, escaped_byte, quoted_text, hexadecimal_digits, value_words}
 use Rattle.bi_commands.proofs.Readable.Cuts.{begin_apart, first_same}
 use Rattle.bi_commands.proofs.Readable.ShownNames.{same_digits}
 
@@ -73,19 +74,19 @@ read_escapes (a ∷ one) (b ∷ other) x y same =
     (cc, rest.1)
 
 -- A text is read back from how it is quoted.
-pub read_quoted : (one other x y : List ℕ) → quoted one ++ x ≡ quoted other ++ y → (one ≡ other) × (x ≡ y)
+pub read_quoted : (one other x y : List ℕ) → quoted_text one ++ x ≡ quoted_text other ++ y → (one ≡ other) × (x ≡ y)
 read_quoted one other x y same =
     let inner : (flat_map escaped_byte one ++ 34 ∷ []) ++ x ≡ (flat_map escaped_byte other ++ 34 ∷ []) ++ y = cc in
     read_escapes one other x y
     (sym (append_assoc (flat_map escaped_byte one) (34 ∷ []) x) ∙ inner ∙ append_assoc (flat_map escaped_byte other) (34 ∷ []) y)
 
 -- So are texts from each of them in quotes.
-same_texts : (one other : List (List ℕ)) → map quoted one ≡ map quoted other → one ≡ other
+same_texts : (one other : List (List ℕ)) → map quoted_text one ≡ map quoted_text other → one ≡ other
 same_texts [] [] same = refl
 same_texts [] (b ∷ other) same = absurd cc
 same_texts (a ∷ one) [] same = absurd cc
 same_texts (a ∷ one) (b ∷ other) same =
-    let texts : quoted a ≡ quoted b = cc in
+    let texts : quoted_text a ≡ quoted_text b = cc in
     let head : a ≡ b = (read_quoted a b [] [] (ap (λ w. w ++ []) texts)).0 in
     let tail : one ≡ other = same_texts one other cc in
     cc
@@ -93,7 +94,7 @@ same_texts (a ∷ one) (b ∷ other) same =
 -- The words of a value.
 pub data ValueWords (value : List ℕ) : Type 0 where
   Empty : value ≡ [] → value_words value ≡ [] → ValueWords value
-  Texts : strings_of (listed_names value) ≡ value → value_words value ≡ map quoted (listed_names value) → ValueWords value
+  Texts : strings_of (listed_names value) ≡ value → value_words value ≡ map quoted_text (listed_names value) → ValueWords value
   Bytes : value_words value ≡ (codes "0x" ++ hexadecimal_digits value) ∷ [] → ValueWords value
 
 -- They are in one of these forms.
@@ -101,30 +102,30 @@ pub forms : (value : List ℕ) → ValueWords value
 forms value = where_tests (bytes_eq value []) (are_quotable_texts value) refl refl
   where
     rest : List (List ℕ)
-    rest = cond (are_quotable_texts value) (map quoted (listed_names value)) ((codes "0x" ++ hexadecimal_digits value) ∷ [])
+    rest = cond (are_quotable_texts value) (map quoted_text (listed_names value)) ((codes "0x" ++ hexadecimal_digits value) ∷ [])
 
     where_tests : (p q : Bool) → bytes_eq value [] ≡ p → are_quotable_texts value ≡ q → ValueWords value
     where_tests true q empty texts = Empty (same_bytes value [] empty)
         (cond-true (bytes_eq value []) []
-        (cond (are_quotable_texts value) (map quoted (listed_names value)) ((codes "0x" ++ hexadecimal_digits value) ∷ [])) empty)
+        (cond (are_quotable_texts value) (map quoted_text (listed_names value)) ((codes "0x" ++ hexadecimal_digits value) ∷ [])) empty)
     where_tests false true empty texts = Texts
         (reads_names.whole value (and_parts (ends_with nat_eq value (0 ∷ [])) (list_all is_quotable (listed_names value)) texts).0)
         (cond-false (bytes_eq value []) []
-        (cond (are_quotable_texts value) (map quoted (listed_names value)) ((codes "0x" ++ hexadecimal_digits value) ∷ [])) empty
-        ∙ cond-true (are_quotable_texts value) (map quoted (listed_names value)) ((codes "0x" ++ hexadecimal_digits value) ∷ []) texts)
+        (cond (are_quotable_texts value) (map quoted_text (listed_names value)) ((codes "0x" ++ hexadecimal_digits value) ∷ [])) empty
+        ∙ cond-true (are_quotable_texts value) (map quoted_text (listed_names value)) ((codes "0x" ++ hexadecimal_digits value) ∷ []) texts)
     where_tests false false empty texts = Bytes
         (cond-false (bytes_eq value []) []
-        (cond (are_quotable_texts value) (map quoted (listed_names value)) ((codes "0x" ++ hexadecimal_digits value) ∷ [])) empty
-        ∙ cond-false (are_quotable_texts value) (map quoted (listed_names value)) ((codes "0x" ++ hexadecimal_digits value) ∷ []) texts)
+        (cond (are_quotable_texts value) (map quoted_text (listed_names value)) ((codes "0x" ++ hexadecimal_digits value) ∷ [])) empty
+        ∙ cond-false (are_quotable_texts value) (map quoted_text (listed_names value)) ((codes "0x" ++ hexadecimal_digits value) ∷ []) texts)
 
 -- Texts in quotes are not the word for bytes.
-not_bytes : (texts : List (List ℕ)) (digits : List ℕ) → map quoted texts ≡ (codes "0x" ++ digits) ∷ [] → ⊥
+not_bytes : (texts : List (List ℕ)) (digits : List ℕ) → map quoted_text texts ≡ (codes "0x" ++ digits) ∷ [] → ⊥
 not_bytes [] digits same = absurd cc
 not_bytes (text ∷ later) digits same =
     begin_apart 34 48 (flat_map escaped_byte text ++ 34 ∷ []) (120 ∷ digits) refl (first_same same)
 
 -- Where there are no words of texts, there are no texts.
-no_texts : (texts : List (List ℕ)) → map quoted texts ≡ [] → strings_of texts ≡ []
+no_texts : (texts : List (List ℕ)) → map quoted_text texts ≡ [] → strings_of texts ≡ []
 no_texts [] same = refl
 no_texts (text ∷ later) same = absurd cc
 

@@ -1,5 +1,5 @@
 use Rattle.std.proofs.Common.{◌≡◌, ℕ, List, [], ◌∷◌, sym, codes, refl}
-use Rattle.bi_base.specs.Limits.{Bounds}
+use Rattle.bi_base.specs.Limits.{Limits}
 use Rattle.bi_norm.specs.Meaning.{Meaning, OfLegacy, OfFit, Means}
 use Rattle.bi_commands.specs.DescriptionLaws.{AreSimilar, SameDescriptionIsSimilar}
 use Rattle.bi_commands.specs.Descriptions.{description_lines}
@@ -19,7 +19,7 @@ kinds_apart xs ys same =
     (later_same (first_same same))
 
 -- Meanings with the same lines are similar.
-similar : (limits other_limits : Bounds) (file other_file : List ℕ) (one other : Meaning) → Means limits file one →
+similar : (limits other_limits : Limits) (file other_file : List ℕ) (one other : Meaning) → Means limits file one →
     Means other_limits other_file other → description_lines one ≡ description_lines other → AreSimilar one other
 similar limits other_limits file other_file (OfLegacy one) (OfLegacy other) means also same =
     similar_images file other_file one other means.is_file also.is_file same

@@ -1,10 +1,12 @@
-use Rattle.std.proofs.Common.{◌≡◌, ◌≢◌, ◌&&◌, ℕ, ◌+◌, ◌/◌, ◌%◌, ◌<◌, ◌≤◌, Bool, true, false, not, cond, leb, eqb, ltb, List, [], ◌∷◌, ◌++◌, inl, inr, refl, sym, ap, subst, ◌∙◌, arith, true≢false, codes, bytes_eq}
-use Rattle.std.proofs.lemmas.Bool.{cases_lt, cond-true, cond-false, lt-ltb, le-ltb, lt-leb, leb-true, ne_eqb, eqb-false, and_parts, not-true}
+use Rattle.std.proofs.Common.{◌≡◌, ◌≢◌, ◌&&◌, ℕ, ◌+◌, ◌/◌, ◌%◌, ◌<◌, ◌≤◌, Bool, true, false, not, cond, leb, eqb, ltb, List, [], ◌∷◌, ◌++◌}
+use Rattle.std.proofs.Common.{inl, inr, refl, sym, ap, subst, ◌∙◌, arith, true≢false, codes, bytes_eq}
+use Rattle.std.proofs.lemmas.Bool.{cases_lt, cond-true, cond-false, lt-ltb, le-ltb, lt-leb, leb-true, ne_eqb, eqb-false, and_parts}
+use Rattle.std.proofs.lemmas.Bool.{not-true}
 use Rattle.std.specs.Fmt.{digit_glyph}
 use Rattle.std.specs.List.{AllByRecursion, flat_map}
 use Rattle.bi_base.proofs.EqualBytes.{same_bytes, other_bytes}
-use Rattle.bi_commands.specs.Shown.{digits_of_byte, is_plain, shown_byte, shown}
-use Rattle.bi_commands.proofs.Readable.Cuts.{GoesOn, goes_on, goes_on-flat_map, codes_agree}
+use Rattle.bi_commands.specs.Shown.{digits_of_byte, is_plain, shown_byte, shown_text}
+use Rattle.bi_commands.proofs.Readable.Cuts.{HasNoEnd, has_no_end, goes_on-flat_map, codes_agree}
 
 -- A name is read back from its shown form, which has no blank, and no slash where the name has none. Bytes are read back from their
 -- hexadecimal digits.
@@ -115,9 +117,9 @@ some_shown_byte byte = where_test (is_plain byte)
 
 -- How a name is shown.
 pub data ShownName (name : List ℕ) : Type 0 where
-  Nothing : name ≡ [] → shown name ≡ codes "-" → ShownName name
-  Dash : name ≡ codes "-" → shown name ≡ codes "%2D" → ShownName name
-  Others : name ≢ [] → name ≢ codes "-" → shown name ≡ flat_map shown_byte name → ShownName name
+  Nothing : name ≡ [] → shown_text name ≡ codes "-" → ShownName name
+  Dash : name ≡ codes "-" → shown_text name ≡ codes "%2D" → ShownName name
+  Others : name ≢ [] → name ≢ codes "-" → shown_text name ≡ flat_map shown_byte name → ShownName name
 
 -- It is shown in one of these ways.
 pub ways : (name : List ℕ) → ShownName name
@@ -154,7 +156,7 @@ not_as_dash (byte ∷ later) same = where_test (is_plain byte) refl same
         true≢false (ap is_plain (sym is_dash) ∙ plain)
 
 -- A name is read back from its shown form.
-pub same_shown : (one other : List ℕ) → shown one ≡ shown other → one ≡ other
+pub same_shown : (one other : List ℕ) → shown_text one ≡ shown_text other → one ≡ other
 same_shown one other same = where_ways (ways one) (ways other)
   where
     where_ways : ShownName one → ShownName other → one ≡ other
@@ -171,49 +173,49 @@ same_shown one other same = where_ways (ways one) (ways other)
     where_ways (Others some other_than text) (Others some_also other_also texts) = same_shown_bytes one other (sym text ∙ same ∙ texts)
 
 -- A byte as it is printed is no blank.
-shown_byte_no_blank : (byte : ℕ) → GoesOn is_blank (shown_byte byte)
+shown_byte_no_blank : (byte : ℕ) → HasNoEnd is_blank (shown_byte byte)
 shown_byte_no_blank byte = where_test (is_plain byte) refl
   where
-    where_test : (p : Bool) → is_plain byte ≡ p → GoesOn is_blank (cond p (byte ∷ []) (37 ∷ digits_of_byte true byte))
+    where_test : (p : Bool) → is_plain byte ≡ p → HasNoEnd is_blank (cond p (byte ∷ []) (37 ∷ digits_of_byte true byte))
     where_test true plain = (lt-leb byte 32 (plain_above byte plain), tt)
     where_test false plain = (refl, (glyph_no_blank true (byte / 16), (glyph_no_blank true (byte % 16), tt)))
 
 -- It is no slash if the byte is none.
-shown_byte_no_slash : (byte : ℕ) → byte ≢ 47 → GoesOn is_slash (shown_byte byte)
+shown_byte_no_slash : (byte : ℕ) → byte ≢ 47 → HasNoEnd is_slash (shown_byte byte)
 shown_byte_no_slash byte other = where_test (is_plain byte)
   where
-    where_test : (p : Bool) → GoesOn is_slash (cond p (byte ∷ []) (37 ∷ digits_of_byte true byte))
+    where_test : (p : Bool) → HasNoEnd is_slash (cond p (byte ∷ []) (37 ∷ digits_of_byte true byte))
     where_test true = (ne_eqb byte 47 other, tt)
     where_test false = (refl, (glyph_no_slash true (byte / 16), (glyph_no_slash true (byte % 16), tt)))
 
 -- A shown name is no blank.
-pub shown_no_blank : (name : List ℕ) → GoesOn is_blank (shown name)
+pub shown_no_blank : (name : List ℕ) → HasNoEnd is_blank (shown_text name)
 shown_no_blank name = where_way (ways name)
   where
-    each : (bytes : List ℕ) → AllByRecursion (λ byte. GoesOn is_blank (shown_byte byte)) bytes
+    each : (bytes : List ℕ) → AllByRecursion (λ byte. HasNoEnd is_blank (shown_byte byte)) bytes
     each [] = tt
     each (byte ∷ later) = (shown_byte_no_blank byte, each later)
 
-    where_way : ShownName name → GoesOn is_blank (shown name)
-    where_way (Nothing is text) = subst (GoesOn is_blank) (sym text) (goes_on is_blank (codes "-") refl)
-    where_way (Dash is text) = subst (GoesOn is_blank) (sym text) (goes_on is_blank (codes "%2D") refl)
-    where_way (Others some other text) = subst (GoesOn is_blank) (sym text) (goes_on-flat_map is_blank shown_byte name (each name))
+    where_way : ShownName name → HasNoEnd is_blank (shown_text name)
+    where_way (Nothing is text) = subst (HasNoEnd is_blank) (sym text) (has_no_end is_blank (codes "-") refl)
+    where_way (Dash is text) = subst (HasNoEnd is_blank) (sym text) (has_no_end is_blank (codes "%2D") refl)
+    where_way (Others some other text) = subst (HasNoEnd is_blank) (sym text) (goes_on-flat_map is_blank shown_byte name (each name))
 
 -- It has no slash if the name has none.
-pub shown_no_slash : (name : List ℕ) → AllByRecursion (λ byte. byte ≢ 47) name → GoesOn is_slash (shown name)
+pub shown_no_slash : (name : List ℕ) → AllByRecursion (λ byte. byte ≢ 47) name → HasNoEnd is_slash (shown_text name)
 shown_no_slash name others = where_way (ways name)
   where
-    each : (bytes : List ℕ) → AllByRecursion (λ byte. byte ≢ 47) bytes → AllByRecursion (λ byte. GoesOn is_slash (shown_byte byte)) bytes
+    each : (bytes : List ℕ) → AllByRecursion (λ byte. byte ≢ 47) bytes → AllByRecursion (λ byte. HasNoEnd is_slash (shown_byte byte)) bytes
     each [] others = tt
     each (byte ∷ later) others = (shown_byte_no_slash byte others.0, each later others.1)
 
-    where_way : ShownName name → GoesOn is_slash (shown name)
-    where_way (Nothing is text) = subst (GoesOn is_slash) (sym text) (goes_on is_slash (codes "-") refl)
-    where_way (Dash is text) = subst (GoesOn is_slash) (sym text) (goes_on is_slash (codes "%2D") refl)
-    where_way (Others some other text) = subst (GoesOn is_slash) (sym text) (goes_on-flat_map is_slash shown_byte name (each name others))
+    where_way : ShownName name → HasNoEnd is_slash (shown_text name)
+    where_way (Nothing is text) = subst (HasNoEnd is_slash) (sym text) (has_no_end is_slash (codes "-") refl)
+    where_way (Dash is text) = subst (HasNoEnd is_slash) (sym text) (has_no_end is_slash (codes "%2D") refl)
+    where_way (Others some other text) = subst (HasNoEnd is_slash) (sym text) (goes_on-flat_map is_slash shown_byte name (each name others))
 
 -- No name is shown as nothing.
-pub some_shown : (name : List ℕ) → shown name ≡ [] → ⊥
+pub some_shown : (name : List ℕ) → shown_text name ≡ [] → ⊥
 some_shown name nothing = where_way (ways name)
   where
     where_way : ShownName name → ⊥

@@ -3,8 +3,8 @@ use Rattle.std.specs.Prelude.{⊤}
 use Rattle.std.proofs.lemmas.List.{append_assoc}
 use Rattle.std.specs.List.{AllByRecursion, flat_map, join_with_byte}
 use Rattle.bi_commands.specs.Shown.{line}
-use Rattle.bi_commands.specs.ValueTexts.{quoted, escaped_byte}
-use Rattle.bi_commands.proofs.Readable.Cuts.{GoesOn, Ends, cut_agrees, begin_apart}
+use Rattle.bi_commands.specs.ValueTexts.{quoted_text, escaped_byte}
+use Rattle.bi_commands.proofs.Readable.Cuts.{HasNoEnd, Ends, cut_agrees, begin_apart}
 use Rattle.bi_commands.proofs.Readable.ShownNames.{is_blank}
 use Rattle.bi_commands.proofs.Readable.QuotedValues.{read_quoted}
 
@@ -13,7 +13,7 @@ use Rattle.bi_commands.proofs.Readable.QuotedValues.{read_quoted}
 
 -- No byte of this word is blank.
 abbrev pub IsBare : List ℕ → Type 0
-IsBare word = GoesOn is_blank word
+IsBare word = HasNoEnd is_blank word
 
 -- This word does not begin with a quote.
 abbrev pub HasNoQuote : List ℕ → Type 0
@@ -23,17 +23,17 @@ HasNoQuote (byte ∷ later) = byte ≡ 34 → ⊥
 -- A word that may come after the first three.
 pub data IsLaterWord (word : List ℕ) : Type 0 where
   Bare : IsBare word → HasNoQuote word → IsLaterWord word
-  Quoted : (text : List ℕ) → word ≡ quoted text → IsLaterWord word
+  Quoted : (text : List ℕ) → word ≡ quoted_text text → IsLaterWord word
 
 -- Words of which the first `count` have no blank, and the others may come later.
-abbrev pub AreWords : ℕ → List (List ℕ) → Type 0
-AreWords count [] = ⊤
-AreWords zero (word ∷ words) = IsLaterWord word × AreWords zero words
-AreWords (suc count) (word ∷ words) = IsBare word × AreWords count words
+abbrev pub AreReadableWords : ℕ → List (List ℕ) → Type 0
+AreReadableWords count [] = ⊤
+AreReadableWords zero (word ∷ words) = IsLaterWord word × AreReadableWords zero words
+AreReadableWords (suc count) (word ∷ words) = IsBare word × AreReadableWords count words
 
 -- The words of a line: it has one at least.
 pub data IsLine : List (List ℕ) → Type 0 where
-  Line : (word : List ℕ) (words : List (List ℕ)) → IsBare word → AreWords 2 words → IsLine (word ∷ words)
+  Line : (word : List ℕ) (words : List (List ℕ)) → IsBare word → AreReadableWords 2 words → IsLine (word ∷ words)
 
 -- What follows a word of a line: the words after it, each after a space, and a newline.
 abbrev pub after_word : List (List ℕ) → List ℕ → List ℕ
@@ -71,10 +71,10 @@ later_agrees one other x y (Quoted text is) (Bare bare no_quote) end ending same
     absurd (not_quoted other y ((flat_map escaped_byte text ++ 34 ∷ []) ++ x) no_quote ending (sym same ∙ ap (λ w. w ++ x) is))
 later_agrees one other x y (Quoted text is) (Quoted text_also also) end ending same =
     let both = read_quoted text text_also x y (sym (ap (λ w. w ++ x) is) ∙ same ∙ ap (λ w. w ++ y) also) in
-    (is ∙ ap quoted both.0 ∙ sym also, both.1)
+    (is ∙ ap quoted_text both.0 ∙ sym also, both.1)
 
 -- Words are read back from what follows a word before them.
-words_agree : (count : ℕ) (one other : List (List ℕ)) (x y : List ℕ) → AreWords count one → AreWords count other →
+words_agree : (count : ℕ) (one other : List (List ℕ)) (x y : List ℕ) → AreReadableWords count one → AreReadableWords count other →
     after_word one x ≡ after_word other y → (one ≡ other) × (x ≡ y)
 words_agree count [] [] x y are also same = (refl, cc)
 words_agree count [] (word ∷ other) x y are also same = absurd (begin_apart 10 32 x (word ++ after_word other y) refl same)

@@ -1,7 +1,7 @@
 //! The concerns about a flattened image tree.
 
 ghost use Rattle.std.specs.Prelude.{◌≡◌, IfOk, IfErr, map, string_bytes};
-ghost use Rattle.bi_fit.specs.Judging.{checked_hash_of};
+ghost use Rattle.bi_fit.specs.JudgementCalls.{checked_hash_of};
 ghost use Rattle.bi_fit.specs.Reading.{IsReadFrom};
 ghost use Rattle.bi_commands.specs.CheckedFiles.{IsChecked, IsCheckError};
 ghost use Rattle.bi_commands.specs.Checking.{concern_lines};

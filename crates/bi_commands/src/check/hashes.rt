@@ -4,10 +4,10 @@ ghost use Rattle.std.specs.Prelude.{◌≡◌, ◌&&◌, [], ◌∷◌, ◌++◌
 ghost use Rattle.std.specs.Prelude.{string_bytes};
 ghost use Rattle.std.specs.List.{list_any};
 ghost use Rattle.std.specs.Option.{option_map};
-ghost use Rattle.bi_fit.specs.Judging.{checked_hash_of};
+ghost use Rattle.bi_fit.specs.JudgementCalls.{checked_hash_of};
 ghost use Rattle.bi_commands.specs.Checking.{bad_hash, concern_line, concern_lines, hash_concerns};
 ghost use Rattle.bi_commands.specs.Checking.{is_good as good_hash, is_strong_algorithm};
-ghost use Rattle.bi_commands.specs.Checking.{protection_concerns, unhashed, weak_hash};
+ghost use Rattle.bi_commands.specs.Checking.{protection_concerns, unhashed_image, weak_hash};
 ghost use Rattle.bi_commands.specs.ReadChecking.{good_algorithm};
 ghost use Rattle.bi_commands.specs.Reports.{is_verdict as has_verdict};
 ghost use Rattle.bi_commands.specs.Reports.{shown_or_none as shown_or_dash};
@@ -97,7 +97,7 @@ pub(super) fn put_protection(
 /// Appends the line of an image with a payload and without a Good verdict.
 fn put_unhashed(alloc: Global, text: &mut String, image: &[u8]) -> Result<(), AllocError>
     ensures { OnOk result (string_bytes text.new ≡ string_bytes text.old
-        ++ concern_line (unhashed image.now)) }
+        ++ concern_line (unhashed_image image.now)) }
 {
     let image = shown_name(alloc, image)?;
     writeln!(text, "unhashed {image}")

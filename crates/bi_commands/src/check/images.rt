@@ -2,10 +2,10 @@
 
 ghost use Rattle.std.specs.Prelude.{◌≡◌, ◌++◌, min, OnOk, length, map, string_bytes};
 ghost use Rattle.bi_fdt.specs.Views.{node_of};
-ghost use Rattle.bi_fit.specs.Content.{read_image};
-ghost use Rattle.bi_fit.specs.Judging.{checked_hash_of};
+ghost use Rattle.bi_fit.specs.Content.{image_model};
+ghost use Rattle.bi_fit.specs.JudgementCalls.{checked_hash_of};
 ghost use Rattle.bi_fit.specs.Names.{is_hash_name};
-ghost use Rattle.bi_fit.specs.Nodes.{file_images};
+ghost use Rattle.bi_fit.specs.HashNodes.{file_images};
 ghost use Rattle.bi_commands.specs.Checking.{concern_lines, hashed_concerns};
 ghost use Rattle.bi_commands.specs.ReadChecking.{hash_count, read_images_concerns};
 
@@ -44,7 +44,7 @@ fn put_image_nodes(
     hashes: &[Checked],
 ) -> Result<(), AllocError>
     ensures { OnOk result (string_bytes text.new ≡ string_bytes text.old ++ concern_lines allowed
-        (read_images_concerns (node_of node.entry).children (map read_image images.now)
+        (read_images_concerns (node_of node.entry).children (map image_model images.now)
         (map checked_hash_of hashes.now))) }
 {
     let mut next = node.first_child();
@@ -90,7 +90,7 @@ fn put_image(
     hashes: &[Checked],
 ) -> Result<(), AllocError>
     ensures { OnOk result (string_bytes text.new ≡ string_bytes text.old ++ concern_lines allowed
-        (hashed_concerns (read_image image.now).name (read_image image.now).payload
+        (hashed_concerns (image_model image.now).name (image_model image.now).payload
         (map checked_hash_of hashes.now))) }
 {
     put_hashes(alloc, text, allowed, hashes)?;

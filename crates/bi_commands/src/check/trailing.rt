@@ -3,12 +3,13 @@
 ghost use Rattle.std.specs.Prelude.{◌≡◌, ◌==◌, ◌-◌, ◌++◌, IfOk, IfErr, OnOk, drop, length};
 ghost use Rattle.std.specs.Prelude.{string_bytes};
 ghost use Rattle.std.specs.List.{list_all};
-ghost use Rattle.bi_base.specs.Limits.{Bounds};
-ghost use Rattle.bi_fit.specs.Content.{read_image};
+ghost use Rattle.bi_base.specs.Limits.{Limits};
+ghost use Rattle.bi_fit.specs.Content.{image_model};
 ghost use Rattle.bi_legacy.specs.Reading.{IsParsedImage};
 ghost use Rattle.bi_commands.specs.CheckedFiles.{IsChecked, IsCheckError};
 ghost use Rattle.bi_commands.specs.Checking.{concern_lines, trailing_concerns};
-ghost use Rattle.bi_commands.specs.ReadChecking.{end_at, offset_of as offset_at, read_end};
+ghost use Rattle.bi_commands.specs.ReadChecking.{end_at, offset_of as offset_at};
+ghost use Rattle.bi_commands.specs.ReadChecking.{end_of_read_payloads};
 
 use super::Allowed;
 use crate::describe::length_of;
@@ -25,9 +26,9 @@ pub(super) fn check_legacy(
     image: &Legacy,
     allowed: Allowed,
 ) -> Result<String, Error>
-    ensures checked { (limits : Bounds) → IsParsedImage limits file.now image.now →
+    ensures checked { (limits : Limits) → IsParsedImage limits file.now image.now →
         IfOk result (λ text. IsChecked allowed limits file.now (string_bytes text)) }
-    ensures failed { (limits : Bounds) → IsParsedImage limits file.now image.now →
+    ensures failed { (limits : Limits) → IsParsedImage limits file.now image.now →
         IfErr result (IsCheckError limits file.now) }
 {
     let text = legacy_lines(alloc, file, image.unused(), allowed)?;
@@ -78,7 +79,7 @@ fn are_zeros(bytes: &[u8]) -> bool
 
 /// Returns where the last of the blob and the payloads ends in the file.
 pub(super) fn content_end(fit: &Fit) -> usize
-    ensures { result ≡ read_end fit.now.blob.total_size fit.now.images }
+    ensures { result ≡ end_of_read_payloads fit.now.blob.total_size fit.now.images }
 {
     let mut end = 0;
     for image in fit.images() {
@@ -89,7 +90,7 @@ pub(super) fn content_end(fit: &Fit) -> usize
 
 /// Returns where the payload of an image ends in the file, 0 if there is none.
 fn payload_end(image: &Image) -> usize
-    ensures { result ≡ end_at (read_image image.now).place (read_image image.now).payload }
+    ensures { result ≡ end_at (image_model image.now).place (image_model image.now).payload }
 {
     offset_of(image.place) as usize + length_of(image.payload)
 }

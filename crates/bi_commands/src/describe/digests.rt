@@ -3,7 +3,7 @@
 ghost use Rattle.std.specs.Prelude.{◌≡◌, ◌<◌, ◌≤◌, ◌^◌, OnOk, IfErr};
 ghost use Rattle.std.specs.Option.{option_map};
 ghost use Rattle.bi_base.specs.Reading.{too_large};
-ghost use Rattle.bi_fit.specs.Additions.{payloads_of};
+ghost use Rattle.bi_fit.specs.NormalNodes.{payloads_of};
 ghost use Rattle.bi_commands.specs.Descriptions.{digest_of_payload};
 ghost use Rattle.bi_commands.specs.PayloadBounds.{payload_length, payloads_length};
 ghost use Rattle.bi_commands.specs.TreeEntries.{digest_made};
@@ -32,8 +32,8 @@ pub(super) fn digest_of(payload: &[u8]) -> PayloadDigest
 ///
 /// Error: TooLarge at the limit, exactly if they are longer.
 pub(crate) fn check_payloads(images: &[Image], limit: u32) -> Result<(), Fault>
-    ensures within { OnOk result (payloads_length (payloads_of images.now) ≤ limit) }
-    ensures refused { IfErr result (λ fault. (fault ≡ too_large limit)
+    ensures ok { OnOk result (payloads_length (payloads_of images.now) ≤ limit) }
+    ensures fault { IfErr result (λ fault. (fault ≡ too_large limit)
         × (limit < payloads_length (payloads_of images.now))) }
 {
     let mut total = 0;

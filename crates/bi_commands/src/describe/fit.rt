@@ -10,7 +10,7 @@ ghost use Rattle.bi_blob.specs.Blob.{Reservation};
 ghost use Rattle.bi_commands.specs.Descriptions.{reservation_words};
 ghost use Rattle.bi_commands.specs.Shown.{line};
 ghost use Rattle.bi_commands.specs.ReadDescription.{IsDescriptionOf, head_lines, read_lines};
-ghost use Rattle.bi_commands.specs.TreeEntries.{most_open, tree_entry};
+ghost use Rattle.bi_commands.specs.TreeEntries.{most_open, as_entry};
 
 use super::digests::check_payloads;
 use super::entries::Entry;
@@ -53,9 +53,9 @@ fn put_fit<'a, S: Sink>(
     names: &mut [&'a [u8]],
     sink: &mut S,
 ) -> Result<(), Error>
-    requires { most_open 0 (map tree_entry entries.now) ≤ length names.old }
+    requires { most_open 0 (map as_entry entries.now) ≤ length names.old }
     ensures wrote { Wrote S.appends S.fails sink.old
-        (flat_map line (read_lines blob.now (map tree_entry entries.now))) result sink.new }
+        (flat_map line (read_lines blob.now (map as_entry entries.now))) result sink.new }
     ensures room { length names.new ≡ length names.old }
 {
     put_head(blob.boot_cpu(), sink)?;

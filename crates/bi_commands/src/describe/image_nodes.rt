@@ -4,11 +4,11 @@ ghost use Rattle.std.specs.Prelude.{◌≡◌, ◌∷◌, ◌++◌, [], map, tru
 ghost use Rattle.std.specs.Option.{option_map};
 ghost use Rattle.bi_base.specs.declared.fault.Error.TheVariants.{OutOfMemory};
 ghost use Rattle.bi_fdt.specs.Views.{node_of};
-ghost use Rattle.bi_fit.specs.Additions.{payloads_of, properties_by_name};
+ghost use Rattle.bi_fit.specs.NormalNodes.{payloads_of, properties_by_name};
 ghost use Rattle.bi_fit.specs.Content.{tree_of};
 ghost use Rattle.bi_commands.specs.MadeEntries.{begin_entries, image_entries, images_entries};
 ghost use Rattle.bi_commands.specs.MadeEntries.{root_children_entries};
-ghost use Rattle.bi_commands.specs.TreeEntries.{NodeEnds, tree_entries, tree_entry};
+ghost use Rattle.bi_commands.specs.TreeEntries.{NodeEnds, tree_entries, as_entry};
 
 use super::digests::digest_of;
 use super::entries::Entry;
@@ -22,7 +22,7 @@ use std::alloc::Global;
 /// Returns the entries of a flattened image tree: those of the properties of the root, and those of
 /// all nodes below it.
 pub(super) fn entries_of<'a>(alloc: Global, fit: &Fit<'a>) -> Result<Vec<Entry<'a>>, Error>
-    ensures entries { IfOk result (λ entries. map tree_entry entries.items
+    ensures entries { IfOk result (λ entries. map as_entry entries.items
         ≡ tree_entries (tree_of fit.now)) }
     ensures failed { IfErr result (λ error. error ≡ OutOfMemory) }
 {
@@ -41,7 +41,7 @@ fn add_root_children<'a>(
     root: NodeRef<'a, '_>,
     images: &[Image<'a>],
 ) -> Result<(), Error>
-    ensures added { OnOk result (map tree_entry entries.new.items ≡ map tree_entry entries.old.items
+    ensures added { OnOk result (map as_entry entries.new.items ≡ map as_entry entries.old.items
         ++ root_children_entries true (node_of root.entry).children
         (payloads_of images.entry.now)) }
     ensures failed { IfErr result (λ error. error ≡ OutOfMemory) }
@@ -70,7 +70,7 @@ fn add_images<'a>(
     images: &[Image<'a>],
     is_first: bool,
 ) -> Result<(), Error>
-    ensures added { OnOk result (map tree_entry entries.new.items ≡ map tree_entry entries.old.items
+    ensures added { OnOk result (map as_entry entries.new.items ≡ map as_entry entries.old.items
         ++ (begin_entries (node_of node.entry).name (properties_by_name (node_of node.entry).own)
         ++ (images_entries is_first (node_of node.entry).children (payloads_of images.entry.now)
         ++ NodeEnds ∷ []))) }
@@ -91,7 +91,7 @@ fn add_image_nodes<'a>(
     images: &[Image<'a>],
     is_first: bool,
 ) -> Result<(), Error>
-    ensures added { OnOk result (map tree_entry entries.new.items ≡ map tree_entry entries.old.items
+    ensures added { OnOk result (map as_entry entries.new.items ≡ map as_entry entries.old.items
         ++ images_entries is_first (node_of node.entry).children
         (payloads_of images.entry.now)) }
     ensures failed { IfErr result (λ error. error ≡ OutOfMemory) }
@@ -115,7 +115,7 @@ fn add_image<'a>(
     payload: Option<&'a [u8]>,
     is_first: bool,
 ) -> Result<(), Error>
-    ensures added { OnOk result (map tree_entry entries.new.items ≡ map tree_entry entries.old.items
+    ensures added { OnOk result (map as_entry entries.new.items ≡ map as_entry entries.old.items
         ++ image_entries is_first (node_of node.entry)
         (option_map (λ payload. payload.now) payload.entry)) }
     ensures failed { IfErr result (λ error. error ≡ OutOfMemory) }

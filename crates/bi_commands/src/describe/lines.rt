@@ -10,11 +10,11 @@ ghost use Rattle.bi_commands.specs.Descriptions.{property_words};
 ghost use Rattle.bi_commands.specs.ReadDescription.{root_lines};
 ghost use Rattle.bi_commands.specs.Shown.{line};
 ghost use Rattle.bi_commands.specs.TreeEntries.{digest_made, entry_lines, lines_of_entry};
-ghost use Rattle.bi_commands.specs.TreeEntries.{tree_entry};
+ghost use Rattle.bi_commands.specs.TreeEntries.{as_entry};
 ghost use Rattle.bi_commands.specs.TreeEntries.{count_after as count_after_of};
 ghost use Rattle.bi_commands.specs.TreeEntries.{most_open as most_open_of};
 ghost use Rattle.bi_commands.specs.TreeEntries.{open_after as open_after_of};
-ghost use Rattle.bi_commands.specs.WrittenWords.{name_bytes};
+ghost use Rattle.bi_commands.specs.WrittenWords.{bytes_of_names};
 
 use super::entries::{Entry, PayloadDigest};
 use super::words::{Word, put_line};
@@ -22,7 +22,7 @@ use bi_base::{Error, Sink};
 
 /// Returns how many nodes are open at most.
 pub(super) fn most_open(entries: &[Entry]) -> usize
-    ensures { result ≡ most_open_of 0 (map tree_entry entries.now) }
+    ensures { result ≡ most_open_of 0 (map as_entry entries.now) }
 {
     let mut most = 0;
     let mut open = 0;
@@ -44,7 +44,7 @@ fn greater(one: usize, other: usize) -> usize
 /// greatest `usize`. An end without a node has no effect.
 fn count_after(count: usize, entry: &Entry) -> usize
     requires { count + 1 < 2 ^ 64 }
-    ensures { result ≡ count_after_of count (tree_entry entry.now) }
+    ensures { result ≡ count_after_of count (as_entry entry.now) }
 {
     match entry {
         Entry::Begin(_) => count + 1,
@@ -60,9 +60,9 @@ pub(super) fn put_tree<'a, S: Sink>(
     names: &mut [&'a [u8]],
     sink: &mut S,
 ) -> Result<(), Error>
-    requires { most_open_of 0 (map tree_entry entries.now) ≤ length names.old }
+    requires { most_open_of 0 (map as_entry entries.now) ≤ length names.old }
     ensures wrote { Wrote S.appends S.fails sink.old
-        (flat_map line (root_lines (map tree_entry entries.now))) result sink.new }
+        (flat_map line (root_lines (map as_entry entries.now))) result sink.new }
     ensures room { length names.new ≡ length names.old }
 {
     put_node(&[], sink)?;
@@ -76,9 +76,9 @@ fn put_entries<'a, S: Sink>(
     names: &mut [&'a [u8]],
     sink: &mut S,
 ) -> Result<(), Error>
-    requires { most_open_of 0 (map tree_entry entries.now) ≤ length names.old }
+    requires { most_open_of 0 (map as_entry entries.now) ≤ length names.old }
     ensures wrote { Wrote S.appends S.fails sink.old
-        (flat_map line (entry_lines [] (map tree_entry entries.now))) result sink.new }
+        (flat_map line (entry_lines [] (map as_entry entries.now))) result sink.new }
     ensures room { length names.new ≡ length names.old }
 {
     let mut open = 0;
@@ -93,10 +93,10 @@ fn put_entries<'a, S: Sink>(
 /// the first of `names`, before the call and after it. `names` has room for all of them.
 fn open_after<'a>(entry: Entry<'a>, names: &mut [&'a [u8]], count: usize) -> usize
     requires fits { count ≤ length names.old }
-    requires room { count_after_of count (tree_entry entry) ≤ length names.old }
-    ensures names { name_bytes (take result names.new)
-        ≡ open_after_of (name_bytes (take count names.old)) (tree_entry entry.entry) }
-    ensures counted { result ≡ count_after_of count (tree_entry entry.entry) }
+    requires room { count_after_of count (as_entry entry) ≤ length names.old }
+    ensures names { bytes_of_names (take result names.new)
+        ≡ open_after_of (bytes_of_names (take count names.old)) (as_entry entry.entry) }
+    ensures counted { result ≡ count_after_of count (as_entry entry.entry) }
     ensures room { length names.new ≡ length names.old }
 {
     match entry {
@@ -113,7 +113,7 @@ fn open_after<'a>(entry: Entry<'a>, names: &mut [&'a [u8]], count: usize) -> usi
 /// sink does.
 fn put_entry<'a, S: Sink>(entry: Entry<'a>, names: &[&'a [u8]], sink: &mut S) -> Result<(), Error>
     ensures { Wrote S.appends S.fails sink.old
-        (flat_map line (lines_of_entry (name_bytes names.now) (tree_entry entry.entry))) result
+        (flat_map line (lines_of_entry (bytes_of_names names.now) (as_entry entry.entry))) result
         sink.new }
 {
     match entry {
@@ -127,7 +127,7 @@ fn put_entry<'a, S: Sink>(entry: Entry<'a>, names: &[&'a [u8]], sink: &mut S) ->
 /// Appends the line of a node. Fails as the sink does.
 fn put_node<S: Sink>(names: &[&[u8]], sink: &mut S) -> Result<(), Error>
     ensures { Wrote S.appends S.fails sink.old
-        (line (codes "node" ∷ path (name_bytes names.now) ∷ [])) result sink.new }
+        (line (codes "node" ∷ path (bytes_of_names names.now) ∷ [])) result sink.new }
 {
     put_line(&[Word::Text(b"node"), Word::Path(names)], sink)
 }
@@ -140,7 +140,7 @@ fn put_property<'a, S: Sink>(
     sink: &mut S,
 ) -> Result<(), Error>
     ensures { let property : Property = (name.entry.now, value.entry.now) in
-        Wrote S.appends S.fails sink.old (line (property_words (path (name_bytes names.now))
+        Wrote S.appends S.fails sink.old (line (property_words (path (bytes_of_names names.now))
         property)) result sink.new }
 {
     let words = [
@@ -163,7 +163,7 @@ fn put_payload<S: Sink>(
 ) -> Result<(), Error>
     ensures { let payload = OfImage (option_map digest_made digest) in
         Wrote S.appends S.fails sink.old
-        (flat_map line (payload_words (path (name_bytes names.now)) payload)) result sink.new }
+        (flat_map line (payload_words (path (bytes_of_names names.now)) payload)) result sink.new }
 {
     let payload = Word::Text(b"payload");
     let path = Word::Path(names);

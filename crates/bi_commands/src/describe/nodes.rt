@@ -3,9 +3,9 @@
 ghost use Rattle.std.specs.Prelude.{◌≡◌, ◌++◌, map, OnOk, IfErr};
 ghost use Rattle.bi_base.specs.declared.fault.Error.TheVariants.{OutOfMemory};
 ghost use Rattle.bi_fdt.specs.Views.{node_of};
-ghost use Rattle.bi_fit.specs.Additions.{alone, properties_by_name};
+ghost use Rattle.bi_fit.specs.NormalNodes.{alone, properties_by_name};
 ghost use Rattle.bi_commands.specs.MadeEntries.{begin_entries, plain_entries};
-ghost use Rattle.bi_commands.specs.TreeEntries.{tree_entry};
+ghost use Rattle.bi_commands.specs.TreeEntries.{as_entry};
 
 use super::entries::Entry;
 use super::properties::{add_properties, properties_of};
@@ -20,7 +20,7 @@ pub(super) fn add_node<'a>(
     entries: &mut Vec<Entry<'a>>,
     node: NodeRef<'a, '_>,
 ) -> Result<(), Error>
-    ensures added { OnOk result (map tree_entry entries.new.items ≡ map tree_entry entries.old.items
+    ensures added { OnOk result (map as_entry entries.new.items ≡ map as_entry entries.old.items
         ++ plain_entries (alone (node_of node.entry))) }
     ensures failed { IfErr result (λ error. error ≡ OutOfMemory) }
 {
@@ -37,7 +37,7 @@ pub(super) fn add_children<'a>(
     entries: &mut Vec<Entry<'a>>,
     node: NodeRef<'a, '_>,
 ) -> Result<(), Error>
-    ensures added { OnOk result (map tree_entry entries.new.items ≡ map tree_entry entries.old.items
+    ensures added { OnOk result (map as_entry entries.new.items ≡ map as_entry entries.old.items
         ++ plain_entries (node_of node.entry).children) }
     ensures failed { IfErr result (λ error. error ≡ OutOfMemory) }
 {
@@ -55,7 +55,7 @@ pub(super) fn begin_node<'a>(
     entries: &mut Vec<Entry<'a>>,
     node: NodeRef<'a, '_>,
 ) -> Result<(), Error>
-    ensures added { OnOk result (map tree_entry entries.new.items ≡ map tree_entry entries.old.items
+    ensures added { OnOk result (map as_entry entries.new.items ≡ map as_entry entries.old.items
         ++ begin_entries (node_of node.entry).name
         (properties_by_name (node_of node.entry).own)) }
     ensures failed { IfErr result (λ error. error ≡ OutOfMemory) }

@@ -4,11 +4,11 @@ ghost use Rattle.std.specs.Prelude.{◌≡◌, ◌++◌, map, OnOk, IfOk, IfErr}
 ghost use Rattle.std.specs.FinMap.{entries as entries_of};
 ghost use Rattle.bi_base.specs.declared.fault.Error.TheVariants.{OutOfMemory};
 ghost use Rattle.bi_fdt.specs.Views.{node_of};
-ghost use Rattle.bi_fit.specs.Additions.{properties_by_name};
+ghost use Rattle.bi_fit.specs.NormalNodes.{properties_by_name};
 ghost use Rattle.bi_fit.specs.ImageTree.{without_payload};
 ghost use Rattle.bi_fit.specs.Names.{is_payload_name as is_payload_name_of};
 ghost use Rattle.bi_commands.specs.SortedProperties.{IsSorted, by_name};
-ghost use Rattle.bi_commands.specs.TreeEntries.{PropertyEntry, tree_entry};
+ghost use Rattle.bi_commands.specs.TreeEntries.{PropertyEntry, as_entry};
 
 use super::entries::Entry;
 use bi_base::Error;
@@ -42,7 +42,7 @@ pub(super) fn add_properties<'a>(
     properties: &ByName<'a>,
 ) -> Result<(), Error>
     requires { IsSorted properties.now.entries }
-    ensures added { OnOk result (map tree_entry entries.new.items ≡ map tree_entry entries.old.items
+    ensures added { OnOk result (map as_entry entries.new.items ≡ map as_entry entries.old.items
         ++ map PropertyEntry (entries_of (by_name properties.entry.now.entries))) }
     ensures failed { IfErr result (λ error. error ≡ OutOfMemory) }
 {

@@ -7,9 +7,9 @@ ghost use Rattle.bi_base.specs.Cells.{cell, cell8};
 ghost use Rattle.bi_base.specs.Sinks.{Wrote};
 ghost use Rattle.bi_commands.specs.Descriptions.{path};
 ghost use Rattle.bi_commands.specs.FitListing.{hexadecimal_64};
-ghost use Rattle.bi_commands.specs.Shown.{hexadecimal, line, shown, shown_byte};
+ghost use Rattle.bi_commands.specs.Shown.{hexadecimal, line, shown_text, shown_byte};
 ghost use Rattle.bi_commands.specs.ValueTexts.{hexadecimal_digits};
-ghost use Rattle.bi_commands.specs.WrittenWords.{name_bytes, word_text, words_of};
+ghost use Rattle.bi_commands.specs.WrittenWords.{bytes_of_names, word_text, words_of};
 
 use super::values::put_value;
 use crate::shown::is_plain;
@@ -175,7 +175,7 @@ fn put_digits_of_piece<S: Sink>(piece: &[u8], sink: &mut S) -> Result<(), Error>
 
 /// Appends the path of a node, by the names of the nodes on the way to it. Fails as the sink does.
 fn put_path<S: Sink>(names: &[&[u8]], sink: &mut S) -> Result<(), Error>
-    ensures { Wrote S.appends S.fails sink.old (path (name_bytes names.now)) result
+    ensures { Wrote S.appends S.fails sink.old (path (bytes_of_names names.now)) result
         sink.new }
 {
     match names {
@@ -186,7 +186,8 @@ fn put_path<S: Sink>(names: &[&[u8]], sink: &mut S) -> Result<(), Error>
 
 /// Appends the names of a path, each after a slash. Fails as the sink does.
 fn put_steps<S: Sink>(names: &[&[u8]], sink: &mut S) -> Result<(), Error>
-    ensures { Wrote S.appends S.fails sink.old (flat_map (λ name. 47 ∷ shown name.now) names.now)
+    ensures { Wrote S.appends S.fails sink.old 
+        (flat_map (λ name. 47 ∷ shown_text name.now) names.now)
         result sink.new }
 {
     for name in names {
@@ -197,7 +198,7 @@ fn put_steps<S: Sink>(names: &[&[u8]], sink: &mut S) -> Result<(), Error>
 
 /// Appends a name of a path, after a slash. Fails as the sink does.
 fn put_step<S: Sink>(name: &[u8], sink: &mut S) -> Result<(), Error>
-    ensures { Wrote S.appends S.fails sink.old (47 ∷ shown name.now) result sink.new }
+    ensures { Wrote S.appends S.fails sink.old (47 ∷ shown_text name.now) result sink.new }
 {
     sink.put(b"/")?;
     put_shown(name, sink)
@@ -205,7 +206,7 @@ fn put_step<S: Sink>(name: &[u8], sink: &mut S) -> Result<(), Error>
 
 /// Appends a name as it is printed. Fails as the sink does.
 fn put_shown<S: Sink>(name: &[u8], sink: &mut S) -> Result<(), Error>
-    ensures { Wrote S.appends S.fails sink.old (shown name.now) result sink.new }
+    ensures { Wrote S.appends S.fails sink.old (shown_text name.now) result sink.new }
 {
     match name {
         [] => sink.put(b"-"),

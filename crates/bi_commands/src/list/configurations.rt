@@ -8,11 +8,11 @@ ghost use Rattle.bi_fdt.specs.Views.{node_of};
 ghost use Rattle.bi_fit.specs.Content.{IsHeld};
 ghost use Rattle.bi_fit.specs.Judgement.{listed_names};
 ghost use Rattle.bi_fit.specs.Names.{key_name};
-ghost use Rattle.bi_fit.specs.Nodes.{file_list, file_listed, file_listed_in};
+ghost use Rattle.bi_fit.specs.HashNodes.{file_list, file_listed, file_listed_in};
 ghost use Rattle.bi_commands.specs.FitListing.{key_line};
 ghost use Rattle.bi_commands.specs.ReadListing.{configuration_node_lines, configurations_lines};
 ghost use Rattle.bi_commands.specs.ReadListing.{key_lines};
-ghost use Rattle.bi_commands.specs.Shown.{line, shown};
+ghost use Rattle.bi_commands.specs.Shown.{line, shown_text};
 
 use super::fit::{KEYS, key_word};
 use super::names::{first_missing, split_name};
@@ -136,8 +136,8 @@ fn put_list<S: Sink>(
 /// images. Fails as the sink does.
 fn put_images<S: Sink>(name: &[u8], key: Key, value: &[u8], sink: &mut S) -> Result<(), Error>
     ensures { Wrote S.appends S.fails sink.old
-        (line (codes "key" ∷ shown name.now ∷ key_name key ∷ codes "ok"
-        ∷ map shown (listed_names value.now))) result sink.new }
+        (line (codes "key" ∷ shown_text name.now ∷ key_name key ∷ codes "ok"
+        ∷ map shown_text (listed_names value.now))) result sink.new }
 {
     let words = [
         Word::Text(b"key"),
@@ -153,7 +153,7 @@ fn put_images<S: Sink>(name: &[u8], key: Key, value: &[u8], sink: &mut S) -> Res
 /// Appends the names that a value lists, each after a space. Fails as the sink does.
 fn put_names<S: Sink>(value: &[u8], sink: &mut S) -> Result<(), Error>
     ensures { Wrote S.appends S.fails sink.old
-        (flat_map (λ name. 32 ∷ shown name) (listed_names value.now)) result sink.new }
+        (flat_map (λ name. 32 ∷ shown_text name) (listed_names value.now)) result sink.new }
 {
     let mut rest = value;
     while let Some((name, later)) = split_name(rest) {

@@ -2,13 +2,13 @@
 
 ghost use Rattle.std.specs.Prelude.{◌≡◌, flat_map, length, map};
 ghost use Rattle.bi_base.specs.Sinks.{Wrote};
-ghost use Rattle.bi_fit.specs.Content.{IsHeld, read_image, tree_of};
+ghost use Rattle.bi_fit.specs.Content.{IsHeld, image_model, tree_of};
 ghost use Rattle.bi_fit.specs.Judgement.{default_of};
 ghost use Rattle.bi_fit.specs.Names.{key_name};
 ghost use Rattle.bi_commands.specs.FitListing.{default_line};
-ghost use Rattle.bi_commands.specs.ReadListing.{first_words, payload_line, read_image_line};
+ghost use Rattle.bi_commands.specs.ReadListing.{words_of_blob_lines, payload_line, read_image_line};
 ghost use Rattle.bi_commands.specs.ReadListing.{read_listing};
-ghost use Rattle.bi_commands.specs.Shown.{line, shown};
+ghost use Rattle.bi_commands.specs.Shown.{line, shown_text};
 
 use super::configurations::put_configurations;
 use crate::describe::{Word, put_line, put_lines, put_reservations};
@@ -42,7 +42,7 @@ pub(super) fn list_fit<S: Sink>(fit: &Fit, sink: &mut S) -> Result<(), Error>
 /// Appends the lines of the kind, the boot processor and the size of the blob. Fails as the sink
 /// does.
 fn put_head<S: Sink>(blob: &Blob, sink: &mut S) -> Result<(), Error>
-    ensures { Wrote S.appends S.fails sink.old (flat_map line (first_words blob.now)) result
+    ensures { Wrote S.appends S.fails sink.old (flat_map line (words_of_blob_lines blob.now)) result
         sink.new }
 {
     let boot_cpu = Word::Decimal(u64::from(blob.boot_cpu()));
@@ -60,7 +60,7 @@ fn put_head<S: Sink>(blob: &Blob, sink: &mut S) -> Result<(), Error>
 /// Appends a line for each image. Fails as the sink does.
 fn put_images<S: Sink>(images: &[Image], sink: &mut S) -> Result<(), Error>
     ensures { Wrote S.appends S.fails sink.old
-        (flat_map read_image_line (map read_image images.now)) result sink.new }
+        (flat_map read_image_line (map image_model images.now)) result sink.new }
 {
     for image in images {
         put_image(image, sink)?;
@@ -70,7 +70,7 @@ fn put_images<S: Sink>(images: &[Image], sink: &mut S) -> Result<(), Error>
 
 /// Appends the line of an image. Fails as the sink does.
 fn put_image<S: Sink>(image: &Image, sink: &mut S) -> Result<(), Error>
-    ensures { Wrote S.appends S.fails sink.old (read_image_line (read_image image.now)) result
+    ensures { Wrote S.appends S.fails sink.old (read_image_line (image_model image.now)) result
         sink.new }
 {
     let name = image.name;
@@ -98,7 +98,8 @@ fn put_payload<'a, S: Sink>(
     sink: &mut S,
 ) -> Result<(), Error>
     ensures { Wrote S.appends S.fails sink.old
-        (payload_line (shown name.now) (length payload.now) property.now offset) result sink.new }
+        (payload_line (shown_text name.now) (length payload.now) property.now offset)
+        result sink.new }
 {
     let words = [
         Word::Text(b"image"),

@@ -3,7 +3,7 @@
 ghost use Rattle.std.specs.Prelude.{◌≡◌, ◌∷◌, ◌++◌, [], codes};
 ghost use Rattle.std.specs.Fmt.{decimal};
 ghost use Rattle.bi_base.specs.Sinks.{Wrote};
-ghost use Rattle.bi_legacy.specs.PlacedParts.{placed_part_of};
+ghost use Rattle.bi_legacy.specs.PlacedParts.{part_model};
 ghost use Rattle.bi_commands.specs.Listing.{legacy_listing, parts_lines, part_line};
 
 use crate::describe::{Word, put_codes, put_decimal, put_kind_and_fields, put_line};
@@ -36,7 +36,7 @@ fn put_parts<S: Sink>(image: &Legacy, sink: &mut S) -> Result<(), Error>
 
 /// Appends the line of a part. Fails as the sink does.
 fn put_part<S: Sink>(index: usize, part: &Part, sink: &mut S) -> Result<(), Error>
-    ensures { Wrote S.appends S.fails sink.old (part_line index (placed_part_of part.now)) result
+    ensures { Wrote S.appends S.fails sink.old (part_line index (part_model part.now)) result
         sink.new }
 {
     let (size, place) = (part.bytes.len(), part.place);

@@ -2,7 +2,7 @@
 
 ghost use Rattle.std.specs.Prelude.{◌≡◌, [], MatchOption};
 ghost use Rattle.bi_fit.specs.Judgement.{listed_names};
-ghost use Rattle.bi_fit.specs.Nodes.{BeginsWithName};
+ghost use Rattle.bi_fit.specs.HashNodes.{BeginsWithName};
 ghost use Rattle.bi_commands.specs.ReadListing.{first_missing as first_missing_of};
 
 use bi_base::text_before_nul;

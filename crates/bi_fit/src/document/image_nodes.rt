@@ -8,11 +8,11 @@ ghost use Rattle.bi_blob.specs.Events.{events};
 ghost use Rattle.bi_fdt.specs.Views.{node_of};
 ghost use Rattle.bi_fit.specs.TakenDigests.{HaveDigests, after_digests};
 ghost use Rattle.bi_fit.specs.TakenDigests.{is_hashed as is_hashed_of};
-ghost use Rattle.bi_fit.specs.Additions.{MayAdd, with_events, HasDistinctNames, HasCellSize};
-ghost use Rattle.bi_fit.specs.Additions.{AreWithin, AreImageNodes, alone, payloads_of};
-ghost use Rattle.bi_fit.specs.Additions.{nodes_by_name, image_properties as image_properties_of};
-ghost use Rattle.bi_fit.specs.Additions.{sorted_image, sorted_image_children};
-ghost use Rattle.bi_fit.specs.Additions.{sorted_images, sorted_images_node};
+ghost use Rattle.bi_fit.specs.NormalNodes.{MayAdd, with_events, HasDistinctNames, HasCellSize};
+ghost use Rattle.bi_fit.specs.NormalNodes.{AreWithin, AreImageNodes, alone, payloads_of};
+ghost use Rattle.bi_fit.specs.NormalNodes.{nodes_by_name, image_properties as image_properties_of};
+ghost use Rattle.bi_fit.specs.NormalNodes.{sorted_image, sorted_image_children};
+ghost use Rattle.bi_fit.specs.NormalNodes.{sorted_images, sorted_images_node};
 
 use crate::changes::Changes;
 use crate::document::nodes::{add_children, begin_node, begin_with};

@@ -5,8 +5,8 @@ ghost use Rattle.bi_base.specs.declared.fault.Error.TheVariants.{OutOfMemory};
 ghost use Rattle.bi_blob.specs.Tree.{EachOwn};
 ghost use Rattle.bi_blob.specs.Events.{events};
 ghost use Rattle.bi_fdt.specs.Views.{node_of};
-ghost use Rattle.bi_fit.specs.Additions.{MayAdd, with_events, HasDistinctNames, alone};
-ghost use Rattle.bi_fit.specs.Additions.{begin_events, properties_by_name, sorted_nodes};
+ghost use Rattle.bi_fit.specs.NormalNodes.{MayAdd, with_events, HasDistinctNames, alone};
+ghost use Rattle.bi_fit.specs.NormalNodes.{begin_events, properties_by_name, sorted_nodes};
 
 use crate::document::property_map::PropertyMap;
 use bi_base::Error;

@@ -4,7 +4,7 @@ ghost use Rattle.std.specs.Prelude.{◌≡◌, ◌+◌, ◌-◌, ◌^◌, ◌<�
 ghost use Rattle.std.specs.Option.{option_map};
 ghost use Rattle.bi_base.specs.Reading.{too_large};
 ghost use Rattle.bi_fit.specs.Text.{end_after as end_after_of, payloads_end as payloads_end_of};
-ghost use Rattle.bi_fit.specs.Additions.{payloads_of};
+ghost use Rattle.bi_fit.specs.NormalNodes.{payloads_of};
 
 use crate::image::Image;
 use bi_base::{Cause, Fault, refuse, up4};
@@ -13,7 +13,7 @@ use bi_base::{Cause, Fault, refuse, up4};
 pub(super) fn payloads_end(images: &[Image<'_>], limit: u32) -> Result<u32, Fault>
     ensures end { IfOk result (λ end. end ≡ payloads_end_of 0 (payloads_of images.now)) }
     ensures within { IfOk result (λ end. end ≤ limit) }
-    ensures refused { IfErr result (λ fault. (fault ≡ too_large limit)
+    ensures fault { IfErr result (λ fault. (fault ≡ too_large limit)
         × (limit < payloads_end_of 0 (payloads_of images.now))) }
 {
     let mut end = 0;

@@ -12,8 +12,8 @@ ghost use Rattle.bi_fit.specs.ImageTree.{without_payload};
 ghost use Rattle.bi_fit.specs.Text.{with_payload};
 ghost use Rattle.bi_fit.specs.Updating.{with_time};
 ghost use Rattle.bi_fit.specs.TakenDigests.{HasDigest, with_first_digest, after_digest};
-ghost use Rattle.bi_fit.specs.Additions.{MayAdd, with_events, HasDistinctNames, HasCellSize};
-ghost use Rattle.bi_fit.specs.Additions.{properties_by_name};
+ghost use Rattle.bi_fit.specs.NormalNodes.{MayAdd, with_events, HasDistinctNames, HasCellSize};
+ghost use Rattle.bi_fit.specs.NormalNodes.{properties_by_name};
 
 use crate::form::Form;
 use bi_base::Error;
@@ -39,9 +39,9 @@ impl<'a> Model for PropertyMap<'a> {
 
     ghost coded = { code (coded_list coded_ℕ) (coded_list coded_ℕ) };
 
-    ghost use Rattle.bi_fit.specs.PropertyMaps.{by_name, IsConsistentMap};
+    ghost use Rattle.bi_fit.specs.PropertyMaps.{map_of_fields, IsConsistentMap};
 
-    ghost view = { by_name };
+    ghost view = { map_of_fields };
 
     ghost invariant = { IsConsistentMap };
 }

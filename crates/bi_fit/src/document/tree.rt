@@ -5,9 +5,9 @@ ghost use Rattle.bi_base.specs.declared.fault.Error.TheVariants.{OutOfMemory};
 ghost use Rattle.bi_blob.specs.Tree.{EachOwn};
 ghost use Rattle.bi_blob.specs.Events.{events};
 ghost use Rattle.bi_fdt.specs.Views.{node_of};
-ghost use Rattle.bi_fit.specs.Additions.{MayAdd, with_events, HasDistinctNames, AreWithin};
-ghost use Rattle.bi_fit.specs.Additions.{HaveImageNodes, AreImageNodes, alone, payloads_of};
-ghost use Rattle.bi_fit.specs.Additions.{sorted_root, sorted_root_children};
+ghost use Rattle.bi_fit.specs.NormalNodes.{MayAdd, with_events, HasDistinctNames, AreWithin};
+ghost use Rattle.bi_fit.specs.NormalNodes.{HaveImageNodes, AreImageNodes, alone, payloads_of};
+ghost use Rattle.bi_fit.specs.NormalNodes.{sorted_root, sorted_root_children};
 
 use crate::changes::Changes;
 use crate::document::image_nodes::add_images;

@@ -7,8 +7,8 @@ ghost use Rattle.bi_base.specs.Checks.{HasNoFault};
 ghost use Rattle.bi_blob.specs.Tree.{HasNoZero};
 ghost use Rattle.bi_fit.specs.declared.form.Form.{Form};
 ghost use Rattle.bi_fit.specs.Building.{CanBeBuilt, IsText};
-ghost use Rattle.bi_norm.specs.Building.{head_of, specifications_of, image_checks, BuildPasses};
-ghost use Rattle.bi_norm.specs.Building.{IsBuildError, HasBuildableType, HasNames};
+ghost use Rattle.bi_norm.specs.BuildCalls.{head_model, spec_models, spec_checks, BuildPasses};
+ghost use Rattle.bi_norm.specs.BuildCalls.{IsBuildError, HasBuildableType, HasNames};
 ghost use Rattle.bi_norm.specs.BuildChecks.{early_checks, AllPass, IsFirstFailure};
 ghost use Rattle.bi_norm.specs.BuildChecks.{IsImagesError, fields_and_names, HasBytes};
 
@@ -33,7 +33,7 @@ pub(super) fn check(
 ) -> Result<(), Error>
     ensures passed { (form : Form) → OnOk result (HasNoFault
         (BuildPasses limits form head.entry images.now) (early_checks images.now)) }
-    ensures can { OnOk result (CanBeBuilt (head_of head.entry) (specifications_of images.now)) }
+    ensures can { OnOk result (CanBeBuilt (head_model head.entry) (spec_models images.now)) }
     ensures types { OnOk result (AllByRecursion HasBuildableType images.now) }
     ensures failed { (form : Form) → IfErr result (IsBuildError limits form head.entry images.now) }
 {
@@ -47,8 +47,8 @@ pub(super) fn check(
 
 /// Fails with BadField at 0, if a description has a zero byte.
 fn check_description(description: &[u8]) -> Result<(), Fault>
-    ensures passed { OnOk result (IsText description.now) }
-    ensures failed { IfErr result (λ fault. ¬ (HasNoZero description.now)
+    ensures ok { OnOk result (IsText description.now) }
+    ensures fault { IfErr result (λ fault. ¬ (HasNoZero description.now)
         × (fault ≡ record { cause = BadField; offset = 0 })) }
 {
     if description.contains(&0) {
@@ -61,7 +61,7 @@ fn check_description(description: &[u8]) -> Result<(), Fault>
 /// image that look at no other.
 fn check_images(alloc: Global, images: &[ImageSpec<'_>]) -> Result<(), Error>
     requires { length images.now < 2 ^ 32 }
-    ensures passed { OnOk result (AllPass (image_checks 0 [] images.now)) }
+    ensures passed { OnOk result (AllPass (spec_checks 0 [] images.now)) }
     ensures bytes { OnOk result (AllByRecursion HasBytes images.now) }
     ensures failed { IfErr result (IsImagesError images.now) }
 {
@@ -81,7 +81,7 @@ fn check_images(alloc: Global, images: &[ImageSpec<'_>]) -> Result<(), Error>
 fn check_image(image: &ImageSpec<'_>, index: u32) -> Result<(), Fault>
     ensures passed { OnOk result (AllPass (fields_and_names index image.now)) }
     ensures bytes { OnOk result (HasBytes image.now) }
-    ensures failed { IfErr result (IsFirstFailure (fields_and_names index image.now)) }
+    ensures fault { IfErr result (IsFirstFailure (fields_and_names index image.now)) }
 {
     if !is_child_name(image.name) || image.image_type == MULTI {
         return refuse(Cause::BadField, index);

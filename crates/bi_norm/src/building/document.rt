@@ -8,14 +8,14 @@ ghost use Rattle.bi_blob.specs.Following.{stage_of_events};
 ghost use Rattle.bi_blob.specs.Stages.{AfterRoot};
 ghost use Rattle.bi_hash.specs.declared.algo.Algo.TheVariants.{Sha256};
 ghost use Rattle.bi_hash.specs.Digests.{digest_of};
-ghost use Rattle.bi_fit.specs.Additions.{MayAdd, with_events, AreWithin, HasCellSize};
+ghost use Rattle.bi_fit.specs.NormalNodes.{MayAdd, with_events, AreWithin, HasCellSize};
 ghost use Rattle.bi_fit.specs.Documents.{document_of, length_after_blob};
 ghost use Rattle.bi_fit.specs.Documents.{IsDocument, IsDocumentError};
-ghost use Rattle.bi_norm.specs.Building.{head_of, specification_of, specifications_of};
-ghost use Rattle.bi_norm.specs.Building.{tree_of_images, HasBuildableType};
-ghost use Rattle.bi_norm.specs.BuiltNodes.{image_node, image_nodes, leaf};
+ghost use Rattle.bi_norm.specs.BuildCalls.{head_model, spec_model, spec_models};
+ghost use Rattle.bi_norm.specs.BuildCalls.{tree_of_images, HasBuildableType};
+ghost use Rattle.bi_norm.specs.BuiltNodes.{image_node, built_image_nodes, leaf};
 ghost use Rattle.bi_norm.specs.BuiltNodes.{images_node, configurations_node};
-ghost use Rattle.bi_norm.specs.BuiltNodes.{payloads_of, ArePrepared};
+ghost use Rattle.bi_norm.specs.BuiltNodes.{built_payloads, ArePrepared};
 
 use crate::building::lists::KeyLists;
 use crate::building::properties::{
@@ -54,7 +54,7 @@ pub(super) fn tree_doc<'a>(
     limits: Limits,
 ) -> Result<Doc<'a>, Error>
     requires prepared { ArePrepared parts }
-    requires after { let payloads = payloads_of (specifications_of parts.images.now) in
+    requires after { let payloads = built_payloads (spec_models parts.images.now) in
         after ≡ length_after_blob form payloads }
     requires within { after ≤ limits.file }
     ensures document { let tree = tree_of_images parts.entry.head parts.entry.images.now in
@@ -70,7 +70,7 @@ pub(super) fn tree_doc<'a>(
 /// Builds the document of a tree in a form, however long the text is.
 fn build_doc<'a>(alloc: Global, parts: Parts<'a>, form: Form) -> Result<Doc<'a>, Error>
     requires prepared { ArePrepared parts }
-    requires within { AreWithin form 0 (payloads_of (specifications_of parts.images.now)) }
+    requires within { AreWithin form 0 (built_payloads (spec_models parts.images.now)) }
     ensures document { let tree = tree_of_images parts.entry.head parts.entry.images.now in
         IfOk result (λ doc. doc ≡ document_of form tree) }
     ensures closed { IfOk result (λ doc. stage_of_events doc.events ≡ AfterRoot) }
@@ -93,12 +93,12 @@ fn add_images<'a>(
     form: Form,
 ) -> Result<(), Error>
     requires prepared { ArePrepared parts }
-    requires within { AreWithin form 0 (payloads_of (specifications_of parts.images.now)) }
-    requires may { let images = specifications_of parts.images.now in
-        MayAdd doc.old (events (images_node form (head_of parts.head) images)) }
-    ensures added { let images = specifications_of parts.entry.images.now in
+    requires within { AreWithin form 0 (built_payloads (spec_models parts.images.now)) }
+    requires may { let images = spec_models parts.images.now in
+        MayAdd doc.old (events (images_node form (head_model parts.head) images)) }
+    ensures added { let images = spec_models parts.entry.images.now in
         OnOk result (doc.new ≡ with_events doc.old
-        (events (images_node form (head_of parts.entry.head) images))) }
+        (events (images_node form (head_model parts.entry.head) images))) }
     ensures failed { IfErr result (λ error. error ≡ OutOfMemory) }
 {
     let properties = PropertyMap::new(alloc);
@@ -116,12 +116,12 @@ fn add_image_nodes<'a>(
     form: Form,
 ) -> Result<(), Error>
     requires prepared { ArePrepared parts }
-    requires within { AreWithin form 0 (payloads_of (specifications_of parts.images.now)) }
-    requires may { let images = specifications_of parts.images.now in
-        MayAdd doc.old (events (image_nodes form 0 (head_of parts.head) images)) }
-    ensures added { let images = specifications_of parts.entry.images.now in
+    requires within { AreWithin form 0 (built_payloads (spec_models parts.images.now)) }
+    requires may { let images = spec_models parts.images.now in
+        MayAdd doc.old (events (built_image_nodes form 0 (head_model parts.head) images)) }
+    ensures added { let images = spec_models parts.entry.images.now in
         OnOk result (doc.new ≡ with_events doc.old
-        (events (image_nodes form 0 (head_of parts.entry.head) images))) }
+        (events (built_image_nodes form 0 (head_model parts.entry.head) images))) }
     ensures failed { IfErr result (λ error. error ≡ OutOfMemory) }
 {
     let mut end = 0;
@@ -150,11 +150,11 @@ fn add_image_node<'a>(
     requires buildable { HasBuildableType image.now }
     requires digest { digest.now ≡ digest_of Sha256 image.now.payload.now }
     requires sized { HasCellSize form (Some image.now.payload.now) }
-    requires may { let image = specification_of image.now in
-        MayAdd doc.old (events (image_node form begin (head_of head) image)) }
-    ensures added { let image = specification_of image.now in
+    requires may { let image = spec_model image.now in
+        MayAdd doc.old (events (image_node form begin (head_model head) image)) }
+    ensures added { let image = spec_model image.now in
         OnOk result (doc.new ≡ with_events doc.old
-        (events (image_node form begin (head_of head.entry) image))) }
+        (events (image_node form begin (head_model head.entry) image))) }
     ensures failed { IfErr result (λ error. error ≡ OutOfMemory) }
 {
     let mut properties = image_properties(alloc, head, image)?;
@@ -169,11 +169,11 @@ fn add_image_node<'a>(
 /// Adds the node of the configuration, with the configuration.
 fn add_configurations<'a>(alloc: Global, doc: &mut Doc<'a>, parts: Parts<'a>) -> Result<(), Error>
     requires prepared { ArePrepared parts }
-    requires may { let images = specifications_of parts.images.now in
-        MayAdd doc.old (events (configurations_node (head_of parts.head) images)) }
-    ensures added { let images = specifications_of parts.entry.images.now in
+    requires may { let images = spec_models parts.images.now in
+        MayAdd doc.old (events (configurations_node (head_model parts.head) images)) }
+    ensures added { let images = spec_models parts.entry.images.now in
         OnOk result (doc.new ≡ with_events doc.old
-        (events (configurations_node (head_of parts.entry.head) images))) }
+        (events (configurations_node (head_model parts.entry.head) images))) }
     ensures failed { IfErr result (λ error. error ≡ OutOfMemory) }
 {
     let properties = default_properties(alloc)?;

@@ -4,7 +4,7 @@ ghost use Rattle.std.specs.Prelude.{◌≡◌, IfOk, IfErr};
 ghost use Rattle.bi_base.specs.declared.fault.Error.TheVariants.{OutOfMemory};
 ghost use Rattle.bi_blob.specs.Layout.{strings_of};
 ghost use Rattle.bi_fit.specs.Building.{names_under};
-ghost use Rattle.bi_norm.specs.Building.{first_key, specifications_of};
+ghost use Rattle.bi_norm.specs.BuildCalls.{first_key, spec_models};
 ghost use Rattle.bi_norm.specs.BuiltNodes.{AreKeyLists};
 ghost use Rattle.bi_norm.specs.Converting.{keys_of_type};
 
@@ -28,7 +28,7 @@ pub(super) struct KeyLists {
 impl KeyLists {
     /// Lists the names of images by their types.
     pub(super) fn new(alloc: Global, images: &[ImageSpec<'_>]) -> Result<KeyLists, Error>
-        ensures lists { IfOk result (λ lists. AreKeyLists (specifications_of images.now) lists) }
+        ensures lists { IfOk result (λ lists. AreKeyLists (spec_models images.now) lists) }
         ensures failed { IfErr result (λ error. error ≡ OutOfMemory) }
     {
         Ok(KeyLists {
@@ -45,7 +45,7 @@ impl KeyLists {
 /// Returns the names of the images that a key lists, in their order, each followed by a zero.
 fn list_names(alloc: Global, images: &[ImageSpec<'_>], key: Key) -> Result<Vec<u8>, Error>
     ensures names { IfOk result (λ names. names.items
-        ≡ strings_of (names_under key (specifications_of images.now))) }
+        ≡ strings_of (names_under key (spec_models images.now))) }
     ensures failed { IfErr result (λ error. error ≡ OutOfMemory) }
 {
     let mut names = Vec::new(alloc);

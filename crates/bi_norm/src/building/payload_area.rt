@@ -4,8 +4,8 @@ ghost use Rattle.std.specs.Prelude.{◌≡◌, ◌<◌, ◌≤◌, IfOk, IfErr};
 ghost use Rattle.bi_base.specs.Reading.{too_large};
 ghost use Rattle.bi_fit.specs.Documents.{length_after_blob as length_after_blob_of};
 ghost use Rattle.bi_fit.specs.Text.{payloads_end as payloads_end_of};
-ghost use Rattle.bi_norm.specs.Building.{specifications_of};
-ghost use Rattle.bi_norm.specs.BuiltNodes.{payloads_of};
+ghost use Rattle.bi_norm.specs.BuildCalls.{spec_models};
+ghost use Rattle.bi_norm.specs.BuiltNodes.{built_payloads};
 
 use crate::building::ImageSpec;
 use bi_base::{Cause, Fault, refuse};
@@ -18,10 +18,10 @@ pub(super) fn length_after_blob(
     form: Form,
     limit: u32,
 ) -> Result<u32, Fault>
-    ensures length { let payloads = payloads_of (specifications_of images.now) in
+    ensures length { let payloads = built_payloads (spec_models images.now) in
         IfOk result (λ length. length ≡ length_after_blob_of form payloads) }
     ensures within { IfOk result (λ length. length ≤ limit) }
-    ensures refused { let payloads = payloads_of (specifications_of images.now) in
+    ensures fault { let payloads = built_payloads (spec_models images.now) in
         IfErr result (λ fault. (fault ≡ too_large limit)
         × (limit < length_after_blob_of form payloads)) }
 {
@@ -34,10 +34,10 @@ pub(super) fn length_after_blob(
 /// Returns where the payloads of images end, counted from the end of the blob. TooLarge at the
 /// limit, exactly if that is after it.
 fn payloads_end(images: &[ImageSpec<'_>], limit: u32) -> Result<u32, Fault>
-    ensures end { let payloads = payloads_of (specifications_of images.now) in
+    ensures end { let payloads = built_payloads (spec_models images.now) in
         IfOk result (λ end. end ≡ payloads_end_of 0 payloads) }
     ensures within { IfOk result (λ end. end ≤ limit) }
-    ensures refused { let payloads = payloads_of (specifications_of images.now) in
+    ensures fault { let payloads = built_payloads (spec_models images.now) in
         IfErr result (λ fault. (fault ≡ too_large limit)
         × (limit < payloads_end_of 0 payloads)) }
 {

@@ -9,15 +9,15 @@ ghost use Rattle.bi_blob.specs.Tree.{Property};
 ghost use Rattle.bi_hash.specs.declared.algo.Algo.TheVariants.{Sha256};
 ghost use Rattle.bi_hash.specs.Digests.{digest_of};
 ghost use Rattle.bi_lay.specs.Values.{value_bytes};
-ghost use Rattle.bi_fit.specs.Building.{ImageSpecification, list_property};
+ghost use Rattle.bi_fit.specs.Building.{ImageSpecModel, list_property};
 ghost use Rattle.bi_fit.specs.Building.{root_properties as root_properties_of};
-ghost use Rattle.bi_fit.specs.Building.{image_properties as image_properties_of};
+ghost use Rattle.bi_fit.specs.Building.{built_image_properties as image_properties_of};
 ghost use Rattle.bi_fit.specs.Building.{hash_properties as hash_properties_of};
 ghost use Rattle.bi_fit.specs.Building.{configuration_properties as configuration_properties_of};
 ghost use Rattle.bi_fit.specs.Building.{configuration_name, text_value};
 ghost use Rattle.bi_fit.specs.Names.{default_name};
-ghost use Rattle.bi_norm.specs.Building.{head_of, specification_of, HasBuildableType};
-ghost use Rattle.bi_norm.specs.BuiltNodes.{AreKeyLists, with_cell};
+ghost use Rattle.bi_norm.specs.BuildCalls.{head_model, spec_model, HasBuildableType};
+ghost use Rattle.bi_norm.specs.BuiltNodes.{AreKeyLists, with_cell_property};
 
 use crate::building::lists::KeyLists;
 use crate::building::{Head, ImageSpec};
@@ -34,7 +34,7 @@ pub(super) const CONFIGURATION_NAME: &[u8] = b"conf-1";
 /// Returns the properties of the root.
 pub(super) fn root_properties<'a>(alloc: Global, head: Head<'a>) -> Result<PropertyMap<'a>, Error>
     ensures all { IfOk result (λ properties. properties
-        ≡ from_entries (root_properties_of (head_of head.entry))) }
+        ≡ from_entries (root_properties_of (head_model head.entry))) }
     ensures failed { IfErr result (λ error. error ≡ OutOfMemory) }
 {
     let mut properties = PropertyMap::new(alloc);
@@ -52,7 +52,7 @@ pub(super) fn image_properties<'a>(
 ) -> Result<PropertyMap<'a>, Error>
     requires { HasBuildableType image.now }
     ensures all { IfOk result (λ properties. properties
-        ≡ from_entries (image_properties_of (head_of head.entry) (specification_of image.now))) }
+        ≡ from_entries (image_properties_of (head_model head.entry) (spec_model image.now))) }
     ensures failed { IfErr result (λ error. error ≡ OutOfMemory) }
 {
     let mut properties = PropertyMap::new(alloc);
@@ -98,9 +98,9 @@ pub(super) fn configuration_properties<'a>(
     head: Head<'a>,
     lists: &'a KeyLists,
 ) -> Result<PropertyMap<'a>, Error>
-    ensures all { (images : List ImageSpecification) → AreKeyLists images lists.entry.now →
+    ensures all { (images : List ImageSpecModel) → AreKeyLists images lists.entry.now →
         IfOk result (λ properties. properties
-        ≡ from_entries (configuration_properties_of (head_of head.entry) images)) }
+        ≡ from_entries (configuration_properties_of (head_model head.entry) images)) }
     ensures failed { IfErr result (λ error. error ≡ OutOfMemory) }
 {
     let mut properties = PropertyMap::new(alloc);
@@ -121,7 +121,7 @@ fn insert_cell<'a>(
     number: Option<u32>,
 ) -> Result<(), Error>
     ensures inserted { OnOk result
-        (properties.new ≡ with_cell name.entry.now number properties.old) }
+        (properties.new ≡ with_cell_property name.entry.now number properties.old) }
     ensures failed { IfErr result (λ error. error ≡ OutOfMemory) }
 {
     match number {

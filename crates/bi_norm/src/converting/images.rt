@@ -5,8 +5,8 @@ ghost use Rattle.std.specs.List.{AllByRecursion};
 ghost use Rattle.bi_legacy.specs.Codes.{name_of_code, os_names, arch_names, type_names};
 ghost use Rattle.bi_legacy.specs.Codes.{compression_names};
 ghost use Rattle.bi_legacy.specs.Meaning.{image_of};
-ghost use Rattle.bi_norm.specs.Building.{first_key, multi, specification_of, specifications_of};
-ghost use Rattle.bi_norm.specs.Building.{HasBuildableType};
+ghost use Rattle.bi_norm.specs.BuildCalls.{first_key, multi, spec_model, spec_models};
+ghost use Rattle.bi_norm.specs.BuildCalls.{HasBuildableType};
 ghost use Rattle.bi_norm.specs.Converting.{keys_of_type as keys_for, image_name as name_for};
 ghost use Rattle.bi_norm.specs.Converting.{has_addresses as keeps_addresses, CanBeConverted};
 ghost use Rattle.bi_norm.specs.Converting.{first_image as first_specification};
@@ -25,9 +25,9 @@ const NO_COMPRESSION: u8 = 0;
 pub(super) fn images_of<'a>(alloc: Global, image: &Legacy<'a>) -> Result<Vec<ImageSpec<'a>>, Error>
     requires { CanBeConverted image.now.image }
     ensures images { IfOk result (λ images.
-        specifications_of images.items ≡ converted_images image.now.image) }
+        spec_models images.items ≡ converted_images image.now.image) }
     ensures types { IfOk result (λ images. AllByRecursion HasBuildableType images.items) }
-    ensures error { IfErr result (λ error. error ≡ Error.OutOfMemory) }
+    ensures failed { IfErr result (λ error. error ≡ Error.OutOfMemory) }
 {
     let fields = image.fields();
     let keys = keys_of_type(fields.image_type);
@@ -50,7 +50,7 @@ fn first_image<'a>(fields: Fields<'a>, key: Key, part: &'a [u8]) -> ImageSpec<'a
     requires os { IsSome (name_of_code os_names fields.os) }
     requires compression { IsSome (name_of_code compression_names fields.compression) }
     ensures image { let image = image_of fields.entry [] in
-        specification_of result ≡ first_specification image key part.entry.now }
+        spec_model result ≡ first_specification image key part.entry.now }
     ensures buildable { HasBuildableType result }
     ensures payload { result.payload.now ≡ part.entry.now }
 {
@@ -72,7 +72,7 @@ fn later_image<'a>(fields: Fields<'a>, key: Key, part: &'a [u8]) -> ImageSpec<'a
     requires arch { IsSome (name_of_code arch_names fields.arch) }
     requires os { IsSome (name_of_code os_names fields.os) }
     ensures image { let image = image_of fields.entry [] in
-        specification_of result ≡ later_specification image key part.entry.now }
+        spec_model result ≡ later_specification image key part.entry.now }
     ensures buildable { HasBuildableType result }
     ensures payload { result.payload.now ≡ part.entry.now }
 {

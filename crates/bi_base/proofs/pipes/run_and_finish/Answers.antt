@@ -1,6 +1,6 @@
 use Rattle.std.proofs.Common.{Err}
 use Rattle.std.proofs.lemmas.Result.{err_from_is_err_and}
-use Rattle.bi_base.specs.BufferedSinks.{buffered}
+use Rattle.bi_base.specs.BufferedSinks.{state_of}
 use Rattle.bi_base.specs.Commands.{SinkFailed}
 use Rattle.bi_base.proofs.PipeLaws.{failed_writing, finished_writing}
 use Rattle.bi_base.proofs.pipes.run_and_finish.Goals as goal
@@ -24,7 +24,7 @@ returns-in_err-finish-clause-failed g c =
     let appended = c.in_ok-value.ensures.appended in
     let cause = c.in_err-finish.field-0.0 in
     let stopped = finished_writing trace (promise.is_output value input) c.args.sink.now c.run.new.sink
-    (buffered trace c.finish.new.self).trace (Err cause) c.requires.none_held appended c.in_err-finish.ensures.finished in
+    (state_of trace c.finish.new.self).trace (Err cause) c.requires.none_held appended c.in_err-finish.ensures.finished in
     let p = err_from_is_err_and c.from_residual-in_err-finish.result c.from_residual-in_err-finish.ensures.1 in
     rw (p.1)
     (SinkFailed appended.text cause

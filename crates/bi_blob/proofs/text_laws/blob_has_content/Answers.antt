@@ -1,4 +1,4 @@
-use Rattle.bi_blob.proofs.Texts.Content.{blob_has_content}
+use Rattle.bi_blob.proofs.Texts.TextContent.{blob_has_content}
 use Rattle.bi_blob.proofs.text_laws.blob_has_content.Goals as goal
 
 pub returns : goal.returns

@@ -1,4 +1,4 @@
-use Rattle.bi_blob.proofs.Texts.Content.{text_has_one_content}
+use Rattle.bi_blob.proofs.Texts.TextContent.{text_has_one_content}
 use Rattle.bi_blob.proofs.Texts.Rests.{text_with_rest_has_one_content}
 use Rattle.bi_blob.proofs.text_laws.text_has_one_content.Goals as goal
 

@@ -1,12 +1,12 @@
 use Rattle.std.proofs.Common.{refl, ◌∙◌}
 use Rattle.bi_c.specs.declared.failure.Failure.TheVariants.{WrongArgument}
 use Rattle.bi_c.specs.Answers.{FilledNothing}
-use Rattle.bi_c.proofs.Answering.{filled}
+use Rattle.bi_c.proofs.Answering.{buffer_is_filled}
 use Rattle.bi_c.proofs.causes.bootimg_cause_name.Goals as goal
 
 pub returns-in-Some : goal.returns-in-Some
 returns-in-Some c =
-    filled _ _ c.as_bytes.result.now _ _ 0 _ _ (record {
+    buffer_is_filled _ _ c.as_bytes.result.now _ _ 0 _ _ (record {
       cause = c.in-Some.cause;
       is_cause = c.in-Some.ensures;
       is_name = c.as_bytes.ensures.value ∙ c.name.ensures;

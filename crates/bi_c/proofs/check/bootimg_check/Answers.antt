@@ -1,13 +1,13 @@
 use Rattle.std.proofs.Common.{◌≡◌, List, ℕ, refl, subst, sym, string_bytes}
 use Rattle.std.specs.String.{string_len}
-use Rattle.bi_base.specs.Limits.{Bounds}
+use Rattle.bi_base.specs.Limits.{Limits}
 use Rattle.bi_commands.specs.declared.check.Allowed.{Allowed}
 use Rattle.bi_commands.specs.CheckedFiles.{IsChecked, IsCheckError}
 use Rattle.bi_c.specs.declared.failure.Failure.TheVariants.{WrongArgument}
 use Rattle.bi_c.specs.Answers.{FilledNothing}
 use Rattle.bi_c.specs.Arguments.{bounds, allowed_of}
 use Rattle.bi_c.specs.Calls.{HasKinds}
-use Rattle.bi_c.proofs.Answering.{not_so, is_so, byte_is_flag, empty_is_clean, filled, failed_by}
+use Rattle.bi_c.proofs.Answering.{not_so, is_so, byte_is_flag, clean_by_length, buffer_is_filled, failed_by}
 use Rattle.bi_c.proofs.check.bootimg_check.Goals as goal
 
 pub returns-in_default : goal.returns-in_default
@@ -25,9 +25,9 @@ returns-in-Ok c =
     let checked : IsChecked (allowed_of c.args.kinds) limits file c.as_bytes.result.now =
     subst (λ (l : List ℕ). IsChecked (allowed_of c.args.kinds) limits file l) (sym c.as_bytes.ensures.value)
     (subst (λ (a : Allowed). IsChecked a limits file (string_bytes c.in-Ok.text)) c.in-Some-allowed_of.ensures.value
-    (subst (λ (l : Bounds). IsChecked c.in-Some-allowed_of.allowed l file (string_bytes c.in-Ok.text)) c.in-Some.ensures.value c.in-Ok.ensures.checked)) in
-    let is_empty = empty_is_clean c.as_bytes.result.now (string_len c.in-Ok.text) c.is_empty.result c.as_bytes.ensures.len c.is_empty.ensures in
-    filled _ _ c.as_bytes.result.now _ _ c.from.result _ _
+    (subst (λ (l : Limits). IsChecked c.in-Some-allowed_of.allowed l file (string_bytes c.in-Ok.text)) c.in-Some.ensures.value c.in-Ok.ensures.checked)) in
+    let is_empty = clean_by_length c.as_bytes.result.now (string_len c.in-Ok.text) c.is_empty.result c.as_bytes.ensures.len c.is_empty.ensures in
+    buffer_is_filled _ _ c.as_bytes.result.now _ _ c.from.result _ _
     (record {
       arguments = record { limits = is_so _ c.in-Some.ensures.in_range; are_kinds = is_so _ c.in-Some-allowed_of.ensures.in_range };
       clean = c.is_empty.result;
@@ -41,5 +41,5 @@ returns-in-Err c =
     let valid : HasKinds c.args.limit c.args.depth c.args.kinds = record { limits = is_so _ c.in-Some.ensures.in_range; are_kinds = is_so _ c.in-Some-allowed_of.ensures.in_range } in
     FilledNothing c.failure_of.result
     (failed_by (HasKinds c.args.limit c.args.depth c.args.kinds) (IsCheckError (bounds c.args.limit c.args.depth) file) c.in-Err.error c.failure_of.result valid c.failure_of.ensures (λ is. is) (λ is. is)
-    (subst (λ (l : Bounds). IsCheckError l file c.in-Err.error) c.in-Some.ensures.value c.in-Err.ensures.failed))
+    (subst (λ (l : Limits). IsCheckError l file c.in-Err.error) c.in-Some.ensures.value c.in-Err.ensures.failed))
     refl c.fail-in-Err.ensures.answer c.fail-in-Err.ensures.status

@@ -1,5 +1,5 @@
 use Rattle.std.proofs.Common.{◌≡◌, ℕ, refl, subst}
-use Rattle.bi_base.specs.Limits.{Bounds, IsInRange}
+use Rattle.bi_base.specs.Limits.{Limits, IsInRange}
 use Rattle.bi_norm.specs.Comparing.{AreCompared}
 use Rattle.bi_commands.specs.Comparing.{IsReadingError}
 use Rattle.bi_c.specs.declared.failure.Failure.TheVariants.{WrongArgument}
@@ -17,7 +17,7 @@ returns-in-Ok c =
       nothing = refl;
       same = c.in-Ok.same;
       number = subst (λ (n : ℕ). c.from.result ≡ n) (byte_is_flag c.in-Ok.same) c.from.ensures;
-      compared = subst (λ (l : Bounds). AreCompared l c.args.one.now c.args.other.now c.in-Ok.same) c.in-Some.ensures.value c.in-Ok.ensures.compared;
+      compared = subst (λ (l : Limits). AreCompared l c.args.one.now c.args.other.now c.in-Ok.same) c.in-Some.ensures.value c.in-Ok.ensures.compared;
     }) c.succeed.ensures.answer c.succeed.ensures.status
 
 pub returns-in-Err : goal.returns-in-Err

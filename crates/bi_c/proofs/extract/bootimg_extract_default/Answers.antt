@@ -5,7 +5,7 @@ use Rattle.bi_c.specs.declared.failure.Failure.TheVariants.{WrongArgument}
 use Rattle.bi_c.specs.Answers.{Failed}
 use Rattle.bi_c.specs.Arguments.{bounds, key_of, HasKey}
 use Rattle.bi_c.proofs.Answering.{not_so, is_so}
-use Rattle.bi_c.proofs.Extracting.{extracted}
+use Rattle.bi_c.proofs.Extracting.{extract_answers}
 use Rattle.bi_c.proofs.extract.bootimg_extract_default.Goals as goal
 
 pub returns-in_default : goal.returns-in_default
@@ -18,7 +18,7 @@ returns-in_default-key_of c =
 
 pub returns : goal.returns
 returns c =
-    extracted (HasKey c.args.limit c.args.depth c.args.key) c.in-Some.limits (bounds c.args.limit c.args.depth)
+    extract_answers (HasKey c.args.limit c.args.depth c.args.key) c.in-Some.limits (bounds c.args.limit c.args.depth)
     (Default (c.in-Some-key_of.chosen) c.args.index) (Default (key_of c.args.key) c.args.index) c.args.file.now _ _
     (record { limits = is_so _ c.in-Some.ensures.in_range; is_key = is_so _ c.in-Some-key_of.ensures.in_range })
     c.in-Some.ensures.value (ap (λ (key : Key). Default (key) c.args.index) c.in-Some-key_of.ensures.value) c.extract.ensures

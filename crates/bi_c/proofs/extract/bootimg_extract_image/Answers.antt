@@ -5,7 +5,7 @@ use Rattle.bi_c.specs.declared.failure.Failure.TheVariants.{WrongArgument}
 use Rattle.bi_c.specs.Answers.{Failed}
 use Rattle.bi_c.specs.Arguments.{bounds}
 use Rattle.bi_c.proofs.Answering.{not_so, is_so}
-use Rattle.bi_c.proofs.Extracting.{extracted}
+use Rattle.bi_c.proofs.Extracting.{extract_answers}
 use Rattle.bi_c.proofs.extract.bootimg_extract_image.Goals as goal
 
 pub returns-in_default : goal.returns-in_default
@@ -13,5 +13,5 @@ returns-in_default c = Failed WrongArgument (not_so _ c.in_default.ensures.in_ra
 
 pub returns : goal.returns
 returns c =
-    extracted (IsInRange c.args.limit c.args.depth) c.in-Some.limits (bounds c.args.limit c.args.depth) (Image c.args.name) (Image c.args.name) c.args.file.now _ _
+    extract_answers (IsInRange c.args.limit c.args.depth) c.in-Some.limits (bounds c.args.limit c.args.depth) (Image c.args.name) (Image c.args.name) c.args.file.now _ _
     (is_so _ c.in-Some.ensures.in_range) c.in-Some.ensures.value refl c.extract.ensures

@@ -24,4 +24,4 @@ returns-in-Ok-Fit c =
 
 pub returns-in-Err : goal.returns-in-Err
 returns-in-Err c =
-    Failed (Refused 1 c.in-Err.fault) (refl, c.in-Err.ensures.refused) c.fail.ensures.answer c.fail.ensures.status
+    Failed (Refused 1 c.in-Err.fault) (refl, c.in-Err.ensures.fault) c.fail.ensures.answer c.fail.ensures.status

@@ -1,6 +1,6 @@
 use Rattle.std.proofs.Common.{ap, sym, ◌∙◌}
 use Rattle.bi_commands.proofs.Choices.{choice_at, chosen_by_name}
-use Rattle.bi_c.proofs.Places.{name_found, name_without_payload}
+use Rattle.bi_c.proofs.Places.{named_payload_found, name_without_payload}
 use Rattle.bi_c.proofs.regions.find_by_name.Goals as goal
 
 pub returns-in_default-clause-failed : goal.returns-in_default-clause-failed
@@ -9,7 +9,7 @@ returns-in_default-clause-failed c =
 
 pub returns-clause-found : goal.returns-clause-found
 returns-clause-found c =
-    rw (c.ok_or.ensures.value) (name_found c.args.fit.now c.args.name.now c.in-Some.index c.payload_at.result c.requires.held c.in-Some.ensures c.payload_at.ensures)
+    rw (c.ok_or.ensures.value) (named_payload_found c.args.fit.now c.args.name.now c.in-Some.index c.payload_at.result c.requires.held c.in-Some.ensures c.payload_at.ensures)
 
 pub returns-clause-failed : goal.returns-clause-failed
 returns-clause-failed c =

@@ -1,10 +1,10 @@
 use Rattle.std.proofs.Common.{refl, sym, ap}
 use Rattle.bi_commands.specs.Extracting.{choice_of_part}
-use Rattle.bi_c.proofs.Places.{part_in_file, no_part}
+use Rattle.bi_c.proofs.Places.{part_in_file, no_part_at}
 use Rattle.bi_c.proofs.regions.part_at.Goals as goal
 
 pub returns-in_err-place-clause-none : goal.returns-in_err-place-clause-none
-returns-in_err-place-clause-none c = rw c.from_residual-in_err-place.ensures (no_part c.args.image.now.image c.args.index (sym c.in_err-place.ensures))
+returns-in_err-place-clause-none c = rw c.from_residual-in_err-place.ensures (no_part_at c.args.image.now.image c.args.index (sym c.in_err-place.ensures))
 
 pub returns-clause-found : goal.returns-clause-found
 returns-clause-found c limits file parsed =

@@ -3,7 +3,7 @@ use Rattle.bi_base.specs.Limits.{IsInRange}
 use Rattle.bi_norm.specs.Converting.{IsConvertedFile, IsConvertError}
 use Rattle.bi_c.specs.declared.failure.Failure.TheVariants.{WrongArgument}
 use Rattle.bi_c.specs.Answers.{FilledNothing}
-use Rattle.bi_c.proofs.Answering.{not_so, is_so, filled, failed_of_one, text_of_call}
+use Rattle.bi_c.proofs.Answering.{not_so, is_so, buffer_is_filled, failed_of_one, text_of_call}
 use Rattle.bi_c.proofs.texts.bootimg_convert.Goals as goal
 
 pub returns-in_default : goal.returns-in_default
@@ -12,7 +12,7 @@ returns-in_default c = FilledNothing WrongArgument (not_so _ c.in_default.ensure
 pub returns-in-Ok : goal.returns-in-Ok
 returns-in-Ok c =
     let in_range : IsInRange c.args.limit c.args.depth = is_so _ c.in-Some.ensures.in_range in
-    filled _ _ c.deref.result.now _ _ 0 _ _
+    buffer_is_filled _ _ c.deref.result.now _ _ 0 _ _
     (text_of_call c.args.limit c.args.depth (λ limits text. IsConvertedFile limits c.args.file.now text) c.in-Some.limits c.in-Ok.text.items c.deref.result.now in_range c.in-Some.ensures.value c.deref.ensures.value c.in-Ok.ensures.converted)
     c.fill.ensures.answer c.fill.ensures.filled
 

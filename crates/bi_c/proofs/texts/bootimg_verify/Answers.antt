@@ -4,7 +4,7 @@ use Rattle.bi_norm.specs.NormalForm.{IsOpenError}
 use Rattle.bi_commands.specs.Reports.{Verified}
 use Rattle.bi_c.specs.declared.failure.Failure.TheVariants.{WrongArgument}
 use Rattle.bi_c.specs.Answers.{FilledNothing}
-use Rattle.bi_c.proofs.Answering.{not_so, is_so, filled, failed_of_one, text_with_flag_of_call}
+use Rattle.bi_c.proofs.Answering.{not_so, is_so, buffer_is_filled, failed_of_one, text_with_flag_of_call}
 use Rattle.bi_c.proofs.texts.bootimg_verify.Goals as goal
 
 pub returns-in_default : goal.returns-in_default
@@ -13,7 +13,7 @@ returns-in_default c = FilledNothing WrongArgument (not_so _ c.in_default.ensure
 pub returns-in-Ok : goal.returns-in-Ok
 returns-in-Ok c =
     let in_range : IsInRange c.args.limit c.args.depth = is_so _ c.in-Some.ensures.in_range in
-    filled _ _ c.as_bytes.result.now _ _ c.from.result _ _
+    buffer_is_filled _ _ c.as_bytes.result.now _ _ c.from.result _ _
     (text_with_flag_of_call c.args.limit c.args.depth (λ limits good text. Verified limits good c.args.file.now text) c.in-Some.limits c.in-Ok.report.all_good (string_bytes c.in-Ok.report.text) c.as_bytes.result.now c.from.result in_range c.in-Some.ensures.value c.as_bytes.ensures.value c.from.ensures c.in-Ok.ensures.verified)
     c.fill.ensures.answer c.fill.ensures.filled
 

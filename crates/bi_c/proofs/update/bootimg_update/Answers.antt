@@ -1,5 +1,5 @@
 use Rattle.std.proofs.Common.{◌≡◌, ◌++◌, List, ℕ, refl, subst, sym, ap, ◌∙◌}
-use Rattle.bi_base.specs.Limits.{Bounds}
+use Rattle.bi_base.specs.Limits.{Limits}
 use Rattle.bi_fit.specs.declared.changes.Changes.{Changes}
 use Rattle.bi_fit.specs.declared.form.Form.{Form}
 use Rattle.bi_norm.proofs.Appending.{error_in_memory}
@@ -8,7 +8,7 @@ use Rattle.bi_commands.proofs.UpdatedFiles.{updated_needs_memory}
 use Rattle.bi_c.specs.declared.failure.Failure.TheVariants.{WrongArgument}
 use Rattle.bi_c.specs.Answers.{FilledNothing}
 use Rattle.bi_c.specs.Arguments.{bounds, form_of, changes_of, HasChanges}
-use Rattle.bi_c.proofs.Answering.{not_so, is_so, filled, failed_by}
+use Rattle.bi_c.proofs.Answering.{not_so, is_so, buffer_is_filled, failed_by}
 use Rattle.bi_c.proofs.update.bootimg_update.Goals as goal
 
 pub returns-in_default : goal.returns-in_default
@@ -36,8 +36,8 @@ returns-in-Ok c =
     subst (λ (text : List ℕ). Updated (changes_of c.args.changes c.args.time) limits form count file text) (sym same)
     (subst (λ (changes : Changes). Updated changes limits form count file appended.text) c.in-Some-changes_of.ensures.value
     (subst (λ (f : Form). Updated c.in-Some-changes_of.wanted limits f count file appended.text) c.in-Some-form_of.ensures.value
-    (subst (λ (l : Bounds). Updated c.in-Some-changes_of.wanted l c.in-Some-form_of.kind count file appended.text) c.in-Some.ensures.value appended.is_text))) in
-    filled _ _ c.deref.result.now _ _ count _ _
+    (subst (λ (l : Limits). Updated c.in-Some-changes_of.wanted l c.in-Some-form_of.kind count file appended.text) c.in-Some.ensures.value appended.is_text))) in
+    buffer_is_filled _ _ c.deref.result.now _ _ count _ _
     (record {
       arguments = record {
         limits = is_so _ c.in-Some.ensures.in_range;
@@ -67,5 +67,5 @@ returns-in-Err c =
     error c.failure_of.result valid c.failure_of.ensures (λ is. is) (λ is. is)
     (subst (λ (other : Changes). IsUpdateError other (bounds c.args.limit c.args.depth) (form_of c.args.form) file error) c.in-Some-changes_of.ensures.value
     (subst (λ (f : Form). IsUpdateError changes (bounds c.args.limit c.args.depth) f file error) c.in-Some-form_of.ensures.value
-    (subst (λ (l : Bounds). IsUpdateError changes l form file error) c.in-Some.ensures.value is_error))))
+    (subst (λ (l : Limits). IsUpdateError changes l form file error) c.in-Some.ensures.value is_error))))
     refl c.fail-in-Err.ensures.answer c.fail-in-Err.ensures.status

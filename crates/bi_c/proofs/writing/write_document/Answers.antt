@@ -1,5 +1,5 @@
 use Rattle.std.proofs.Common.{◌≤◌, length, ℕ, refl, ap, sym, subst, ◌∙◌, arith, List}
-use Rattle.bi_fit.specs.Additions.{payloads_of}
+use Rattle.bi_fit.specs.NormalNodes.{payloads_of}
 use Rattle.bi_norm.specs.Texts.{whole_text}
 use Rattle.bi_c.specs.Answers.{HadNoRoom, answer_of}
 use Rattle.bi_c.proofs.SliceWriting.{counted, grew, filled_with}

@@ -2,7 +2,7 @@ use Rattle.std.proofs.Common.{◌≡◌, List, subst, ◌∙◌}
 use Rattle.std.proofs.lemmas.Result.{err_from_is_err_and}
 use Rattle.bi_base.specs.Pipes.{IsPiped}
 use Rattle.bi_base.specs.declared.fault.Error.TheVariants.{OutOfMemory}
-use Rattle.bi_commands.specs.Building.{build_fit_promise, IsFitOutput, IsFitOutputError}
+use Rattle.bi_commands.specs.BuildCommands.{build_fit_promise, IsFitOutput, IsFitOutputError}
 use Rattle.bi_commands.specs.Parts.{parts_of_lengths}
 use Rattle.bi_commands.specs.declared.parts.Part.{Part}
 use Rattle.bi_commands.proofs.NotBegun.{not_begun}

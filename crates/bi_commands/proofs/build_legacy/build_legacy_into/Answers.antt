@@ -4,8 +4,8 @@ use Rattle.std.specs.List.{AllByRecursion}
 use Rattle.bi_base.specs.Cells.{AreBytes}
 use Rattle.bi_legacy.specs.Emitting.{bytes_of}
 use Rattle.bi_base.specs.Commands.{WasRefused}
-use Rattle.bi_commands.specs.Building.{ArePartsOf}
-use Rattle.bi_commands.proofs.LegacyOutputs.{Building, emitted, not_emitted, parts_error}
+use Rattle.bi_commands.specs.BuildCommands.{ArePartsOf}
+use Rattle.bi_commands.proofs.LegacyOutputs.{Building, legacy_output_emitted, not_emitted, parts_error}
 use Rattle.bi_commands.proofs.build_legacy.build_legacy_into.Goals as goal
 
 pub returns-in_err-contents-clause-failed : goal.returns-in_err-contents-clause-failed
@@ -40,4 +40,4 @@ returns-clause-appended g c =
       short = c.requires;
       small = omega arith;
     } in
-    emitted g.S.Sink.appends g.S.Sink.fails c.args.limits c.args.fields c.args.parts.now c.args.input.now contents c.args.sink.now c.emit.new.sink building c.in_ok-emit.ensures
+    legacy_output_emitted g.S.Sink.appends g.S.Sink.fails c.args.limits c.args.fields c.args.parts.now c.args.input.now contents c.args.sink.now c.emit.new.sink building c.in_ok-emit.ensures

@@ -5,11 +5,11 @@ use Rattle.bi_norm.specs.Cutting.{IsCutFault}
 use Rattle.bi_commands.specs.Parts.{input_length_of, lengths_of}
 use Rattle.bi_commands.specs.declared.parts.Part.{Part}
 use Rattle.bi_commands.specs.declared.parts.Part.TheVariants.{Bytes}
-use Rattle.bi_commands.proofs.FilledParts.{sum_by_all, too_long, too_short}
+use Rattle.bi_commands.proofs.FilledParts.{sum_by_all, part_too_long, too_short}
 use Rattle.bi_commands.proofs.parts.check_lengths.Goals as goal
 
-pub returns-then-end-input-clause-refused : goal.returns-then-end-input-clause-refused
-returns-then-end-input-clause-refused c =
+pub returns-then-end-input-clause-fault : goal.returns-then-end-input-clause-fault
+returns-then-end-input-clause-fault c =
     let input = c.args.input.now in
     let parts = c.args.parts.now in
     let i = c.loop-part.part-index in
@@ -19,10 +19,10 @@ returns-then-end-input-clause-refused c =
     omega (arith, loop.is_sum, c.input_length.ensures, c.if-end-input.true) in
     rw c.refuse.ensures
     (subst (λ n. IsCutFault input (lengths_of parts) (record { cause = BadPart; offset = n })) (sym loop.is_sum)
-    (too_long input parts i d c.loop-part-test.true (omega (arith, loop.within, loop.is_sum)) longer))
+    (part_too_long input parts i d c.loop-part-test.true (omega (arith, loop.within, loop.is_sum)) longer))
 
-pub returns-then-start-input-clause-refused : goal.returns-then-start-input-clause-refused
-returns-then-start-input-clause-refused c =
+pub returns-then-start-input-clause-fault : goal.returns-then-start-input-clause-fault
+returns-then-start-input-clause-fault c =
     let input = c.args.input.now in
     let parts = c.args.parts.now in
     let loop = c.loop-part.invariant in

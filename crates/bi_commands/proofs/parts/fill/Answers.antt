@@ -15,13 +15,13 @@ pub returns-in_err-contents-clause-failed : goal.returns-in_err-contents-clause-
 returns-in_err-contents-clause-failed c =
     let parts = c.args.parts.now in
     let p = err_from_is_err_and c.from_residual-in_err-contents.result c.from_residual-in_err-contents.ensures.1 in
-    rw (p.1, p.2) (sum_of_lengths parts ∙ sym (sum-map input_length_of parts) ∙ c.in_ok-check_lengths.ensures.whole)
+    rw (p.1, p.2) (sum_of_lengths parts ∙ sym (sum-map input_length_of parts) ∙ c.in_ok-check_lengths.ensures.ok)
 
 pub returns-in_err-push-clause-failed : goal.returns-in_err-push-clause-failed
 returns-in_err-push-clause-failed c =
     let parts = c.args.parts.now in
     let p = err_from_is_err_and c.from_residual-in_err-push.result c.from_residual-in_err-push.ensures.1 in
-    rw (p.1, p.2) (sum_of_lengths parts ∙ sym (sum-map input_length_of parts) ∙ c.in_ok-check_lengths.ensures.whole)
+    rw (p.1, p.2) (sum_of_lengths parts ∙ sym (sum-map input_length_of parts) ∙ c.in_ok-check_lengths.ensures.ok)
 
 pub loop-part-preserved : goal.loop-part-preserved
 loop-part-preserved c =
@@ -35,7 +35,7 @@ loop-part-preserved c =
     let start = c.loop-part.start in
     let end = start + c.input_length.result in
     let taken : c.input_length.result ≡ input_length_of part = c.input_length.ensures in
-    let all : sum_by input_length_of parts ≡ length input = sym (sum-map input_length_of parts) ∙ c.in_ok-check_lengths.ensures.whole in
+    let all : sum_by input_length_of parts ≡ length input = sym (sum-map input_length_of parts) ∙ c.in_ok-check_lengths.ensures.ok in
     let fits : end ≤ length input = omega (arith, all, taken, loop.is_sum, sum_by_more_le input_length_of parts i d within) in
     let piece = slice_range input start end in
     let size : length piece + start ≡ end = search rules in

@@ -2,7 +2,7 @@ use Rattle.std.proofs.Common.{◌≡◌, ◌∙◌, ℕ, ap, subst, sym, Global,
 use Rattle.std.specs.List.{flat_map}
 use Rattle.bi_base.proofs.EqualBytes.{other_bytes, same_bytes}
 use Rattle.bi_base.specs.Cells.{AreBytes}
-use Rattle.bi_commands.specs.Shown.{shown, shown_byte}
+use Rattle.bi_commands.specs.Shown.{shown_text, shown_byte}
 use Rattle.bi_commands.specs.Unshown.{IsNameShownAs}
 use Rattle.bi_commands.proofs.Readable.ShownNames.{some_shown}
 use Rattle.bi_commands.proofs.UnshownNames.{bytes_are_name, dash_is_bytes, empty_list, only_name, some_holds, some_list}
@@ -25,7 +25,7 @@ returns-then-eq-2-clause-some c =
     let is_escape = same_bytes text c.as_slice-2.result.now (sym c.eq-2.ensures ∙ c.if-eq-2.true) ∙ c.as_slice-2.ensures in
     subst (IsNameShownAs text) (sym c.in_ok-from_slice.ensures.items)
     (only_name text c.as_slice-then-eq-2.result.now (subst AreBytes (sym c.as_slice-then-eq-2.ensures) dash_is_bytes)
-    (ap shown c.as_slice-then-eq-2.ensures ∙ sym is_escape))
+    (ap shown_text c.as_slice-then-eq-2.ensures ∙ sym is_escape))
 
 pub returns-clause-some : goal.returns-clause-some
 returns-clause-some c =

@@ -2,7 +2,7 @@ use Rattle.std.proofs.Common.{◌≡◌, ◌++◌, List, map, string_bytes, subs
 use Rattle.std.specs.List.{flat_map, list_all}
 use Rattle.std.proofs.lemmas.Result.{err_from_is_err_and}
 use Rattle.bi_fit.specs.declared.hashes.Checked.{Checked}
-use Rattle.bi_fit.specs.Judging.{checked_hash_of}
+use Rattle.bi_fit.specs.JudgementCalls.{checked_hash_of}
 use Rattle.bi_hash.specs.declared.verdicts.Verdict.TheVariants.{Good}
 use Rattle.bi_commands.specs.Reports.{hash_line, summary_line, is_verdict}
 use Rattle.bi_commands.proofs.Reported.{tree_verified}
@@ -18,7 +18,7 @@ returns-clause-verified c limits file is =
 pub returns-in_err-hashes-clause-failed : goal.returns-in_err-hashes-clause-failed
 returns-in_err-hashes-clause-failed c limits file is =
     let p = err_from_is_err_and c.from_residual.result c.from_residual.ensures.1 in
-    rw (p.1, p.2, c.in_err-hashes.ensures.error) (tree_needs_memory limits file c.args.fit.now is)
+    rw (p.1, p.2, c.in_err-hashes.ensures.failed) (tree_needs_memory limits file c.args.fit.now is)
 
 pub returns-in_err-text-clause-failed : goal.returns-in_err-text-clause-failed
 returns-in_err-text-clause-failed c limits file is =

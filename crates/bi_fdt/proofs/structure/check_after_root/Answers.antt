@@ -9,7 +9,7 @@ pub returns-in_err-number-clause-fault : goal.returns-in_err-number-clause-fault
 returns-in_err-number-clause-fault c =
     fault_passed_on _ c.in_err-number.field-0.0 _ c.from_residual.ensures.1
     (λ depth_limit root position. no_number (blocks_of c.args.blocks) depth_limit c.loop-number.place (WholeTree root) (c.loop-number.invariant.position depth_limit root position) _
-    c.in_err-number.ensures.truncated.0 c.in_err-number.ensures.truncated.1)
+    c.in_err-number.ensures.fault.0 c.in_err-number.ensures.fault.1)
 
 pub returns-then-number-eq-END-clause-ok : goal.returns-then-number-eq-END-clause-ok
 returns-then-number-eq-END-clause-ok c = λ depth_limit root position.

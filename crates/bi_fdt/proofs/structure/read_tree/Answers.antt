@@ -1,8 +1,8 @@
 use Rattle.bi_base.proofs.Refusals.{refused_by}
 use Rattle.bi_fdt.proofs.structure.read_tree.Goals as goal
 
-pub returns-in_err-check_after_root-clause-fault : goal.returns-in_err-check_after_root-clause-fault
-returns-in_err-check_after_root-clause-fault c =
+pub returns-in_err-check_after_root-clause-failed : goal.returns-in_err-check_after_root-clause-failed
+returns-in_err-check_after_root-clause-failed c =
     let after = c.in_ok-place-2.ensures.ok in
     refused_by _ c.in_err-check_after_root.field-0.0 _ c.from_residual-in_err-check_after_root.ensures.1
     (c.in_err-check_after_root.ensures.fault c.args.depth_limit after.root after.position)

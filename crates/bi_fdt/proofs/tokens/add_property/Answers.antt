@@ -1,7 +1,7 @@
 use Rattle.std.proofs.Common.{◌≡◌, ℕ, ◌+◌, ◌≤◌, length, sym, ap, subst, ◌∙◌, arith}
 use Rattle.bi_base.specs.Cells.{up4, u32_at}
 use Rattle.bi_base.proofs.CellLaws.{length-slice}
-use Rattle.bi_base.proofs.Refusals.{refused_by, passed_on}
+use Rattle.bi_base.proofs.Refusals.{refused_by, refusal_passed_on}
 use Rattle.bi_blob.specs.Tree.{FileProperty}
 use Rattle.bi_blob.specs.BlobFaults.{token_fault, IsNewProperty}
 use Rattle.bi_blob.specs.OpenNodes.{IsOpenAt, OpenTree, open_node_of, outer_nodes_of, with_one_property}
@@ -11,24 +11,24 @@ use Rattle.bi_fdt.specs.Properties.{file_property_of}
 use Rattle.bi_fdt.proofs.TokenSteps.{up4-within, property_fault, duplicate_property, after_property}
 use Rattle.bi_fdt.proofs.tokens.add_property.Goals as goal
 
-pub returns-in_err-property-clause-fault : goal.returns-in_err-property-clause-fault
-returns-in_err-property-clause-fault c =
+pub returns-in_err-property-clause-failed : goal.returns-in_err-property-clause-failed
+returns-in_err-property-clause-failed c =
     let r = c.requires.reading in
     refused_by _ c.in_err-property.field-0.0 _ c.from_residual.ensures.1
     (property_fault (blocks_of c.args.blocks) c.args.depth_limit c.args.reading.place r.innermost r.outer r.position _ c.requires.number
     (c.in_err-property.ensures.fault (open_node_of r.innermost) (outer_nodes_of r.innermost.name r.outer) (c.is_childless.ensures r.innermost r.outer r.growing)))
 
-pub returns-in_err-add_property-clause-fault : goal.returns-in_err-add_property-clause-fault
-returns-in_err-add_property-clause-fault c =
+pub returns-in_err-add_property-clause-failed : goal.returns-in_err-add_property-clause-failed
+returns-in_err-add_property-clause-failed c =
     let r = c.requires.reading in
     let passes = c.in_ok-property.ensures.ok (open_node_of r.innermost) (outer_nodes_of r.innermost.name r.outer) (c.is_childless.ensures r.innermost r.outer r.growing) in
-    passed_on _ c.in_err-add_property.field-0.0 _ _ _ c.from_residual-in_err-add_property.ensures.1 c.in_err-add_property.ensures.fault c.in_err-add_property.ensures.duplicate
+    refusal_passed_on _ c.in_err-add_property.field-0.0 _ _ _ c.from_residual-in_err-add_property.ensures.1 c.in_err-add_property.ensures.fault c.in_err-add_property.ensures.duplicate
     (λ fault is old.
     duplicate_property (blocks_of c.args.blocks) c.args.depth_limit c.args.reading.place r.innermost r.outer r.position c.in_ok-property.property.name.now fault c.requires.number c.in_ok-property.ensures.name
     passes (is ∙ ap (λ p. token_fault p IsNewProperty) c.in_ok-property.ensures.place) (old r.innermost r.outer r.growing passes.0))
 
-pub returns-clause-ok : goal.returns-clause-ok
-returns-clause-ok c =
+pub returns-clause-added : goal.returns-clause-added
+returns-clause-added c =
     let r = c.requires.reading in
     let place : ℕ = c.args.reading.place in
     let file = c.args.blocks.file.now in

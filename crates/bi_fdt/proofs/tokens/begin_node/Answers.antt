@@ -1,6 +1,6 @@
 use Rattle.std.proofs.Common.{◌≡◌, ◌+◌, ◌<◌, ◌≤◌, ◌∷◌, length, sym, ap, subst, arith}
 use Rattle.bi_base.specs.Cells.{up4}
-use Rattle.bi_base.proofs.Refusals.{refused_by, passed_on}
+use Rattle.bi_base.proofs.Refusals.{refused_by, refusal_passed_on}
 use Rattle.bi_blob.specs.Tokens.{name_from}
 use Rattle.bi_blob.specs.OpenNodes.{IsOpenAt, OpenTree, open_node_of, outer_nodes_of, new_node}
 use Rattle.bi_fdt.specs.Blocks.{blocks_of}
@@ -8,8 +8,8 @@ use Rattle.bi_fdt.proofs.TokenSteps.{up4-within, begin_fault, duplicate_node, af
 use Rattle.bi_blob.proofs.Blobs.Steps.{length-outer_nodes_of}
 use Rattle.bi_fdt.proofs.tokens.begin_node.Goals as goal
 
-pub returns-in_err-name-clause-fault : goal.returns-in_err-name-clause-fault
-returns-in_err-name-clause-fault c =
+pub returns-in_err-name-clause-failed : goal.returns-in_err-name-clause-failed
+returns-in_err-name-clause-failed c =
     let r = c.requires.reading in
     let blocks = blocks_of c.args.blocks in
     let deep : length (outer_nodes_of r.innermost.name r.outer) ≡ length r.outer = length-outer_nodes_of r.innermost.name r.outer in
@@ -18,13 +18,13 @@ returns-in_err-name-clause-fault c =
     (begin_fault blocks c.args.depth_limit c.args.reading.place r.innermost r.outer r.position _ c.requires.number
     (c.in_err-name.ensures.fault (open_node_of r.innermost) (outer_nodes_of r.innermost.name r.outer) (omega arith)))
 
-pub returns-in_err-growing-clause-fault : goal.returns-in_err-growing-clause-fault
-returns-in_err-growing-clause-fault c =
+pub returns-in_err-growing-clause-failed : goal.returns-in_err-growing-clause-failed
+returns-in_err-growing-clause-failed c =
     let r = c.requires.reading in
     let blocks = blocks_of c.args.blocks in
     let deep : length (outer_nodes_of r.innermost.name r.outer) ≡ length r.outer = length-outer_nodes_of r.innermost.name r.outer in
     let depth : c.depth.result ≡ length r.outer + 1 = c.depth.ensures r.innermost r.outer r.growing in
-    passed_on _ c.in_err-growing.field-0.0 _ _ _ c.from_residual-in_err-growing.ensures.1 c.in_err-growing.ensures.fault c.in_err-growing.ensures.duplicate
+    refusal_passed_on _ c.in_err-growing.field-0.0 _ _ _ c.from_residual-in_err-growing.ensures.1 c.in_err-growing.ensures.fault c.in_err-growing.ensures.duplicate
     (λ fault is old.
     duplicate_node blocks c.args.depth_limit c.args.reading.place r.innermost r.outer r.position c.in_ok-name.name.now fault c.requires.number c.in_ok-name.ensures.name
     (c.in_ok-name.ensures.ok (open_node_of r.innermost) (outer_nodes_of r.innermost.name r.outer) (omega arith))

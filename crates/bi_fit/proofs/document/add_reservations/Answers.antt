@@ -1,7 +1,7 @@
 use Rattle.std.proofs.Common.{◌≡◌, suc, drop, map, Some, slice_get, sym, ap, subst, ◌∙◌, add-one}
 use Rattle.std.specs.List.{AllByRecursion}
 use Rattle.bi_blob.specs.Blob.{IsReservation}
-use Rattle.bi_fit.specs.Additions.{with_reservations}
+use Rattle.bi_fit.specs.NormalNodes.{with_reservations}
 use Rattle.bi_fit.proofs.Reservations.{pair_of, reservations_from, with_reservations-cons}
 use Rattle.bi_fit.proofs.document.add_reservations.Goals as goal
 

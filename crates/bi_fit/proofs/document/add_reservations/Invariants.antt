@@ -1,7 +1,7 @@
 use Rattle.std.proofs.Common.{◌≡◌, drop}
 use Rattle.std.specs.List.{AllByRecursion}
 use Rattle.bi_blob.specs.Blob.{IsReservation}
-use Rattle.bi_fit.specs.Additions.{with_reservations}
+use Rattle.bi_fit.specs.NormalNodes.{with_reservations}
 use Rattle.bi_fit.proofs.document.add_reservations.Given as goal
 
 abbrev pub invariant-loop-index : goal.invariant-loop-index

@@ -1,7 +1,7 @@
 use Rattle.std.proofs.Common.{◌≡◌, ◌++◌, map}
 use Rattle.bi_fdt.specs.Views.{node_of}
-use Rattle.bi_fit.specs.Judging.{checked_hash_of}
-use Rattle.bi_fit.specs.Nodes.{file_hashes}
+use Rattle.bi_fit.specs.JudgementCalls.{checked_hash_of}
+use Rattle.bi_fit.specs.HashNodes.{file_hashes}
 use Rattle.bi_fit.specs.Siblings.{siblings_left}
 use Rattle.bi_fit.proofs.hashes.check_image.Given as goal
 

@@ -1,5 +1,5 @@
-use Rattle.bi_fit.proofs.Faults.{meaning_has_no_fault}
+use Rattle.bi_fit.proofs.Faults.{fit_has_no_fault}
 use Rattle.bi_fit.proofs.laws.meaning_has_no_fault.Goals as goal
 
 pub returns : goal.returns
-returns c = meaning_has_no_fault
+returns c = fit_has_no_fault

@@ -1,8 +1,8 @@
 use Rattle.std.proofs.Common.{map, vec_len, sym}
 use Rattle.std.proofs.lemmas.List.{map-append}
 use Rattle.bi_fit.specs.Judgement.{listed_names}
-use Rattle.bi_fit.specs.Judging.{listed_image}
-use Rattle.bi_fit.proofs.FileLists.{next_is_missing, next_is_found, none_is_left, out_of_memory}
+use Rattle.bi_fit.specs.JudgementCalls.{listed_image}
+use Rattle.bi_fit.proofs.FileLists.{next_is_missing, next_is_found, none_is_left, list_out_of_memory}
 use Rattle.bi_fit.proofs.lists.find_images.Goals as goal
 
 pub returns-in_default-image-clause-failed : goal.returns-in_default-image-clause-failed
@@ -13,7 +13,7 @@ returns-in_default-image-clause-failed c =
 
 pub returns-in_err-push-clause-failed : goal.returns-in_err-push-clause-failed
 returns-in_err-push-clause-failed c =
-    out_of_memory c.from_residual.result c.args.fit.now.images (listed_names c.args.value.now) c.from_residual.ensures.1
+    list_out_of_memory c.from_residual.result c.args.fit.now.images (listed_names c.args.value.now) c.from_residual.ensures.1
 
 pub loop-name-preserved : goal.loop-name-preserved
 loop-name-preserved c =

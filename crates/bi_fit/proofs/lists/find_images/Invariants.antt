@@ -1,7 +1,7 @@
 use Rattle.std.proofs.Common.{◌≡◌, length, map, vec_len}
 use Rattle.bi_fit.specs.Judgement.{listed_names}
-use Rattle.bi_fit.specs.Judging.{listed_image}
-use Rattle.bi_fit.specs.Nodes.{file_list, with_images}
+use Rattle.bi_fit.specs.JudgementCalls.{listed_image}
+use Rattle.bi_fit.specs.HashNodes.{file_list, with_images}
 use Rattle.bi_fit.proofs.lists.find_images.Given as goal
 
 abbrev pub invariant-loop-name : goal.invariant-loop-name

@@ -1,11 +1,11 @@
 use Rattle.std.proofs.Common.{◌≤◌, ◌+◌, length, sym, ap, ◌∙◌, rules}
 use Rattle.std.specs.Option.{option_copied}
-use Rattle.bi_fit.proofs.FileLists.{no_name, name_is_shorter, begins_with_name}
+use Rattle.bi_fit.proofs.FileLists.{no_listed_name, name_is_shorter, begins_with_name}
 use Rattle.bi_fit.proofs.lists.split_name.Goals as goal
 
 pub returns-in_err-name : goal.returns-in_err-name
 returns-in_err-name c =
-    rw c.from_residual.ensures (no_name c.args.value.now (sym c.text_before_nul.ensures ∙ ap option_copied c.in_err-name.was))
+    rw c.from_residual.ensures (no_listed_name c.args.value.now (sym c.text_before_nul.ensures ∙ ap option_copied c.in_err-name.was))
 
 pub slice_bounds-result-count : goal.slice_bounds-result-count
 slice_bounds-result-count c =

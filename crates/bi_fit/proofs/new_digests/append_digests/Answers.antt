@@ -2,7 +2,7 @@ use Rattle.std.proofs.Common.{sym, ap, ◌++◌, ◌∙◌, append-nil}
 use Rattle.bi_fdt.specs.Views.{node_of}
 use Rattle.bi_fit.specs.Siblings.{siblings_left}
 use Rattle.bi_fit.specs.NewDigests.{digests_of_image}
-use Rattle.bi_fit.specs.Additions.{nodes_by_name}
+use Rattle.bi_fit.specs.NormalNodes.{nodes_by_name}
 use Rattle.bi_fit.proofs.NewDigests.{file_digests, digests_are}
 use Rattle.bi_fit.proofs.new_digests.append_digests.Goals as goal
 

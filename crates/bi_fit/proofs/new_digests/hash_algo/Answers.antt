@@ -7,13 +7,15 @@ use Rattle.bi_fdt.specs.Views.{node_of}
 use Rattle.bi_hash.specs.Algos.{find_algorithm}
 use Rattle.bi_fit.specs.Names.{algo_name}
 use Rattle.bi_fit.specs.NewDigests.{hash_algorithm}
-use Rattle.bi_fit.specs.Additions.{properties_by_name}
+use Rattle.bi_fit.specs.NormalNodes.{properties_by_name}
 use Rattle.bi_fit.proofs.NewDigests.{algorithm_named}
 use Rattle.bi_fit.proofs.new_digests.hash_algo.Goals as goal
 use Rattle.bi_fit.proofs.new_digests.hash_algo.Goals.{After-property}
 
 -- The algorithm is that of the name before a zero in the value of `algo`.
-named_in : (c : After-property) → hash_algorithm (node_of c.args.node).name (properties_by_name (node_of c.args.node).own) ≡ option_and_then find_algorithm (option_and_then text_before_nul (value_named (properties_of (node_of c.args.node).own) algo_name))
+named_in : (c : After-property) →
+    hash_algorithm (node_of c.args.node).name (properties_by_name (node_of c.args.node).own)
+    ≡ option_and_then find_algorithm (option_and_then text_before_nul (value_named (properties_of (node_of c.args.node).own) algo_name))
 named_in c =
     let s = node_of c.args.node in
     algorithm_named s.name c.name.result.now s.own c.name.ensures (sym c.starts_with.ensures.value ∙ c.if-not-starts_with.false)

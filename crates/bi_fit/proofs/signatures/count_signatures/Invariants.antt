@@ -1,5 +1,5 @@
 use Rattle.std.proofs.Common.{◌≡◌, ◌+◌, ◌<◌, ◌^◌, length, flat_map}
-use Rattle.bi_fit.specs.Nodes.{file_signatures}
+use Rattle.bi_fit.specs.HashNodes.{file_signatures}
 use Rattle.bi_fit.specs.Siblings.{siblings_left, children_of_each}
 use Rattle.bi_fit.proofs.signatures.count_signatures.Given as goal
 

@@ -2,7 +2,7 @@ use Rattle.std.proofs.Common.{ℕ, List, [], ◌∷◌, ◌++◌, ◌+◌, lengt
 use Rattle.bi_base.specs.Cells.{cell}
 use Rattle.bi_base.proofs.SinkLaws.{passed_on}
 use Rattle.bi_blob.specs.Layout.{padding_to_4}
-use Rattle.bi_lay.proofs.Chains.{first_fails, second_fails, third_writes}
+use Rattle.bi_lay.proofs.SinkChains.{first_fails, second_fails, third_writes}
 use Rattle.bi_lay.proofs.TokenBytes.{begin_bytes}
 use Rattle.bi_lay.proofs.structure.put_begin.Goals as goal
 

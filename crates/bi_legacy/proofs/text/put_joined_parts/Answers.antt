@@ -2,7 +2,7 @@ use Rattle.std.proofs.Common.{ℕ, List, [], take_all, flat_map, arith, sym, sub
 use Rattle.std.specs.Borrow.{Bor}
 use Rattle.bi_base.specs.Sinks.{Wrote}
 use Rattle.bi_base.proofs.SinkLaws.{failed_within, passed_on, wrote_after}
-use Rattle.bi_legacy.specs.Text.{padded}
+use Rattle.bi_legacy.specs.Text.{with_zeros}
 use Rattle.bi_legacy.proofs.TextPieces.{joined_parts-bytes_of}
 use Rattle.bi_legacy.proofs.text.put_joined_parts.Goals as goal
 
@@ -10,7 +10,7 @@ pub returns-in_err-put_padded : goal.returns-in_err-put_padded
 returns-in_err-put_padded g c =
     let before = c.in-Some.before.now in
     let nothing : Bor (List ℕ) = record { ref_ptr = (0, 0); now = [] } in
-    let padded_of = λ (part : Bor (List ℕ)). padded part.now in
+    let padded_of = λ (part : Bor (List ℕ)). with_zeros part.now in
     let appends = g.S.Sink.appends in
     let fails = g.S.Sink.fails in
     let error = c.in_err-put_padded.field-0.0 in
@@ -22,7 +22,7 @@ returns-in_err-put_padded g c =
 pub returns : goal.returns
 returns g c =
     let before = c.in-Some.before.now in
-    let padded_of = λ (part : Bor (List ℕ)). padded part.now in
+    let padded_of = λ (part : Bor (List ℕ)). with_zeros part.now in
     let appends = g.S.Sink.appends in
     let fails = g.S.Sink.fails in
     let all = subst (λ l. appends c.args.sink.now (flat_map padded_of l) c.loop-part.sink) (take_all c.loop-part.part-index before (omega arith)) c.loop-part.invariant in

@@ -5,18 +5,18 @@ use Rattle.bi_blob.specs.Layout.{longest_text}
 use Rattle.bi_lay.specs.Contents.{text_of}
 use Rattle.bi_fit.specs.declared.form.Form.TheVariants.{Embedded, External}
 use Rattle.bi_fit.specs.Text.{payload_area, after_blob, fit_text}
-use Rattle.bi_norm.specs.Building.{tree_of_images}
+use Rattle.bi_norm.specs.BuildCalls.{tree_of_images}
 use Rattle.bi_base.specs.Commands.{WasRefused, SinkFailed}
-use Rattle.bi_norm.proofs.BuiltPayloads.{payloads_too_long, text_then_payloads, text_alone}
-use Rattle.bi_norm.proofs.PayloadAreas.{payloads_fit}
+use Rattle.bi_norm.proofs.BuiltPayloads.{built_payloads_too_long, text_then_payloads, text_alone}
+use Rattle.bi_norm.proofs.ReadPayloadAreas.{payloads_fit}
 use Rattle.bi_norm.proofs.building.append_tree.Goals.{then-eq+in_ok-put_built_payloads, else-eq}
 use Rattle.bi_norm.proofs.building.append_tree.Goals as goal
 
 pub returns-in_err-after-clause-failed : goal.returns-in_err-after-clause-failed
 returns-in_err-after-clause-failed g c =
     let tree = tree_of_images c.args.head c.args.images.now in
-    let refused = c.in_err-after.ensures.refused in
-    let late = payloads_too_long c.args.form tree c.file.result refused.1 in
+    let refused = c.in_err-after.ensures.fault in
+    let late = built_payloads_too_long c.args.form tree c.file.result refused.1 in
     let p = err_from_is_err_and c.from_residual.result c.from_residual.ensures.1 in
     rw (p.1, p.2)
     (WasRefused (refused.0 ∙ ap too_large c.file.ensures.value, subst (λ n. n < length (fit_text c.args.form tree)) c.file.ensures.value late) refl)

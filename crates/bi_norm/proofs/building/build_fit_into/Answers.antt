@@ -18,8 +18,8 @@ returns-in_err-append_tree-clause-failed g c =
     (build_failed c.args.limits c.args.form c.args.head c.args.images.now (c.in_ok-check.ensures.passed c.args.form) c.in_ok-check.ensures.can most
     g.S.Sink.appends g.S.Sink.fails _ _ c.in_err-append_tree.field-0.0 c.in_err-append_tree.ensures.failed)
 
-pub returns-clause-built : goal.returns-clause-built
-returns-clause-built g c =
+pub returns-clause-appended : goal.returns-clause-appended
+returns-clause-appended g c =
     let most : c.args.limits.file ≤ longest_text = omega arith in
     built_appended c.args.limits c.args.form c.args.head c.args.images.now (c.in_ok-check.ensures.passed c.args.form) c.in_ok-check.ensures.can most
     g.S.Sink.appends g.S.Sink.fails _ _ c.in_ok-append_tree.ensures.appended

@@ -3,13 +3,13 @@ use Rattle.std.proofs.lemmas.Bool.{false≢true}
 use Rattle.std.proofs.lemmas.Result.{err_from_is_err_and}
 use Rattle.bi_blob.specs.Layout.{longest_text}
 use Rattle.bi_fit.specs.declared.form.Form.TheVariants.{Embedded}
-use Rattle.bi_fit.specs.Building.{FitHead, built}
+use Rattle.bi_fit.specs.Building.{HeadModel, built_tree}
 use Rattle.bi_fit.specs.Documents.{IsDocumentError}
-use Rattle.bi_norm.specs.Building.{specifications_of, IsTextOfTree}
+use Rattle.bi_norm.specs.BuildCalls.{spec_models, IsTextOfTree}
 use Rattle.bi_norm.specs.Converting.{converted_images, IsConvertedFile, IsConvertError, NotLegacy, NotConvertible, head_of_image}
 use Rattle.bi_base.specs.Commands.{WasRefused}
 use Rattle.bi_norm.proofs.Appending.{result_appended_as, result_failed_as}
-use Rattle.bi_norm.proofs.Conversions.{can_be_built, tree_is, is_converted, is_convert_error}
+use Rattle.bi_norm.proofs.Conversions.{conversion_can_be_built, tree_is, is_converted, is_convert_error}
 use Rattle.bi_norm.proofs.converting.convert_into.Goals as goal
 
 pub returns-in_err-image-clause-failed : goal.returns-in_err-image-clause-failed
@@ -20,42 +20,42 @@ returns-in_err-image-clause-failed g c =
 pub returns-in_err-check-clause-failed : goal.returns-in_err-check-clause-failed
 returns-in_err-check-clause-failed g c =
     let p = err_from_is_err_and c.from_residual-in_err-check.result c.from_residual-in_err-check.ensures.1 in
-    let parsed = c.in_ok-image.ensures.parsed in
+    let parsed = c.in_ok-image.ensures.read in
     rw (p.1, p.2) (WasRefused (NotConvertible c.in_ok-image.image.image parsed.means c.in_err-check.ensures.fault) refl)
 
 pub append_tree-requires-clause-can : goal.append_tree-requires-clause-can
 append_tree-requires-clause-can g c =
     let fields = c.fields-fields.result in
-    let head : FitHead = record { description = fields.name.now; time = fields.time } in
-    let are : specifications_of c.deref.result.now ≡ converted_images c.in_ok-image.image.image = ap specifications_of c.deref.ensures.value ∙ c.in_ok-images.ensures.images in
-    can_be_built c.args.limits c.args.file.now c.in_ok-image.image.image head (specifications_of c.deref.result.now) c.in_ok-image.ensures.parsed.means (ap head_of_image c.fields-fields.ensures) are
+    let head : HeadModel = record { description = fields.name.now; time = fields.time } in
+    let are : spec_models c.deref.result.now ≡ converted_images c.in_ok-image.image.image = ap spec_models c.deref.ensures.value ∙ c.in_ok-images.ensures.images in
+    conversion_can_be_built c.args.limits c.args.file.now c.in_ok-image.image.image head (spec_models c.deref.result.now) c.in_ok-image.ensures.read.means (ap head_of_image c.fields-fields.ensures) are
 
-pub returns-clause-converted : goal.returns-clause-converted
-returns-clause-converted g c =
+pub returns-clause-appended : goal.returns-clause-appended
+returns-clause-appended g c =
     let limits = c.args.limits in
     let file = c.args.file.now in
     let parsed = c.in_ok-image.image in
     let fields = c.fields-fields.result in
-    let head : FitHead = record { description = fields.name.now; time = fields.time } in
-    let images = specifications_of c.deref.result.now in
-    let are : images ≡ converted_images parsed.image = ap specifications_of c.deref.ensures.value ∙ c.in_ok-images.ensures.images in
+    let head : HeadModel = record { description = fields.name.now; time = fields.time } in
+    let images = spec_models c.deref.result.now in
+    let are : images ≡ converted_images parsed.image = ap spec_models c.deref.ensures.value ∙ c.in_ok-images.ensures.images in
     let same = tree_is parsed.image head images (ap head_of_image c.fields-fields.ensures) are in
     let most : limits.file ≤ longest_text = omega arith in
-    result_appended_as g.S.Sink.appends (IsTextOfTree limits Embedded (built head images)) (IsConvertedFile limits file) c.args.sink.now c.append_tree.new.sink c.append_tree.result
-    (λ text is. is_converted limits file parsed (built head images) text c.in_ok-image.ensures.parsed c.in_ok-check.ensures.ok most same is) c.append_tree.ensures.appended
+    result_appended_as g.S.Sink.appends (IsTextOfTree limits Embedded (built_tree head images)) (IsConvertedFile limits file) c.args.sink.now c.append_tree.new.sink c.append_tree.result
+    (λ text is. is_converted limits file parsed (built_tree head images) text c.in_ok-image.ensures.read c.in_ok-check.ensures.ok most same is) c.append_tree.ensures.appended
 
 pub returns-clause-failed : goal.returns-clause-failed
 returns-clause-failed g c =
     let limits = c.args.limits in
     let file = c.args.file.now in
     let parsed = c.in_ok-image.image in
-    let opened = c.in_ok-image.ensures.parsed in
+    let opened = c.in_ok-image.ensures.read in
     let can = c.in_ok-check.ensures.ok in
     let fields = c.fields-fields.result in
-    let head : FitHead = record { description = fields.name.now; time = fields.time } in
-    let images = specifications_of c.deref.result.now in
-    let are : images ≡ converted_images parsed.image = ap specifications_of c.deref.ensures.value ∙ c.in_ok-images.ensures.images in
-    let tree = built head images in
+    let head : HeadModel = record { description = fields.name.now; time = fields.time } in
+    let images = spec_models c.deref.result.now in
+    let are : images ≡ converted_images parsed.image = ap spec_models c.deref.ensures.value ∙ c.in_ok-images.ensures.images in
+    let tree = built_tree head images in
     let same = tree_is parsed.image head images (ap head_of_image c.fields-fields.ensures) are in
     let most : limits.file ≤ longest_text = omega arith in
     result_failed_as g.S.Sink.fails (IsTextOfTree limits Embedded tree) (IsConvertedFile limits file) (IsDocumentError limits Embedded tree) (IsConvertError limits file) c.args.sink.now c.append_tree.new.sink c.append_tree.result

@@ -4,8 +4,8 @@ use Rattle.bi_norm.specs.Cutting.{TooLong}
 use Rattle.bi_norm.proofs.Pieces.{lengths_around}
 use Rattle.bi_norm.proofs.cutting.check_lengths.Goals as goal
 
-pub returns-then-end-input-clause-refused : goal.returns-then-end-input-clause-refused
-returns-then-end-input-clause-refused c =
+pub returns-then-end-input-clause-fault : goal.returns-then-end-input-clause-fault
+returns-then-end-input-clause-fault c =
     let lengths = c.args.lengths.now in
     let i = c.loop-piece_length.piece_length-index in
     let loop = c.loop-piece_length.invariant in

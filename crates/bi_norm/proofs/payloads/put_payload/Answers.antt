@@ -1,6 +1,6 @@
 use Rattle.std.proofs.Common.{◌++◌, ap, subst}
 use Rattle.bi_base.proofs.SinkLaws.{passed_on}
-use Rattle.bi_norm.proofs.PayloadAreas.{area_zeros}
+use Rattle.bi_norm.proofs.ReadPayloadAreas.{area_zeros}
 use Rattle.bi_norm.proofs.payloads.put_payload.Goals as goal
 
 pub returns-in_err-put-clause-written : goal.returns-in_err-put-clause-written

@@ -2,7 +2,8 @@ use Rattle.std.proofs.Common.{◌+◌, ◌++◌, ◌≤◌, length, ap, sym, ◌
 use Rattle.bi_base.specs.Cells.{up4}
 use Rattle.bi_base.proofs.SinkLaws.{passed_on}
 use Rattle.bi_blob.specs.Layout.{padding_to_4, longest_text}
-use Rattle.bi_norm.proofs.PayloadAreas.{area_before, area_from, area_with_payload, end_with_payload, area_without_payload, end_without_payload, area_split, end_within}
+use Rattle.bi_norm.proofs.ReadPayloadAreas.{area_before, area_from, area_with_payload, end_with_payload, area_without_payload}
+use Rattle.bi_norm.proofs.ReadPayloadAreas.{end_without_payload, area_split, end_within}
 use Rattle.bi_norm.proofs.payloads.put_payloads.Goals.{in-Some+in_ok-end, in_default}
 use Rattle.bi_norm.proofs.payloads.put_payloads.Goals as goal
 

@@ -1,5 +1,5 @@
 use Rattle.std.proofs.Common.{◌≡◌}
-use Rattle.bi_norm.proofs.PayloadAreas.{area_before, end_before}
+use Rattle.bi_norm.proofs.ReadPayloadAreas.{area_before, end_before}
 use Rattle.bi_norm.proofs.payloads.put_payloads.Given as goal
 
 -- The payloads before this image were appended, and end here.

@@ -3,21 +3,21 @@ use Rattle.std.proofs.lemmas.Result.{err_from_is_err_and}
 use Rattle.bootimg.specs.CommandLine.{reads_input, sources_of}
 use Rattle.bootimg.specs.ReadParts.{IsReadingProblem}
 use Rattle.bootimg.specs.Runs.{BuiltOfFiles, BuiltWithInput}
-use Rattle.bootimg.proofs.BuildRuns.{are_parts, as_many, no_parts}
+use Rattle.bootimg.proofs.BuildRuns.{are_parts, as_many, no_parts_read}
 use Rattle.bootimg.proofs.builds.build_image.Goals as goal
 
 pub returns-in_err-read : goal.returns-in_err-read
 returns-in_err-read g c =
     let files = g.F.FileSystem.promise c.args.files.now in
     let p = err_from_is_err_and c.from_residual.result c.from_residual.ensures.1 in
-    no_parts files c.args.plan.now c.args.limits _ c.in_err-read.field-0.0
+    no_parts_read files c.args.plan.now c.args.limits _ c.in_err-read.field-0.0
     (subst (λ sources. IsReadingProblem files c.args.limits sources c.in_err-read.field-0.0) c.sources-sources.ensures c.in_err-read.ensures.failed)
     refl (p.1 ∙ ap (λ e. Err e) p.2) refl
 
 pub returns-in_err-parts : goal.returns-in_err-parts
 returns-in_err-parts g c =
     let p = err_from_is_err_and c.from_residual-in_err-parts.result c.from_residual-in_err-parts.ensures.1 in
-    no_parts (g.F.FileSystem.promise c.args.files.now) c.args.plan.now c.args.limits _ c.in_err-parts.field-0.0
+    no_parts_read (g.F.FileSystem.promise c.args.files.now) c.args.plan.now c.args.limits _ c.in_err-parts.field-0.0
     (inr c.in_err-parts.ensures.failed) refl (p.1 ∙ ap (λ e. Err e) p.2) refl
 
 pub build-requires-clause-one_each : goal.build-requires-clause-one_each

@@ -1,6 +1,6 @@
 use Rattle.std.proofs.Common.{List, subst}
 use Rattle.bi_base.specs.Pipes.{IsTracedPipe}
-use Rattle.bi_commands.specs.Building.{build_fit_promise}
+use Rattle.bi_commands.specs.BuildCommands.{build_fit_promise}
 use Rattle.bi_norm.specs.declared.building.ImageSpec.{ImageSpec}
 use Rattle.bootimg.proofs.builds.run_builder.Goals as goal
 

@@ -20,7 +20,7 @@ returns-in-Ok g c old new =
     (subst
     (λ bytes. WriteOrFlushStopped (trace c.args.output.now) bytes (trace c.write_and_flush.new.target) c.in-Err-write_and_flush.error)
     c.as_bytes.ensures.value c.in-Err-write_and_flush.ensures)
-    c.failed.ensures
+    c.job_failed.ensures
 
 pub returns : goal.returns
 returns g c old new =

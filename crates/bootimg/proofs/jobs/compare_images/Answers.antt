@@ -5,12 +5,12 @@ use Rattle.bootimg.proofs.jobs.compare_images.Goals as goal
 
 pub returns-in-Err : goal.returns-in-Err
 returns-in-Err g c =
-    OneNotRead c.in-Err.failure c.in-Err.ensures.failed (record { nothing_written = refl; outcome = c.failed.ensures })
+    OneNotRead c.in-Err.failure c.in-Err.ensures.failed (record { nothing_written = refl; outcome = c.job_failed.ensures })
 
 pub returns-in-Err-read_image : goal.returns-in-Err-read_image
 returns-in-Err-read_image g c =
     OtherNotRead c.in-Ok.one.items _ c.in-Err-read_image.failure c.in-Ok.ensures.read c.in-Err-read_image.ensures.failed
-    (record { nothing_written = refl; outcome = c.failed-in-Err-read_image.ensures })
+    (record { nothing_written = refl; outcome = c.job_failed-in-Err-read_image.ensures })
 
 pub returns : goal.returns
 returns g c =

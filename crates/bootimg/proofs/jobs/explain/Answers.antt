@@ -20,13 +20,13 @@ returns-in-Ok g c input =
     ExplanationNotWritten error
     (subst (λ bytes. WriteOrFlushStopped (trace c.args.output.now) bytes (trace c.write_and_flush.new.target) error)
     (c.as_bytes.ensures.value ∙ c.in-Ok.ensures) c.in-Err-write_and_flush.ensures)
-    c.failed.ensures refl
+    c.job_failed.ensures refl
 
 pub returns : goal.returns
 returns g c input =
     NoMemoryForExplanation
     (record {
       nothing_written = refl;
-      outcome = c.failed-in-Err.ensures ∙ ap (λ failure. Err (problem Standard failure)) c.from.ensures;
+      outcome = c.job_failed-in-Err.ensures ∙ ap (λ failure. Err (problem Standard failure)) c.from.ensures;
     })
     refl

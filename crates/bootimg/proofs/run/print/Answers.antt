@@ -2,14 +2,14 @@ use Rattle.std.proofs.Common.{refl, subst}
 use Rattle.bi_base.specs.Sinks.{Wrote}
 use Rattle.bi_base.specs.Writing.{WroteAll, WriteStopped, WriteOrFlushStopped}
 use Rattle.bootimg.specs.Runs.{IsUsage, IsNotWritten}
-use Rattle.bootimg.proofs.RunFacts.{logged}
+use Rattle.bootimg.proofs.RunFacts.{line_is_logged}
 use Rattle.bootimg.proofs.run.print.Goals as goal
 
 pub returns-then-is_usage : goal.returns-then-is_usage
 returns-then-is_usage g c input steps =
     let trace = g.E.TracedWrite.trace in
     IsUsage
-    (logged (trace c.args.errors.now) (trace c.write_all.new.target) c.args.text.now c.write_all.result
+    (line_is_logged (trace c.args.errors.now) (trace c.write_all.new.target) c.args.text.now c.write_all.result
     (subst
     (λ bytes. Wrote WroteAll WriteStopped (trace c.args.errors.now) bytes c.write_all.result (trace c.write_all.new.target))
     c.as_bytes.ensures.value c.write_all.ensures))

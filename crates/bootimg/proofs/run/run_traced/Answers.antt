@@ -3,7 +3,7 @@ use Rattle.bootimg.specs.CommandLine.{IsNoRequest, NoMemory}
 use Rattle.bootimg.specs.declared.command_line.Outcome.TheVariants as outcome
 use Rattle.bootimg.specs.declared.failure.Failure.TheVariants.{Call}
 use Rattle.bootimg.specs.Runs.{RanJob, Rejected, WroteText}
-use Rattle.bootimg.proofs.RunFacts.{rejected}
+use Rattle.bootimg.proofs.RunFacts.{run_is_rejected}
 use Rattle.bootimg.proofs.run.run_traced.Goals as goal
 
 pub returns-in-Ok : goal.returns-in-Ok
@@ -13,7 +13,7 @@ pub returns-in-Err-Failure : goal.returns-in-Err-Failure
 returns-in-Err-Failure g c =
     let is : c.in-Err-Failure.field-0 ≡ outcome.Failure c.in-Err-Failure.failure = search rules in
     Rejected c.in-Err-Failure.failure (subst (λ o. IsNoRequest o) is c.in-Err-Failure.ensures.failure)
-    (rejected _ _ _ refl refl refl c.report.ensures.line c.report.ensures.status)
+    (run_is_rejected _ _ _ refl refl refl c.report.ensures.line c.report.ensures.status)
 
 pub returns-in-Ok-clap_text : goal.returns-in-Ok-clap_text
 returns-in-Ok-clap_text g c = WroteText _ (c.print.ensures _ _)
@@ -21,4 +21,4 @@ returns-in-Ok-clap_text g c = WroteText _ (c.print.ensures _ _)
 pub returns : goal.returns
 returns g c =
     Rejected _ (NoMemory (ap (λ error. Call error) c.from.ensures))
-    (rejected _ _ _ refl refl refl c.report-in-Err.ensures.line c.report-in-Err.ensures.status)
+    (run_is_rejected _ _ _ refl refl refl c.report-in-Err.ensures.line c.report-in-Err.ensures.status)

@@ -1,7 +1,7 @@
-use Rattle.bootimg.specs.Files.{AreTaken}
+use Rattle.bootimg.specs.Files.{AreNamesTaken}
 use Rattle.bootimg.proofs.saving.create_beside.Given as goal
 
 -- Something has each name that was tried so far.
 abbrev pub invariant-loop-number : goal.invariant-loop-number
 invariant-loop-number g l =
-    AreTaken l.name l.number (g.F.FileSystem.steps l.initial.files) (g.F.FileSystem.steps l.files)
+    AreNamesTaken l.name l.number (g.F.FileSystem.steps l.initial.files) (g.F.FileSystem.steps l.files)

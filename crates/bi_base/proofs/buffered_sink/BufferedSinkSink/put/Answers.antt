@@ -1,5 +1,5 @@
 use Rattle.std.proofs.Common.{[], ◌≡◌, rules}
-use Rattle.bi_base.specs.BufferedSinks.{Buffered, buffered, wrote_in_turn, stopped_after}
+use Rattle.bi_base.specs.BufferedSinks.{Buffer, state_of, wrote_in_turn, stopped_after}
 use Rattle.bi_base.specs.Writing.{WroteAll, WriteStopped}
 use Rattle.bi_base.proofs.BufferLaws.{wrote_through}
 use Rattle.bi_base.proofs.SinkLaws.{wrote_after}
@@ -8,9 +8,9 @@ use Rattle.bi_base.proofs.buffered_sink.BufferedSinkSink.put.Goals as goal
 pub returns : goal.returns
 returns g c =
     let trace = g.T.TracedWrite.trace in
-    let old = buffered trace c.args.self.now in
+    let old = state_of trace c.args.self.now in
     let mid = trace c.write_all.new.target in
-    let new : Buffered = record {
+    let new : Buffer = record {
       borrow = old.borrow;
       trace = trace c.write_all-2.new.target;
       held = c.try_extend_from_slice-2.new.self.items;

@@ -3,9 +3,9 @@ use Rattle.std.proofs.lemmas.Result.{err_from_is_err_and}
 use Rattle.bi_base.specs.declared.fault.Error.TheVariants.{OutOfMemory}
 use Rattle.bi_legacy.specs.Emitting.{bytes_of}
 use Rattle.bi_base.specs.Commands.{WasRefused}
-use Rattle.bi_commands.specs.Building.{HavePayloads}
+use Rattle.bi_commands.specs.BuildCommands.{HavePayloads}
 use Rattle.bi_commands.specs.Parts.{lengths_of, pieces_among}
-use Rattle.bi_commands.proofs.FitOutputs.{Completed, cut_error, sum_of_cut, not_appended}
+use Rattle.bi_commands.proofs.FitOutputs.{HasPayloads, cut_error, sum_of_cut, not_appended}
 use Rattle.bi_commands.proofs.build_fit.FitBuilderCommand.run.Goals as goal
 
 pub returns-in_err-contents-clause-failed : goal.returns-in_err-contents-clause-failed
@@ -16,7 +16,7 @@ returns-in_err-contents-clause-failed g c =
 pub returns-in_err-complete-clause-failed : goal.returns-in_err-complete-clause-failed
 returns-in_err-complete-clause-failed g c =
     let p = err_from_is_err_and c.from_residual-in_err-complete.result c.from_residual-in_err-complete.ensures.1 in
-    let error : c.in_err-complete.field-0.0 ≡ OutOfMemory = c.in_err-complete.ensures.error in
+    let error : c.in_err-complete.field-0.0 ≡ OutOfMemory = c.in_err-complete.ensures.failed in
     rw (p.1, p.2, error)
     (WasRefused (sum_of_cut c.args.input.now (lengths_of c.args.self.now.payloads.now) (pieces_among c.args.self.now.payloads.now (bytes_of c.in_ok-contents.contents.items)) c.in_ok-contents.ensures.filled.cut) refl)
 
@@ -28,7 +28,7 @@ returns-in_err-build_fit_into-clause-failed g c =
     let have : HavePayloads given contents images =
     subst (HavePayloads given contents) (sym c.deref-2.ensures.value)
     (subst (λ bytes. HavePayloads given bytes c.in_ok-complete.complete.items) (ap bytes_of c.deref.ensures.value) c.in_ok-complete.ensures.have) in
-    let completed : Completed c.args.limits given c.args.self.now.payloads.now c.args.input.now contents images = record { short = c.requires.short; filled = c.in_ok-contents.ensures.filled; have = have } in
+    let completed : HasPayloads c.args.limits given c.args.self.now.payloads.now c.args.input.now contents images = record { short = c.requires.short; filled = c.in_ok-contents.ensures.filled; have = have } in
     let p = err_from_is_err_and c.from_residual-in_err-build_fit_into.result c.from_residual-in_err-build_fit_into.ensures.1 in
     rw (p.1, p.2)
     (not_appended g.S.Sink.fails c.args.limits c.args.self.now.form c.args.self.now.head given c.args.self.now.payloads.now c.args.input.now contents images c.args.sink.now c.build_fit_into.new.sink c.in_err-build_fit_into.field-0.0 completed c.in_err-build_fit_into.ensures.failed)

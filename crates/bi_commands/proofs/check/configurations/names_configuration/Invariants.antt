@@ -1,5 +1,5 @@
 use Rattle.std.proofs.Common.{◌≡◌}
-use Rattle.bi_fit.specs.Judging.{configurations_of}
+use Rattle.bi_fit.specs.JudgementCalls.{configurations_of}
 use Rattle.bi_commands.proofs.CheckedConfigurations.{has_name}
 use Rattle.bi_commands.proofs.check.configurations.names_configuration.Given as goal
 

@@ -1,6 +1,6 @@
 use Rattle.std.proofs.Common.{◌≡◌, ◌++◌, string_bytes}
 use Rattle.std.specs.List.{flat_map}
-use Rattle.bi_fit.specs.Judging.{configurations_of}
+use Rattle.bi_fit.specs.JudgementCalls.{configurations_of}
 use Rattle.bi_commands.proofs.CheckedConfigurations.{lines_of_configuration}
 use Rattle.bi_commands.proofs.check.configurations.put_configurations.Given as goal
 

@@ -1,5 +1,5 @@
 use Rattle.std.proofs.Common.{ap, ◌∙◌, ◌&&◌}
-use Rattle.bi_fit.specs.Judging.{checked_hash_of}
+use Rattle.bi_fit.specs.JudgementCalls.{checked_hash_of}
 use Rattle.bi_commands.specs.Checking.{is_strong_algorithm}
 use Rattle.bi_commands.proofs.check.hashes.is_strong.Goals as goal
 

@@ -1,6 +1,6 @@
 use Rattle.std.proofs.Common.{◌≡◌, ◌++◌, string_bytes, take, map}
 use Rattle.std.specs.List.{flat_map}
-use Rattle.bi_fit.specs.Judging.{checked_hash_of}
+use Rattle.bi_fit.specs.JudgementCalls.{checked_hash_of}
 use Rattle.bi_commands.specs.ReadChecking.{good_algorithm}
 use Rattle.bi_commands.proofs.check.hashes.put_algorithms.Given as goal
 

@@ -1,6 +1,6 @@
 use Rattle.std.proofs.Common.{◌≡◌, ◌++◌, ◌∷◌, [], OnOk, string_bytes, ap, sym, subst}
 use Rattle.std.specs.Prelude.{if◌then◌else◌}
-use Rattle.bi_fit.specs.Judging.{checked_hash_of}
+use Rattle.bi_fit.specs.JudgementCalls.{checked_hash_of}
 use Rattle.bi_commands.specs.ReadChecking.{good_algorithm}
 use Rattle.bi_commands.specs.Reports.{shown_or_none}
 use Rattle.bi_commands.proofs.ConcernLines.{nothing_added}

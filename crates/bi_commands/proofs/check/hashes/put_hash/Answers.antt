@@ -1,6 +1,6 @@
 use Rattle.std.proofs.Common.{ap, sym, [], ◌∷◌}
 use Rattle.std.specs.Prelude.{if◌then◌else◌}
-use Rattle.bi_fit.specs.Judging.{checked_hash_of}
+use Rattle.bi_fit.specs.JudgementCalls.{checked_hash_of}
 use Rattle.bi_commands.specs.Checking.{bad_hash, concern_lines, hash_concerns}
 use Rattle.bi_commands.proofs.ConcernLines.{line_added, lines_allowed_if, nothing_added}
 use Rattle.bi_commands.proofs.check.hashes.put_hash.Goals as goal

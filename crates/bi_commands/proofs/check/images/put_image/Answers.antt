@@ -1,6 +1,6 @@
 use Rattle.std.proofs.Common.{[], List, Option, Bor, ℕ, Ok, Result, map, string_bytes, sym, ap, append-nil}
 use Rattle.std.specs.Option.{option_map}
-use Rattle.bi_fit.specs.Judging.{checked_hash_of}
+use Rattle.bi_fit.specs.JudgementCalls.{checked_hash_of}
 use Rattle.bi_commands.specs.Checking.{payload_concerns, protection_concerns}
 use Rattle.bi_commands.proofs.CheckedHashes.{image_lines_added}
 use Rattle.bi_commands.proofs.check.images.put_image.Goals as goal

@@ -1,5 +1,5 @@
 use Rattle.std.proofs.Common.{◌≡◌, ◌≤◌, ◌+◌, drop}
-use Rattle.bi_fit.specs.Additions.{payloads_of}
+use Rattle.bi_fit.specs.NormalNodes.{payloads_of}
 use Rattle.bi_commands.specs.PayloadBounds.{payloads_length}
 use Rattle.bi_commands.proofs.describe.digests.check_payloads.Given as goal
 

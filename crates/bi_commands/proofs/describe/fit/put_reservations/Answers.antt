@@ -2,8 +2,8 @@ use Rattle.std.proofs.Common.{◌<◌, ◌+◌, ◌++◌, length, drop, flat_map
 use Rattle.bi_commands.specs.Descriptions.{reservation_words}
 use Rattle.bi_commands.specs.Shown.{line}
 use Rattle.bi_commands.proofs.FitLines.{reservation_of, no_more_reservation}
-use Rattle.bi_commands.proofs.TreeLines.{reservations_from}
-use Rattle.bi_commands.proofs.SinkChains.{next_fails}
+use Rattle.bi_commands.proofs.TreeLines.{reservation_lines_from}
+use Rattle.bi_commands.proofs.LineChains.{next_fails}
 use Rattle.bi_commands.proofs.describe.fit.put_reservations.Goals as goal
 use Rattle.bi_commands.proofs.describe.fit.put_reservations.Goals.{in-Some+in_ok-put_reservation, in_default}
 
@@ -16,7 +16,7 @@ returns-in_err-put_reservation g c =
     let within : index < length reservations = omega (arith, c.loop-index-test.true, c.reservation_count-index-end.ensures) in
     let left = flat_map line (map reservation_words (drop (index + 1) reservations)) in
     let (done, written, is) = c.loop-index.invariant in
-    let from = reservations_from reservations index c.reservation.result _ within c.reservation.ensures c.in-Some.is in
+    let from = reservation_lines_from reservations index c.reservation.result _ within c.reservation.ensures c.in-Some.is in
     next_fails S.appends S.fails laws.fails_after laws.fails_before c.args.sink.now c.loop-index.sink c.put_reservation.new.sink done _ left _ _ c.from_residual.result
     (sym (append_assoc done _ left ∙ ap (λ lines. done ++ lines) (sym from) ∙ is)) c.from_residual.ensures.1 written c.in_err-put_reservation.ensures
 
@@ -32,7 +32,7 @@ loop-index-preserved g c =
       | in-Some+in_ok-put_reservation w ↦
           let numbers : ℕ × ℕ = (w.in-Some.address, w.in-Some.size) in
           let text = line (reservation_words (reservation_of (Some numbers))) in
-          let from = reservations_from reservations index c.reservation.result numbers within c.reservation.ensures w.in-Some.is in (
+          let from = reservation_lines_from reservations index c.reservation.result numbers within c.reservation.ensures w.in-Some.is in (
             done ++ text,
             g.met.S.Sink.appends_in_turn c.args.sink.now c.loop-index.sink c.match-reservation.sink done text written
                 (subst (λ sink. S.appends c.loop-index.sink text sink) (sym w.sink-is) w.in_ok-put_reservation.ensures),

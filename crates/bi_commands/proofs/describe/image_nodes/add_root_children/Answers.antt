@@ -2,11 +2,11 @@ use Rattle.std.proofs.Common.{◌≡◌, ◌++◌, ◌∷◌, [], false, bytes_e
 use Rattle.std.specs.Option.{option_map}
 use Rattle.bi_blob.specs.Lookups.{siblings}
 use Rattle.bi_fdt.specs.Views.{node_of}
-use Rattle.bi_fit.specs.Additions.{alone, payloads_of, properties_by_name}
+use Rattle.bi_fit.specs.NormalNodes.{alone, payloads_of, properties_by_name}
 use Rattle.bi_fit.specs.Names.{images_name}
 use Rattle.bi_fit.proofs.NodeEvents.{nodes_from, nodes_from_first}
 use Rattle.bi_commands.specs.MadeEntries.{plain_entries, begin_entries, images_entries, root_children_entries}
-use Rattle.bi_commands.specs.TreeEntries.{NodeEnds, tree_entry}
+use Rattle.bi_commands.specs.TreeEntries.{NodeEnds, as_entry}
 use Rattle.bi_commands.proofs.EntriesOfNodes.{appended_first, root-images, root-other, root-none}
 use Rattle.bi_commands.proofs.describe.image_nodes.add_root_children.Goals as goal
 use Rattle.bi_commands.proofs.describe.image_nodes.add_root_children.Goals.{then-eq+in_ok-add_images, else-eq+in_ok-add_node}
@@ -15,7 +15,7 @@ pub loop-next-init : goal.loop-next-init
 loop-next-init c =
     let s = node_of c.args.root in
     let all : nodes_from (option_map node_of c.first_child-next.result) ≡ s.children = ap nodes_from c.first_child-next.ensures ∙ nodes_from_first s.children in
-    ap (λ nodes. map tree_entry c.args.entries.now.items ++ root_children_entries true nodes (payloads_of c.args.images.now)) all
+    ap (λ nodes. map as_entry c.args.entries.now.items ++ root_children_entries true nodes (payloads_of c.args.images.now)) all
 
 pub loop-next-smaller : goal.loop-next-smaller
 loop-next-smaller c =
@@ -29,30 +29,30 @@ loop-next-smaller c =
 pub loop-next-preserved : goal.loop-next-preserved
 loop-next-preserved c =
     let s = node_of c.in-Some.child in
-    let start = map tree_entry c.loop-next.entries.items in
+    let start = map as_entry c.loop-next.entries.items in
     let payloads = payloads_of c.args.images.now in
-    let target = map tree_entry c.args.entries.now.items ++ root_children_entries true (node_of c.args.root).children payloads in
+    let target = map as_entry c.args.entries.now.items ++ root_children_entries true (node_of c.args.root).children payloads in
     let here : nodes_from (option_map node_of c.loop-next.next) ≡ nodes_from (Some s) = ap (λ next. nodes_from (option_map node_of next)) c.in-Some.is in
     let rest : nodes_from (option_map node_of c.next_sibling-next.result) ≡ s.later = ap nodes_from c.next_sibling-next.ensures ∙ nodes_from_first s.later in
     let all : start ++ root_children_entries c.loop-next.is_first (nodes_from (Some s)) payloads ≡ target =
     subst (λ nodes. start ++ root_children_entries c.loop-next.is_first nodes payloads ≡ target) here c.loop-next.invariant in
     let same : bytes_eq s.name images_name ≡ c.eq.result =
     ap (λ name. bytes_eq name images_name) (sym c.name.ensures) ∙ ap (bytes_eq c.name.result.now) (sym c.as_slice.ensures) ∙ sym c.eq.ensures in
-    let left : map tree_entry c.if-eq.entries.items ++ root_children_entries c.if-eq.is_first s.later payloads ≡ target = elim c.if-eq.branch [
+    let left : map as_entry c.if-eq.entries.items ++ root_children_entries c.if-eq.is_first s.later payloads ≡ target = elim c.if-eq.branch [
       | then-eq+in_ok-add_images w ↦
           rw (w.entries-is, w.is_first-is)
-          (appended_first start (begin_entries s.name (properties_by_name s.own) ++ (images_entries c.loop-next.is_first s.children payloads ++ NodeEnds ∷ [])) (root_children_entries false s.later payloads) target (map tree_entry w.add_images.new.entries.items)
+          (appended_first start (begin_entries s.name (properties_by_name s.own) ++ (images_entries c.loop-next.is_first s.children payloads ++ NodeEnds ∷ [])) (root_children_entries false s.later payloads) target (map as_entry w.add_images.new.entries.items)
           (ap (λ l. start ++ l) (sym (root-images c.loop-next.is_first s payloads (same ∙ w.if-eq.true))) ∙ all) w.in_ok-add_images.ensures.added)
       | else-eq+in_ok-add_node w ↦
           rw (w.entries-is, w.is_first-is)
-          (appended_first start (plain_entries (alone s)) (root_children_entries c.loop-next.is_first s.later payloads) target (map tree_entry w.add_node.new.entries.items)
+          (appended_first start (plain_entries (alone s)) (root_children_entries c.loop-next.is_first s.later payloads) target (map as_entry w.add_node.new.entries.items)
           (ap (λ l. start ++ l) (sym (root-other c.loop-next.is_first s payloads (same ∙ w.if-eq.false))) ∙ all) w.in_ok-add_node.ensures.added)
     ] in
     rw rest left
 
 pub returns-clause-added : goal.returns-clause-added
 returns-clause-added c =
-    let start = map tree_entry c.loop-next.entries.items in
+    let start = map as_entry c.loop-next.entries.items in
     let payloads = payloads_of c.args.images.now in
     let no_nodes = ap (λ next. nodes_from (option_map node_of next)) c.in_default.is in
     sym (append-nil start)

@@ -1,5 +1,5 @@
 use Rattle.std.proofs.Common.{◌++◌, map, sym, ap, ◌∙◌, append-nil}
-use Rattle.bi_legacy.specs.PlacedParts.{PlacedPart, placed_parts}
+use Rattle.bi_legacy.specs.PlacedParts.{PartModel, placed_parts}
 use Rattle.bi_commands.specs.Descriptions.{digest_of_payload}
 use Rattle.bi_commands.specs.TreeEntries.{digest_made}
 use Rattle.bi_commands.proofs.DescribedImages.{digests_of_bytes}
@@ -7,9 +7,9 @@ use Rattle.bi_commands.proofs.describe.legacy.digests_of.Goals as goal
 
 pub returns-clause-digests : goal.returns-clause-digests
 returns-clause-digests c =
-    let digest = λ (part : PlacedPart). digest_of_payload part.bytes in
+    let digest = λ (part : PartModel). digest_of_payload part.bytes in
     sym (append-nil (map digest_made c.loop-part.digests.items))
     ∙ ap (λ left. map digest_made c.loop-part.digests.items ++ map digest left) (sym c.in-None.ensures.steps.0)
     ∙ c.loop-part.invariant
     ∙ digests_of_bytes (placed_parts c.args.image.now.image)
-    ∙ ap (map digest_of_payload) (ap (map (λ (part : PlacedPart). part.bytes)) (sym c.parts-part-items.ensures.parts) ∙ c.parts-part-items.ensures.bytes)
+    ∙ ap (map digest_of_payload) (ap (map (λ (part : PartModel). part.bytes)) (sym c.parts-part-items.ensures.parts) ∙ c.parts-part-items.ensures.bytes)

@@ -3,7 +3,7 @@ use Rattle.bi_legacy.specs.Meaning.{image_of}
 use Rattle.bi_commands.specs.Descriptions.{Words, field_words, code_words, part_words}
 use Rattle.bi_commands.specs.Shown.{line}
 use Rattle.bi_commands.specs.TreeEntries.{digest_made}
-use Rattle.bi_commands.proofs.SinkChains.{first_fails, next_fails, last_writes}
+use Rattle.bi_commands.proofs.LineChains.{first_of_all_fails, next_fails, last_writes}
 use Rattle.bi_commands.proofs.DescriptionPieces.{three_texts, first_of_three}
 use Rattle.bi_commands.proofs.describe.legacy.put_legacy.Goals as goal
 
@@ -15,7 +15,7 @@ returns-in_err-put_kind_and_fields g c =
     let fields : List Words = (codes "kind" ∷ codes "legacy" ∷ []) ∷ field_words image in
     let codes_ : List Words = code_words image in
     let parts : List Words = part_words 0 (map digest_made c.args.parts.now) in
-    first_fails S.appends S.fails laws.fails_before c.args.sink.now c.put_kind_and_fields.new.sink (flat_map line fields) (flat_map line (codes_ ++ parts)) _ _ c.from_residual.result
+    first_of_all_fails S.appends S.fails laws.fails_before c.args.sink.now c.put_kind_and_fields.new.sink (flat_map line fields) (flat_map line (codes_ ++ parts)) _ _ c.from_residual.result
     (first_of_three fields codes_ parts) c.from_residual.ensures.1 c.in_err-put_kind_and_fields.ensures
 
 pub returns-in_err-put_codes : goal.returns-in_err-put_codes

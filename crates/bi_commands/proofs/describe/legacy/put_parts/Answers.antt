@@ -5,7 +5,7 @@ use Rattle.bi_commands.specs.Descriptions.{digest_words, part_words}
 use Rattle.bi_commands.specs.Shown.{line}
 use Rattle.bi_commands.specs.TreeEntries.{digest_made}
 use Rattle.bi_commands.proofs.DescriptionPieces.{parts_from}
-use Rattle.bi_commands.proofs.SinkChains.{next_fails}
+use Rattle.bi_commands.proofs.LineChains.{next_fails}
 use Rattle.bi_commands.proofs.describe.legacy.put_parts.Goals as goal
 
 -- The digest that stands in where there is none.

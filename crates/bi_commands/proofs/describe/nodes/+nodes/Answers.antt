@@ -3,10 +3,10 @@ use Rattle.std.specs.Option.{option_map}
 use Rattle.bi_blob.specs.Tree.{depth}
 use Rattle.bi_blob.specs.Lookups.{siblings}
 use Rattle.bi_fdt.specs.Views.{node_of}
-use Rattle.bi_fit.specs.Additions.{alone, properties_by_name}
+use Rattle.bi_fit.specs.NormalNodes.{alone, properties_by_name}
 use Rattle.bi_fit.proofs.NodeEvents.{nodes_from, nodes_from_first}
 use Rattle.bi_commands.specs.MadeEntries.{plain_entries, begin_entries}
-use Rattle.bi_commands.specs.TreeEntries.{tree_entry}
+use Rattle.bi_commands.specs.TreeEntries.{as_entry}
 use Rattle.bi_commands.proofs.EntriesOfNodes.{appended_first, plain-first, node_appended}
 use Rattle.bi_commands.proofs.describe.nodes.+nodes.Goals as goal
 
@@ -36,25 +36,25 @@ add_children-loop-next-smaller t c =
 pub add_children-loop-next-preserved : goal.add_children-loop-next-preserved
 add_children-loop-next-preserved t c =
     let s = node_of c.in-Some.child in
-    let target = map tree_entry c.args.entries.now.items ++ plain_entries (node_of c.args.node).children in
+    let target = map as_entry c.args.entries.now.items ++ plain_entries (node_of c.args.node).children in
     let here : nodes_from (option_map node_of c.loop-next.next) ≡ nodes_from (Some s) = ap (λ next. nodes_from (option_map node_of next)) c.in-Some.is in
     let rest : nodes_from (option_map node_of c.next_sibling-next.result) ≡ s.later = ap nodes_from c.next_sibling-next.ensures ∙ nodes_from_first s.later in
-    let left : map tree_entry c.loop-next.entries.items ++ (plain_entries (alone s) ++ plain_entries s.later) ≡ target =
-    ap (λ l. map tree_entry c.loop-next.entries.items ++ l) (sym (plain-first s))
-    ∙ subst (λ nodes. map tree_entry c.loop-next.entries.items ++ plain_entries nodes ≡ target) here c.loop-next.invariant.left in
+    let left : map as_entry c.loop-next.entries.items ++ (plain_entries (alone s) ++ plain_entries s.later) ≡ target =
+    ap (λ l. map as_entry c.loop-next.entries.items ++ l) (sym (plain-first s))
+    ∙ subst (λ nodes. map as_entry c.loop-next.entries.items ++ plain_entries nodes ≡ target) here c.loop-next.invariant.left in
     let shallow : max (depth s.children + 1) (depth s.later) ≤ depth (node_of c.args.node).children =
     subst (λ nodes. depth nodes ≤ depth (node_of c.args.node).children) here c.loop-next.invariant.shallow in
     rw rest (record {
-      left = appended_first (map tree_entry c.loop-next.entries.items) (plain_entries (alone s)) (plain_entries s.later) target (map tree_entry c.add_node.new.entries.items) left c.in_ok-add_node.ensures.added;
+      left = appended_first (map as_entry c.loop-next.entries.items) (plain_entries (alone s)) (plain_entries s.later) target (map as_entry c.add_node.new.entries.items) left c.in_ok-add_node.ensures.added;
       shallow = omega arith;
     })
 
 pub add_children-returns-clause-added : goal.add_children-returns-clause-added
 add_children-returns-clause-added t c =
-    let target = map tree_entry c.args.entries.now.items ++ plain_entries (node_of c.args.node).children in
+    let target = map as_entry c.args.entries.now.items ++ plain_entries (node_of c.args.node).children in
     let none_left = ap (λ next. nodes_from (option_map node_of next)) c.in_default.is in
-    sym (append-nil (map tree_entry c.loop-next.entries.items))
-    ∙ subst (λ nodes. map tree_entry c.loop-next.entries.items ++ plain_entries nodes ≡ target) none_left c.loop-next.invariant.left
+    sym (append-nil (map as_entry c.loop-next.entries.items))
+    ∙ subst (λ nodes. map as_entry c.loop-next.entries.items ++ plain_entries nodes ≡ target) none_left c.loop-next.invariant.left
 
 pub add_node-add_children-requires : goal.add_node-add_children-requires
 add_node-add_children-requires t c = (omega arith, tt)
@@ -62,6 +62,6 @@ add_node-add_children-requires t c = (omega arith, tt)
 pub add_node-returns-clause-added : goal.add_node-returns-clause-added
 add_node-returns-clause-added t c =
     let s = node_of c.args.node in
-    node_appended (map tree_entry c.args.entries.now.items) (begin_entries s.name (properties_by_name s.own)) (plain_entries s.children)
-    (map tree_entry c.begin_node.new.entries.items) c.add_children.new.entries.items c.push.new.self.items
+    node_appended (map as_entry c.args.entries.now.items) (begin_entries s.name (properties_by_name s.own)) (plain_entries s.children)
+    (map as_entry c.begin_node.new.entries.items) c.add_children.new.entries.items c.push.new.self.items
     c.in_ok-begin_node.ensures.added c.in_ok-add_children.ensures.added c.in_ok-push.ensures.items

@@ -6,7 +6,7 @@ use Rattle.std.proofs.lemmas.Option.{slice_get-get_or}
 use Rattle.bi_blob.specs.Tree.{property_of, properties_of}
 use Rattle.bi_fdt.specs.Views.{node_of}
 use Rattle.bi_commands.specs.SortedProperties.{by_name}
-use Rattle.bi_commands.proofs.PropertiesByName.{properties_sorted, by_name-insert, by_name-none, from_index, from_end}
+use Rattle.bi_commands.proofs.PropertiesByName.{slices_sorted, by_name-insert, by_name-none, from_index, from_end}
 use Rattle.bi_commands.proofs.describe.properties.properties_of.Goals as goal
 
 pub loop-index-init : goal.loop-index-init
@@ -16,7 +16,7 @@ loop-index-init c =
     c.property_count-index.ensures ∙ sym (length-map (node_of c.args.node).own.properties property_of) in
     record {
       all = ap by_name c.new-properties.ensures.empty ∙ by_name-none ∙ sym (from_end properties c.property_count-index.result count);
-      ordered = properties_sorted c.new-properties.result.entries c.new-properties.ensures.ordered;
+      ordered = slices_sorted c.new-properties.result.entries c.new-properties.ensures.ordered;
       within = omega (arith, count);
     }
 
@@ -31,7 +31,7 @@ loop-index-preserved-in_ok-insert c =
       all = by_name-insert _ _ c.in-Some.name c.in-Some.value c.in_ok-insert.ensures.was_ordered c.in_ok-insert.ensures.ordered c.in_ok-insert.ensures.entries
           ∙ ap (λ m. insert m c.in-Some.name.now c.in-Some.value.now) (c.loop-index.invariant.all ∙ ap (λ i. from_entries (drop i properties)) (sym next))
           ∙ sym (from_index properties index c.in-Some.name.now c.in-Some.value.now within here);
-      ordered = properties_sorted _ c.in_ok-insert.ensures.ordered;
+      ordered = slices_sorted _ c.in_ok-insert.ensures.ordered;
       within = omega (arith, within);
     }
 

@@ -1,11 +1,11 @@
 use Rattle.std.proofs.Common.{◌∷◌, ◌++◌, [], refl, flat_map}
 use Rattle.bi_commands.specs.DescribedValues.{quoted_byte}
-use Rattle.bi_commands.proofs.SinkChains.{first_fails, next_fails, last_writes}
+use Rattle.bi_commands.proofs.LineChains.{first_of_all_fails, next_fails, last_writes}
 use Rattle.bi_commands.proofs.describe.values.put_texts.Goals as goal
 
 pub returns-in_err-put : goal.returns-in_err-put
 returns-in_err-put g c =
-    first_fails g.S.Sink.appends g.S.Sink.fails g.met.S.Sink.fails_before c.args.sink.now c.put.new.self (34 ∷ []) (flat_map quoted_byte c.args.texts.now ++ 34 ∷ []) _ _ c.from_residual.result
+    first_of_all_fails g.S.Sink.appends g.S.Sink.fails g.met.S.Sink.fails_before c.args.sink.now c.put.new.self (34 ∷ []) (flat_map quoted_byte c.args.texts.now ++ 34 ∷ []) _ _ c.from_residual.result
     refl c.from_residual.ensures.1 c.in_err-put.ensures
 
 pub returns-in_err-put_quoted_bytes : goal.returns-in_err-put_quoted_bytes

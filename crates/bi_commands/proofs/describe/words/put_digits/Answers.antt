@@ -3,7 +3,7 @@ use Rattle.std.specs.Slice.Iter.{chunks_rest}
 use Rattle.std.proofs.lemmas.Grind.{flat_map-append}
 use Rattle.bi_commands.specs.Shown.{digits_of_byte}
 use Rattle.bi_commands.specs.ValueTexts.{hexadecimal_digits}
-use Rattle.bi_commands.proofs.SinkChains.{one_more_appended}
+use Rattle.bi_commands.proofs.LineChains.{one_more_appended}
 use Rattle.bi_commands.proofs.describe.words.put_digits.Goals as goal
 
 pub loop-piece-preserved : goal.loop-piece-preserved

@@ -1,12 +1,12 @@
 use Rattle.std.proofs.Common.{◌∷◌, [], refl}
 use Rattle.bi_base.specs.Cells.{cell8}
 use Rattle.bi_commands.specs.ValueTexts.{hexadecimal_digits}
-use Rattle.bi_commands.proofs.SinkChains.{first_fails, last_writes}
+use Rattle.bi_commands.proofs.LineChains.{first_of_all_fails, last_writes}
 use Rattle.bi_commands.proofs.describe.words.put_hexadecimal_64.Goals as goal
 
 pub returns-in_err-put : goal.returns-in_err-put
 returns-in_err-put g c =
-    first_fails g.S.Sink.appends g.S.Sink.fails g.met.S.Sink.fails_before c.args.sink.now c.put.new.self (48 ∷ 120 ∷ []) (hexadecimal_digits (cell8 c.args.number)) _ _ c.from_residual.result
+    first_of_all_fails g.S.Sink.appends g.S.Sink.fails g.met.S.Sink.fails_before c.args.sink.now c.put.new.self (48 ∷ 120 ∷ []) (hexadecimal_digits (cell8 c.args.number)) _ _ c.from_residual.result
     refl c.from_residual.ensures.1 c.in_err-put.ensures
 
 pub returns : goal.returns

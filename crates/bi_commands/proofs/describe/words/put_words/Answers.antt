@@ -2,7 +2,7 @@ use Rattle.std.proofs.Common.{◌-◌, ◌∷◌, [], flat_map, get_or, drop, ta
 use Rattle.bi_commands.specs.declared.describe.words.Word.TheVariants.{Text}
 use Rattle.bi_commands.specs.WrittenWords.{word_text}
 use Rattle.bi_commands.proofs.DescriptionPieces.{words_split}
-use Rattle.bi_commands.proofs.SinkChains.{last_writes}
+use Rattle.bi_commands.proofs.LineChains.{last_writes}
 use Rattle.bi_commands.proofs.describe.words.put_words.Goals as goal
 
 pub returns-in_ok-put_word-in-len1-up : goal.returns-in_ok-put_word-in-len1-up

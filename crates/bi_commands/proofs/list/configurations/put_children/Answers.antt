@@ -4,7 +4,7 @@ use Rattle.bi_blob.specs.Lookups.{siblings, siblings_from}
 use Rattle.bi_fdt.specs.Views.{node_of}
 use Rattle.bi_fit.proofs.Siblings.{from_first, from_next}
 use Rattle.bi_commands.specs.ReadListing.{configuration_node_lines}
-use Rattle.bi_commands.proofs.SinkChains.{next_fails}
+use Rattle.bi_commands.proofs.LineChains.{next_fails}
 use Rattle.bi_commands.proofs.list.configurations.put_children.Goals as goal
 
 pub loop-next-init : goal.loop-next-init

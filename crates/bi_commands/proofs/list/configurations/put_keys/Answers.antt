@@ -4,9 +4,9 @@ use Rattle.bi_fdt.specs.Views.{node_of}
 use Rattle.bi_fit.specs.declared.key.Key.{Key}
 use Rattle.bi_fit.specs.declared.key.Key.TheVariants.{Kernel}
 use Rattle.bi_fit.specs.Names.{all_keys}
-use Rattle.bi_fit.specs.Nodes.{file_listed}
+use Rattle.bi_fit.specs.HashNodes.{file_listed}
 use Rattle.bi_commands.specs.FitListing.{key_line}
-use Rattle.bi_commands.proofs.SinkChains.{next_piece_appended}
+use Rattle.bi_commands.proofs.LineChains.{next_piece_appended}
 use Rattle.bi_commands.proofs.list.configurations.put_keys.Goals as goal
 
 pub returns-in_err-put_key : goal.returns-in_err-put_key

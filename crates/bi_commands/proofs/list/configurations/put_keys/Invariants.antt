@@ -2,7 +2,7 @@ use Rattle.std.proofs.Common.{take, flat_map}
 use Rattle.bi_fdt.specs.Views.{node_of}
 use Rattle.bi_fit.specs.declared.key.Key.{Key}
 use Rattle.bi_fit.specs.Names.{all_keys}
-use Rattle.bi_fit.specs.Nodes.{file_listed}
+use Rattle.bi_fit.specs.HashNodes.{file_listed}
 use Rattle.bi_commands.specs.FitListing.{key_line}
 use Rattle.bi_commands.proofs.list.configurations.put_keys.Given as goal
 

@@ -3,7 +3,7 @@ use Rattle.std.specs.Fmt.{decimal}
 use Rattle.bi_base.specs.Sinks.{Wrote}
 use Rattle.bi_fit.specs.Judgement.{listed_names}
 use Rattle.bi_commands.specs.FitListing.{key_line}
-use Rattle.bi_commands.specs.Shown.{line, shown}
+use Rattle.bi_commands.specs.Shown.{line, shown_text}
 use Rattle.bi_commands.proofs.ListedNames.{missing_is, images_line}
 use Rattle.bi_commands.proofs.list.configurations.put_list.Goals as goal
 
@@ -13,7 +13,7 @@ returns-in-Some g c =
     let index = c.in-Some.index in
     let missing = missing_is c.args.fit.now.images 0 index (listed_names c.args.value.now) (sym c.in-Some.ensures) in
     subst (λ bytes. Wrote g.S.Sink.appends g.S.Sink.fails c.args.sink.now bytes c.put_line.result c.put_line.new.sink)
-    (ap (λ word. line (codes "key" ∷ shown name ∷ word ∷ codes "missing" ∷ decimal index ∷ [])) (c.as_bytes.ensures.value ∙ c.key_word.ensures)
+    (ap (λ word. line (codes "key" ∷ shown_text name ∷ word ∷ codes "missing" ∷ decimal index ∷ [])) (c.as_bytes.ensures.value ∙ c.key_word.ensures)
     ∙ sym (ap (key_line name c.args.key) missing))
     c.put_line.ensures
 

@@ -5,7 +5,7 @@ use Rattle.bi_commands.specs.Descriptions.{field_words, code_words}
 use Rattle.bi_commands.specs.Listing.{parts_lines}
 use Rattle.bi_commands.specs.Shown.{line}
 use Rattle.bi_commands.proofs.ListedFiles.{legacy_pieces, one_more_piece}
-use Rattle.bi_commands.proofs.SinkChains.{first_fails, next_fails, last_writes}
+use Rattle.bi_commands.proofs.LineChains.{first_of_all_fails, next_fails, last_writes}
 use Rattle.bi_commands.proofs.list.legacy.list_legacy.Goals as goal
 
 pub returns-in_err-put_kind_and_fields : goal.returns-in_err-put_kind_and_fields
@@ -17,7 +17,7 @@ returns-in_err-put_kind_and_fields g c =
     let one : List ℕ = flat_map line ((codes "kind" ∷ codes "legacy" ∷ []) ∷ field_words (image_of fields [])) in
     let two : List ℕ = flat_map line (code_words (image_of fields [])) in
     let rest : List ℕ = parts_lines parsed.image ++ line (codes "unused" ∷ decimal parsed.unused ∷ []) in
-    first_fails S.appends S.fails laws.fails_before c.args.sink.now c.put_kind_and_fields.new.sink one (two ++ rest) _ _ c.from_residual.result
+    first_of_all_fails S.appends S.fails laws.fails_before c.args.sink.now c.put_kind_and_fields.new.sink one (two ++ rest) _ _ c.from_residual.result
     (legacy_pieces parsed fields parsed.unused c.fields-fields.ensures refl) c.from_residual.ensures.1 c.in_err-put_kind_and_fields.ensures
 
 pub returns-in_err-put_codes : goal.returns-in_err-put_codes

@@ -2,7 +2,7 @@ use Rattle.std.proofs.Common.{ℕ, List, [], ◌∷◌, ◌++◌, codes, length,
 use Rattle.std.specs.Fmt.{decimal}
 use Rattle.bi_commands.proofs.ListedFiles.{one_more_piece}
 use Rattle.bi_commands.proofs.PartLines.{part_pieces}
-use Rattle.bi_commands.proofs.SinkChains.{first_fails, next_fails, last_writes}
+use Rattle.bi_commands.proofs.LineChains.{first_of_all_fails, next_fails, last_writes}
 use Rattle.bi_commands.proofs.list.legacy.put_part.Goals as goal
 
 pub returns-in_err-put_text_and_number : goal.returns-in_err-put_text_and_number
@@ -13,7 +13,7 @@ returns-in_err-put_text_and_number g c =
     let two : List ℕ = codes " size " ++ decimal (length c.args.part.now.bytes.now) in
     let three : List ℕ = codes " at " ++ decimal c.args.part.now.place in
     let four : List ℕ = 10 ∷ [] in
-    first_fails S.appends S.fails laws.fails_before c.args.sink.now c.put_text_and_number.new.sink one (two ++ (three ++ four)) _ _ c.from_residual.result
+    first_of_all_fails S.appends S.fails laws.fails_before c.args.sink.now c.put_text_and_number.new.sink one (two ++ (three ++ four)) _ _ c.from_residual.result
     (part_pieces c.args.index (length c.args.part.now.bytes.now) (c.args.part.now.place) c.args.part.now.place refl) c.from_residual.ensures.1 c.in_err-put_text_and_number.ensures
 
 pub returns-in_err-put_text_and_number-2 : goal.returns-in_err-put_text_and_number-2

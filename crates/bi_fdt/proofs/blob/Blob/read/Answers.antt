@@ -7,24 +7,24 @@ use Rattle.bi_blob.specs.BlobFaults.{IsStructureFault}
 use Rattle.bi_blob.proofs.Blobs.OneBlob.{one_blob}
 use Rattle.bi_blob.proofs.Blobs.Faults.{blob_has_no_fault}
 use Rattle.bi_fdt.specs.Reading.{HasTable}
-use Rattle.bi_fdt.proofs.Contents.{only_fault, refused_in_tree, is_held, is_blob, is_blob_within}
+use Rattle.bi_fdt.proofs.BlobViews.{only_fault, refused_in_tree, is_held, is_blob, is_blob_within}
 use Rattle.bi_blob.proofs.Blobs.BeforeTree.{first_fault}
 use Rattle.bi_fdt.proofs.blob.Blob.read.Goals as goal
 
-pub returns-in_err-reservation_count-clause-refused : goal.returns-in_err-reservation_count-clause-refused
-returns-in_err-reservation_count-clause-refused c =
+pub returns-in_err-reservation_count-clause-failed : goal.returns-in_err-reservation_count-clause-failed
+returns-in_err-reservation_count-clause-failed c =
     error_passed_on _ _ _ c.from_residual.ensures.1
     (only_fault c.args.limits c.args.file.now c.in_err-reservation_count.field-0.0
     (first_fault c.args.limits c.args.file.now c.in_err-reservation_count.field-0.0 c.in_err-reservation_count.ensures.fault))
 
-pub returns-in_err-entries-clause-refused : goal.returns-in_err-entries-clause-refused
-returns-in_err-entries-clause-refused c =
+pub returns-in_err-entries-clause-failed : goal.returns-in_err-entries-clause-failed
+returns-in_err-entries-clause-failed c =
     let depth : c.from.result ≡ c.args.limits.depth = search rules in
     error_passed_on _ _ _ c.from_residual-in_err-entries.ensures.1
     (refused_in_tree c.args.limits c.args.file.now c.in_ok-reservation_count.reservation_count c.in_err-entries.field-0.0
     c.in_ok-reservation_count.ensures.header c.in_ok-reservation_count.ensures.reservations
     (subst (λ n. IsRefusal (IsStructureFault (tree_blocks c.args.file.now) n) c.in_err-entries.field-0.0) depth
-    (subst (λ b. IsRefusal (IsStructureFault b c.from.result) c.in_err-entries.field-0.0) c.tree_blocks-blocks.ensures c.in_err-entries.ensures.fault)))
+    (subst (λ b. IsRefusal (IsStructureFault b c.from.result) c.in_err-entries.field-0.0) c.tree_blocks-blocks.ensures c.in_err-entries.ensures.failed)))
 
 pub invariant_of-result : goal.invariant_of-result
 invariant_of-result c =

@@ -1,7 +1,7 @@
 use Rattle.std.proofs.Common.{◌≡◌, ℕ, ◌+◌, ◌*◌, map, slice_get, Some, sym, ap, ◌∙◌, arith}
 use Rattle.bi_base.specs.Cells.{u64_at}
 use Rattle.bi_blob.specs.Blob.{off_mem_rsvmap}
-use Rattle.bi_fdt.proofs.Contents.{numbers, reservation_at, no_reservation_at}
+use Rattle.bi_fdt.proofs.BlobViews.{numbers, reservation_at, no_reservation_at}
 use Rattle.bi_fdt.proofs.blob.Blob.reservation.Goals as goal
 
 pub returns-then-index-self : goal.returns-then-index-self

@@ -1,6 +1,6 @@
 use Rattle.std.proofs.Common.{◌≡◌, ℕ, ◌+◌, ◌-◌, ◌*◌, ◌/◌, ◌%◌, ◌≤◌, length, drop, sym, ap, ◌∙◌, arith, rules}
 use Rattle.bi_blob.specs.Tokens.{name_from}
-use Rattle.bi_fdt.specs.Digests.{digest_of}
+use Rattle.bi_fdt.specs.Digests.{digest_of_name}
 use Rattle.bi_fdt.proofs.NameDigests.{name_from-later, name_within}
 use Rattle.bi_fdt.proofs.strings.Strings.digest_at.Goals as goal
 
@@ -16,5 +16,5 @@ longer_digest-requires-clause-later c =
     let counted : c.len.result ≡ length c.self.inside.digests.items = search rules in
     let place : 64 * (length c.self.inside.digests.items - 1 - (c.len.result - 1 - (at / 64 + 1))) ≡ at + (64 - at % 64) = omega arith in
     c.index.ensures ∙ are.each (c.len.result - 1 - (at / 64 + 1)) _ (omega arith)
-    ∙ ap (λ k. digest_of (name_from bytes k)) place
-    ∙ ap digest_of (name_from-later bytes at (64 - at % 64) (omega arith) ∙ ap (drop (64 - at % 64)) name)
+    ∙ ap (λ k. digest_of_name (name_from bytes k)) place
+    ∙ ap digest_of_name (name_from-later bytes at (64 - at % 64) (omega arith) ∙ ap (drop (64 - at % 64)) name)

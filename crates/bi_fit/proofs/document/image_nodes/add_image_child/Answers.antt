@@ -2,14 +2,15 @@ use Rattle.std.proofs.Common.{◌≡◌, sym, ap, subst, ◌∙◌}
 use Rattle.bi_blob.specs.Events.{events}
 use Rattle.bi_fdt.specs.Views.{node_of}
 use Rattle.bi_fit.specs.TakenDigests.{algorithm_if_hashed}
-use Rattle.bi_fit.specs.Additions.{MayAdd, with_events, begin_events, properties_by_name, sorted_nodes}
-use Rattle.bi_fit.proofs.Adding.{may_begin, may_have_children, may_end}
+use Rattle.bi_fit.specs.NormalNodes.{MayAdd, with_events, begin_events, properties_by_name, sorted_nodes}
+use Rattle.bi_fit.proofs.AddedEvents.{may_begin, may_have_children, may_end}
 use Rattle.bi_fit.proofs.ImageNodes.{child_begin, child_begins}
 use Rattle.bi_fit.proofs.document.image_nodes.add_image_child.Goals as goal
 use Rattle.bi_fit.proofs.document.image_nodes.add_image_child.Goals.{After-name, then-hashed, else-hashed}
 
 -- The events with which the node begins.
-begins : (c : After-name) → begin_events c.name.result.now c.set_digest.new.self ≡ child_begin c.args.hashed c.args.digests.now (node_of c.args.node)
+begins : (c : After-name) → begin_events c.name.result.now c.set_digest.new.self
+    ≡ child_begin c.args.hashed c.args.digests.now (node_of c.args.node)
 begins c =
     let s = node_of c.args.node in
     let algo : c.if-hashed.algo ≡ algorithm_if_hashed c.args.hashed s.name (properties_by_name s.own) = elim c.if-hashed.branch [

@@ -6,7 +6,7 @@ use Rattle.bi_blob.specs.Lookups.{siblings}
 use Rattle.bi_blob.specs.Events.{events}
 use Rattle.bi_fdt.specs.Views.{node_of}
 use Rattle.bi_fit.specs.TakenDigests.{algorithm_if_hashed, after_digest, HaveDigests, after_digests}
-use Rattle.bi_fit.specs.Additions.{with_events, HasDistinctNames, properties_by_name, nodes_by_name, sorted_nodes, sorted_image_children}
+use Rattle.bi_fit.specs.NormalNodes.{with_events, HasDistinctNames, properties_by_name, nodes_by_name, sorted_nodes, sorted_image_children}
 use Rattle.bi_fit.proofs.NodeEvents.{nodes_from, nodes_from_first, IsAdding, adding_all, may_add_first, adding_later}
 use Rattle.bi_fit.proofs.ImageNodes.{child_properties}
 use Rattle.bi_fit.proofs.document.image_nodes.add_image_children.Goals as goal

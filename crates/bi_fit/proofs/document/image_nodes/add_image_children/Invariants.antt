@@ -5,7 +5,7 @@ use Rattle.bi_blob.specs.Lookups.{siblings}
 use Rattle.bi_blob.specs.Events.{events}
 use Rattle.bi_fdt.specs.Views.{node_of}
 use Rattle.bi_fit.specs.TakenDigests.{HaveDigests, after_digests}
-use Rattle.bi_fit.specs.Additions.{with_events, HasDistinctNames, nodes_by_name, sorted_image_children}
+use Rattle.bi_fit.specs.NormalNodes.{with_events, HasDistinctNames, nodes_by_name, sorted_image_children}
 use Rattle.bi_fit.proofs.NodeEvents.{nodes_from, IsAdding}
 use Rattle.bi_fit.proofs.document.image_nodes.add_image_children.Given as goal
 

@@ -1,13 +1,14 @@
 use Rattle.std.proofs.Common.{◌≡◌, sym, ap, subst, ◌∙◌}
 use Rattle.bi_blob.specs.Events.{events}
 use Rattle.bi_fdt.specs.Views.{node_of}
-use Rattle.bi_fit.specs.Additions.{MayAdd, with_events, begin_events, sorted_image_children}
-use Rattle.bi_fit.proofs.Adding.{may_begin, may_have_children, may_end}
+use Rattle.bi_fit.specs.NormalNodes.{MayAdd, with_events, begin_events, sorted_image_children}
+use Rattle.bi_fit.proofs.AddedEvents.{may_begin, may_have_children, may_end}
 use Rattle.bi_fit.proofs.document.image_nodes.add_image_node.Goals as goal
 use Rattle.bi_fit.proofs.document.image_nodes.add_image_node.Goals.{After-name}
 
 -- The events with which the node begins.
-begins : (c : After-name) → begin_events c.name.result.now c.args.properties.now ≡ begin_events (node_of c.args.node).name c.args.properties.now
+begins : (c : After-name) → begin_events c.name.result.now c.args.properties.now
+    ≡ begin_events (node_of c.args.node).name c.args.properties.now
 begins c = ap (λ name. begin_events name c.args.properties.now) c.name.ensures
 
 pub begin_with-requires : goal.begin_with-requires

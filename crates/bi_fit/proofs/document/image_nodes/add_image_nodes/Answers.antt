@@ -8,9 +8,10 @@ use Rattle.bi_blob.specs.Events.{events}
 use Rattle.bi_blob.specs.Layout.{longest_text}
 use Rattle.bi_fdt.specs.Views.{node_of}
 use Rattle.bi_fit.specs.Text.{end_after}
-use Rattle.bi_fit.specs.Content.{read_image}
+use Rattle.bi_fit.specs.Content.{image_model}
 use Rattle.bi_fit.specs.TakenDigests.{is_hashed, after_digests, HaveImageDigests}
-use Rattle.bi_fit.specs.Additions.{MayAdd, with_events, HasDistinctNames, AreWithin, payloads_of, nodes_by_name, image_properties, sorted_image, sorted_image_children, sorted_images}
+use Rattle.bi_fit.specs.NormalNodes.{MayAdd, with_events, HasDistinctNames, AreWithin, payloads_of, nodes_by_name, image_properties}
+use Rattle.bi_fit.specs.NormalNodes.{sorted_image, sorted_image_children, sorted_images}
 use Rattle.bi_fit.proofs.NodeEvents.{nodes_from, nodes_from_first, IsAdding, adding_all, may_add_first, adding_later}
 use Rattle.bi_fit.proofs.PayloadEnds.{no_image, payloads_from}
 use Rattle.bi_fit.proofs.ImageNodes.{next_end, images-later, within_sized, within_first, within_later}
@@ -32,7 +33,7 @@ loop-image-init c =
 
 pub image_properties-requires-clause-sized : goal.image_properties-requires-clause-sized
 image_properties-requires-clause-sized c =
-    let payload : Option (List ℕ) = (read_image (get_or c.args.images.now c.loop-image.image-index no_image)).payload in
+    let payload : Option (List ℕ) = (image_model (get_or c.args.images.now c.loop-image.image-index no_image)).payload in
     let later = payloads_of (drop (c.loop-image.image-index + 1) c.args.images.now) in
     within_sized c.args.form c.loop-image.end payload later
     (subst (AreWithin c.args.form c.loop-image.end) (payloads_from c.args.images.now c.loop-image.image-index c.loop-image-test.true) c.loop-image.invariant.within)
@@ -42,7 +43,7 @@ add_image_node-requires-clause-may c =
     let s = node_of c.in-Some.child in
     let hashes = c.args.changes.hashes in
     let left = c.loop-image.left.now in
-    let payload : Option (List ℕ) = (read_image (get_or c.args.images.now c.loop-image.image-index no_image)).payload in
+    let payload : Option (List ℕ) = (image_model (get_or c.args.images.now c.loop-image.image-index no_image)).payload in
     let later = payloads_of (drop (c.loop-image.image-index + 1) c.args.images.now) in
     let target = with_events c.args.doc.now (events (sorted_images hashes c.args.form 0 (payloads_of c.args.images.now) c.args.digests.now (node_of c.args.node).children)) in
     let adding : IsAdding c.loop-image.doc target (sorted_images hashes c.args.form c.loop-image.end (payload ∷ later) left (nodes_from (Some s))) =
@@ -61,7 +62,7 @@ loop-image-preserved c =
     let s = node_of c.in-Some.child in
     let hashes = c.args.changes.hashes in
     let left = c.loop-image.left.now in
-    let payload : Option (List ℕ) = (read_image (get_or c.args.images.now c.loop-image.image-index no_image)).payload in
+    let payload : Option (List ℕ) = (image_model (get_or c.args.images.now c.loop-image.image-index no_image)).payload in
     let later = payloads_of (drop (c.loop-image.image-index + 1) c.args.images.now) in
     let target = with_events c.args.doc.now (events (sorted_images hashes c.args.form 0 (payloads_of c.args.images.now) c.args.digests.now (node_of c.args.node).children)) in
     let here : nodes_from (option_map node_of c.loop-image.next) ≡ nodes_from (Some s) = ap (λ next. nodes_from (option_map node_of next)) c.in-Some.is in

@@ -6,7 +6,7 @@ use Rattle.bi_blob.specs.Events.{events}
 use Rattle.bi_blob.specs.Layout.{longest_text}
 use Rattle.bi_fdt.specs.Views.{node_of}
 use Rattle.bi_fit.specs.TakenDigests.{HaveImageDigests}
-use Rattle.bi_fit.specs.Additions.{with_events, HasDistinctNames, AreWithin, payloads_of, nodes_by_name, sorted_images}
+use Rattle.bi_fit.specs.NormalNodes.{with_events, HasDistinctNames, AreWithin, payloads_of, nodes_by_name, sorted_images}
 use Rattle.bi_fit.proofs.NodeEvents.{nodes_from, IsAdding}
 use Rattle.bi_fit.proofs.document.image_nodes.add_image_nodes.Given as goal
 

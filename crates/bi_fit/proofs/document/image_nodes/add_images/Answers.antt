@@ -1,7 +1,7 @@
 use Rattle.bi_blob.specs.Events.{events}
 use Rattle.bi_fdt.specs.Views.{node_of}
-use Rattle.bi_fit.specs.Additions.{payloads_of, properties_by_name, begin_events, sorted_images}
-use Rattle.bi_fit.proofs.Adding.{may_begin, may_have_children, may_end}
+use Rattle.bi_fit.specs.NormalNodes.{payloads_of, properties_by_name, begin_events, sorted_images}
+use Rattle.bi_fit.proofs.AddedEvents.{may_begin, may_have_children, may_end}
 use Rattle.bi_fit.proofs.document.image_nodes.add_images.Goals as goal
 
 pub begin_node-requires-clause-may : goal.begin_node-requires-clause-may

@@ -5,8 +5,8 @@ use Rattle.bi_blob.specs.Tree.{EachOwn, depth}
 use Rattle.bi_blob.specs.Lookups.{siblings}
 use Rattle.bi_blob.specs.Events.{events}
 use Rattle.bi_fdt.specs.Views.{node_of}
-use Rattle.bi_fit.specs.Additions.{with_events, HasDistinctNames, begin_events, properties_by_name, sorted_nodes}
-use Rattle.bi_fit.proofs.Adding.{may_begin, may_have_children, may_end}
+use Rattle.bi_fit.specs.NormalNodes.{with_events, HasDistinctNames, begin_events, properties_by_name, sorted_nodes}
+use Rattle.bi_fit.proofs.AddedEvents.{may_begin, may_have_children, may_end}
 use Rattle.bi_fit.proofs.NodeEvents.{nodes_from, nodes_from_first, IsAdding, adding_all, may_add_first, adding_later}
 use Rattle.bi_fit.proofs.document.nodes.+nodes.Goals as goal
 

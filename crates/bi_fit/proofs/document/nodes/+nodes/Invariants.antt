@@ -4,7 +4,7 @@ use Rattle.bi_blob.specs.Tree.{EachOwn, depth}
 use Rattle.bi_blob.specs.Lookups.{siblings}
 use Rattle.bi_blob.specs.Events.{events}
 use Rattle.bi_fdt.specs.Views.{node_of}
-use Rattle.bi_fit.specs.Additions.{with_events, HasDistinctNames, sorted_nodes}
+use Rattle.bi_fit.specs.NormalNodes.{with_events, HasDistinctNames, sorted_nodes}
 use Rattle.bi_fit.proofs.NodeEvents.{nodes_from, IsAdding}
 use Rattle.bi_fit.proofs.document.nodes.+nodes.Given as goal
 

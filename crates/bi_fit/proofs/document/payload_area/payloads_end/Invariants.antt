@@ -1,6 +1,6 @@
 use Rattle.std.proofs.Common.{◌≡◌, ◌≤◌, drop}
 use Rattle.bi_fit.specs.Text.{payloads_end}
-use Rattle.bi_fit.specs.Additions.{payloads_of}
+use Rattle.bi_fit.specs.NormalNodes.{payloads_of}
 use Rattle.bi_fit.proofs.document.payload_area.payloads_end.Given as goal
 
 abbrev pub invariant-loop-image : goal.invariant-loop-image

@@ -5,7 +5,8 @@ use Rattle.bi_blob.specs.Tree.{EachOwn}
 use Rattle.bi_blob.specs.Lookups.{siblings}
 use Rattle.bi_blob.specs.Events.{events}
 use Rattle.bi_fdt.specs.Views.{node_of}
-use Rattle.bi_fit.specs.Additions.{with_events, HasDistinctNames, HaveImageNodes, AreImageNodes, payloads_of, properties_by_name, sorted_below, sorted_root_children}
+use Rattle.bi_fit.specs.NormalNodes.{with_events, HasDistinctNames, HaveImageNodes, AreImageNodes, payloads_of, properties_by_name}
+use Rattle.bi_fit.specs.NormalNodes.{sorted_below, sorted_root_children}
 use Rattle.bi_fit.proofs.NodeEvents.{nodes_from, nodes_from_first, IsAdding, adding_all, may_add_first, adding_later}
 use Rattle.bi_fit.proofs.document.tree.add_root_children.Goals as goal
 

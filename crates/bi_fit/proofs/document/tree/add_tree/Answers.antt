@@ -2,13 +2,14 @@ use Rattle.std.proofs.Common.{◌≡◌, sym, ap, subst, ◌∙◌}
 use Rattle.bi_blob.specs.Events.{events}
 use Rattle.bi_fdt.specs.Views.{node_of}
 use Rattle.bi_fit.specs.Updating.{with_time}
-use Rattle.bi_fit.specs.Additions.{MayAdd, with_events, payloads_of, properties_by_name, begin_events, sorted_root_children}
-use Rattle.bi_fit.proofs.Adding.{begin_events-same, may_begin, may_have_children, may_end}
+use Rattle.bi_fit.specs.NormalNodes.{MayAdd, with_events, payloads_of, properties_by_name, begin_events, sorted_root_children}
+use Rattle.bi_fit.proofs.AddedEvents.{begin_events-same, may_begin, may_have_children, may_end}
 use Rattle.bi_fit.proofs.document.tree.add_tree.Goals as goal
 use Rattle.bi_fit.proofs.document.tree.add_tree.Goals.{After-name}
 
 -- The events with which the root begins.
-begins : (c : After-name) → begin_events c.name.result.now c.set_time.new.self ≡ begin_events (node_of c.args.root).name (with_time c.args.changes.time (properties_by_name (node_of c.args.root).own))
+begins : (c : After-name) → begin_events c.name.result.now c.set_time.new.self
+    ≡ begin_events (node_of c.args.root).name (with_time c.args.changes.time (properties_by_name (node_of c.args.root).own))
 begins c =
     let s = node_of c.args.root in
     begin_events-same c.name.result.now s.name c.set_time.new.self (with_time c.args.changes.time (properties_by_name s.own)) c.name.ensures

@@ -7,7 +7,7 @@ use Rattle.bi_blob.specs.Lookups.{Sibling}
 use Rattle.bi_fdt.specs.Content.{root_of}
 use Rattle.bi_fdt.specs.Views.{node_of}
 use Rattle.bi_fit.specs.ImageTree.{image_nodes}
-use Rattle.bi_fit.specs.Content.{read_image, HasIndices}
+use Rattle.bi_fit.specs.Content.{image_model, HasIndices}
 use Rattle.bi_fit.specs.Reading.{IsOnlyFitFault}
 use Rattle.bi_fit.proofs.ReadErrors.{blob_error}
 use Rattle.bi_fit.proofs.ReadBlobs.{found_images, no_images, images_have_data, images_error, is_held, is_read}
@@ -17,7 +17,7 @@ use Rattle.bi_fit.proofs.fit.Fit.read.Goals.{In-Some}
 pub returns-in_err-blob-clause-failed : goal.returns-in_err-blob-clause-failed
 returns-in_err-blob-clause-failed c =
     error_passed_on _ _ _ c.from_residual.ensures.1
-    (blob_error c.args.limits c.args.file.now c.in_err-blob.field-0.0 c.in_err-blob.ensures.refused)
+    (blob_error c.args.limits c.args.file.now c.in_err-blob.field-0.0 c.in_err-blob.ensures.failed)
 
 pub returns-in_default-clause-failed : goal.returns-in_default-clause-failed
 returns-in_default-clause-failed c =
@@ -41,7 +41,7 @@ pub returns-in_err-images-clause-failed : goal.returns-in_err-images-clause-fail
 returns-in_err-images-clause-failed c =
     error_passed_on _ _ _ c.from_residual-in_err-images.ensures.1
     (images_error c.args.limits c.args.file.now c.in_ok-blob.blob c.in_ok-blob.ensures.accepts c.in_ok-blob.ensures.content (node_of c.in-Some.node).children
-    (images_found (goal.at.returns-in_err-images-clause-failed c).In-Some) c.in_err-images.field-0.0 c.in_err-images.ensures.fault)
+    (images_found (goal.at.returns-in_err-images-clause-failed c).In-Some) c.in_err-images.field-0.0 c.in_err-images.ensures.failed)
 
 pub invariant_of-result : goal.invariant_of-result
 invariant_of-result c =
@@ -50,13 +50,13 @@ invariant_of-result c =
     record {
       held =
           is_held c.args.limits c.args.file.now c.in_ok-blob.blob c.in_ok-blob.ensures.accepts c.in_ok-blob.ensures.content (node_of c.in-Some.node).children
-          (images_found (goal.at.invariant_of-result c).In-Some) (map read_image c.in_ok-images.images.items) c.in_ok-images.ensures.images
+          (images_found (goal.at.invariant_of-result c).In-Some) (map image_model c.in_ok-images.images.items) c.in_ok-images.ensures.images
           c.in_ok-blob.ensures.file.0 c.in_ok-blob.ensures.file.1 most deepest;
-      indices = subst (λ images. HasIndices c.in_ok-indices.indices (map read_image images)) c.deref.ensures.value c.in_ok-indices.ensures.indices;
+      indices = subst (λ images. HasIndices c.in_ok-indices.indices (map image_model images)) c.deref.ensures.value c.in_ok-indices.ensures.indices;
     }
 
 pub returns-clause-read : goal.returns-clause-read
 returns-clause-read c =
     is_read c.args.limits c.args.file.now c.in_ok-blob.blob c.in_ok-blob.ensures.accepts c.in_ok-blob.ensures.content (node_of c.in-Some.node).children
-    (images_found (goal.at.returns-clause-read c).In-Some) (map read_image c.in_ok-images.images.items) c.in_ok-images.ensures.images
+    (images_found (goal.at.returns-clause-read c).In-Some) (map image_model c.in_ok-images.images.items) c.in_ok-images.ensures.images
     c.in_ok-blob.ensures.file.0 (invariant_of-result c).held

@@ -1,17 +1,17 @@
 use Rattle.std.proofs.Common.{◌≡◌, ◌⊎◌, inl, inr, [], map, sym, ap, ◌∙◌}
 use Rattle.std.proofs.lemmas.List.{nil_from_length}
 use Rattle.std.specs.Slice.Iter.{iter_rest}
-use Rattle.bi_fit.specs.Content.{read_image}
+use Rattle.bi_fit.specs.Content.{image_model}
 use Rattle.bi_fit.specs.Siblings.{siblings_left}
 use Rattle.bi_fit.proofs.FileVerdicts.{verdicts_are, after_last}
 use Rattle.bi_fit.proofs.fit.Fit.verdicts.Goals as goal
 
 pub returns-clause-verdicts : goal.returns-clause-verdicts
 returns-clause-verdicts c =
-    let ended : (siblings_left c.loop-node.node-iterator.a ≡ []) ⊎ (map read_image (iter_rest c.loop-node.node-iterator.b) ≡ []) =
+    let ended : (siblings_left c.loop-node.node-iterator.a ≡ []) ⊎ (map image_model (iter_rest c.loop-node.node-iterator.b) ≡ []) =
     elim c.in-None.ensures.steps [
       | inl nodes ↦ inl nodes.1.0
-      | inr images ↦ inr (ap (map read_image) (nil_from_length (iter_rest c.loop-node.node-iterator.b) images.1.0))
+      | inr images ↦ inr (ap (map image_model) (nil_from_length (iter_rest c.loop-node.node-iterator.b) images.1.0))
     ] in
-    sym (after_last (siblings_left c.loop-node.node-iterator.a) (map read_image (iter_rest c.loop-node.node-iterator.b)) _ ended)
+    sym (after_last (siblings_left c.loop-node.node-iterator.a) (map image_model (iter_rest c.loop-node.node-iterator.b)) _ ended)
     ∙ c.loop-node.invariant ∙ sym (verdicts_are c.args.self.now)

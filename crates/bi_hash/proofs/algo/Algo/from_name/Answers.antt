@@ -1,6 +1,6 @@
 use Rattle.std.proofs.Common.{◌≡◌, sym, ap, ◌∙◌}
 use Rattle.bi_hash.specs.Algos.{find_algorithm}
-use Rattle.bi_hash.proofs.Names.{algorithm_name-find_algorithm, find_algorithm-algorithm_name}
+use Rattle.bi_hash.proofs.AlgorithmNames.{algorithm_name-find_algorithm, find_algorithm-algorithm_name}
 use Rattle.bi_hash.proofs.algo.Algo.from_name.Goals as goal
 
 pub returns-clause-named : goal.returns-clause-named

@@ -3,7 +3,7 @@ use Rattle.bi_base.specs.Sinks.{Wrote}
 use Rattle.bi_blob.specs.Layout.{longest_text, strings_of}
 use Rattle.bi_lay.specs.Contents.{text_of}
 use Rattle.bi_lay.specs.Items.{structure_of_items}
-use Rattle.bi_lay.proofs.Texts.{AreMeasured, measured-long, strings-exact, length-block, same_text, some_measured}
+use Rattle.bi_lay.proofs.DocTexts.{AreMeasured, measured_length-long, strings-exact, length-block, same_text, some_measured}
 use Rattle.bi_lay.proofs.document.Doc.emit.Goals as goal
 
 pub unwrap-requires : goal.unwrap-requires
@@ -12,7 +12,7 @@ unwrap-requires g c =
     (λ long. omega (
       arith,
       subst (λ content. length (text_of content) ≤ longest_text) (sym c.self.view_is) c.requires.small,
-      measured-long c.self.inside c.len-count.result c.deref.result.now c.length.result c.self.invariant
+      measured_length-long c.self.inside c.len-count.result c.deref.result.now c.length.result c.self.invariant
           (record { is_count = c.len-count.ensures; are_items = c.deref.ensures.value; is_strings = c.length.ensures }) long,
     ))
 

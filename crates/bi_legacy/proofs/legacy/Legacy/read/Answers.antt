@@ -7,8 +7,8 @@ returns-clause-accepts c =
     accepts_of c.args.file.now c.args.limits c.parse.result (record { each = λ i. omega (arith, c.type_inv.file i) })
     c.parse.ensures.no_fault c.parse.ensures.fault
 
-pub returns-clause-parsed : goal.returns-clause-parsed
-returns-clause-parsed c =
+pub returns-clause-read : goal.returns-clause-read
+returns-clause-read c =
     parsed_of c.args.file.now c.args.limits c.parse.result (record { each = λ i. omega (arith, c.type_inv.file i) })
     c.parse.ensures.no_fault c.parse.ensures.image c.parse.ensures.unused
 

@@ -2,11 +2,11 @@ use Rattle.std.proofs.Common.{◌≡◌, [], ◌∷◌, sym, ap, subst, ◌∙�
 use Rattle.std.specs.FinMap.{from_entries}
 use Rattle.bi_blob.specs.Events.{events}
 use Rattle.bi_blob.specs.Tree.{PropertyMap}
-use Rattle.bi_fit.specs.Additions.{MayAdd, with_events, begin_events}
+use Rattle.bi_fit.specs.NormalNodes.{MayAdd, with_events, begin_events}
 use Rattle.bi_fit.specs.Building.{configuration_name, text_value}
 use Rattle.bi_fit.specs.Names.{configurations_name, default_name}
-use Rattle.bi_fit.proofs.Adding.{may_begin, may_have_children, may_end, whole_added}
-use Rattle.bi_norm.specs.Building.{head_of, specifications_of}
+use Rattle.bi_fit.proofs.AddedEvents.{may_begin, may_have_children, may_end, whole_added}
+use Rattle.bi_norm.specs.BuildCalls.{head_model, spec_models}
 use Rattle.bi_norm.specs.BuiltNodes.{configuration_node, leaf}
 use Rattle.bi_norm.proofs.building.document.add_configurations.Goals as goal
 
@@ -16,8 +16,8 @@ own = from_entries ((default_name, text_value configuration_name) ∷ [])
 
 pub begin_with-requires : goal.begin_with-requires
 begin_with-requires c =
-    let images = specifications_of c.args.parts.images.now in
-    let head = head_of c.args.parts.head in
+    let images = spec_models c.args.parts.images.now in
+    let head = head_model c.args.parts.head in
     let begins : begin_events configurations_name c.in_ok-properties.properties ≡ begin_events configurations_name own =
     ap (begin_events configurations_name) c.in_ok-properties.ensures.all in
     let children = events (configuration_node head images) in
@@ -25,8 +25,8 @@ begin_with-requires c =
 
 pub add_leaf-requires : goal.add_leaf-requires
 add_leaf-requires c =
-    let images = specifications_of c.args.parts.images.now in
-    let head = head_of c.args.parts.head in
+    let images = spec_models c.args.parts.images.now in
+    let head = head_model c.args.parts.head in
     let begins : begin_events configurations_name c.in_ok-properties.properties ≡ begin_events configurations_name own =
     ap (begin_events configurations_name) c.in_ok-properties.ensures.all in
     let children = events (configuration_node head images) in
@@ -38,8 +38,8 @@ add_leaf-requires c =
 
 pub end-requires : goal.end-requires
 end-requires c =
-    let images = specifications_of c.args.parts.images.now in
-    let head = head_of c.args.parts.head in
+    let images = spec_models c.args.parts.images.now in
+    let head = head_model c.args.parts.head in
     let begins : begin_events configurations_name c.in_ok-properties.properties ≡ begin_events configurations_name own =
     ap (begin_events configurations_name) c.in_ok-properties.ensures.all in
     let children = events (configuration_node head images) in
@@ -53,8 +53,8 @@ end-requires c =
 
 pub returns-clause-added : goal.returns-clause-added
 returns-clause-added c =
-    let images = specifications_of c.args.parts.images.now in
-    let head = head_of c.args.parts.head in
+    let images = spec_models c.args.parts.images.now in
+    let head = head_model c.args.parts.head in
     let begins : begin_events configurations_name c.in_ok-properties.properties ≡ begin_events configurations_name own =
     ap (begin_events configurations_name) c.in_ok-properties.ensures.all in
     let children = events (configuration_node head images) in

@@ -1,17 +1,17 @@
 use Rattle.std.proofs.Common.{◌≡◌, sym, ap, subst, ◌∙◌}
 use Rattle.bi_blob.specs.Events.{events}
-use Rattle.bi_fit.specs.Additions.{MayAdd, with_events, begin_events}
+use Rattle.bi_fit.specs.NormalNodes.{MayAdd, with_events, begin_events}
 use Rattle.bi_fit.specs.Building.{hash_node_name}
-use Rattle.bi_fit.proofs.Adding.{may_begin, may_have_children, may_end, whole_added}
-use Rattle.bi_norm.specs.Building.{head_of, specification_of}
+use Rattle.bi_fit.proofs.AddedEvents.{may_begin, may_have_children, may_end, whole_added}
+use Rattle.bi_norm.specs.BuildCalls.{head_model, spec_model}
 use Rattle.bi_norm.specs.BuiltNodes.{hash_node, placed_properties, leaf}
 use Rattle.bi_norm.proofs.BuiltDocuments.{properties_placed}
 use Rattle.bi_norm.proofs.building.document.add_image_node.Goals as goal
 
 pub begin_with-requires : goal.begin_with-requires
 begin_with-requires c =
-    let image = specification_of c.args.image.now in
-    let head = head_of c.args.head in
+    let image = spec_model c.args.image.now in
+    let head = head_model c.args.head in
     let own = placed_properties c.args.form c.args.begin head image in
     let begins : begin_events image.name c.set_payload.new.self ≡ begin_events image.name own =
     ap (begin_events image.name) (properties_placed c.args.form c.args.begin head image c.in_ok-properties.properties c.set_payload.new.self c.in_ok-properties.ensures.all c.in_ok-set_payload.ensures.set) in
@@ -20,8 +20,8 @@ begin_with-requires c =
 
 pub add_leaf-requires : goal.add_leaf-requires
 add_leaf-requires c =
-    let image = specification_of c.args.image.now in
-    let head = head_of c.args.head in
+    let image = spec_model c.args.image.now in
+    let head = head_model c.args.head in
     let own = placed_properties c.args.form c.args.begin head image in
     let begins : begin_events image.name c.set_payload.new.self ≡ begin_events image.name own =
     ap (begin_events image.name) (properties_placed c.args.form c.args.begin head image c.in_ok-properties.properties c.set_payload.new.self c.in_ok-properties.ensures.all c.in_ok-set_payload.ensures.set) in
@@ -34,8 +34,8 @@ add_leaf-requires c =
 
 pub end-requires : goal.end-requires
 end-requires c =
-    let image = specification_of c.args.image.now in
-    let head = head_of c.args.head in
+    let image = spec_model c.args.image.now in
+    let head = head_model c.args.head in
     let own = placed_properties c.args.form c.args.begin head image in
     let begins : begin_events image.name c.set_payload.new.self ≡ begin_events image.name own =
     ap (begin_events image.name) (properties_placed c.args.form c.args.begin head image c.in_ok-properties.properties c.set_payload.new.self c.in_ok-properties.ensures.all c.in_ok-set_payload.ensures.set) in
@@ -50,8 +50,8 @@ end-requires c =
 
 pub returns-clause-added : goal.returns-clause-added
 returns-clause-added c =
-    let image = specification_of c.args.image.now in
-    let head = head_of c.args.head in
+    let image = spec_model c.args.image.now in
+    let head = head_model c.args.head in
     let own = placed_properties c.args.form c.args.begin head image in
     let begins : begin_events image.name c.set_payload.new.self ≡ begin_events image.name own =
     ap (begin_events image.name) (properties_placed c.args.form c.args.begin head image c.in_ok-properties.properties c.set_payload.new.self c.in_ok-properties.ensures.all c.in_ok-set_payload.ensures.set) in

@@ -5,15 +5,15 @@ use Rattle.std.specs.FinMap.{entries}
 use Rattle.bi_base.specs.Cells.{up4}
 use Rattle.bi_blob.specs.Events.{events}
 use Rattle.bi_blob.specs.Layout.{longest_text}
-use Rattle.bi_fit.specs.Additions.{MayAdd, with_events, AreWithin}
+use Rattle.bi_fit.specs.NormalNodes.{MayAdd, with_events, AreWithin}
 use Rattle.bi_fit.specs.Text.{end_after}
 use Rattle.bi_fit.proofs.ImageNodes.{next_end, within_sized, within_first, within_later}
 use Rattle.bi_fit.proofs.NodeEvents.{IsAdding, may_add_first, adding_later}
-use Rattle.bi_norm.specs.Building.{head_of, specification_of, specifications_of, HasBuildableType}
-use Rattle.bi_norm.specs.BuiltNodes.{payloads_of, hash_node, placed_properties, image_node, image_nodes}
+use Rattle.bi_norm.specs.BuildCalls.{head_model, spec_model, spec_models, HasBuildableType}
+use Rattle.bi_norm.specs.BuiltNodes.{built_payloads, hash_node, placed_properties, image_node, built_image_nodes}
 use Rattle.bi_norm.proofs.BuiltDocuments.{nodes_later, nodes_at}
-use Rattle.bi_norm.proofs.BuiltPayloads.{payloads_from}
-use Rattle.bi_norm.proofs.ImageChecks.{no_image}
+use Rattle.bi_norm.proofs.BuiltPayloads.{built_payloads_from}
+use Rattle.bi_norm.proofs.ImageChecks.{no_spec}
 use Rattle.bi_norm.proofs.building.document.add_image_nodes.Goals as goal
 use Rattle.bi_norm.proofs.building.document.add_image_nodes.Goals.{in-Embedded, in-External}
 
@@ -21,49 +21,49 @@ pub add_image_node-requires-clause-sized : goal.add_image_node-requires-clause-s
 add_image_node-requires-clause-sized c =
     let images = c.args.parts.images.now in
     let index = c.loop-index.index in
-    within_sized c.args.form c.loop-index.end (Some (get_or images index no_image).payload.now) (payloads_of (specifications_of (drop (index + 1) images)))
-    (subst (AreWithin c.args.form c.loop-index.end) (payloads_from images index no_image c.loop-index-test.true) c.loop-index.invariant.within)
+    within_sized c.args.form c.loop-index.end (Some (get_or images index no_spec).payload.now) (built_payloads (spec_models (drop (index + 1) images)))
+    (subst (AreWithin c.args.form c.loop-index.end) (built_payloads_from images index no_spec c.loop-index-test.true) c.loop-index.invariant.within)
 
 pub add_image_node-requires-clause-may : goal.add_image_node-requires-clause-may
 add_image_node-requires-clause-may c =
     let images = c.args.parts.images.now in
     let index = c.loop-index.index in
-    let head = head_of c.args.parts.head in
-    let image = specification_of (get_or images index no_image) in
-    let target = with_events c.args.doc.now (events (image_nodes c.args.form 0 head (specifications_of images))) in
-    let later = image_nodes c.args.form (end_after c.loop-index.end (Some image.payload)) head (specifications_of (drop (index + 1) images)) in
+    let head = head_model c.args.parts.head in
+    let image = spec_model (get_or images index no_spec) in
+    let target = with_events c.args.doc.now (events (built_image_nodes c.args.form 0 head (spec_models images))) in
+    let later = built_image_nodes c.args.form (end_after c.loop-index.end (Some image.payload)) head (spec_models (drop (index + 1) images)) in
     subst (λ begin. MayAdd c.loop-index.doc (events (image_node c.args.form begin head image))) (sym c.up4.ensures)
     (may_add_first c.loop-index.doc target image.name (entries (placed_properties c.args.form (up4 c.loop-index.end) head image)) (hash_node image.payload) later
-    (subst (IsAdding c.loop-index.doc target) (nodes_at c.args.form c.loop-index.end head images index no_image c.loop-index-test.true) c.loop-index.invariant.adding))
+    (subst (IsAdding c.loop-index.doc target) (nodes_at c.args.form c.loop-index.end head images index no_spec c.loop-index-test.true) c.loop-index.invariant.adding))
 
 pub loop-index-preserved : goal.loop-index-preserved
 loop-index-preserved c =
     let images = c.args.parts.images.now in
     let index = c.loop-index.index in
-    let head = head_of c.args.parts.head in
-    let image = specification_of (get_or images index no_image) in
+    let head = head_model c.args.parts.head in
+    let image = spec_model (get_or images index no_spec) in
     let payload : Option (List ℕ) = Some image.payload in
-    let target = with_events c.args.doc.now (events (image_nodes c.args.form 0 head (specifications_of images))) in
-    let rest = specifications_of (drop (index + 1) images) in
-    let later = image_nodes c.args.form (end_after c.loop-index.end payload) head rest in
-    let adding : IsAdding c.loop-index.doc target (image_nodes c.args.form c.loop-index.end head (image ∷ rest)) =
-    subst (IsAdding c.loop-index.doc target) (nodes_at c.args.form c.loop-index.end head images index no_image c.loop-index-test.true) c.loop-index.invariant.adding in
-    let within : AreWithin c.args.form c.loop-index.end (payload ∷ payloads_of rest) =
-    subst (AreWithin c.args.form c.loop-index.end) (payloads_from images index no_image c.loop-index-test.true) c.loop-index.invariant.within in
-    let small : next_end c.args.form c.loop-index.end payload ≤ longest_text = within_first c.args.form c.loop-index.end payload (payloads_of rest) within c.loop-index.invariant.small in
+    let target = with_events c.args.doc.now (events (built_image_nodes c.args.form 0 head (spec_models images))) in
+    let rest = spec_models (drop (index + 1) images) in
+    let later = built_image_nodes c.args.form (end_after c.loop-index.end payload) head rest in
+    let adding : IsAdding c.loop-index.doc target (built_image_nodes c.args.form c.loop-index.end head (image ∷ rest)) =
+    subst (IsAdding c.loop-index.doc target) (nodes_at c.args.form c.loop-index.end head images index no_spec c.loop-index-test.true) c.loop-index.invariant.adding in
+    let within : AreWithin c.args.form c.loop-index.end (payload ∷ built_payloads rest) =
+    subst (AreWithin c.args.form c.loop-index.end) (built_payloads_from images index no_spec c.loop-index-test.true) c.loop-index.invariant.within in
+    let small : next_end c.args.form c.loop-index.end payload ≤ longest_text = within_first c.args.form c.loop-index.end payload (built_payloads rest) within c.loop-index.invariant.small in
     let at : c.match-form.end ≡ next_end c.args.form c.loop-index.end payload = elim c.match-form.branch [
       | in-Embedded w ↦ w.end-is ∙ ap (λ form. next_end form c.loop-index.end payload) (sym w.in-Embedded.is)
       | in-External w ↦ (let is : next_end c.args.form c.loop-index.end payload ≡ end_after c.loop-index.end payload = ap (λ form. next_end form c.loop-index.end payload) w.in-External.is in
           omega (arith, w.end-is, w.end_after-end.ensures))
     ] in
-    let types : AllByRecursion HasBuildableType (get_or images index no_image ∷ drop (index + 1) images) =
-    subst (AllByRecursion HasBuildableType) (drop_more images index no_image c.loop-index-test.true) c.loop-index.invariant.types in
+    let types : AllByRecursion HasBuildableType (get_or images index no_spec ∷ drop (index + 1) images) =
+    subst (AllByRecursion HasBuildableType) (drop_more images index no_spec c.loop-index-test.true) c.loop-index.invariant.types in
     let added : c.add_image_node.new.doc ≡ with_events c.loop-index.doc (events (image_node c.args.form (up4 c.loop-index.end) head image)) =
     c.in_ok-add_image_node.ensures.added ∙ ap (λ begin. with_events c.loop-index.doc (events (image_node c.args.form begin head image))) c.up4.ensures in
     rw at (record {
       adding = subst (IsAdding c.add_image_node.new.doc target) (nodes_later c.args.form c.loop-index.end image.payload head rest)
           (adding_later c.loop-index.doc target image.name (entries (placed_properties c.args.form (up4 c.loop-index.end) head image)) (hash_node image.payload) later adding c.add_image_node.new.doc added);
       types = types.1;
-      within = within_later c.args.form c.loop-index.end payload (payloads_of rest) within;
+      within = within_later c.args.form c.loop-index.end payload (built_payloads rest) within;
       small = small;
     })

@@ -1,6 +1,6 @@
 use Rattle.std.proofs.Common.{[], sym}
-use Rattle.bi_fit.specs.Additions.{begin_events}
-use Rattle.bi_fit.proofs.Adding.{with_events-none, may_begin, may_end}
+use Rattle.bi_fit.specs.NormalNodes.{begin_events}
+use Rattle.bi_fit.proofs.AddedEvents.{with_events-none, may_begin, may_end}
 use Rattle.bi_norm.proofs.building.document.add_leaf.Goals as goal
 
 pub begin_with-requires : goal.begin_with-requires

@@ -1,28 +1,29 @@
 use Rattle.std.proofs.Common.{◌≡◌, [], sym, ap, subst, ◌∙◌}
-use Rattle.bi_fit.specs.Additions.{MayAdd, with_events, begin_events}
-use Rattle.bi_norm.specs.Building.{head_of, specifications_of}
-use Rattle.bi_norm.proofs.BuiltDocuments.{root_begin, may_begin_root, may_add_images, may_add_configurations, may_end_root, is_document, is_closed}
+use Rattle.bi_fit.specs.NormalNodes.{MayAdd, with_events, begin_events}
+use Rattle.bi_norm.specs.BuildCalls.{head_model, spec_models}
+use Rattle.bi_norm.proofs.BuiltDocuments.{root_begin, may_begin_root, may_add_images, may_add_configurations, may_end_root, is_document}
+use Rattle.bi_norm.proofs.BuiltDocuments.{is_closed}
 use Rattle.bi_norm.proofs.building.document.build_doc.Goals as goal
 
 pub begin_with-requires : goal.begin_with-requires
 begin_with-requires c =
-    let head = head_of c.args.parts.head in
-    let images = specifications_of c.args.parts.images.now in
+    let head = head_model c.args.parts.head in
+    let images = spec_models c.args.parts.images.now in
     subst (λ properties. MayAdd c.in_ok-doc.doc (begin_events [] properties)) (sym c.in_ok-properties.ensures.all)
     (may_begin_root c.args.form head images c.in_ok-doc.doc c.in_ok-doc.ensures.empty c.requires.prepared.can)
 
 pub add_images-requires-clause-may : goal.add_images-requires-clause-may
 add_images-requires-clause-may c =
-    let head = head_of c.args.parts.head in
-    let images = specifications_of c.args.parts.images.now in
+    let head = head_model c.args.parts.head in
+    let images = spec_models c.args.parts.images.now in
     let begun : c.begin_with.new.doc ≡ with_events c.in_ok-doc.doc (root_begin c.args.form head images) =
     c.in_ok-begin_with.ensures.added ∙ ap (λ properties. with_events c.in_ok-doc.doc (begin_events [] properties)) c.in_ok-properties.ensures.all in
     may_add_images c.args.form head images c.in_ok-doc.doc c.in_ok-doc.ensures.empty c.requires.prepared.can c.begin_with.new.doc begun
 
 pub add_configurations-requires-clause-may : goal.add_configurations-requires-clause-may
 add_configurations-requires-clause-may c =
-    let head = head_of c.args.parts.head in
-    let images = specifications_of c.args.parts.images.now in
+    let head = head_model c.args.parts.head in
+    let images = spec_models c.args.parts.images.now in
     let begun : c.begin_with.new.doc ≡ with_events c.in_ok-doc.doc (root_begin c.args.form head images) =
     c.in_ok-begin_with.ensures.added ∙ ap (λ properties. with_events c.in_ok-doc.doc (begin_events [] properties)) c.in_ok-properties.ensures.all in
     may_add_configurations c.args.form head images c.in_ok-doc.doc c.in_ok-doc.ensures.empty c.requires.prepared.can c.begin_with.new.doc begun
@@ -30,8 +31,8 @@ add_configurations-requires-clause-may c =
 
 pub end-requires : goal.end-requires
 end-requires c =
-    let head = head_of c.args.parts.head in
-    let images = specifications_of c.args.parts.images.now in
+    let head = head_model c.args.parts.head in
+    let images = spec_models c.args.parts.images.now in
     let begun : c.begin_with.new.doc ≡ with_events c.in_ok-doc.doc (root_begin c.args.form head images) =
     c.in_ok-begin_with.ensures.added ∙ ap (λ properties. with_events c.in_ok-doc.doc (begin_events [] properties)) c.in_ok-properties.ensures.all in
     may_end_root c.args.form head images c.in_ok-doc.doc c.in_ok-doc.ensures.empty c.requires.prepared.can c.begin_with.new.doc begun
@@ -39,8 +40,8 @@ end-requires c =
 
 pub returns-clause-document : goal.returns-clause-document
 returns-clause-document c =
-    let head = head_of c.args.parts.head in
-    let images = specifications_of c.args.parts.images.now in
+    let head = head_model c.args.parts.head in
+    let images = spec_models c.args.parts.images.now in
     let begun : c.begin_with.new.doc ≡ with_events c.in_ok-doc.doc (root_begin c.args.form head images) =
     c.in_ok-begin_with.ensures.added ∙ ap (λ properties. with_events c.in_ok-doc.doc (begin_events [] properties)) c.in_ok-properties.ensures.all in
     is_document c.args.form head images c.in_ok-doc.doc c.in_ok-doc.ensures.empty c.requires.prepared.can c.begin_with.new.doc begun
@@ -48,8 +49,8 @@ returns-clause-document c =
 
 pub returns-clause-closed : goal.returns-clause-closed
 returns-clause-closed c =
-    let head = head_of c.args.parts.head in
-    let images = specifications_of c.args.parts.images.now in
+    let head = head_model c.args.parts.head in
+    let images = spec_models c.args.parts.images.now in
     let begun : c.begin_with.new.doc ≡ with_events c.in_ok-doc.doc (root_begin c.args.form head images) =
     c.in_ok-begin_with.ensures.added ∙ ap (λ properties. with_events c.in_ok-doc.doc (begin_events [] properties)) c.in_ok-properties.ensures.all in
     is_closed c.args.form head images c.in_ok-doc.doc c.in_ok-doc.ensures.empty c.requires.prepared.can c.begin_with.new.doc begun

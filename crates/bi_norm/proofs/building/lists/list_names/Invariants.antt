@@ -1,11 +1,11 @@
 use Rattle.std.proofs.Common.{◌≡◌, ◌++◌, drop}
 use Rattle.bi_blob.specs.Layout.{strings_of}
 use Rattle.bi_fit.specs.Building.{names_under}
-use Rattle.bi_norm.specs.Building.{specifications_of}
+use Rattle.bi_norm.specs.BuildCalls.{spec_models}
 use Rattle.bi_norm.proofs.building.lists.list_names.Given as goal
 
 -- The names before this image, and those from it on, are all names.
 abbrev pub invariant-loop-image : goal.invariant-loop-image
 invariant-loop-image l =
-    l.names.items ++ strings_of (names_under l.key (specifications_of (drop l.image-index l.images)))
-    ≡ strings_of (names_under l.key (specifications_of l.images))
+    l.names.items ++ strings_of (names_under l.key (spec_models (drop l.image-index l.images)))
+    ≡ strings_of (names_under l.key (spec_models l.images))

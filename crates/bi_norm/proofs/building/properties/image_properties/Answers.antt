@@ -3,17 +3,17 @@ use Rattle.std.specs.Cmp.Lexicographic.{slice_cmp}
 use Rattle.std.specs.FinMap.{from_entries}
 use Rattle.bi_lay.specs.Values.{value_bytes}
 use Rattle.bi_fit.specs.Building.{text_value, type_name, cell_property}
-use Rattle.bi_norm.specs.Building.{specification_of}
-use Rattle.bi_norm.specs.BuiltNodes.{with_cell}
+use Rattle.bi_norm.specs.BuildCalls.{spec_model}
+use Rattle.bi_norm.specs.BuiltNodes.{with_cell_property}
 use Rattle.bi_norm.proofs.BuiltProperties.{addresses, type_of_key}
 use Rattle.bi_norm.proofs.building.properties.image_properties.Goals as goal
 
 pub returns-clause-all : goal.returns-clause-all
 returns-clause-all c =
-    let image = specification_of c.args.image.now in
+    let image = spec_model c.args.image.now in
     let cells : c.insert_cell-2.new.properties ≡ from_entries {R = slice_cmp nat_cmp} (cell_property (codes "load") image.load ++ cell_property (codes "entry") image.entry) =
     c.in_ok-insert_cell-2.ensures.inserted
-    ∙ ap (with_cell (codes "load") image.load) (c.in_ok-insert_cell.ensures.inserted ∙ ap (with_cell (codes "entry") image.entry) c.new-properties.ensures)
+    ∙ ap (with_cell_property (codes "load") image.load) (c.in_ok-insert_cell.ensures.inserted ∙ ap (with_cell_property (codes "entry") image.entry) c.new-properties.ensures)
     ∙ addresses image.load image.entry in
     let type : value_bytes c.code_text.result ≡ text_value (type_name image.key) =
     c.code_text.ensures ∙ ap (λ name. text_value (unwrap_or name [])) c.type_name.ensures

@@ -10,7 +10,7 @@ pub returns-in_err-kind_of-clause-failed : goal.returns-in_err-kind_of-clause-fa
 returns-in_err-kind_of-clause-failed c =
     let e = err_from_is_err_and c.from_residual.result c.from_residual.ensures.1 in
     let short : length c.args.file.now ≤ c.args.limits.file = grind (arith, common_steps) in
-    rw (e.1, e.2) (kind_fault_is_file_fault _ _ _ short c.in_err-kind_of.ensures.refused, kind_fault_means_nothing _ _ _ c.in_err-kind_of.ensures.refused)
+    rw (e.1, e.2) (kind_fault_is_file_fault _ _ _ short c.in_err-kind_of.ensures.fault, kind_fault_means_nothing _ _ _ c.in_err-kind_of.ensures.fault)
 
 pub returns-in_err-read-in-Legacy-clause-failed : goal.returns-in_err-read-in-Legacy-clause-failed
 returns-in_err-read-in-Legacy-clause-failed c =

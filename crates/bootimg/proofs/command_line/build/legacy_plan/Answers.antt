@@ -1,5 +1,5 @@
 use Rattle.std.proofs.Common.{◌≡◌, codes, refl, subst, sym}
-use Rattle.bootimg.specs.CommandLine.{texts_of, words_of, ArePartSources, IsBadValue, IsLegacyPlan}
+use Rattle.bootimg.specs.CommandLine.{texts_of, values_of, ArePartSources, IsBadValue, IsLegacyPlan}
 use Rattle.bootimg.proofs.CommandLines.{fails_with, outcome_weaker, words_are}
 use Rattle.bootimg.proofs.command_line.build.legacy_plan.Goals as goal
 
@@ -14,6 +14,6 @@ pub returns-in_err-parts-clause-failure : goal.returns-in_err-parts-clause-failu
 returns-in_err-parts-clause-failure c =
     let options = c.args.options.now in
     let words = c.unwrap_or-words.result.now in
-    let same : texts_of words ≡ words_of options (codes "lengths") = words_are c.get_strs.result _ _ c.unwrap_or-words.result c.get_strs.ensures c.unwrap_or-words.ensures refl in
+    let same : texts_of words ≡ values_of options (codes "lengths") = words_are c.get_strs.result _ _ c.unwrap_or-words.result c.get_strs.ensures c.unwrap_or-words.ensures refl in
     outcome_weaker (IsBadValue (ArePartSources (texts_of words))) (IsBadValue (IsLegacyPlan options)) c.from_residual-in_err-parts.result c.in_err-parts.field-0.0 c.from_residual-in_err-parts.ensures.1 c.in_err-parts.ensures.failure
     (λ failure bad. (bad.0, λ plan is. bad.1 plan.parts.items (subst (λ texts. ArePartSources texts plan.parts.items) (sym same) is.parts)))

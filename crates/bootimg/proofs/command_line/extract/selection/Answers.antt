@@ -1,7 +1,8 @@
 use Rattle.std.proofs.Common.{true, false, Some, None, refl, subst, sym}
 use Rattle.bootimg.specs.CommandLine.{AreEscaped, IsBadValue, IsNameOf, IsSelectionFailure, SelectsDefault}
 use Rattle.bootimg.specs.declared.failure.Failure.TheVariants.{BadValue}
-use Rattle.bootimg.proofs.CommandLines.{fails_with, given_by, no_config_name, no_entry, no_image_name, no_part, ok_or_failed, outcome_weaker}
+use Rattle.bootimg.proofs.CommandLines.{fails_with, given_by, no_config_name, no_selected_entry, no_image_name, no_part, ok_or_failed}
+use Rattle.bootimg.proofs.CommandLines.{outcome_weaker}
 use Rattle.bootimg.proofs.command_line.extract.selection.Goals as goal
 
 pub returns-in_err-entry-in-Some-None-None-false-clause-failure :
@@ -15,7 +16,7 @@ returns-in_err-entry-in-Some-None-None-false-clause-failure c =
     let bad = c.in_err-entry-in-Some-None-None-false.ensures.bad in
     fails_with (IsSelectionFailure options) c.from_residual.result c.in_err-entry-in-Some-None-None-false.field-0.0 c.from_residual.ensures.1
     (subst (IsSelectionFailure options) (sym bad.0)
-    (no_entry options c.get_flag-escaped.result (Some arm.word.now) None None false given escaped refl bad.1))
+    (no_selected_entry options c.get_flag-escaped.result (Some arm.word.now) None None false given escaped refl bad.1))
 
 pub returns-in_err-index-in-Some-None-None-false-clause-failure :
     goal.returns-in_err-index-in-Some-None-None-false-clause-failure
@@ -42,7 +43,7 @@ returns-in_err-entry-in-None-Some-None-false-clause-failure c =
     let bad = c.in_err-entry-in-None-Some-None-false.ensures.bad in
     fails_with (IsSelectionFailure options) c.from_residual-in_err-entry-in-None-Some-None-false.result c.in_err-entry-in-None-Some-None-false.field-0.0 c.from_residual-in_err-entry-in-None-Some-None-false.ensures.1
     (subst (IsSelectionFailure options) (sym bad.0)
-    (no_entry options c.get_flag-escaped.result None (Some arm.word.now) None false given escaped refl bad.1))
+    (no_selected_entry options c.get_flag-escaped.result None (Some arm.word.now) None false given escaped refl bad.1))
 
 pub returns-in_err-name-in-None-Some-None-false-clause-failure :
     goal.returns-in_err-name-in-None-Some-None-false-clause-failure
@@ -68,7 +69,7 @@ returns-in_err-key-in-None-None-Some-false-clause-failure c =
     let bad = c.in_err-key-in-None-None-Some-false.ensures.bad in
     fails_with (IsSelectionFailure options) c.from_residual-in_err-key-in-None-None-Some-false.result c.in_err-key-in-None-None-Some-false.field-0.0 c.from_residual-in_err-key-in-None-None-Some-false.ensures.1
     (subst (IsSelectionFailure options) (sym bad.0)
-    (no_entry options c.get_flag-escaped.result None None (Some arm.word.now) false given escaped refl bad.1))
+    (no_selected_entry options c.get_flag-escaped.result None None (Some arm.word.now) false given escaped refl bad.1))
 
 pub returns-in_err-name-in-None-None-Some-false-clause-failure :
     goal.returns-in_err-name-in-None-None-Some-false-clause-failure
@@ -94,4 +95,4 @@ returns-in_err-key-in-None-None-None-true-clause-failure c =
     let bad = c.in_err-key-in-None-None-None-true.ensures.bad in
     fails_with (IsSelectionFailure options) c.from_residual-in_err-key-in-None-None-None-true.result c.in_err-key-in-None-None-None-true.field-0.0 c.from_residual-in_err-key-in-None-None-None-true.ensures.1
     (subst (IsSelectionFailure options) (sym bad.0)
-    (no_entry options c.get_flag-escaped.result None None None true given escaped refl bad.1))
+    (no_selected_entry options c.get_flag-escaped.result None None None true given escaped refl bad.1))

@@ -1,9 +1,9 @@
 use Rattle.bootimg.specs.CommandLine.{IsImage, IsImageText, NoneIs}
-use Rattle.bootimg.proofs.CommandLines.{no_image, none_weaker}
+use Rattle.bootimg.proofs.CommandLines.{no_image_text, none_weaker}
 use Rattle.bootimg.proofs.command_line.image.parse_image.Goals as goal
 
 pub returns-clause-none : goal.returns-clause-none
 returns-clause-none c =
     let word = c.args.word.now in
     let texts = c.in_ok-split_image.field-0 in
-    none_weaker c.parse_fields.result (NoneIs (IsImage texts)) (NoneIs (IsImageText word)) (no_image word texts c.in_ok-split_image.ensures.some) c.parse_fields.ensures.none
+    none_weaker c.parse_fields.result (NoneIs (IsImage texts)) (NoneIs (IsImageText word)) (no_image_text word texts c.in_ok-split_image.ensures.some) c.parse_fields.ensures.none

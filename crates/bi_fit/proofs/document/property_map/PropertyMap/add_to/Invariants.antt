@@ -1,7 +1,7 @@
 use Rattle.std.proofs.Common.{◌≡◌, map}
 use Rattle.std.specs.FinMap.{entries}
 use Rattle.bi_blob.specs.Events.{NodeProperty}
-use Rattle.bi_fit.specs.Additions.{MayAdd, with_events}
+use Rattle.bi_fit.specs.NormalNodes.{MayAdd, with_events}
 use Rattle.bi_fit.specs.PropertyMaps.{properties_in}
 use Rattle.bi_fit.proofs.document.property_map.PropertyMap.add_to.Given as goal
 

@@ -1,0 +1,105 @@
+use Rattle.std.proofs.Common.{◌≡◌, ℕ, zero, suc, ◌+◌, ◌*◌, ◌<◌, ◌≤◌, List, length, map, Some, None, slice_get, refl, sym, ap, subst, ◌∙◌}
+use Rattle.std.proofs.Common.{inl, inr, arith}
+use Rattle.std.specs.Prelude.{if◌then◌else◌}
+use Rattle.std.proofs.lemmas.Bool.{cases_Bool}
+use Rattle.bi_base.specs.declared.fault.Error.{Error}
+use Rattle.bi_base.specs.declared.fault.Error.TheVariants as error
+use Rattle.bi_base.specs.declared.fault.Fault.{Fault}
+use Rattle.bi_base.specs.Cells.{AreBytes, u64_at}
+use Rattle.bi_base.specs.Limits.{Limits}
+use Rattle.bi_base.specs.Errors.{IsRefusal}
+use Rattle.bi_blob.specs.Tree.{Root, FileNode}
+use Rattle.bi_blob.specs.Blob.{Reservation, boot_cpuid_phys, header_length, lacks_structure_size, totalsize, off_mem_rsvmap, tree_blocks}
+use Rattle.bi_blob.specs.Blob.{Header, IsBlob, IsBlobWithin, reservations_at}
+use Rattle.bi_blob.specs.BlobFaults.{HasNoHeaderFault, HasReservations, IsStructureFault, IsBlobFault, InStructure}
+use Rattle.bi_blob.proofs.Blobs.Headers.{HasNoHeaderFault-Header}
+use Rattle.bi_blob.proofs.Blobs.ReservationFaults.{HasReservations-BeginsWithReservations}
+use Rattle.bi_blob.proofs.Blobs.Faults.{blob_has_no_fault, one_blob_fault, blob_of_parts}
+use Rattle.bi_fdt.specs.declared.table.Entry.{Entry}
+use Rattle.bi_fdt.specs.Table.{item_of}
+use Rattle.bi_fdt.specs.Reading.{IsTable, HasTable}
+use Rattle.bi_fdt.specs.Content.{root_in}
+use Rattle.bi_fdt.specs.Fields.{IsBlobHeld}
+use Rattle.bi_fdt.specs.Refused.{IsOnlyFault, IsRefused}
+use Rattle.bi_fdt.proofs.Parsing.{root_in-table}
+
+-- What a blob that was read holds.
+
+-- The fault of a file is its only one.
+pub only_fault : (bounds : Limits) (file : List ℕ) (fault : Fault) → IsBlobFault bounds file fault → IsOnlyFault bounds file fault
+only_fault bounds file fault is = record {
+  is_fault = is;
+  only = λ other is_other. one_blob_fault bounds file other fault is_other is;
+  no_blob = λ within. blob_has_no_fault bounds file fault within is;
+}
+
+-- What an error in the structure block says of the file.
+pub refused_in_tree : (bounds : Limits) (file : List ℕ) (count : ℕ) (error : Error) → HasNoHeaderFault bounds file →
+    HasReservations file (off_mem_rsvmap file) (totalsize file) count → IsRefusal (IsStructureFault (tree_blocks file) bounds.depth) error →
+    IsRefused bounds file error
+refused_in_tree bounds file count (error.Refused fault) fine has refusal = only_fault bounds file fault (InStructure fine count has refusal)
+refused_in_tree bounds file count error.OutOfMemory fine has refusal = record { header = fine; count = count; reservations = has }
+refused_in_tree bounds file count error.ReadFailed fine has refusal = refusal
+refused_in_tree bounds file count error.WriteFailed fine has refusal = refusal
+
+-- A header has at least 36 bytes.
+pub header_length-least : (file : List ℕ) → 36 ≤ header_length file
+header_length-least file = elim (cases_Bool (lacks_structure_size file)) [
+  | inl lacks ↦ subst (λ b. 36 ≤ (if b then 36 else 40)) (sym lacks) (omega arith)
+  | inr has ↦ subst (λ b. 36 ≤ (if b then 36 else 40)) (sym has) (omega arith)
+]
+
+-- The root of a table is that of the tree whose table it is.
+pub table_root : (entries : List Entry) (root : Root FileNode) → IsTable entries root → root_in (map item_of entries) ≡ root
+table_root entries root table = ap root_in table.items ∙ root_in-table root
+
+pub is_held : (bounds : Limits) (file : List ℕ) (count : ℕ) (entries : List Entry) → HasNoHeaderFault bounds file →
+    HasReservations file (off_mem_rsvmap file) (totalsize file) count → HasTable (tree_blocks file) bounds.depth entries →
+    IsBlobHeld file count entries
+is_held bounds file count entries fine has table =
+    let header : Header file = HasNoHeaderFault-Header bounds file fine in
+    let least : 36 ≤ header_length file = header_length-least file in
+    let whole : header_length file ≤ length file = header.whole in
+    record {
+      header = omega arith;
+      total = header.file_holds_total;
+      reservations = has;
+      is_table = subst (IsTable entries) (sym (table_root entries table.root table.is_table)) table.is_table;
+    }
+
+pub is_blob : (bounds : Limits) (file : List ℕ) (count : ℕ) (entries : List Entry) → AreBytes file → HasNoHeaderFault bounds file →
+    HasReservations file (off_mem_rsvmap file) (totalsize file) count → HasTable (tree_blocks file) bounds.depth entries →
+    IsBlob file (boot_cpuid_phys file) (reservations_at file (off_mem_rsvmap file) count) (root_in (map item_of entries))
+is_blob bounds file count entries bytes fine has table =
+    let header : Header file = HasNoHeaderFault-Header bounds file fine in
+    subst (IsBlob file (boot_cpuid_phys file) (reservations_at file (off_mem_rsvmap file) count)) (sym (table_root entries table.root table.is_table)) (record {
+      bytes = bytes;
+      header = header;
+      is_cpu = refl;
+      reserved = HasReservations-BeginsWithReservations file (off_mem_rsvmap file) (totalsize file) count bytes header.file_holds_total has;
+      holds = table.holds;
+    })
+
+pub is_blob_within : (bounds : Limits) (file : List ℕ) (count : ℕ) (entries : List Entry) → AreBytes file → HasNoHeaderFault bounds file →
+    HasReservations file (off_mem_rsvmap file) (totalsize file) count → HasTable (tree_blocks file) bounds.depth entries →
+    IsBlobWithin bounds file
+is_blob_within bounds file count entries bytes fine has table =
+    blob_of_parts bounds file count bytes fine has (record { root = table.root; holds = table.holds; shallow = table.shallow })
+
+-- The numbers of a reservation.
+abbrev pub numbers : Reservation → ℕ × ℕ
+numbers reservation = (reservation.address, reservation.size)
+
+pub reservation_at : (file : List ℕ) (at count index : ℕ) → index < count →
+    slice_get (map numbers (reservations_at file at count)) index ≡ Some (u64_at file (at + 16 * index), u64_at file (at + 16 * index + 8))
+reservation_at file at zero index within = absurd (omega arith)
+reservation_at file at (suc count) zero within = ap (λ n. Some (u64_at file n, u64_at file (n + 8))) (omega arith)
+reservation_at file at (suc count) (suc index) within =
+    reservation_at file (at + 16) count index (omega arith)
+    ∙ ap (λ n. Some (u64_at file n, u64_at file (n + 8))) (omega arith)
+
+pub no_reservation_at : (file : List ℕ) (at count index : ℕ) → count ≤ index →
+    slice_get (map numbers (reservations_at file at count)) index ≡ None
+no_reservation_at file at zero index past = refl
+no_reservation_at file at (suc count) zero past = absurd (omega arith)
+no_reservation_at file at (suc count) (suc index) past = no_reservation_at file (at + 16) count index (omega arith)

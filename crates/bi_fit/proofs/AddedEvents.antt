@@ -1,0 +1,78 @@
+use Rattle.std.proofs.Common.{◌≡◌, ℕ, List, [], ◌∷◌, ◌++◌, fold, sym, ap, subst, ◌∙◌, append_assoc, append-nil}
+use Rattle.std.proofs.lemmas.List.Sums.{fold-append}
+use Rattle.bi_blob.specs.Tree.{PropertyMap}
+use Rattle.bi_blob.specs.Events.{Event, NodeEnd}
+use Rattle.bi_blob.specs.Stages.{Stage, BeforeRoot, next_stage}
+use Rattle.bi_blob.specs.Following.{AllFollow, MayFollowInText, stage_of_events, MayEnd}
+use Rattle.bi_lay.specs.Contents.{Doc, with_event}
+use Rattle.bi_fit.specs.NormalNodes.{with_events, MayAdd, begin_events}
+
+-- Events that are added to a document in turn.
+
+-- None change it.
+pub with_events-none : (document : Doc) → with_events document [] ≡ document
+with_events-none document = ap (λ l. record document { events = l }) (append-nil document.events)
+
+-- Some events and others.
+pub with_events-append : (document : Doc) (events later : List Event) →
+    with_events (with_events document events) later ≡ with_events document (events ++ later)
+with_events-append document events later = ap (λ l. record document { events = l }) (append_assoc document.events events later)
+
+-- Of events that may follow one another, the first of them may,
+follow-front : (stage : Stage) (events later : List Event) → AllFollow MayFollowInText stage (events ++ later) →
+    AllFollow MayFollowInText stage events
+follow-front stage [] later follow = tt
+follow-front stage (event ∷ events) later follow = (follow.0, follow-front (next_stage stage event) events later follow.1)
+
+-- and the others may after them.
+follow-back : (stage : Stage) (events later : List Event) → AllFollow MayFollowInText stage (events ++ later) →
+    AllFollow MayFollowInText (fold next_stage stage events) later
+follow-back stage [] later follow = follow
+follow-back stage (event ∷ events) later follow = follow-back (next_stage stage event) events later follow.1
+
+-- The first of some events may be added,
+pub MayAdd-front : (document : Doc) (events later : List Event) → MayAdd document (events ++ later) → MayAdd document events
+MayAdd-front document events later may = follow-front (stage_of_events document.events) events later may
+
+-- and the others after them.
+pub MayAdd-back : (document : Doc) (events later : List Event) → MayAdd document (events ++ later) →
+    MayAdd (with_events document events) later
+MayAdd-back document events later may =
+    subst (λ stage. AllFollow MayFollowInText stage later) (sym (fold-append next_stage BeforeRoot document.events events))
+    (follow-back (stage_of_events document.events) events later may)
+
+-- Nodes of one name and of the same properties begin in the same way.
+pub begin_events-same : (name other : List ℕ) (properties others : PropertyMap) → name ≡ other → properties ≡ others →
+    begin_events name properties ≡ begin_events other others
+begin_events-same name other properties others same_name same = ap (λ name. begin_events name properties) same_name ∙ ap (begin_events other) same
+
+-- A node is added by some events that begin it, those of its children, and its end.
+module _ (document : Doc) (begin children : List Event) where
+  -- The whole of it.
+  abbrev pub whole : List Event
+  whole = begin ++ (children ++ (NodeEnd ∷ []))
+
+  -- Where the node may be added, it may begin,
+  pub may_begin : MayAdd document whole → MayAdd document begin
+  may_begin may = MayAdd-front document begin (children ++ (NodeEnd ∷ [])) may
+
+  -- its children may follow,
+  pub may_have_children : (begun : Doc) → begun ≡ with_events document begin → MayAdd document whole → MayAdd begun children
+  may_have_children begun is may =
+      subst (λ document. MayAdd document children) (sym is)
+      (MayAdd-front (with_events document begin) children (NodeEnd ∷ []) (MayAdd-back document begin (children ++ (NodeEnd ∷ [])) may))
+
+  -- it may end,
+  pub may_end : (begun filled : Doc) → begun ≡ with_events document begin → filled ≡ with_events begun children → MayAdd document whole →
+      MayEnd (stage_of_events filled.events)
+  may_end begun filled is is_filled may =
+      subst (λ document. MayEnd (stage_of_events document.events)) (sym (is_filled ∙ ap (λ document. with_events document children) is))
+      (MayAdd-back (with_events document begin) children (NodeEnd ∷ []) (MayAdd-back document begin (children ++ (NodeEnd ∷ [])) may)).0
+
+  -- and then all of it was added.
+  pub whole_added : (begun filled : Doc) → begun ≡ with_events document begin → filled ≡ with_events begun children →
+      with_event filled NodeEnd ≡ with_events document whole
+  whole_added begun filled is is_filled =
+      ap (λ document. with_event document NodeEnd) (is_filled ∙ ap (λ document. with_events document children) is)
+      ∙ with_events-append (with_events document begin) children (NodeEnd ∷ [])
+      ∙ with_events-append document begin (children ++ (NodeEnd ∷ []))

@@ -1,0 +1,159 @@
+use Rattle.std.proofs.Common.{◌≡◌, ℕ, suc, ◌+◌, ◌*◌, ◌^◌, ◌<◌, ◌≤◌, List, [], ◌∷◌, ◌++◌, length, map, flat_map, refl, sym, ap, ◌∙◌, arith}
+use Rattle.std.proofs.Common.{append-nil, length-append, vec_len, Option, Some, None, IsSome, MatchOption}
+use Rattle.std.specs.List.{AllByRecursion, sum_by}
+use Rattle.std.proofs.lemmas.List.Concat.{flat_map-append}
+use Rattle.std.proofs.lemmas.List.Sums.{sum_by-cons}
+use Rattle.bi_base.specs.Cells.{up4}
+use Rattle.bi_blob.specs.Tokens.{BeginNode, Prop, EndNode, End as EndToken}
+use Rattle.bi_blob.specs.Events.{Event}
+use Rattle.bi_blob.specs.Blob.{Reservation, reservation_block}
+use Rattle.bi_blob.specs.Layout.{encoding, token_of, tokens_of, event_width, offset_in, strings_of, structure_block, text_of_blocks}
+use Rattle.bi_blob.specs.Layout.{text_of_events, length_before_padding, longest_text}
+use Rattle.bi_base.proofs.CellLaws.{length-cell}
+use Rattle.bi_blob.proofs.Texts.TextTokens.{length-encoding}
+use Rattle.bi_blob.proofs.Texts.TextEvents.{offset_in-le}
+use Rattle.bi_blob.proofs.Texts.EventLengths.{text_of_events_has_length, length-reservation_block}
+use Rattle.bi_lay.specs.declared.document.Doc.TheInside.{Inside as Fields}
+use Rattle.bi_lay.specs.declared.items.Item.{Item}
+use Rattle.bi_lay.specs.declared.items.Item.TheVariants.{Begin, Property, End}
+use Rattle.bi_blob.specs.TextLaws.{HasLengthOfEvents}
+use Rattle.bi_lay.specs.Contents.{text_of}
+use Rattle.bi_lay.specs.Names.{as_usize}
+use Rattle.bi_lay.specs.Items.{event_of, events_of_items, item_encoding, structure_of_items, reservations_of, HasOffset}
+use Rattle.bi_lay.specs.Values.{value_bytes}
+use Rattle.bi_lay.specs.Documents.{IsConsistentDocument, doc_model}
+use Rattle.bi_blob.proofs.Blobs.Passing.{length-Prop}
+
+-- The text of a document is made of what its fields hold.
+
+-- The bytes of an item's token are as many as the token of its event takes.
+length-item : (item : Item) → length (item_encoding item) ≡ event_width (event_of item)
+length-item (Begin name) = length-encoding (BeginNode name.now)
+length-item (Property property) =
+    length-encoding (Prop property.name_offset (value_bytes property.value))
+    ∙ ap up4 (length-Prop property.name_offset (value_bytes property.value) ∙ sym (length-Prop 0 (value_bytes property.value)))
+length-item End = length-encoding EndNode
+
+-- The same of all items.
+length-items : (items : List Item) → length (flat_map item_encoding items) ≡ sum_by event_width (events_of_items items)
+length-items [] = refl
+length-items (item ∷ later) =
+    length-append (item_encoding item) (flat_map item_encoding later)
+    ∙ omega (arith, length-item item, length-items later, sum_by-cons event_width (event_of item) (events_of_items later))
+
+-- The structure block of items is as long as that of their events.
+pub length-structure : (items : List Item) → length (structure_of_items items) ≡ sum_by event_width (events_of_items items) + 4
+length-structure items =
+    length-append (flat_map item_encoding items) (encoding EndToken) ∙ omega (arith, length-items items, length-encoding EndToken, length-cell 9)
+
+-- The token of an item is that of its event, where its offset is right and the strings block is not too long.
+same_item : (names : List (List ℕ)) (item : Item) → HasOffset names item → length (strings_of names) < 2 ^ 32 →
+    item_encoding item ≡ encoding (token_of names (event_of item))
+same_item names (Begin name) has short = refl
+same_item names (Property property) has short = ap (λ offset. encoding (Prop offset (value_bytes property.value))) is_offset
+  where
+    is_offset : property.name_offset ≡ offset_in names property.name.now
+    is_offset = omega (arith, has.1, offset_in-le names property.name.now)
+same_item names End has short = refl
+
+-- The same of all items.
+same_items : (names : List (List ℕ)) (items : List Item) → AllByRecursion (HasOffset names) items → length (strings_of names) < 2 ^ 32 →
+    flat_map item_encoding items ≡ flat_map encoding (map (token_of names) (events_of_items items))
+same_items names [] each short = refl
+same_items names (item ∷ later) each short = λ j. same_item names item each.0 short j ++ same_items names later each.1 short j
+
+-- The structure block of items is that of their events.
+pub same_structure : (doc : Fields) → IsConsistentDocument doc → length (strings_of doc.names) < 2 ^ 32 →
+    structure_of_items doc.items.items ≡ structure_block (events_of_items doc.items.items)
+same_structure doc kept short =
+    ap (λ l. l ++ encoding EndToken) (same_items doc.names doc.items.items kept.offsets short ∙ ap (λ names. flat_map encoding (map (token_of names) events)) kept.names)
+    ∙ ap (λ l. flat_map encoding (tokens_of events) ++ l) (sym (append-nil (encoding EndToken)))
+    ∙ sym (flat_map-append encoding (tokens_of events) (EndToken ∷ []))
+  where
+    events : List Event
+    events = events_of_items doc.items.items
+
+-- As many reservations as pairs.
+length-reservations : (pairs : List (ℕ × ℕ)) → length (reservations_of pairs) ≡ length pairs
+length-reservations [] = refl
+length-reservations (pair ∷ later) = ap suc (length-reservations later)
+
+-- How long the text of a document is.
+is_text_length : (doc : Fields) → IsConsistentDocument doc →
+    length (text_of (doc_model doc))
+    ≡ up4 (length_before_padding (16 * length doc.reservations.items + 16) (length (structure_of_items doc.items.items))
+    (length (strings_of doc.names)))
+is_text_length doc kept =
+    law.is_length
+    ∙ (λ j. up4 (length_before_padding (same_reserved j) (same_length j) (length (strings_of (sym kept.names j)))))
+  where
+    events : List Event
+    events = events_of_items doc.items.items
+
+    pairs : List Reservation
+    pairs = reservations_of doc.reservations.items
+
+    law : HasLengthOfEvents doc.boot_cpu pairs events
+    law = text_of_events_has_length doc.boot_cpu pairs events
+
+    same_reserved : length (reservation_block pairs) ≡ 16 * length doc.reservations.items + 16
+    same_reserved = law.reserved ∙ ap (λ n. 16 * n + 16) (length-reservations doc.reservations.items)
+
+    same_length : length (structure_block events) ≡ length (structure_of_items doc.items.items)
+    same_length = law.structure ∙ sym (length-structure doc.items.items)
+
+-- What the sizes of the blocks are measured from: the number of the reservations, the items, and the length of the strings
+-- block as far as it is counted.
+pub record AreMeasured (doc : Fields) (count : ℕ) (items : List Item) (strings : ℕ) : Type 0 where
+  pub is_count : count ≡ vec_len doc.reservations
+  pub are_items : items ≡ doc.items.items
+  pub is_strings : strings ≡ as_usize (length (strings_of doc.names))
+
+-- The length of the text before its padding, from what is measured.
+abbrev pub measured_length : ℕ → List Item → ℕ → ℕ
+measured_length count items strings = up4 (length_before_padding (16 * count + 16) (length (structure_of_items items)) strings)
+
+-- Where what is measured is not too long, the strings block is counted to its end.
+pub strings-exact : (doc : Fields) (count : ℕ) (items : List Item) (strings : ℕ) → AreMeasured doc count items strings →
+    measured_length count items strings ≤ longest_text → strings ≡ length (strings_of doc.names)
+strings-exact doc count items strings are short = omega (arith, are.is_strings)
+
+-- The text is as long as what is measured, if that is not too long.
+pub measured_length-exact : (doc : Fields) (count : ℕ) (items : List Item) (strings : ℕ) → IsConsistentDocument doc →
+    AreMeasured doc count items strings → measured_length count items strings ≤ longest_text →
+    length (text_of (doc_model doc)) ≡ measured_length count items strings
+measured_length-exact doc count items strings kept are short =
+    is_text_length doc kept
+    ∙ (λ j. up4 (length_before_padding (16 * same_count j + 16) (length (structure_of_items (sym are.are_items j))) (sym (strings-exact doc count items strings are short) j)))
+  where
+    same_count : length doc.reservations.items ≡ count
+    same_count = omega (arith, are.is_count, doc.reservations.ok.0)
+
+-- The text is too long if what is measured is.
+pub measured_length-long : (doc : Fields) (count : ℕ) (items : List Item) (strings : ℕ) → IsConsistentDocument doc →
+    AreMeasured doc count items strings → longest_text < measured_length count items strings →
+    longest_text < length (text_of (doc_model doc))
+measured_length-long doc count items strings kept are long =
+    omega (arith, long, are.is_count, are.is_strings, doc.reservations.ok.0, ap (λ l. length (structure_of_items l)) are.are_items, is_text_length doc kept)
+
+-- The text is put together of its blocks.
+pub same_text : (doc : Fields) (pairs : List (ℕ × ℕ)) (items : List Item) (names : List (List ℕ)) → IsConsistentDocument doc →
+    pairs ≡ doc.reservations.items → items ≡ doc.items.items → names ≡ doc.names → length (text_of (doc_model doc)) ≤ longest_text →
+    text_of_blocks doc.boot_cpu (reservation_block (reservations_of pairs)) (structure_of_items items) (strings_of names)
+    ≡ text_of (doc_model doc)
+unfolding text_of_events
+same_text doc pairs items names kept are_pairs are_items are_names short =
+    λ j. text_of_blocks doc.boot_cpu (reservation_block (reservations_of (are_pairs j))) ((ap structure_of_items are_items ∙ same_structure doc kept fits) j) (strings_of ((are_names ∙ kept.names) j))
+  where
+    fits : length (strings_of doc.names) < 2 ^ 32
+    fits = omega (arith, short, is_text_length doc kept)
+
+-- Something is measured where the text is not too long.
+pub some_measured : {X : Type 0} (found : Option X) (Long : Type 0) (Is : X → Type 0) → MatchOption found Long Is → ¬ Long → IsSome found
+some_measured None Long Is cases short = absurd (short cases)
+some_measured (Some x) Long Is cases short = refl
+
+-- The reservation block has sixteen bytes for each pair and for the end pair.
+pub length-block : (pairs : List (ℕ × ℕ)) (count : ℕ) → count ≡ length pairs →
+    length (reservation_block (reservations_of pairs)) ≡ 16 * count + 16
+length-block pairs count is_count = length-reservation_block (reservations_of pairs) ∙ omega (arith, is_count, length-reservations pairs)
