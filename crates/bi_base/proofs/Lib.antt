@@ -5,6 +5,7 @@ pub mod CrcTableEntries
 pub mod CrcTableLaws
 pub mod FirstFault
 pub mod SinkLaws
+pub mod SliceSinkLaws
 pub mod InputLaws
 pub mod BufferLaws
 pub mod TransferLaws

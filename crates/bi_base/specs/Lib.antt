@@ -12,10 +12,12 @@ pub mod SinkLaws
 pub mod CountSinks
 pub mod CrcSink
 pub mod VecSinks
+pub mod SliceSinks
 pub mod WriteSinks
 pub mod BufferedSinks
 pub mod Crc
 pub mod Strings
+pub mod Slices
 pub mod CrcTables
 pub mod Commands
 pub mod Pipes

@@ -11,3 +11,7 @@ pub record Limits : Type 0 where
 -- byte, and 1 to 64 open nodes (profile of this project).
 abbrev pub IsInRange : ℕ → ℕ → Type 0
 IsInRange file depth = (64 ≤ file) × (file ≤ 0x7fffffff) × (1 ≤ depth) × (depth ≤ 64)
+
+-- The largest limits that a call may have.
+abbrev pub widest : Limits
+widest = record { file = 0x7fffffff; depth = 64 }

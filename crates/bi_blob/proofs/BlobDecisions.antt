@@ -13,7 +13,8 @@ use Rattle.bi_blob.specs.Events.{FileEvent, FileNodeStart, FileNodeProperty, Fil
 use Rattle.bi_blob.specs.Blob.{Reservation, IsReservation, reservation_block, TreeBlocks, tree_blocks, boot_cpuid_phys, off_mem_rsvmap}
 use Rattle.bi_blob.specs.Blob.{totalsize}
 use Rattle.bi_blob.specs.BlobFaults.{header_checks}
-use Rattle.bi_blob.specs.KnownBlobs.{widest, IsKnownBlob}
+use Rattle.bi_base.specs.Limits.{widest}
+use Rattle.bi_blob.specs.KnownBlobs.{IsKnownBlob}
 use Rattle.bi_blob.proofs.CheckDecisions.{all_decide, le_decides, lt_decides, eq_decides, lacks_byte, lacks_byte_decides, is_new}
 use Rattle.bi_blob.proofs.CheckDecisions.{is_new_decides, is_property_name, is_property_name_decides, is_child_name, is_child_name_decides}
 use Rattle.bi_blob.proofs.HeaderDecisions.{test, fine_by_test}

@@ -4,7 +4,8 @@ use Rattle.bi_blob.specs.BlobFaults.{IsEndPair, InReservations, IsWithinLimit, H
 use Rattle.bi_blob.specs.BlobFaults.{HasCompatibleVersion, TotalHoldsHeader, FileHoldsTotal, PlacesReservations, PlacesStructure}
 use Rattle.bi_blob.specs.BlobFaults.{PlacesStrings}
 use Rattle.bi_blob.specs.KnownTexts.{smallest_text}
-use Rattle.bi_blob.specs.KnownBlobs.{widest, with_cell}
+use Rattle.bi_base.specs.Limits.{widest}
+use Rattle.bi_blob.specs.KnownBlobs.{with_cell}
 use Rattle.bi_blob.specs.KnownFaults.{longer_file, HeadersHaveFaults, HeaderChecksHaveOrder, ReservationsHaveFaults}
 use Rattle.bi_blob.proofs.CheckDecisions.{first_failing}
 use Rattle.bi_blob.proofs.HeaderDecisions.{test, fine_by_test, in_header}

@@ -1,6 +1,6 @@
 use Rattle.std.specs.Prelude.{◌≡◌, ℕ, ◌+◌, List, [], ◌∷◌, ◌++◌, take, drop, flat_map, codes}
 use Rattle.bi_base.specs.Cells.{cell}
-use Rattle.bi_base.specs.Limits.{Limits}
+use Rattle.bi_base.specs.Limits.{widest}
 use Rattle.bi_blob.specs.Tree.{none, node, Root, FileNode, tree_without_places}
 use Rattle.bi_blob.specs.Tokens.{Token, BeginNode, Prop, Nop}
 use Rattle.bi_blob.specs.Stages.{Inside}
@@ -11,10 +11,6 @@ use Rattle.bi_blob.specs.KnownTexts.{smallest_tree, smallest_text}
 -- Small files that are accepted, each with what it holds as a blob, by which a reader can judge the
 -- definitions (Devicetree Specification, chapter 5). In some of them, bytes that may be anything
 -- are `ff` (which bytes these are is profile of this project).
-
--- The widest limits.
-abbrev pub widest : Limits
-widest = record { file = 0x7fffffff; depth = 64 }
 
 -- A file with another number in the cell at this offset.
 abbrev pub with_cell : List ℕ → ℕ → ℕ → List ℕ

@@ -5,13 +5,14 @@ use Rattle.bi_base.specs.declared.fault.Cause.TheVariants.{BadVersion, BadOffset
 use Rattle.bi_base.specs.declared.fault.Cause.TheVariants.{BadName, BadNameOffset}
 use Rattle.bi_base.specs.declared.fault.Cause.TheVariants.{PropertyAfterChild, DuplicateProperty}
 use Rattle.bi_base.specs.declared.fault.Cause.TheVariants.{DuplicateNode, TooDeep, TooLarge}
-use Rattle.bi_base.specs.Limits.{Limits}
+use Rattle.bi_base.specs.Limits.{Limits, widest}
 use Rattle.bi_blob.specs.Tokens.{Token, BeginNode, EndNode, Prop, End}
 use Rattle.bi_blob.specs.Blob.{reservation_block}
 use Rattle.bi_blob.specs.BlobFaults.{IsBlobFault}
 use Rattle.bi_blob.specs.Layout.{text_of_blocks, encoding}
 use Rattle.bi_blob.specs.KnownTexts.{smallest_text}
-pub use Rattle.bi_blob.specs.KnownBlobs.{widest, with_cell}
+pub use Rattle.bi_base.specs.Limits.{widest}
+pub use Rattle.bi_blob.specs.KnownBlobs.{with_cell}
 use Rattle.bi_blob.specs.KnownBlobs.{cells, file_of_version_16, smallest_of_version_16}
 
 -- Small files that are refused, each with its fault, by which a reader can judge the definitions:

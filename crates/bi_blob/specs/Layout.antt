@@ -1,6 +1,6 @@
 use Rattle.std.specs.Prelude.{◌≡◌, ℕ, ◌+◌, ◌-◌, ◌^◌, ◌<◌, List, [], ◌∷◌, ◌++◌, map, length}
-use Rattle.std.specs.Prelude.{replicate, filter, flat_map, sum_by, not, bytes_eq, if◌then◌else◌}
-use Rattle.std.specs.List.{AllByRecursion}
+use Rattle.std.specs.Prelude.{Bool, replicate, filter, flat_map, sum_by, not, bytes_eq, if◌then◌else◌}
+use Rattle.std.specs.List.{AllByRecursion, list_any}
 use Rattle.std.specs.FinMap.{entries}
 use Rattle.bi_base.specs.Cells.{cell, up4, AreBytes}
 use Rattle.bi_blob.specs.Tokens.{Token, BeginNode, EndNode, Prop, End, token_bytes, width}
@@ -29,6 +29,10 @@ abbrev pub distinct_names : List (List ℕ) → List (List ℕ)
 distinct_names [] = []
 distinct_names (name ∷ later) =
     name ∷ filter (λ other. not (bytes_eq name other)) (distinct_names later)
+
+-- Whether a name is among names.
+abbrev pub is_among : List ℕ → List (List ℕ) → Bool
+is_among name names = list_any (λ other. bytes_eq other name) names
 
 -- These names one after the other, with a zero byte after each (Devicetree Specification, 5.5).
 abbrev pub strings_of : List (List ℕ) → List ℕ

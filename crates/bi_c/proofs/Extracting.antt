@@ -27,32 +27,6 @@ pub found_in_file : (select : Select) (limits : Limits) (file : List ℕ) (meani
 found_in_file select limits file meaning (Ok region) means is = record { meaning = meaning; means = means; holds = is }
 found_in_file select limits file meaning (Err error) means is = tt
 
--- The reason for which nothing is found is an error of extracting from the file.
-reason_of_file : (select : Select) (limits : Limits) (file : List ℕ) (meaning : Meaning) (error : ExtractError) →
-    Means limits file meaning → IsReason error (choice_of select meaning) → IsExtractError select limits file error
-reason_of_file select limits file meaning (Failed failed) means is = absurd is
-reason_of_file select limits file meaning WrongKind means is = record { meaning = meaning; means = means; holds = is }
-reason_of_file select limits file meaning NoPart means is = record { meaning = meaning; means = means; holds = is }
-reason_of_file select limits file meaning NoImage means is = record { meaning = meaning; means = means; holds = is }
-reason_of_file select limits file meaning (Config reason) means is = record { meaning = meaning; means = means; holds = is }
-reason_of_file select limits file meaning NoIndex means is = record { meaning = meaning; means = means; holds = is }
-reason_of_file select limits file meaning NoPayload means is = record { meaning = meaning; means = means; holds = is }
-
-pub refused_in_file : (select : Select) (limits : Limits) (file : List ℕ) (meaning : Meaning) (result : Result Region ExtractError) →
-    Means limits file meaning
-    → IfErr result (λ error. IsReason error (choice_of select meaning)) → IfErr result (IsExtractError select limits file)
-refused_in_file select limits file meaning (Ok region) means is = tt
-refused_in_file select limits file meaning (Err error) means is = reason_of_file select limits file meaning error means is
-
--- The same where memory may run out.
-pub failed_in_file : (select : Select) (limits : Limits) (file : List ℕ) (meaning : Meaning) (result : Result Region ExtractError) →
-    Means limits file meaning → NeedsMemory limits file
-    → IfErr result (λ cause. IsReason cause (choice_of select meaning) ⊎ (cause ≡ Failed error.OutOfMemory)) →
-    IfErr result (IsExtractError select limits file)
-failed_in_file select limits file meaning (Ok region) means needs is = tt
-failed_in_file select limits file meaning (Err error) means needs (inl is) = reason_of_file select limits file meaning error means is
-failed_in_file select limits file meaning (Err error) means needs (inr is) = subst (IsExtractError select limits file) (sym is) needs
-
 -- The numbers of the reason for which nothing is found.
 numbered : (select : Select) (limits : Limits) (file : List ℕ) (choice : Choice) (reason index : ℕ) →
     MeansSuch limits file (λ meaning. choice_of select meaning ≡ choice) → IsReasonNumber reason index choice

@@ -26,11 +26,3 @@ pub not_normalised : (limit depth number : ℕ) (limits : Limits) (form : Form) 
 not_normalised limit depth number limits form file valid same_limits same_form failure is =
     failed_by (HasForm limit depth number) (IsNormaliseError (bounds limit depth) (form_of number) file) is.cause failure valid is.is_failure (λ no. no) (λ no. no)
     (subst (λ (f : Form). IsNormaliseError (bounds limit depth) f file is.cause) same_form (subst (λ (l : Limits). IsNormaliseError l form file is.cause) same_limits is.is_error))
-
--- An error of reading a file is one of normalising it.
-pub open_error : (limits : Limits) (form : Form) (file : List ℕ) (error : Error) → IsOpenError limits file error →
-    IsNormaliseError limits form file error
-open_error limits form file (Refused fault) is = inl is
-open_error limits form file OutOfMemory is = is
-open_error limits form file ReadFailed is = is
-open_error limits form file WriteFailed is = is

@@ -4,8 +4,7 @@ use Rattle.std.specs.Option.{option_map, option_and_then, ok_or}
 use Rattle.std.specs.List.{AllZip, AllByRecursion, flat_map}
 use Rattle.std.proofs.lemmas.List.{length-append}
 use Rattle.bi_base.specs.Limits.{Limits}
-use Rattle.bi_base.specs.Cells.{up4, cell}
-use Rattle.bi_base.proofs.CellLaws.{length-cell}
+use Rattle.bi_base.specs.Cells.{up4}
 use Rattle.bi_blob.specs.Tree.{Nodes, none, node, FileNode}
 use Rattle.bi_blob.specs.Lookups.{siblings}
 use Rattle.bi_fdt.specs.Content.{root_of}
@@ -22,6 +21,8 @@ use Rattle.bi_legacy.specs.PlacedParts.{PartModel, placed_parts_from, AreAtOffse
 use Rattle.bi_legacy.specs.Reading.{LegacyModel, IsParsedImage, part_places}
 use Rattle.bi_legacy.specs.Meaning.{has_part_table}
 use Rattle.bi_legacy.proofs.EmitParts.{parts_end_from-grows}
+use Rattle.bi_legacy.proofs.PartOffsets.{up4_of_four}
+use Rattle.bi_legacy.proofs.TableParts.{length-part_table}
 use Rattle.bi_commands.specs.declared.extract.ExtractError.TheVariants.{NoPart, NoPayload}
 use Rattle.bi_commands.specs.Extracting.{Choice, HasNoPayload, IsReason, choice_of_part, choice_of_payload, choice_by_name}
 use Rattle.bi_commands.proofs.Choices.{choice_at, chosen_by_name}
@@ -125,26 +126,12 @@ part_there file end (part ∷ later) zero offset bytes at fits is_part is_offset
 part_there file end (part ∷ later) (suc index) offset bytes at fits is_part is_offset =
     part_there file (up4 end + length part) later index offset bytes at.1 fits is_part is_offset
 
--- The size of a part table is a multiple of four.
-length-sizes : (parts : List (List ℕ)) → length (flat_map (λ (part : List ℕ). cell (length part)) parts) ≡ 4 * length parts
-length-sizes [] = refl
-length-sizes (part ∷ later) =
-    length-append (cell (length part)) (flat_map (λ (other : List ℕ). cell (length other)) later)
-    ∙ omega (arith, length-cell (length part), length-sizes later)
-
-length-table : (parts : List (List ℕ)) → length (part_table parts) ≡ 4 * (length parts + 1)
-length-table parts =
-    length-append (flat_map (λ (part : List ℕ). cell (length part)) parts) (cell 0) ∙ omega (arith, length-sizes parts, length-cell 0)
-
-up4_of_four : (n : ℕ) → up4 (4 * n) ≡ 4 * n
-up4_of_four n = omega arith
-
 -- The first part begins at a multiple of four in the data.
 start-aligned : (image_type : ℕ) (parts : List (List ℕ)) → up4 (parts_start image_type parts) ≡ parts_start image_type parts
 start-aligned image_type parts = by (has_part_table image_type)
   where
     by : (has_table : Bool) → up4 (if has_table then length (part_table parts) else 0) ≡ (if has_table then length (part_table parts) else 0)
-    by true = rw (length-table parts) (up4_of_four (length parts + 1))
+    by true = rw (length-part_table parts) (up4_of_four (length parts + 1))
     by false = omega arith
 
 -- The part of an image that was read is in the file at its offset.

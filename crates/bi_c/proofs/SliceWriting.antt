@@ -1,7 +1,9 @@
 use Rattle.std.proofs.Common.{◌≡◌, ◌≤◌, ◌-◌, ℕ, List, [], ◌++◌, Result, Ok, Err, length, take, drop, refl, sym, ap, subst, ◌∙◌, arith}
 use Rattle.std.proofs.lemmas.List.{length-take, take-append-drop}
 use Rattle.bi_base.specs.declared.fault.Error.{Error}
-use Rattle.bi_base.specs.Commands.{AppendFailed, WasRefused, SinkFailed}
+use Rattle.bi_base.specs.SliceSinks.{slice_of, filled_of, SliceGrows}
+use Rattle.bi_base.specs.declared.slice_sink.SliceSink.{SliceSink}
+use Rattle.bi_base.proofs.SliceSinkLaws.{slice_has_text}
 use Rattle.bi_base.specs.CountSinks.{Counts}
 use Rattle.bi_base.specs.Sinks.{Wrote}
 use Rattle.bi_base.specs.Limits.{Limits}
@@ -11,66 +13,38 @@ use Rattle.bi_legacy.specs.Text.{legacy_text}
 use Rattle.bi_legacy.proofs.NormalLength.{length-legacy_text}
 use Rattle.bi_c.specs.declared.failure.Failure.{Failure}
 use Rattle.bi_c.specs.declared.answer.Answer.{Answer}
-use Rattle.bi_c.specs.declared.slice_sink.SliceSink.{SliceSink}
 use Rattle.bi_c.specs.Answers.{Fills, Filled, HadNoRoom, FilledNothing, IsJust, answer_of, answer_of_failure, status_of}
-use Rattle.bi_c.specs.SliceSinks.{slice_of, SliceGrows, SliceFails}
 
 -- Texts that are written to a slice.
 
--- A text is written to the beginning of a slice,
-pub written : (old new : SliceSink) (text : List ℕ) → old.filled ≡ 0 → length text ≤ length (slice_of old).now → SliceGrows old text new →
-    (slice_of new).now ≡ text ++ drop (length text) (slice_of old).now
-written old new text empty room grows =
-    let bytes = (slice_of old).now in
-    (grows.overwrites [] (take (length text) bytes) (drop (length text) bytes) (sym (take-append-drop (length text) bytes)) empty
-    (omega (arith, length-take (length text) bytes, room))).is
-
--- which cannot fail if there is room.
-pub not_full : (old new : SliceSink) (text : List ℕ) (error : Error) → old.filled ≡ 0 → length text ≤ length (slice_of old).now →
-    ¬ (SliceFails old text new error)
-not_full old new text error empty room failed = failed.no_room (omega (arith, empty, room))
-
--- So a call that appends a text to a sink with room did so.
-pub grew : {V : Type 0} (old new : SliceSink) (text : List ℕ) (result : Result V Error) → old.filled ≡ 0 →
-    length text ≤ length (slice_of old).now → Wrote SliceGrows SliceFails old text result new → SliceGrows old text new
-grew old new text (Ok value) empty room wrote = wrote
-grew old new text (Err error) empty room wrote = absurd (not_full old new text error empty room wrote)
-
--- Or it failed before it began.
-pub stayed : (old new : SliceSink) (text : List ℕ) (HasError : Error → Type 0) (error : Error) → old.filled ≡ 0 →
-    length text ≤ length (slice_of old).now → AppendFailed SliceFails (λ other. other ≡ text) HasError old new error → new ≡ old
-stayed old new text HasError error empty room (WasRefused is same) = same
-stayed old new text HasError error empty room (SinkFailed other cause is failed same) =
-    absurd (not_full old new text cause empty room (subst (λ (l : List ℕ). SliceFails old l new cause) is failed))
-
 -- A text was written to the beginning of a buffer that a sink had borrowed.
 pub filled_with : (HasFailed : Failure → Type 0) (text : List ℕ) (value : ℕ) (old new : SliceSink) (before after : List ℕ) (name : ℕ)
-    (answer : Answer) → old.filled ≡ 0 → (slice_of old).now ≡ before → (slice_of old).ghost_name ≡ name
+    (answer : Answer) → filled_of old ≡ 0 → (slice_of old).now ≡ before → (slice_of old).ghost_name ≡ name
     → length text ≤ length before → SliceGrows old text new → (name ≡ (slice_of new).ghost_name → after ≡ (slice_of new).now) →
     answer ≡ answer_of (length text) value → Fills (IsJust text value) HasFailed before after answer 0
 filled_with HasFailed text value old new before after name answer empty is_before is_name room grows is_after told =
     Filled text value (record { is_text = refl; is_number = refl }) room
     (is_after (sym (grows.same_slice ∙ is_name))
-    ∙ written old new text empty (subst (λ (l : List ℕ). length text ≤ length l) (sym is_before) room) grows
+    ∙ slice_has_text old new text empty (subst (λ (l : List ℕ). length text ≤ length l) (sym is_before) room) grows
     ∙ ap (λ (l : List ℕ). text ++ drop (length text) l) is_before)
     told refl
 
 -- The call failed before it began to write.
-pub unfilled : (IsOutput : List ℕ → ℕ → Type 0) (HasFailed : Failure → Type 0) (failure : Failure) (old new : SliceSink)
+pub fills_nothing : (IsOutput : List ℕ → ℕ → Type 0) (HasFailed : Failure → Type 0) (failure : Failure) (old new : SliceSink)
     (before after : List ℕ) (name : ℕ) (answer : Answer) (status : ℕ) → HasFailed failure → (slice_of old).now ≡ before →
     (slice_of old).ghost_name ≡ name
     → new ≡ old → (name ≡ (slice_of new).ghost_name → after ≡ (slice_of new).now) → answer ≡ answer_of_failure failure →
     status ≡ status_of failure → Fills IsOutput HasFailed before after answer status
-unfilled IsOutput HasFailed failure old new before after name answer status is is_before is_name same is_after told is_status =
+fills_nothing IsOutput HasFailed failure old new before after name answer status is is_before is_name same is_after told is_status =
     FilledNothing failure is
     (is_after (sym (ap (λ (sink : SliceSink). (slice_of sink).ghost_name) same ∙ is_name)) ∙ ap (λ (sink : SliceSink). (slice_of sink).now) same ∙ is_before)
     told is_status
 
 -- The bytes of a text were counted.
-pub counted : {V : Type 0} (old new : ℕ) (text : List ℕ) (result : Result V Error) → old ≡ 0 → length text ≤ longest_text →
+pub counts_text : {V : Type 0} (old new : ℕ) (text : List ℕ) (result : Result V Error) → old ≡ 0 → length text ≤ longest_text →
     Wrote Counts (λ a bytes b error. ⊥) old text result new → new ≡ length text
-counted old new text (Ok value) none short wrote = omega (arith, none, short, wrote (omega (arith, none)))
-counted old new text (Err error) none short wrote = absurd wrote
+counts_text old new text (Ok value) none short wrote = omega (arith, none, short, wrote (omega (arith, none)))
+counts_text old new text (Err error) none short wrote = absurd wrote
 
 -- What a call that fills a buffer promises implies more.
 pub fills_as : (IsOutput IsOther : List ℕ → ℕ → Type 0) (HasFailed HasOther : Failure → Type 0) (before after : List ℕ) (answer : Answer)

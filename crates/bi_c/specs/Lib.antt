@@ -2,4 +2,3 @@ pub mod Answers
 pub mod Arguments
 pub mod Calls
 pub mod Extracting
-pub mod SliceSinks

@@ -12,7 +12,6 @@ mod failure;
 mod kind;
 mod normalise;
 mod regions;
-mod slice_sink;
 mod texts;
 mod update;
 mod writing;

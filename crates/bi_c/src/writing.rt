@@ -15,8 +15,7 @@ ghost use Rattle.bi_c.specs.declared.failure.Failure.TheVariants.{OutOfMemory};
 
 use crate::answer::{Answer, DONE, NO_ROOM, answer_with, fail};
 use crate::failure::Failure;
-use crate::slice_sink::SliceSink;
-use bi_base::{CountSink, Limits};
+use bi_base::{CountSink, Limits, SliceSink};
 use bi_fit::{Form, Image};
 use bi_lay::Doc;
 use bi_legacy::Legacy;

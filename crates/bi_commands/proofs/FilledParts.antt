@@ -7,7 +7,7 @@ use Rattle.std.proofs.lemmas.List.Sums.{sum_by-cons}
 use Rattle.std.proofs.lemmas.Slice.Zip.{AllZip-long, all_zipped_more}
 use Rattle.bi_base.specs.Cells.{AreBytes}
 use Rattle.bi_base.specs.declared.fault.Cause.TheVariants.{BadPart}
-use Rattle.bi_legacy.specs.Emitting.{bytes_of}
+use Rattle.bi_base.specs.Slices.{bytes_of}
 use Rattle.bi_norm.specs.Cutting.{IsCut, IsCutFault, TooLong, TooShort}
 use Rattle.bi_norm.proofs.Pieces.{pieces_more}
 use Rattle.bi_commands.specs.Parts.{IsFilled, HasGivenBytes, LengthsAreCut, content_of, input_length_of, lengths_of, parts_of_lengths}

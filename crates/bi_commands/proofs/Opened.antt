@@ -49,17 +49,17 @@ reason_of_file select limits file meaning NoIndex means is = record { meaning = 
 reason_of_file select limits file meaning NoPayload means is = record { meaning = meaning; means = means; holds = is }
 
 -- The same of a call's result.
-pub refused_of_file : (select : Select) (limits : Limits) (file : List ℕ) (meaning : Meaning)
-    (result : Result (Bor (List ℕ)) ExtractError) → Means limits file meaning
+pub refused_of_file : {V : Type 0} (select : Select) (limits : Limits) (file : List ℕ) (meaning : Meaning)
+    (result : Result V ExtractError) → Means limits file meaning
     → IfErr result (λ error. IsReason error (choice_of select meaning)) → IfErr result (IsExtractError select limits file)
-refused_of_file select limits file meaning (Ok bytes) means is = tt
+refused_of_file select limits file meaning (Ok value) means is = tt
 refused_of_file select limits file meaning (Err error) means is = reason_of_file select limits file meaning error means is
 
 -- The same where memory may run out.
-pub failed_of_file : (select : Select) (limits : Limits) (file : List ℕ) (meaning : Meaning) (result : Result (Bor (List ℕ)) ExtractError) →
+pub failed_of_file : {V : Type 0} (select : Select) (limits : Limits) (file : List ℕ) (meaning : Meaning) (result : Result V ExtractError) →
     Means limits file meaning → NeedsMemory limits file
     → IfErr result (λ error. IsReason error (choice_of select meaning) ⊎ (error ≡ Failed OutOfMemory)) →
     IfErr result (IsExtractError select limits file)
-failed_of_file select limits file meaning (Ok bytes) means needs is = tt
+failed_of_file select limits file meaning (Ok value) means needs is = tt
 failed_of_file select limits file meaning (Err error) means needs (inl is) = reason_of_file select limits file meaning error means is
 failed_of_file select limits file meaning (Err error) means needs (inr is) = subst (IsExtractError select limits file) (sym is) needs

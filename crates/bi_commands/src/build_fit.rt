@@ -3,7 +3,7 @@
 ghost use Rattle.std.specs.Prelude.{◌≡◌, length, IfOk, IfErr};
 ghost use Rattle.bi_base.specs.declared.fault.Error.TheVariants.{OutOfMemory};
 ghost use Rattle.bi_base.specs.Pipes.{IsPiped};
-ghost use Rattle.bi_legacy.specs.Emitting.{bytes_of};
+ghost use Rattle.bi_base.specs.Slices.{bytes_of};
 ghost use Rattle.bi_commands.specs.BuildCommands.{HavePayloads};
 ghost use Rattle.bi_commands.specs.BuildCommands.{build_fit_promise, build_fit_laws};
 ghost use Rattle.bi_commands.specs.Parts.{parts_of_lengths};

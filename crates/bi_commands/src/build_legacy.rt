@@ -5,7 +5,7 @@ ghost use Rattle.std.specs.List.{AllByRecursion};
 ghost use Rattle.bi_base.specs.Cells.{AreBytes};
 ghost use Rattle.bi_base.specs.Commands.{Appended, AppendFailed};
 ghost use Rattle.bi_base.specs.Pipes.{IsPiped};
-ghost use Rattle.bi_legacy.specs.Emitting.{bytes_of};
+ghost use Rattle.bi_base.specs.Slices.{bytes_of};
 ghost use Rattle.bi_commands.specs.BuildCommands.{ArePartsOf, IsPartsError};
 ghost use Rattle.bi_commands.specs.BuildCommands.{IsLegacyOutput, IsLegacyOutputError};
 ghost use Rattle.bi_commands.specs.BuildCommands.{build_legacy_promise, build_legacy_laws};

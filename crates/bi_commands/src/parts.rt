@@ -4,7 +4,7 @@ ghost use Rattle.std.specs.Prelude.{◌≡◌, ◌≤◌, length, map, IfOk, IfE
 ghost use Rattle.std.specs.List.{AllByRecursion, sum};
 ghost use Rattle.bi_base.specs.Cells.{AreBytes};
 ghost use Rattle.bi_base.specs.declared.fault.Error.TheVariants.{OutOfMemory};
-ghost use Rattle.bi_legacy.specs.Emitting.{bytes_of};
+ghost use Rattle.bi_base.specs.Slices.{bytes_of};
 ghost use Rattle.bi_norm.specs.Cutting.{IsCutError, IsCutFault};
 ghost use Rattle.bi_commands.specs.Parts.{IsFilled, content_of, input_length_of, lengths_of};
 ghost use Rattle.bi_commands.specs.Parts.{parts_of_lengths};

@@ -8,7 +8,7 @@ use Rattle.bi_base.specs.Checks.{IsFirstFault}
 use Rattle.bi_blob.specs.Tree.{none, node, Root, Property, depth_of}
 use Rattle.bi_blob.specs.BlobFaults.{InHeader}
 use Rattle.bi_blob.specs.Layout.{text_of_tree, text_of_events, text_of_blocks, tree_with_places, longest_text}
-use Rattle.bi_blob.specs.KnownFaults.{widest}
+use Rattle.bi_base.specs.Limits.{widest}
 use Rattle.bi_fit.specs.Names.{images_name, data_offset_name, data_position_name, data_size_name}
 use Rattle.bi_fit.specs.Faults.{FitPasses, fit_fault, fit_checks, IsFitFault, InBlob, InTree}
 use Rattle.bi_fit.specs.KnownFiles.{tree_with_images, region_of, shared_region}

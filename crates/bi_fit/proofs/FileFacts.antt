@@ -10,7 +10,7 @@ use Rattle.bi_blob.specs.Tree.{Nodes, none, node, Root, Property, PropertyMap, w
 use Rattle.bi_blob.specs.Blob.{IsBlob}
 use Rattle.bi_blob.specs.Layout.{text_of_tree, text_of_events, text_of_blocks, tree_with_places, tokens_of, structure_block, longest_text}
 use Rattle.bi_blob.specs.Events.{events_of}
-use Rattle.bi_blob.specs.KnownFaults.{widest}
+use Rattle.bi_base.specs.Limits.{widest}
 use Rattle.bi_blob.specs.KnownTexts.{smallest_tree}
 use Rattle.bi_blob.proofs.HeaderDecisions.{test, fine_by_test}
 use Rattle.bi_blob.proofs.Blobs.Headers.{HasNoHeaderFault-Header}

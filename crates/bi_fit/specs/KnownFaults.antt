@@ -3,10 +3,9 @@ use Rattle.bi_base.specs.declared.fault.Cause.{Cause}
 use Rattle.bi_base.specs.declared.fault.Cause.TheVariants.{TooLarge, NoImages, BadCell, NoSize}
 use Rattle.bi_base.specs.declared.fault.Cause.TheVariants.{OutsideFile}
 use Rattle.bi_base.specs.Cells.{cell}
-use Rattle.bi_base.specs.Limits.{Limits}
+use Rattle.bi_base.specs.Limits.{Limits, widest}
 use Rattle.bi_blob.specs.Tree.{Nodes, none, node, Property}
 use Rattle.bi_blob.specs.Layout.{text_of_tree}
-use Rattle.bi_blob.specs.KnownFaults.{widest}
 use Rattle.bi_fit.specs.Names.{images_name, data_offset_name, data_position_name, data_size_name}
 use Rattle.bi_fit.specs.Faults.{IsFitFault}
 use Rattle.bi_fit.specs.KnownFiles.{file_of_images, region_of, shared_file}

@@ -2,7 +2,8 @@ use Rattle.std.proofs.Common.{◌≡◌, ℕ, List, [], ◌∷◌, ◌++◌, len
 use Rattle.bi_base.specs.Cells.{cell8}
 use Rattle.bi_blob.specs.Blob.{pair_bytes}
 use Rattle.bi_blob.specs.Layout.{strings_of, blob_header, padding_to_4, length_before_padding, text_of_blocks}
-use Rattle.bi_lay.specs.Items.{reservations_of, bytes_of}
+use Rattle.bi_base.specs.Slices.{bytes_of}
+use Rattle.bi_lay.specs.Items.{reservations_of}
 
 -- The bytes of the reservation block and of the strings block, put together of the pieces that are written.
 

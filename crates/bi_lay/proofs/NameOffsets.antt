@@ -6,10 +6,10 @@ use Rattle.std.proofs.lemmas.Slice.Eq.{bytes_eq-Decides}
 use Rattle.std.proofs.lemmas.List.Folds.{list_any-append}
 use Rattle.std.proofs.lemmas.List.Concat.{flat_map-append}
 use Rattle.std.proofs.lemmas.Option.{none-some, same_Some}
-use Rattle.bi_blob.specs.Layout.{offset_in, strings_of}
+use Rattle.bi_blob.specs.Layout.{offset_in, strings_of, is_among}
 use Rattle.bi_blob.specs.NamesByLength.{by_length}
 use Rattle.bi_blob.proofs.NamesByLength.{is_eq-by_length}
-use Rattle.bi_lay.specs.Names.{is_among, offset_among, as_usize, with_name}
+use Rattle.bi_lay.specs.Names.{offset_among, as_usize, with_name}
 
 -- The offsets of names in the strings block, and what a look-up of a name finds.
 

@@ -3,12 +3,12 @@ use Rattle.std.specs.List.{AllByRecursion}
 use Rattle.std.proofs.lemmas.List.Elements.{Contains-push, Contains-append_left}
 use Rattle.bi_blob.specs.Tree.{Property}
 use Rattle.bi_blob.specs.Events.{Event, NodeProperty}
-use Rattle.bi_blob.specs.Layout.{used_names, distinct_names}
+use Rattle.bi_blob.specs.Layout.{used_names, distinct_names, is_among}
 use Rattle.bi_blob.proofs.Texts.FirstUse.{found_among, among_found, distinct_names-push, used_names-push}
 use Rattle.bi_blob.proofs.Texts.NamesOnce.{distinct_names-all, distinct_names-only}
 use Rattle.bi_lay.specs.declared.items.Item.{Item}
 use Rattle.bi_lay.specs.declared.items.Item.TheVariants.{Begin, Property as PropertyItem, End}
-use Rattle.bi_lay.specs.Names.{is_among, with_name, as_usize}
+use Rattle.bi_lay.specs.Names.{with_name, as_usize}
 use Rattle.bi_lay.specs.Items.{HasOffset}
 use Rattle.bi_lay.proofs.NameOffsets.{offset_in-stays}
 

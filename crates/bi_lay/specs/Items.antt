@@ -1,5 +1,4 @@
 use Rattle.std.specs.Prelude.{◌≡◌, ℕ, List, ◌++◌, map, flat_map, Contains}
-use Rattle.std.specs.Borrow.{Bor}
 use Rattle.bi_blob.specs.Blob.{Reservation}
 use Rattle.bi_blob.specs.Events.{Event, NodeStart, NodeProperty, NodeEnd}
 use Rattle.bi_blob.specs.Tokens.{BeginNode, Prop, EndNode, End as EndToken}
@@ -35,10 +34,6 @@ structure_of_items items = flat_map item_encoding items ++ encoding EndToken
 -- The reservations of these pairs of an address and a size.
 abbrev pub reservations_of : List (ℕ × ℕ) → List Reservation
 reservations_of pairs = map (λ pair. record { address = pair.0; size = pair.1 }) pairs
-
--- The bytes of each of these slices.
-abbrev pub bytes_of : List (Bor (List ℕ)) → List (List ℕ)
-bytes_of slices = map (λ slice. slice.now) slices
 
 -- The name of a property is among these names, and its offset is the one that it has there.
 abbrev pub HasOffset : List (List ℕ) → Item → Type 0

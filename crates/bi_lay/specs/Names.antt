@@ -3,16 +3,12 @@ use Rattle.std.specs.Prelude.{Option, Some, None, bytes_eq, if◌then◌else◌}
 use Rattle.std.specs.List.{list_any}
 use Rattle.std.specs.BTreeMap.{get}
 use Rattle.std.specs.Borrow.{Bor}
-use Rattle.bi_blob.specs.Layout.{offset_in, strings_of}
+use Rattle.bi_blob.specs.Layout.{is_among, offset_in, strings_of}
 use Rattle.bi_blob.specs.NamesByLength.{by_length}
 use Rattle.bi_lay.specs.declared.names.Names.TheInside.{Inside}
 
 -- The names of properties that the strings block has (Devicetree Specification, 5.5), in the order
 -- of their first use.
-
--- Whether a name is among names.
-abbrev pub is_among : List ℕ → List (List ℕ) → Bool
-is_among name names = list_any (λ other. bytes_eq other name) names
 
 -- The names after one more use: a name that is not there yet comes last.
 abbrev pub with_name : List (List ℕ) → List ℕ → List (List ℕ)

@@ -34,7 +34,7 @@ impl<'a> Model for Names<'a> {
 
 impl<'a> Names<'a> {
     ghost use Rattle.bi_lay.specs.Names.{with_name, as_usize};
-    ghost use Rattle.bi_lay.specs.Items.{bytes_of};
+    ghost use Rattle.bi_base.specs.Slices.{bytes_of};
 
     /// No names. It allocates nothing yet.
     pub(crate) fn new(alloc: Global) -> Names<'a>

@@ -6,7 +6,8 @@ ghost use Rattle.bi_base.specs.Cells.{cell8};
 ghost use Rattle.bi_base.specs.Sinks.{Wrote};
 ghost use Rattle.bi_blob.specs.Blob.{reservation_block};
 ghost use Rattle.bi_blob.specs.Layout.{blob_header, text_of_blocks, strings_of};
-ghost use Rattle.bi_lay.specs.Items.{structure_of_items, reservations_of, bytes_of};
+ghost use Rattle.bi_base.specs.Slices.{bytes_of};
+ghost use Rattle.bi_lay.specs.Items.{structure_of_items, reservations_of};
 
 use crate::items::Item;
 use crate::sizes::BlockSizes;

@@ -8,7 +8,8 @@ use Rattle.bi_base.specs.Limits.{Limits}
 use Rattle.bi_base.specs.declared.fault.Fault.{Fault}
 use Rattle.bi_base.proofs.FirstFault.{one_fault, not_both}
 use Rattle.bi_legacy.specs.Emitting.{EmitPartCheck, EmitPartPasses, emit_part_fault, EmitPasses, emit_fault, FitsLimit, IsNotEmpty}
-use Rattle.bi_legacy.specs.Emitting.{emit_part_checks, emit_checks, IsEmitFault, HasNoEmitFault, bytes_of}
+use Rattle.bi_base.specs.Slices.{bytes_of}
+use Rattle.bi_legacy.specs.Emitting.{emit_part_checks, emit_checks, IsEmitFault, HasNoEmitFault}
 use Rattle.bi_legacy.specs.Meaning.{LegacyImage, IsImageName, has_part_table}
 use Rattle.bi_legacy.specs.Parts.{part_table}
 use Rattle.bi_legacy.specs.Text.{joined_parts, normal_body, legacy_text}

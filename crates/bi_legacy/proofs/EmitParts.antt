@@ -4,7 +4,8 @@ use Rattle.std.proofs.lemmas.List.{drop_more, drop-map, get_or-map, length-map}
 use Rattle.bi_base.specs.Cells.{up4}
 use Rattle.bi_base.specs.Checks.{IsFirstFault, HasNoFault}
 use Rattle.bi_base.specs.declared.fault.Fault.{Fault}
-use Rattle.bi_legacy.specs.Emitting.{EmitPartPasses, emit_part_fault, emit_part_checks, bytes_of}
+use Rattle.bi_base.specs.Slices.{bytes_of}
+use Rattle.bi_legacy.specs.Emitting.{EmitPartPasses, emit_part_fault, emit_part_checks}
 use Rattle.bi_legacy.specs.Parts.{parts_end_from}
 
 -- One step of a loop over the parts of an image to be written.

@@ -5,7 +5,7 @@ use Rattle.std.proofs.lemmas.List.{length-append, length-map, get_or-map, map-ap
 use Rattle.std.proofs.lemmas.List.Folds.{flat_map-map}
 use Rattle.bi_base.specs.Cells.{cell, up4}
 use Rattle.bi_base.specs.Crc.{crc32}
-use Rattle.bi_legacy.specs.Emitting.{bytes_of}
+use Rattle.bi_base.specs.Slices.{bytes_of}
 use Rattle.bi_legacy.specs.File.{header_cells, header}
 use Rattle.bi_legacy.specs.Meaning.{LegacyImage}
 use Rattle.bi_legacy.specs.Parts.{part_table}

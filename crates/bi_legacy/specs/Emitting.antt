@@ -7,16 +7,13 @@ use Rattle.bi_base.specs.declared.fault.Error.TheVariants.{Refused}
 use Rattle.bi_base.specs.Sinks.{Wrote}
 use Rattle.bi_base.specs.declared.fault.Cause.TheVariants.{TooLarge, EmptyPart, BadField}
 use Rattle.bi_base.specs.Limits.{Limits}
+use Rattle.bi_base.specs.Slices.{bytes_of}
 use Rattle.bi_base.specs.Checks.{IsFirstFault, HasNoFault}
 use Rattle.bi_legacy.specs.declared.fields.Fields.{Fields}
 use Rattle.bi_legacy.specs.Meaning.{LegacyImage, image_of, IsImageName, IsTablePart, has_part_table}
 use Rattle.bi_legacy.specs.Text.{legacy_text}
 
 -- The checks of an image that is to be written (profile of this project).
-
--- The bytes of each of these slices.
-abbrev pub bytes_of : List (Bor (List ℕ)) → List (List ℕ)
-bytes_of slices = map (λ slice. slice.now) slices
 
 -- The image of these header fields and these parts.
 abbrev pub image_of_parts : Fields → List (Bor (List ℕ)) → LegacyImage

@@ -4,7 +4,7 @@ use Rattle.bi_base.specs.declared.fault.Cause.TheVariants.{Truncated, BadMagic, 
 use Rattle.bi_base.specs.declared.fault.Cause.TheVariants.{BadDataCrc, BadPartTable, BadPart}
 use Rattle.bi_base.specs.declared.fault.Cause.TheVariants.{EmptyPart, TooLarge, BadField}
 use Rattle.bi_base.specs.Cells.{cell}
-use Rattle.bi_base.specs.Limits.{Limits}
+use Rattle.bi_base.specs.Limits.{Limits, widest}
 use Rattle.bi_legacy.specs.Meaning.{LegacyImage}
 use Rattle.bi_legacy.specs.File.{header}
 use Rattle.bi_legacy.specs.Text.{name_field}
@@ -15,10 +15,6 @@ use Rattle.bi_legacy.specs.KnownImages.{kernel_image, kernel_file, multi_image}
 -- Small files that are refused, and small images that cannot be written, each with its fault, by
 -- which a reader can judge the definitions: each check is the first that fails in one of them
 -- (profile of this project).
-
--- The widest limits.
-abbrev pub widest : Limits
-widest = record { file = 0x7fffffff; depth = 64 }
 
 -- The widest limits but for this one on files.
 abbrev pub limited_to : ℕ → Limits

@@ -9,7 +9,8 @@ ghost use Rattle.bi_legacy.specs.Parts.{parts_end_from, parts_start};
 ghost use Rattle.bi_legacy.specs.Text.{normal_body};
 ghost use Rattle.bi_legacy.specs.Emitting.{EmitPartPasses, emit_part_fault, emit_part_checks};
 ghost use Rattle.bi_legacy.specs.Emitting.{IsEmitFault};
-ghost use Rattle.bi_legacy.specs.Emitting.{HasNoEmitFault, WroteImage, bytes_of, image_of_parts};
+ghost use Rattle.bi_base.specs.Slices.{bytes_of};
+ghost use Rattle.bi_legacy.specs.Emitting.{HasNoEmitFault, WroteImage, image_of_parts};
 
 use crate::fields::{Fields, has_part_table};
 use crate::header::{HEADER_SIZE, NAME_SIZE};

@@ -8,7 +8,8 @@ ghost use Rattle.bi_legacy.specs.Parts.{part_table};
 ghost use Rattle.bi_legacy.specs.Meaning.{image_of};
 ghost use Rattle.bi_legacy.specs.Text.{with_zeros, joined_parts, normal_body, name_field};
 ghost use Rattle.bi_legacy.specs.Text.{legacy_text};
-ghost use Rattle.bi_legacy.specs.Emitting.{bytes_of, image_of_parts};
+ghost use Rattle.bi_base.specs.Slices.{bytes_of};
+ghost use Rattle.bi_legacy.specs.Emitting.{image_of_parts};
 
 use crate::fields::{Fields, has_part_table};
 use crate::header::{MAGIC, NAME_SIZE};

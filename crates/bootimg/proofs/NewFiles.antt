@@ -9,7 +9,8 @@ use Rattle.bootimg.specs.declared.failure.Failure.TheVariants.{NotWritten}
 use Rattle.std.proofs.lemmas.Bool.{cases_lt}
 use Rattle.std.proofs.lemmas.List.{append_assoc, append-nil, map_push}
 use Rattle.std.proofs.lemmas.List.Elements.{All-nil, All-push, Contains-push, Contains-append_left}
-use Rattle.bootimg.specs.Files.{AreNamesTaken, Closed, ClosingFailed, FilePromise, FileStep, IsBeside, IsMadeBeside, IsNotFilled, IsNotMade}
+use Rattle.bootimg.specs.Files.{AreNamesTaken, Closed, ClosingFailed, FilePromise, FileStep, IsBeside, IsMadeBeside, IsNotWrittenFile}
+use Rattle.bootimg.specs.Files.{IsNotMade}
 use Rattle.bootimg.specs.Files.{IsNotPutInPlace, IsNotSaved, IsTried, MakingFailed, NameTaken, NewFileFailed, NotClosed, NotMade}
 use Rattle.bootimg.specs.Files.{NotRemoved, Removed, SavesNothing, TookSteps, WritingStopped, no_files}
 
@@ -107,7 +108,7 @@ pub writing_stopped : {T E : Type 0} (beside bytes : List ℕ) (file filled : Wr
     (written : Result (Unit {0}) Error) (error : Error) (closed : Result T E) → written ≡ Err error
     → Wrote WroteAndFlushed WriteOrFlushStopped file bytes written filled
     → OnOk closed (TookSteps old new (Closed beside filled ∷ [])) → OnErr closed (TookSteps old new (NotClosed beside filled ∷ []))
-    → IsNotFilled beside bytes file old new
+    → IsNotWrittenFile beside bytes file old new
 writing_stopped beside bytes file filled old new written error closed is wrote well badly =
     WritingStopped filled error (subst (λ (r : Result (Unit {0}) Error). Wrote WroteAndFlushed WriteOrFlushStopped file bytes r filled) is wrote)
     (either closed well badly)
@@ -116,7 +117,7 @@ writing_stopped beside bytes file filled old new written error closed is wrote w
 pub closing_failed : {T E : Type 0} (beside bytes : List ℕ) (file filled : WriteTrace) (old new : Option (List FileStep))
     (written : Result (Unit {0}) Error) (done : Unit {0}) (closed : Result T E) (error : E) → written ≡ Ok done → closed ≡ Err error
     → Wrote WroteAndFlushed WriteOrFlushStopped file bytes written filled
-    → OnErr closed (TookSteps old new (NotClosed beside filled ∷ [])) → IsNotFilled beside bytes file old new
+    → OnErr closed (TookSteps old new (NotClosed beside filled ∷ [])) → IsNotWrittenFile beside bytes file old new
 closing_failed {T} {E} beside bytes file filled old new written done closed error is fails wrote badly =
     ClosingFailed filled (subst (λ (r : Result (Unit {0}) Error). Wrote WroteAndFlushed WriteOrFlushStopped file bytes r filled) is wrote)
     (subst (λ (r : Result T E). OnErr r (TookSteps old new (NotClosed beside filled ∷ []))) fails badly)

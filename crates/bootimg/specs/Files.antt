@@ -137,7 +137,7 @@ pub data IsNotMade (name : List ℕ) (failure : Failure) (old new : Option (List
         → IsNotMade name failure old new
 
 -- These bytes were written to the new file of this name, and it was flushed and closed.
-pub record IsFilled (beside bytes : List ℕ) (file : WriteTrace) (old new : Option (List FileStep))
+pub record IsWrittenFile (beside bytes : List ℕ) (file : WriteTrace) (old new : Option (List FileStep))
     : Type 0
   where
     pub filled : WriteTrace
@@ -146,32 +146,32 @@ pub record IsFilled (beside bytes : List ℕ) (file : WriteTrace) (old new : Opt
 
 -- That failed: writing these bytes or flushing stopped, and the file was closed or not; or all was
 -- written and flushed, and the file could not be closed.
-pub data IsNotFilled (beside bytes : List ℕ) (file : WriteTrace) (old new : Option (List FileStep))
+pub data IsNotWrittenFile (beside bytes : List ℕ) (file : WriteTrace) (old new : Option (List FileStep))
     : Type 0
   where
     WritingStopped : (filled : WriteTrace) (error : Error)
         → WriteOrFlushStopped file bytes filled error
         → TookSteps old new (Closed beside filled ∷ [])
         ⊎ TookSteps old new (NotClosed beside filled ∷ [])
-        → IsNotFilled beside bytes file old new
+        → IsNotWrittenFile beside bytes file old new
     ClosingFailed : (filled : WriteTrace) → WroteAndFlushed file bytes filled
-        → TookSteps old new (NotClosed beside filled ∷ []) → IsNotFilled beside bytes file old new
+        → TookSteps old new (NotClosed beside filled ∷ []) → IsNotWrittenFile beside bytes file old new
 
 -- These bytes were written to the new file, and it took the name.
 pub record IsPutInPlace (name beside bytes : List ℕ) (file : WriteTrace)
     (old new : Option (List FileStep)) : Type 0
   where
     pub closed : Option (List FileStep)
-    pub is_filled : IsFilled beside bytes file old closed
+    pub is_filled : IsWrittenFile beside bytes file old closed
     pub renamed : TookSteps closed new (Renamed beside name ∷ [])
 
 -- That failed: the new file was not filled, or it was and could not take the name.
 pub data IsNotPutInPlace (name beside bytes : List ℕ) (file : WriteTrace)
     (old new : Option (List FileStep)) : Type 0
   where
-    FillingFailed : IsNotFilled beside bytes file old new
+    FillingFailed : IsNotWrittenFile beside bytes file old new
         → IsNotPutInPlace name beside bytes file old new
-    RenamingFailed : (closed : Option (List FileStep)) → IsFilled beside bytes file old closed
+    RenamingFailed : (closed : Option (List FileStep)) → IsWrittenFile beside bytes file old closed
         → TookSteps closed new (NotRenamed beside name ∷ [])
         → IsNotPutInPlace name beside bytes file old new
 

@@ -1,52 +1,10 @@
 //! New files, which record the outcomes of the calls on them.
 
-ghost use Rattle.std.specs.Prelude.{◌≡◌, ◌↔◌, IsTrue, IsFalse};
-ghost use Rattle.bi_base.specs.Traces.{CountsInterruptions, MustStop, RecordsFailure, WritesWell};
+ghost use Rattle.std.specs.Prelude.{◌≡◌};
+ghost use Rattle.bi_base.specs.Traces.{WritesWell};
 
-use bi_base::TracedWrite;
-use std::io::{self, ErrorKind, Write};
-
-/// How many interrupted calls in a row are a reason to stop.
-const MOST_INTERRUPTIONS: u32 = 1024;
-
-/// The outcome of the calls so far: whether the last one failed with an error other than an
-/// interruption, and how many in a row were interrupted, up to the last one.
-#[derive(Clone, Copy)]
-struct Outcome {
-    failed: bool,
-    interruptions: u32,
-}
-
-impl Outcome {
-    /// The outcome after one more call with this result.
-    fn after<T>(self, call: &io::Result<T>) -> Outcome
-        ensures failed { RecordsFailure result.failed call.now }
-        ensures interruptions { CountsInterruptions self.interruptions result.interruptions
-            call.now }
-    {
-        match call {
-            Ok(_) => Outcome {
-                failed: false,
-                interruptions: 0,
-            },
-            Err(error) if error.kind() == ErrorKind::Interrupted => Outcome {
-                failed: false,
-                interruptions: self.interruptions.saturating_add(1),
-            },
-            Err(_) => Outcome {
-                failed: true,
-                interruptions: 0,
-            },
-        }
-    }
-
-    /// Whether the last call is a reason to stop.
-    fn must_stop(self) -> bool
-        ensures { IsTrue result ↔ MustStop self.failed self.interruptions }
-    {
-        self.failed || self.interruptions >= MOST_INTERRUPTIONS
-    }
-}
+use bi_base::{Outcome, TracedWrite};
+use std::io::{self, Write};
 
 /// A new file, with its writer. It is closed when it is dropped.
 #[derive(Drop)]
@@ -67,10 +25,7 @@ impl<W: Write> NewFile<W> {
     {
         NewFile {
             writer,
-            outcome: Outcome {
-                failed: false,
-                interruptions: 0,
-            },
+            outcome: Outcome::new(),
             stalled: false,
             flushing: false,
             stopped: false,

@@ -2,7 +2,8 @@
 
 ghost use Rattle.std.specs.Prelude.{◌≡◌, IfOk, IfErr, OnOk, string_bytes};
 ghost use Rattle.bootimg.specs.declared.failure.Failure.TheVariants.{NotWritten};
-ghost use Rattle.bootimg.specs.Files.{IsBeside, IsFilled, IsMadeBeside, IsNotFilled, IsNotMade};
+ghost use Rattle.bootimg.specs.Files.{IsBeside, IsWrittenFile, IsMadeBeside, IsNotWrittenFile};
+ghost use Rattle.bootimg.specs.Files.{IsNotMade};
 ghost use Rattle.bootimg.specs.Files.{IsNotPutInPlace, IsNotSaved, IsPutInPlace, IsSaved};
 
 use crate::failure::Failure;
@@ -28,7 +29,7 @@ pub fn save<F: FileSystem>(
 ) -> Result<(), Failure>
     ensures saved { OnOk result (IsSaved (F.promise files.old) name.now bytes.now
         (F.steps files.old) (F.steps files.new)) }
-    ensures not_saved { IfErr result (λ failure. IsNotSaved (F.promise files.old) name.now
+    ensures failed { IfErr result (λ failure. IsNotSaved (F.promise files.old) name.now
         bytes.now failure (F.steps files.old) (F.steps files.new)) }
 {
     if !files.can_replace(name) {
@@ -74,9 +75,9 @@ fn fill<F: FileSystem>(
     mut file: F::Created,
     bytes: &[u8],
 ) -> Result<(), Failure>
-    ensures filled { OnOk result (IsFilled beside.now bytes.now (F.Created.trace file)
+    ensures filled { OnOk result (IsWrittenFile beside.now bytes.now (F.Created.trace file)
         (F.steps files.old) (F.steps files.new)) }
-    ensures not_filled { IfErr result (λ _. IsNotFilled beside.now bytes.now
+    ensures not_filled { IfErr result (λ _. IsNotWrittenFile beside.now bytes.now
         (F.Created.trace file) (F.steps files.old) (F.steps files.new)) }
     ensures failure { IfErr result (λ failure. failure ≡ NotWritten) }
 {
@@ -97,7 +98,7 @@ fn create_beside<F: FileSystem>(
 ) -> Result<(String, F::Created), Failure>
     ensures made { IfOk result (λ made. IsMadeBeside name.now (string_bytes made.0)
         (F.Created.trace made.1) (F.steps files.old) (F.steps files.new)) }
-    ensures not_made { IfErr result (λ failure. IsNotMade name.now failure (F.steps files.old)
+    ensures failed { IfErr result (λ failure. IsNotMade name.now failure (F.steps files.old)
         (F.steps files.new)) }
 {
     for number in 0..MOST_NAMES {

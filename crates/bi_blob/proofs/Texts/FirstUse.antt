@@ -6,14 +6,10 @@ use Rattle.std.proofs.lemmas.List.Elements.{filter-append}
 use Rattle.bi_base.proofs.ListMembers.{Contains-none, Contains-cases, Contains-first, Contains-others}
 use Rattle.bi_blob.specs.Tree.{Property}
 use Rattle.bi_blob.specs.Events.{Event, NodeProperty}
-use Rattle.bi_blob.specs.Layout.{event_names, used_names, distinct_names, strings_of, strings_block}
+use Rattle.bi_blob.specs.Layout.{is_among, event_names, used_names, distinct_names, strings_of, strings_block}
 use Rattle.bi_blob.specs.TextLaws.{StringsGrowByUse}
 
 -- The strings block has names in the order of their first use.
-
--- Whether a name is among names.
-abbrev pub is_among : List ℕ → List (List ℕ) → Bool
-is_among name names = list_any (λ other. bytes_eq other name) names
 
 -- A name that is among names is found there.
 pub found_among : (names : List (List ℕ)) (name : List ℕ) → Contains names name → is_among name names ≡ true

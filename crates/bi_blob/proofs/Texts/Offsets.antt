@@ -4,10 +4,10 @@ use Rattle.std.proofs.lemmas.Slice.Eq.{bytes_eq-Decides}
 use Rattle.std.proofs.lemmas.List.{length_push}
 use Rattle.std.proofs.lemmas.List.Concat.{flat_map-append}
 use Rattle.bi_base.proofs.ListMembers.{Contains-none, Contains-cases, Contains-first, Contains-others}
-use Rattle.bi_blob.specs.Layout.{event_names, used_names, distinct_names, strings_of, offset_in}
+use Rattle.bi_blob.specs.Layout.{event_names, used_names, distinct_names, strings_of, offset_in, is_among}
 use Rattle.bi_blob.specs.TextLaws.{OffsetsStay, NewOffsetIsAtEnd}
 use Rattle.bi_blob.proofs.Texts.NamesOnce.{distinct_names-all, distinct_names-only}
-use Rattle.bi_blob.proofs.Texts.FirstUse.{is_among, distinct_names-push, distinct_names-new, used_names-push}
+use Rattle.bi_blob.proofs.Texts.FirstUse.{distinct_names-push, distinct_names-new, used_names-push}
 
 -- The offsets of names in a strings block that grows.
 

@@ -7,7 +7,8 @@ use Rattle.bi_commands.specs.Extracting.{choice_of}
 use Rattle.bi_commands.proofs.Opened.{tree_needs_memory}
 use Rattle.bi_c.specs.Extracting.{IsChosenAt}
 use Rattle.bi_c.proofs.Places.{are_placed}
-use Rattle.bi_c.proofs.Extracting.{found_in_file, refused_in_file, failed_in_file}
+use Rattle.bi_commands.proofs.Opened.{refused_of_file, failed_of_file}
+use Rattle.bi_c.proofs.Extracting.{found_in_file}
 use Rattle.bi_c.proofs.regions.find.Goals as goal
 
 pub find_payload-requires : goal.find_payload-requires
@@ -24,7 +25,7 @@ returns-in-Legacy-clause-found c =
 pub returns-in-Legacy-clause-failed : goal.returns-in-Legacy-clause-failed
 returns-in-Legacy-clause-failed c =
     let opened = subst (IsBootImage c.args.limits c.args.file.now) c.in-Legacy.is c.in_ok-image.ensures.opened in
-    refused_in_file c.args.select c.args.limits c.args.file.now (OfLegacy c.in-Legacy.image.image) c.find_part.result opened.means c.find_part.ensures.failed
+    refused_of_file c.args.select c.args.limits c.args.file.now (OfLegacy c.in-Legacy.image.image) c.find_part.result opened.means c.find_part.ensures.failed
 
 pub returns-in-Fit-clause-found : goal.returns-in-Fit-clause-found
 returns-in-Fit-clause-found c =
@@ -38,5 +39,5 @@ returns-in-Fit-clause-found c =
 pub returns-in-Fit-clause-failed : goal.returns-in-Fit-clause-failed
 returns-in-Fit-clause-failed c =
     let read : IsReadFrom c.args.limits c.args.file.now c.in-Fit.fit = subst (IsBootImage c.args.limits c.args.file.now) c.in-Fit.is c.in_ok-image.ensures.opened in
-    failed_in_file c.args.select c.args.limits c.args.file.now (OfFit (tree_of c.in-Fit.fit)) c.find_payload.result read.means
+    failed_of_file c.args.select c.args.limits c.args.file.now (OfFit (tree_of c.in-Fit.fit)) c.find_payload.result read.means
     (tree_needs_memory c.args.limits c.args.file.now c.in-Fit.fit read) c.find_payload.ensures.failed

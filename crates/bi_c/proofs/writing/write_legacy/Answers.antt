@@ -2,9 +2,10 @@ use Rattle.std.proofs.Common.{◌≡◌, ◌≤◌, length, ℕ, refl, ap, sym, 
 use Rattle.bi_legacy.specs.Meaning.{with_new_time}
 use Rattle.bi_legacy.specs.Text.{legacy_text}
 use Rattle.bi_c.specs.Answers.{HadNoRoom, answer_of}
-use Rattle.bi_c.specs.SliceSinks.{SliceGrows}
+use Rattle.bi_base.specs.SliceSinks.{SliceGrows}
 use Rattle.bi_c.specs.declared.failure.Failure.TheVariants.{OutOfMemory}
-use Rattle.bi_c.proofs.SliceWriting.{stayed, filled_with, unfilled, legacy_size}
+use Rattle.bi_base.proofs.SliceSinkLaws.{slice_is_unchanged}
+use Rattle.bi_c.proofs.SliceWriting.{filled_with, fills_nothing, legacy_size}
 use Rattle.bi_c.proofs.writing.write_legacy.Goals as goal
 
 pub returns-then-buffer-size : goal.returns-then-buffer-size
@@ -22,7 +23,7 @@ returns-in-Ok c =
     let same : legacy_text (with_new_time c.fields.result.time image) ≡ text = ap (λ (time : ℕ). legacy_text (with_new_time time image)) is_time in
     let room : length text ≤ length c.args.buffer.now = omega (arith, c.if-buffer-size.false, size) in
     let grows = subst (λ (l : List ℕ). SliceGrows c.new-sink.result l c.append_legacy.new.sink) same (c.in-Ok.ensures.appended c.args.file.now c.requires) in
-    filled_with _ text 0 c.new-sink.result c.append_legacy.new.sink c.args.buffer.now _ _ c.answer_with.result c.new-sink.ensures.filled c.new-sink.ensures.value
+    filled_with _ text 0 c.new-sink.result c.append_legacy.new.sink c.args.buffer.now _ _ c.answer_with.result c.new-sink.ensures.none_filled c.new-sink.ensures.value
     c.new-sink.ensures.same_slice room grows (search) (c.answer_with.ensures ∙ ap (λ (n : ℕ). answer_of n 0) size)
 
 pub returns-in-Err : goal.returns-in-Err
@@ -33,8 +34,8 @@ returns-in-Err c =
     let is_time : c.fields.result.time ≡ image.time = search in
     let same : legacy_text (with_new_time c.fields.result.time image) ≡ text = ap (λ (time : ℕ). legacy_text (with_new_time time image)) is_time in
     let room : length (legacy_text (with_new_time c.fields.result.time image)) ≤ length c.args.buffer.now = omega (arith, c.if-buffer-size.false, size, ap length same) in
-    let unchanged = stayed c.new-sink.result c.append_legacy.new.sink (legacy_text (with_new_time c.fields.result.time image)) _ _ c.new-sink.ensures.filled
+    let unchanged = slice_is_unchanged c.new-sink.result c.append_legacy.new.sink (legacy_text (with_new_time c.fields.result.time image)) _ _ c.new-sink.ensures.none_filled
     (subst (λ (l : List ℕ). length (legacy_text (with_new_time c.fields.result.time image)) ≤ length l) (sym c.new-sink.ensures.value) room)
     (c.in-Err.ensures.failed c.args.file.now c.requires) in
-    unfilled _ _ OutOfMemory c.new-sink.result c.append_legacy.new.sink c.args.buffer.now _ _ c.fail.new.answer c.fail.result refl c.new-sink.ensures.value
+    fills_nothing _ _ OutOfMemory c.new-sink.result c.append_legacy.new.sink c.args.buffer.now _ _ c.fail.new.answer c.fail.result refl c.new-sink.ensures.value
     c.new-sink.ensures.same_slice unchanged (search) c.fail.ensures.answer c.fail.ensures.status

@@ -2,7 +2,7 @@ use Rattle.std.proofs.Common.{ap, sym, subst, arith, refl}
 use Rattle.std.proofs.lemmas.Result.{err_from_is_err_and}
 use Rattle.std.specs.List.{AllByRecursion}
 use Rattle.bi_base.specs.Cells.{AreBytes}
-use Rattle.bi_legacy.specs.Emitting.{bytes_of}
+use Rattle.bi_base.specs.Slices.{bytes_of}
 use Rattle.bi_base.specs.Commands.{WasRefused}
 use Rattle.bi_commands.specs.BuildCommands.{ArePartsOf}
 use Rattle.bi_commands.proofs.LegacyOutputs.{Building, legacy_output_emitted, not_emitted, parts_error}

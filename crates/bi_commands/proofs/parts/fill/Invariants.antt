@@ -1,7 +1,7 @@
 use Rattle.std.proofs.Common.{◌≡◌, ◌≤◌, length, take}
 use Rattle.std.specs.List.{AllByRecursion, sum_by}
 use Rattle.bi_base.specs.Cells.{AreBytes}
-use Rattle.bi_legacy.specs.Emitting.{bytes_of}
+use Rattle.bi_base.specs.Slices.{bytes_of}
 use Rattle.bi_commands.specs.Parts.{IsFilled, input_length_of}
 use Rattle.bi_commands.proofs.parts.fill.Given as goal
 

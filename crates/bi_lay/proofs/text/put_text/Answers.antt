@@ -2,7 +2,8 @@ use Rattle.std.proofs.Common.{◌++◌}
 use Rattle.bi_base.proofs.SinkLaws.{passed_on}
 use Rattle.bi_blob.specs.Blob.{reservation_block}
 use Rattle.bi_blob.specs.Layout.{blob_header, strings_of, padding_to_4, length_before_padding}
-use Rattle.bi_lay.specs.Items.{structure_of_items, reservations_of, bytes_of}
+use Rattle.bi_base.specs.Slices.{bytes_of}
+use Rattle.bi_lay.specs.Items.{structure_of_items, reservations_of}
 use Rattle.bi_lay.proofs.SinkChains.{first_fails, second_fails, third_writes}
 use Rattle.bi_lay.proofs.BlockBytes.{text_bytes}
 use Rattle.bi_lay.proofs.text.put_text.Goals as goal

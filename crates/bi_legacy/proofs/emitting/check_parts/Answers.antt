@@ -3,7 +3,8 @@ use Rattle.std.proofs.lemmas.List.{drop_all, length-map}
 use Rattle.bi_base.specs.Checks.{HasNoFault}
 use Rattle.std.specs.Borrow.{Bor}
 use Rattle.std.proofs.lemmas.Bool.{eqb-true, eqb-false}
-use Rattle.bi_legacy.specs.Emitting.{EmitPartPasses, emit_part_checks, bytes_of}
+use Rattle.bi_base.specs.Slices.{bytes_of}
+use Rattle.bi_legacy.specs.Emitting.{EmitPartPasses, emit_part_checks}
 use Rattle.bi_legacy.proofs.EmitParts.{drop-bytes_of, empty_here, empty_later, none_empty}
 use Rattle.bi_legacy.proofs.emitting.check_parts.Goals as goal
 

@@ -1,7 +1,8 @@
 use Rattle.std.proofs.Common.{drop}
 use Rattle.bi_base.specs.declared.fault.Fault.{Fault}
 use Rattle.bi_base.specs.Checks.{IsFirstFault, HasNoFault}
-use Rattle.bi_legacy.specs.Emitting.{EmitPartPasses, emit_part_fault, emit_part_checks, bytes_of}
+use Rattle.bi_base.specs.Slices.{bytes_of}
+use Rattle.bi_legacy.specs.Emitting.{EmitPartPasses, emit_part_fault, emit_part_checks}
 use Rattle.bi_legacy.proofs.emitting.check_parts.Given as goal
 
 -- The parts that are left decide whether all pass, and what the first fault is.

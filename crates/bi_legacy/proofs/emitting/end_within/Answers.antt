@@ -1,7 +1,7 @@
 use Rattle.std.proofs.Common.{◌≡◌, ℕ, ◌+◌, List, [], length, map, drop, get_or, arith, ap, ◌∙◌}
 use Rattle.std.specs.Borrow.{Bor}
 use Rattle.bi_base.specs.Cells.{up4}
-use Rattle.bi_legacy.specs.Emitting.{bytes_of}
+use Rattle.bi_base.specs.Slices.{bytes_of}
 use Rattle.bi_legacy.specs.Parts.{parts_end_from}
 use Rattle.bi_legacy.proofs.EmitParts.{parts_end_from-grows, drop-sizes_of}
 use Rattle.bi_legacy.proofs.PartWalk.{parts_end_from-one}

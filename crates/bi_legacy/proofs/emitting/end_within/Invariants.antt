@@ -1,5 +1,5 @@
 use Rattle.std.proofs.Common.{◌≡◌, length, map, drop}
-use Rattle.bi_legacy.specs.Emitting.{bytes_of}
+use Rattle.bi_base.specs.Slices.{bytes_of}
 use Rattle.bi_legacy.specs.Parts.{parts_end_from}
 use Rattle.bi_legacy.proofs.emitting.end_within.Given as goal
 

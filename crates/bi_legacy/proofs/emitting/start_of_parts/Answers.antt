@@ -1,6 +1,6 @@
 use Rattle.std.proofs.Common.{◌≡◌, ◌+◌, ◌*◌, Bool, true, length, arith, sym, subst, if◌then◌else◌}
 use Rattle.std.proofs.lemmas.List.{length-map}
-use Rattle.bi_legacy.specs.Emitting.{bytes_of}
+use Rattle.bi_base.specs.Slices.{bytes_of}
 use Rattle.bi_legacy.specs.Meaning.{has_part_table}
 use Rattle.bi_legacy.specs.Parts.{part_table}
 use Rattle.bi_legacy.proofs.TableParts.{length-part_table}

@@ -1,7 +1,7 @@
 use Rattle.std.proofs.Common.{◌≡◌, Bool, true, false, ◌++◌, sym, subst, if◌then◌else◌}
 use Rattle.bi_base.specs.Sinks.{Wrote}
 use Rattle.bi_base.proofs.SinkLaws.{wrote_after}
-use Rattle.bi_legacy.specs.Emitting.{bytes_of}
+use Rattle.bi_base.specs.Slices.{bytes_of}
 use Rattle.bi_legacy.specs.Meaning.{has_part_table}
 use Rattle.bi_legacy.specs.Parts.{part_table}
 use Rattle.bi_legacy.specs.Text.{joined_parts}

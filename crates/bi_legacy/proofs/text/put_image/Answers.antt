@@ -1,6 +1,7 @@
 use Rattle.std.proofs.Common.{subst}
 use Rattle.bi_base.proofs.SinkLaws.{passed_on, wrote_after}
-use Rattle.bi_legacy.specs.Emitting.{bytes_of, image_of_parts}
+use Rattle.bi_base.specs.Slices.{bytes_of}
+use Rattle.bi_legacy.specs.Emitting.{image_of_parts}
 use Rattle.bi_legacy.specs.File.{header}
 use Rattle.bi_legacy.specs.Text.{normal_body, name_field, legacy_text}
 use Rattle.bi_legacy.proofs.TextPieces.{header_made}

@@ -6,8 +6,8 @@ use Rattle.bi_norm.proofs.Pieces.{sum_more, lengths_more, pieces_more}
 use Rattle.bi_norm.proofs.cutting.cut.Goals as goal
 
 -- The bytes of a piece.
-abbrev bytes_of : Bor (List ℕ) → List ℕ
-bytes_of piece = piece.now
+abbrev bytes_of_piece : Bor (List ℕ) → List ℕ
+bytes_of_piece piece = piece.now
 
 pub loop-piece_length-preserved : goal.loop-piece_length-preserved
 loop-piece_length-preserved c =
@@ -22,9 +22,9 @@ loop-piece_length-preserved c =
     let fits : end ≤ length input = omega (arith, all, loop.is_sum, sum_by_more_le (λ (n : ℕ). n) lengths i 0 within) in
     let piece = slice_range input start end in
     let size : length piece + start ≡ end = search rules in
-    let before = map bytes_of c.loop-piece_length.pieces.items in
-    let items : map bytes_of c.push.new.self.items ≡ before ++ piece ∷ [] =
-    ap (map bytes_of) c.in_ok-push.ensures.items ∙ map-append bytes_of c.loop-piece_length.pieces.items (_ ∷ []) in
+    let before = map bytes_of_piece c.loop-piece_length.pieces.items in
+    let items : map bytes_of_piece c.push.new.self.items ≡ before ++ piece ∷ [] =
+    ap (map bytes_of_piece) c.in_ok-push.ensures.items ∙ map-append bytes_of_piece c.loop-piece_length.pieces.items (_ ∷ []) in
     record {
       within = fits;
       is_sum = omega (arith, loop.is_sum, sum_more lengths i within);

@@ -9,8 +9,8 @@ use Rattle.bootimg.proofs.saving.create_beside.Goals as goal
 pub loop-number-init : goal.loop-number-init
 loop-number-init g c = none_tried _ _
 
-pub returns-in_err-beside-clause-not_made : goal.returns-in_err-beside-clause-not_made
-returns-in_err-beside-clause-not_made g c =
+pub returns-in_err-beside-clause-failed : goal.returns-in_err-beside-clause-failed
+returns-in_err-beside-clause-failed g c =
     let p = err_from_is_err_and c.from_residual.result c.from_residual.ensures.1 in
     rw (p.1, p.2) (NoMemoryForName _ c.loop-number.invariant refl)
 
@@ -20,8 +20,8 @@ loop-number-preserved-then-eq g c =
     own_name_tried c.args.name.now (string_bytes c.in_ok-beside.beside) c.as_str.result.now c.loop-number.number _ _
     c.loop-number.invariant c.in_ok-beside.ensures c.as_str.ensures.value same
 
-pub returns-in-Err-2-clause-not_made : goal.returns-in-Err-2-clause-not_made
-returns-in-Err-2-clause-not_made g c =
+pub returns-in-Err-2-clause-failed : goal.returns-in-Err-2-clause-failed
+returns-in-Err-2-clause-failed g c =
     let other : error_kind c.in-Err.error ≢ AlreadyExists = search rules in
     making_failed c.args.name.now (string_bytes c.in_ok-beside.beside) c.as_str-in-loop-number.result.now c.loop-number.number _ _ _
     c.loop-number.invariant c.in_ok-beside.ensures c.as_str-in-loop-number.ensures.value (c.in-Err.ensures.not_made other)

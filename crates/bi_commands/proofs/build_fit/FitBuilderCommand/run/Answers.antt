@@ -1,7 +1,7 @@
 use Rattle.std.proofs.Common.{◌≡◌, refl, subst, ap, sym}
 use Rattle.std.proofs.lemmas.Result.{err_from_is_err_and}
 use Rattle.bi_base.specs.declared.fault.Error.TheVariants.{OutOfMemory}
-use Rattle.bi_legacy.specs.Emitting.{bytes_of}
+use Rattle.bi_base.specs.Slices.{bytes_of}
 use Rattle.bi_base.specs.Commands.{WasRefused}
 use Rattle.bi_commands.specs.BuildCommands.{HavePayloads}
 use Rattle.bi_commands.specs.Parts.{lengths_of, pieces_among}

@@ -1,9 +1,9 @@
 use Rattle.std.proofs.Common.{◌≡◌, ◌++◌, ◌∷◌, ℕ, false, Some, [], List, map, Bor, length, subst, sym, ap, ◌∙◌, arith, rules}
 use Rattle.std.specs.BTreeMap.{get, Updates}
 use Rattle.std.proofs.lemmas.List.{map-append}
-use Rattle.bi_blob.specs.Layout.{offset_in, strings_of}
+use Rattle.bi_blob.specs.Layout.{offset_in, strings_of, is_among}
 use Rattle.bi_blob.specs.NamesByLength.{by_length}
-use Rattle.bi_lay.specs.Names.{as_usize, offset_among, is_among}
+use Rattle.bi_lay.specs.Names.{as_usize, offset_among}
 use Rattle.bi_lay.proofs.NameOffsets.{look_up-none, placed-push, strings-push, offset_in-new}
 use Rattle.bi_lay.proofs.names.Names.add.Goals as goal
 

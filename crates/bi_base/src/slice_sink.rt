@@ -2,33 +2,34 @@
 
 ghost use Rattle.std.specs.Prelude.{◌≡◌};
 
-use bi_base::{Error, Sink};
+use crate::fault::Error;
+use crate::sinks::Sink;
 
 /// A sink that writes the bytes to the beginning of a slice, which it borrows. It allocates
 /// nothing.
 #[derive(Drop)]
-pub(crate) struct SliceSink<'a> {
+pub struct SliceSink<'a> {
     bytes: &'a mut [u8],
     filled: usize,
 }
 
 impl<'a> SliceSink<'a> {
-    ghost use Rattle.bi_c.specs.SliceSinks.{slice_of};
+    ghost use Rattle.bi_base.specs.SliceSinks.{slice_of, filled_of};
 
     /// Returns a sink that has written nothing to this slice.
-    pub(crate) fn new(bytes: &'a mut [u8]) -> SliceSink<'a>
+    pub fn new(bytes: &'a mut [u8]) -> SliceSink<'a>
         ensures same_slice { (slice_of result).ghost_name ≡ bytes.entry.ghost_name }
         ensures value { (slice_of result).now ≡ bytes.old }
-        ensures filled { result.filled ≡ 0 }
+        ensures none_filled { filled_of result ≡ 0 }
     {
         SliceSink { bytes, filled: 0 }
     }
 }
 
 impl<'a> Sink for SliceSink<'a> {
-    ghost use Rattle.bi_c.specs.SliceSinks.{SliceGrows, SliceFails, slice_grows_nothing};
-    ghost use Rattle.bi_c.specs.SliceSinks.{slice_grows_in_turn, slice_fails_after};
-    ghost use Rattle.bi_c.specs.SliceSinks.{slice_fails_before};
+    ghost use Rattle.bi_base.specs.SliceSinks.{SliceGrows, SliceFails, slice_grows_nothing};
+    ghost use Rattle.bi_base.specs.SliceSinks.{slice_grows_in_turn, slice_fails_after};
+    ghost use Rattle.bi_base.specs.SliceSinks.{slice_fails_before};
 
     ghost appends = { SliceGrows };
 

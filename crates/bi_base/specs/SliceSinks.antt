@@ -5,13 +5,17 @@ use Rattle.std.proofs.lemmas.List.{length-take, length-drop, take-append-drop}
 use Rattle.bi_base.specs.declared.fault.Error.{Error}
 use Rattle.bi_base.specs.declared.fault.Error.TheVariants.{WriteFailed}
 use Rattle.bi_base.specs.Sinks.{AppendsNothing, AppendsInTurn, FailsAfter, FailsBefore}
-use Rattle.bi_c.specs.declared.slice_sink.SliceSink.{SliceSink}
+use Rattle.bi_base.specs.declared.slice_sink.SliceSink.{SliceSink}
 
--- A sink that writes to a slice (profile of this project).
+-- A sink that writes to a slice, as contracts see it (profile of this project).
 
 -- The slice that a sink writes to, as the sink borrows it.
 abbrev pub slice_of : SliceSink → MutBor (List ℕ)
 slice_of sink = sink.bytes
+
+-- How many bytes at the beginning of the slice were written.
+abbrev pub filled_of : SliceSink → ℕ
+filled_of sink = sink.filled
 
 -- Where the slice has some bytes that were written, as many bytes as are appended, and others, the
 -- bytes are in the place of the second after the call, and count as written.
@@ -19,19 +23,19 @@ pub record Overwrites (old : SliceSink) (bytes : List ℕ) (new : SliceSink)
     (before over after : List ℕ) : Type 0
   where
     pub is : (slice_of new).now ≡ before ++ (bytes ++ after)
-    pub filled : new.filled ≡ length before + length bytes
+    pub filled : filled_of new ≡ length before + length bytes
 
 -- The slice stays the same one, and the bytes are written after those that were.
 pub record SliceGrows (old : SliceSink) (bytes : List ℕ) (new : SliceSink) : Type 0 where
   pub same_slice : (slice_of new).ghost_name ≡ (slice_of old).ghost_name
   pub overwrites : (before over after : List ℕ)
-      → (slice_of old).now ≡ before ++ (over ++ after) → old.filled ≡ length before
+      → (slice_of old).now ≡ before ++ (over ++ after) → filled_of old ≡ length before
       → length over ≡ length bytes → Overwrites old bytes new before over after
 
 -- There is no room for the bytes.
 pub record SliceFails (old : SliceSink) (bytes : List ℕ) (new : SliceSink) (error : Error) : Type 0
   where
-    pub no_room : ¬ (old.filled + length bytes ≤ length (slice_of old).now)
+    pub no_room : ¬ (filled_of old + length bytes ≤ length (slice_of old).now)
     pub is_error : error ≡ WriteFailed
 
 -- Writing nothing changes nothing.
@@ -84,7 +88,7 @@ pub slice_fails_after : FailsAfter SliceGrows SliceFails
 slice_fails_after a b c xs ys error first failed = record {
   no_room = λ room.
       let bytes = (slice_of a).now in
-      let n = a.filled in
+      let n = filled_of a in
       let one = first.overwrites (take n bytes) (take (length xs) (drop n bytes))
       (drop (length xs) (drop n bytes)) (split_slice n (length xs) bytes)
       (omega (arith, length-take n bytes, room, length-append xs ys))
