@@ -1,5 +1,6 @@
 use Rattle.std.specs.Prelude.{◌≡◌, ℕ, ◌+◌, ◌-◌, ◌^◌, ◌<◌, List, [], ◌∷◌, ◌++◌, map, length}
-use Rattle.std.specs.Prelude.{Bool, replicate, filter, flat_map, sum_by, not, bytes_eq, if◌then◌else◌}
+use Rattle.std.specs.Prelude.{Bool, replicate, filter, flat_map, sum_by, not, bytes_eq}
+use Rattle.std.specs.Prelude.{if◌then◌else◌}
 use Rattle.std.specs.List.{AllByRecursion, list_any}
 use Rattle.std.specs.FinMap.{entries}
 use Rattle.bi_base.specs.Cells.{cell, up4, AreBytes}

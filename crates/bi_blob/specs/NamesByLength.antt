@@ -4,7 +4,7 @@ use Rattle.std.specs.Ordering.{nat_cmp, ordering_then}
 use Rattle.std.specs.Cmp.Lexicographic.{slice_cmp}
 use denote.Ref.{Bor}
 
--- Names with their lengths, so that names of two lengths are told apart without reading them.
+-- Names with their lengths, so that names of two lengths are compared without reading them.
 
 -- The order of names by length, and of those of one length by their bytes.
 abbrev pub by_length : ℕ × Bor (List ℕ) → ℕ × Bor (List ℕ) → Ordering

@@ -98,5 +98,6 @@ offset_of_place (DataPosition offset) = Some offset
 abbrev pub ArePlaced : FitModel → Type 0
 ArePlaced content =
     AllByRecursion
-    (λ (image : ImageModel). IsAtPlace content.blob.file (offset_of_place image.place) image.payload)
+    (λ (image : ImageModel).
+    IsAtPlace content.blob.file (offset_of_place image.place) image.payload)
     content.images

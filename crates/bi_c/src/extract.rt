@@ -53,7 +53,8 @@ pub extern "C" fn bootimg_extract_image(
 ) -> u32
     ensures { Answers
         (IsExtracted (IsInRange limit depth) (bounds limit depth) (Image name.entry) file.now)
-        (IsExtractCallFailure (IsInRange limit depth) (bounds limit depth) (Image name.entry) file.now)
+        (IsExtractCallFailure (IsInRange limit depth) (bounds limit depth) (Image name.entry)
+        file.now)
         answer.new result }
 {
     let Some(limits) = limits_of(limit, depth) else {

@@ -3,10 +3,11 @@ use Rattle.std.specs.Prelude.{length, take, drop, replicate, slice_index_or}
 use Rattle.sha2.specs.Sha256.{sha256}
 use Rattle.bi_blob.specs.Tokens.{name_from}
 
--- The digests by which the reader tells long names apart.
+-- The digests by which the reader compares long names (profile of this project; SHA-256 is FIPS
+-- 180-4).
 
 -- The digest of the last blocks of a name, of 64 bytes each. It is that of the first of them and of
--- the digest of those behind it.
+-- the digest of those after it.
 abbrev pub digest_of_blocks : ℕ → List ℕ → List ℕ
 digest_of_blocks zero name = replicate 32 0
 digest_of_blocks (suc count) name =

@@ -9,7 +9,7 @@ use Rattle.bi_fdt.specs.Digests.{digest_of_name}
 use Rattle.bi_fdt.specs.declared.property_names.PropertyNames.{PropertyNames}
 
 -- The names of the properties of a node, in two sets: that of the names of less than 64 bytes, and
--- that of the others with their lengths and digests, so that long names are told apart without
+-- that of the others with their lengths and digests, so that long names are compared without
 -- reading them.
 
 -- The order of names by length, then by digest, and of those with one digest by their bytes.

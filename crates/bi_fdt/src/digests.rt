@@ -1,4 +1,4 @@
-//! Digests of names, which tell long names of one length apart without reading them.
+//! Digests of names, by which long names of one length are compared without reading them.
 //!
 //! Names of properties may share a run of the strings block that is nearly as long as the file. So
 //! the digest of a name is made from that of a later end of the name, in a fixed time.
@@ -14,10 +14,10 @@ use crate::strings::STRIDE;
 use sha2::{Digest, Sha256};
 use std::alloc::{AllocError, Global};
 
-/// The digest of a name that has no whole block.
+/// The digest of a name of less than 64 bytes.
 pub(crate) const NO_DIGEST: [u8; 32] = [0; 32];
 
-/// The digest of a block and of the digest of the blocks behind it.
+/// Returns the digest of a block and of the digest of the blocks after it.
 fn block_digest(block: &[u8], later: [u8; 32]) -> [u8; 32]
     ensures { result ≡ sha256 (block.now ++ later) }
 {
@@ -27,7 +27,7 @@ fn block_digest(block: &[u8], later: [u8; 32]) -> [u8; 32]
     hasher.finalize()
 }
 
-/// The digest of a name, from that of its bytes after the first 1 to 64.
+/// Returns the digest of a name, from that of the name without its first 1 to 64 bytes.
 pub(crate) fn longer_digest(name: &[u8], skipped: usize, later: [u8; 32]) -> [u8; 32]
     requires long { 64 ≤ length name.now }
     requires least { 1 ≤ skipped }
@@ -42,7 +42,8 @@ pub(crate) fn longer_digest(name: &[u8], skipped: usize, later: [u8; 32]) -> [u8
     block_digest(&name[begin..begin + STRIDE], later)
 }
 
-/// The digest of the name at offset `at`, which ends at `end`, from that of the name 64 bytes later.
+/// Returns the digest of the name at offset `at`, which ends at `end`, from that of the name at
+/// 64 bytes later.
 fn digest_before(bytes: &[u8], at: usize, end: usize, later: [u8; 32]) -> [u8; 32]
     requires at { at ≤ length bytes.now }
     requires end { end ≡ end_of bytes.now at }
@@ -56,7 +57,7 @@ fn digest_before(bytes: &[u8], at: usize, end: usize, later: [u8; 32]) -> [u8; 3
     longer_digest(&bytes[at..end], STRIDE, later)
 }
 
-/// The last of these digests, if there is one.
+/// Returns the last of these digests, if there is one.
 fn last_of(digests: &[[u8; 32]]) -> [u8; 32]
     ensures { (d : List ℕ) → 0 < length digests.now →
         result ≡ slice_index_or digests.now (length digests.now - 1) d }
@@ -67,8 +68,8 @@ fn last_of(digests: &[[u8; 32]]) -> [u8; 32]
     digests[digests.len() - 1]
 }
 
-/// The digests of the names at the first multiples of 64, which have these ends, the last of them
-/// first.
+/// Returns the digests of the names at the first multiples of 64, which have these ends, the last
+/// of them first. It fails if memory runs out.
 pub(crate) fn digests_of_names(
     alloc: Global,
     bytes: &[u8],

@@ -23,9 +23,9 @@ const MAX_DEPTH: usize = 64;
 /// a tree, which come in the order of the structure block (Devicetree Specification, 5.4.2). Names
 /// and values are borrowed and not copied.
 ///
-/// Each call but `may_begin`, `property`, `has_same_content`, `size` and `emit` takes time linear in
-/// the length of its name, if it has one, apart from allocations. `property` looks its name up among
-/// the n names so far, which takes log n comparisons; only names of the same length are read.
+/// Each call but `may_begin`, `property`, `has_same_content`, `size` and `emit` takes time linear
+/// in the length of its name, if it has one, apart from allocations. `property` looks its name up
+/// among the n names so far, which takes log n comparisons; only names of the same length are read.
 #[derive(Drop)]
 pub struct Doc<'a> {
     boot_cpu: u32,

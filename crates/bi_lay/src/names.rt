@@ -15,7 +15,7 @@ use std::marker::Model;
 pub(crate) struct Names<'a> {
     names: Vec<&'a [u8]>,
     /// The offset of each name. A name comes after its length, so that names of two lengths are
-    /// told apart without reading them.
+    /// compared without reading them.
     offsets: BTreeMap<(usize, &'a [u8]), usize>,
     length: usize,
 }

@@ -105,11 +105,12 @@ IsTried name taken number =
 
 -- No file was made of a name beside this file with a number below this one: something has each of
 -- these names.
-pub record AreNamesTaken (name : List ℕ) (count : ℕ) (old new : Option (List FileStep)) : Type 0 where
-  pub taken : List (List ℕ)
-  pub each_is_beside : All (λ beside. (number : ℕ) × IsBeside name number beside) taken
-  pub each_is_tried : (number : ℕ) → number < count → IsTried name taken number
-  pub steps : TookSteps old new (map NameTaken taken)
+pub record AreNamesTaken (name : List ℕ) (count : ℕ) (old new : Option (List FileStep)) : Type 0
+  where
+    pub taken : List (List ℕ)
+    pub each_is_beside : All (λ beside. (number : ℕ) × IsBeside name number beside) taken
+    pub each_is_tried : (number : ℕ) → number < count → IsTried name taken number
+    pub steps : TookSteps old new (map NameTaken taken)
 
 -- A new file was made beside the file of this name. It has the first of the numbered names that
 -- nothing has.
@@ -137,8 +138,8 @@ pub data IsNotMade (name : List ℕ) (failure : Failure) (old new : Option (List
         → IsNotMade name failure old new
 
 -- These bytes were written to the new file of this name, and it was flushed and closed.
-pub record IsWrittenFile (beside bytes : List ℕ) (file : WriteTrace) (old new : Option (List FileStep))
-    : Type 0
+pub record IsWrittenFile (beside bytes : List ℕ) (file : WriteTrace)
+    (old new : Option (List FileStep)) : Type 0
   where
     pub filled : WriteTrace
     pub is_filled : WroteAndFlushed file bytes filled
@@ -146,8 +147,8 @@ pub record IsWrittenFile (beside bytes : List ℕ) (file : WriteTrace) (old new 
 
 -- That failed: writing these bytes or flushing stopped, and the file was closed or not; or all was
 -- written and flushed, and the file could not be closed.
-pub data IsNotWrittenFile (beside bytes : List ℕ) (file : WriteTrace) (old new : Option (List FileStep))
-    : Type 0
+pub data IsNotWrittenFile (beside bytes : List ℕ) (file : WriteTrace)
+    (old new : Option (List FileStep)) : Type 0
   where
     WritingStopped : (filled : WriteTrace) (error : Error)
         → WriteOrFlushStopped file bytes filled error
@@ -155,7 +156,8 @@ pub data IsNotWrittenFile (beside bytes : List ℕ) (file : WriteTrace) (old new
         ⊎ TookSteps old new (NotClosed beside filled ∷ [])
         → IsNotWrittenFile beside bytes file old new
     ClosingFailed : (filled : WriteTrace) → WroteAndFlushed file bytes filled
-        → TookSteps old new (NotClosed beside filled ∷ []) → IsNotWrittenFile beside bytes file old new
+        → TookSteps old new (NotClosed beside filled ∷ [])
+        → IsNotWrittenFile beside bytes file old new
 
 -- These bytes were written to the new file, and it took the name.
 pub record IsPutInPlace (name beside bytes : List ℕ) (file : WriteTrace)

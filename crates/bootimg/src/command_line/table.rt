@@ -532,19 +532,19 @@ static BUILDING_COMMANDS: [CommandText; 2] = [
         usage: "bootimg build-legacy --os <OS> --arch <ARCH> --type <TYPE> [OPTIONS] [LEN]... \
              < PARTS > IMAGE",
         after_help: "\
-                 Builds a legacy image, and writes it to standard output. LEN is the length of a\n\
-                 part in bytes. The parts are read from standard input, one after another, and\n\
-                 together are the whole input. Without LEN the whole input is the one part. A part\n\
-                 may be in a file: LEN is then @FILE. If each part is, standard input is not read.\n\
-                 An image of type multi or script has any number of parts, and any other image\n\
-                 has one.\n\n\
-                 OS, ARCH, TYPE and COMPRESSION are names as list shows them, or numbers of at\n\
-                 most 255. Numbers are decimal, or hexadecimal with 0x. mkimage reads addresses\n\
-                 as hexadecimal without 0x, too.\n\n\
-                 Example: bootimg build-legacy --os linux --arch arm --type kernel < zImage > \
-                 uImage\n\
-                 Example: bootimg build-legacy --os linux --arch arm --type multi @zImage @initrd > \
-                 uImage",
+             Builds a legacy image, and writes it to standard output. LEN is the length of a\n\
+             part in bytes. The parts are read from standard input, one after another, and\n\
+             together are the whole input. Without LEN the whole input is the one part. A part\n\
+             may be in a file: LEN is then @FILE. If each part is, standard input is not read.\n\
+             An image of type multi or script has any number of parts, and any other image\n\
+             has one.\n\n\
+             OS, ARCH, TYPE and COMPRESSION are names as list shows them, or numbers of at\n\
+             most 255. Numbers are decimal, or hexadecimal with 0x. mkimage reads addresses\n\
+             as hexadecimal without 0x, too.\n\n\
+             Example: bootimg build-legacy --os linux --arch arm --type kernel < zImage > \
+             uImage\n\
+             Example: bootimg build-legacy --os linux --arch arm --type multi @zImage @initrd > \
+             uImage",
         options: &[
             OS,
             ARCH,
@@ -564,21 +564,21 @@ static BUILDING_COMMANDS: [CommandText; 2] = [
         about: "Build a flattened image tree",
         usage: "bootimg build-fit [OPTIONS] [IMAGE]... < PAYLOADS > FIT",
         after_help: "\
-                 Builds a flattened image tree, and writes it to standard output. Each payload has\n\
-                 its SHA-256, and configuration conf-1 lists the images by their types. Of two\n\
-                 devicetrees in conf-1, the second is an overlay, which U-Boot applies to the\n\
-                 first.\n\n\
-                 An IMAGE is NAME:TYPE:ARCH:OS:COMPRESSION:LOAD:ENTRY:LEN. TYPE, ARCH, OS and\n\
-                 COMPRESSION are names as list shows them for a legacy image, or numbers of at\n\
-                 most 255. LOAD and ENTRY are addresses, or - for none. LEN is the length of the\n\
-                 payload in bytes. The payloads are read from standard input, one after another,\n\
-                 and together are the whole input. A payload may be in a file, whose name has no\n\
-                 colon: LEN is then @FILE. If each payload is, standard input is not read. Numbers\n\
-                 are decimal, or hexadecimal with 0x.\n\n\
-                 Example: bootimg build-fit kernel-1:kernel:arm:linux:none:0x8000:0x8000:4096 \
-                 < zImage > kernel.itb\n\
-                 Example: bootimg build-fit kernel-1:kernel:arm:linux:none:0x8000:0x8000:@zImage > \
-                 kernel.itb",
+             Builds a flattened image tree, and writes it to standard output. Each payload has\n\
+             its SHA-256, and configuration conf-1 lists the images by their types. Of two\n\
+             devicetrees in conf-1, the second is an overlay, which U-Boot applies to the\n\
+             first.\n\n\
+             An IMAGE is NAME:TYPE:ARCH:OS:COMPRESSION:LOAD:ENTRY:LEN. TYPE, ARCH, OS and\n\
+             COMPRESSION are names as list shows them for a legacy image, or numbers of at\n\
+             most 255. LOAD and ENTRY are addresses, or - for none. LEN is the length of the\n\
+             payload in bytes. The payloads are read from standard input, one after another,\n\
+             and together are the whole input. A payload may be in a file, whose name has no\n\
+             colon: LEN is then @FILE. If each payload is, standard input is not read. Numbers\n\
+             are decimal, or hexadecimal with 0x.\n\n\
+             Example: bootimg build-fit kernel-1:kernel:arm:linux:none:0x8000:0x8000:4096 \
+             < zImage > kernel.itb\n\
+             Example: bootimg build-fit kernel-1:kernel:arm:linux:none:0x8000:0x8000:@zImage > \
+             kernel.itb",
         options: &[EXTERNAL_BUILT, DESCRIPTION, TIME, LIMIT, OUTPUT, IMAGES],
     },
 ];
