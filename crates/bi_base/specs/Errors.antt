@@ -2,11 +2,16 @@ use Rattle.bi_base.specs.declared.fault.Error.{Error}
 use Rattle.bi_base.specs.declared.fault.Error.TheVariants as error
 use Rattle.bi_base.specs.declared.fault.Fault.{Fault}
 
--- Errors of a call that refuses what it reads.
+-- Errors of calls that read no stream and write to none.
 
--- A refusal with a fault of which this holds, or OutOfMemory.
+-- The call fails with a fault of which this holds, or runs out of memory, which it does only if
+-- memory is needed.
+abbrev pub FailsWith : (IsFault : Fault → Type 0) → (NeedsMemory : Type 0) → Error → Type 0
+FailsWith IsFault NeedsMemory (error.Refused fault) = IsFault fault
+FailsWith IsFault NeedsMemory error.OutOfMemory = NeedsMemory
+FailsWith IsFault NeedsMemory error.ReadFailed = ⊥
+FailsWith IsFault NeedsMemory error.WriteFailed = ⊥
+
+-- The call fails with a fault of which this holds, or runs out of memory.
 abbrev pub IsRefusal : (Fault → Type 0) → Error → Type 0
-IsRefusal IsCause (error.Refused fault) = IsCause fault
-IsRefusal IsCause error.OutOfMemory = Unit {0}
-IsRefusal IsCause error.ReadFailed = ⊥
-IsRefusal IsCause error.WriteFailed = ⊥
+IsRefusal IsFault = FailsWith IsFault (Unit {0})

@@ -1,6 +1,6 @@
 //! A sink that writes to a writer in large pieces.
 
-ghost use Rattle.std.specs.Prelude.{◌≡◌, [], IsFalse, OnOk};
+ghost use Rattle.std.specs.Prelude.{◌≡◌, [], OnOk};
 ghost use Rattle.bi_base.specs.Sinks.{Wrote};
 ghost use Rattle.bi_base.specs.Writing.{WroteAndFlushed, WriteOrFlushStopped};
 

@@ -1,6 +1,6 @@
 //! Sinks: what bytes are appended to.
 
-ghost use Rattle.std.specs.Prelude.{◌≡◌, ◌++◌, ℕ, List, []};
+ghost use Rattle.std.specs.Prelude.{ℕ, List};
 ghost use Rattle.bi_base.specs.Sinks.{Wrote, AppendsNothing, AppendsInTurn, FailsAfter};
 ghost use Rattle.bi_base.specs.Sinks.{FailsBefore};
 ghost use Rattle.bi_base.specs.declared.fault.Error.{Error};

@@ -1,8 +1,7 @@
 use Rattle.std.specs.Prelude.{ℕ, ◌≡◌, ◌≢◌, ◌≤◌, List, [], ◌∷◌, Option, length, map}
 use Rattle.std.specs.List.{sum}
+use Rattle.bi_base.specs.Errors.{FailsWith}
 use Rattle.bi_base.specs.declared.fault.Error.{Error}
-use Rattle.bi_base.specs.declared.fault.Error.TheVariants.{Refused, OutOfMemory, ReadFailed}
-use Rattle.bi_base.specs.declared.fault.Error.TheVariants.{WriteFailed}
 use Rattle.bi_base.specs.declared.fault.Fault.{Fault}
 use Rattle.bi_base.specs.Commands.{CommandPromise, PromiseLaws}
 use Rattle.bi_base.specs.Commands.{unit_promise, unit_laws}
@@ -40,10 +39,7 @@ CanBeFilled parts input = parts ≢ [] → sum (lengths_of parts) ≡ length inp
 -- The error that getting the contents of the parts can have. Memory is needed only for an input
 -- that can be cut.
 abbrev pub IsPartsError : List Part → List ℕ → Error → Type 0
-IsPartsError parts input (Refused fault) = IsPartsFault parts input fault
-IsPartsError parts input OutOfMemory = CanBeFilled parts input
-IsPartsError parts input ReadFailed = ⊥
-IsPartsError parts input WriteFailed = ⊥
+IsPartsError parts input = FailsWith (IsPartsFault parts input) (CanBeFilled parts input)
 
 -- The output is a legacy image of these fields and parts.
 pub record IsLegacyOutput (limits : Limits) (fields : Fields) (parts : List Part)
@@ -65,11 +61,8 @@ pub data IsLegacyOutputFault (limits : Limits) (fields : Fields) (parts : List P
 -- The error that building a legacy image with an input in memory can have, except those of a sink.
 -- Memory is needed only for an input that can be cut.
 abbrev pub IsLegacyOutputError : Limits → Fields → List Part → List ℕ → Error → Type 0
-IsLegacyOutputError limits fields parts input (Refused fault) =
-    IsLegacyOutputFault limits fields parts input fault
-IsLegacyOutputError limits fields parts input OutOfMemory = CanBeFilled parts input
-IsLegacyOutputError limits fields parts input ReadFailed = ⊥
-IsLegacyOutputError limits fields parts input WriteFailed = ⊥
+IsLegacyOutputError limits fields parts input =
+    FailsWith (IsLegacyOutputFault limits fields parts input) (CanBeFilled parts input)
 
 -- What an image to be built has beside its payload.
 pub record ImageFields : Type 0 where
@@ -123,12 +116,9 @@ pub data IsFitOutputFault (limits : Limits) (form : Form) (head : Head) (given :
 -- a sink. Memory is needed only for an input that can be cut.
 abbrev pub IsFitOutputError : Limits → Form → Head → List ImageSpec → List Part → List ℕ → Error
     → Type 0
-IsFitOutputError limits form head given payloads input (Refused fault) =
-    IsFitOutputFault limits form head given payloads input fault
-IsFitOutputError limits form head given payloads input OutOfMemory =
-    sum (lengths_of payloads) ≡ length input
-IsFitOutputError limits form head given payloads input ReadFailed = ⊥
-IsFitOutputError limits form head given payloads input WriteFailed = ⊥
+IsFitOutputError limits form head given payloads input =
+    FailsWith (IsFitOutputFault limits form head given payloads input)
+    (sum (lengths_of payloads) ≡ length input)
 
 -- What building a legacy image of these parts promises as a command.
 abbrev pub build_legacy_promise : Fields → (parts : List Part) → Limits

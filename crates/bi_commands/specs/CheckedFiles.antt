@@ -1,13 +1,11 @@
 use Rattle.std.specs.Prelude.{ℕ, ◌≡◌, ◌↔◌, ◌⊎◌, Bool, IsTrue, List, []}
 use Rattle.bi_base.specs.Commands.{CommandPromise, PromiseLaws}
 use Rattle.bi_base.specs.declared.fault.Error.{Error}
-use Rattle.bi_base.specs.declared.fault.Error.TheVariants.{Refused, OutOfMemory, ReadFailed}
-use Rattle.bi_base.specs.declared.fault.Error.TheVariants.{WriteFailed}
 use Rattle.bi_base.specs.Limits.{Limits}
 use Rattle.bi_base.specs.Reading.{too_large}
 use Rattle.bi_norm.specs.Comparing.{MeansOnly}
 use Rattle.bi_norm.specs.Meaning.{Meaning, Means}
-use Rattle.bi_norm.specs.NormalForm.{IsOpenError}
+use Rattle.bi_norm.specs.NormalForm.{IsOpenErrorOrTooLarge}
 use Rattle.bi_commands.specs.declared.check.Allowed.{Allowed}
 use Rattle.bi_commands.specs.Checking.{Concern, AreConcerns, concern_lines}
 use Rattle.bi_commands.specs.PayloadBounds.{IsOverPayloadBound}
@@ -33,12 +31,7 @@ pub record HoldsTooMuch (limits : Limits) (file : List ℕ) : Type 0 where
 -- The error that checking a file in memory can have: one of reading it, or TooLarge at the limit
 -- if it means something whose payloads are over the payload bound.
 abbrev pub IsCheckError : Limits → List ℕ → Error → Type 0
-IsCheckError limits file (Refused fault) =
-    IsOpenError limits file (Refused fault)
-    ⊎ (HoldsTooMuch limits file × (fault ≡ too_large limits.file))
-IsCheckError limits file OutOfMemory = IsOpenError limits file OutOfMemory
-IsCheckError limits file ReadFailed = ⊥
-IsCheckError limits file WriteFailed = ⊥
+IsCheckError limits file = IsOpenErrorOrTooLarge limits file (HoldsTooMuch limits file)
 
 -- The text has the lines of the concerns about the file that are not allowed, and this is whether
 -- there are none.

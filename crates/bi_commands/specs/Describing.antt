@@ -1,13 +1,12 @@
 use Rattle.std.specs.Prelude.{ℕ, ◌<◌, ◌≤◌, ◌≡◌, ◌⊎◌, List, length, ⊤}
+use Rattle.bi_base.specs.Errors.{IsRefusal}
 use Rattle.bi_base.specs.Commands.{CommandPromise, PromiseLaws, unit_promise, unit_laws}
 use Rattle.bi_base.specs.declared.fault.Error.{Error}
-use Rattle.bi_base.specs.declared.fault.Error.TheVariants.{Refused, OutOfMemory, ReadFailed}
-use Rattle.bi_base.specs.declared.fault.Error.TheVariants.{WriteFailed}
 use Rattle.bi_base.specs.Limits.{Limits}
 use Rattle.bi_base.specs.Reading.{too_large}
 use Rattle.bi_norm.specs.Comparing.{MeansOnly}
 use Rattle.bi_norm.specs.Meaning.{Meaning, Means}
-use Rattle.bi_norm.specs.NormalForm.{IsOpenError}
+use Rattle.bi_norm.specs.NormalForm.{IsOpenErrorOrTooLarge}
 use Rattle.bi_commands.specs.Descriptions.{description}
 use Rattle.bi_commands.specs.PayloadBounds.{IsOverPayloadBound}
 
@@ -35,11 +34,8 @@ IsTooLongToDescribe limits meaning =
 -- The error that describing a meaning can have, whatever file it was read from: TooLarge at the
 -- limit if it is too long to describe, or that memory ran out.
 abbrev pub IsImageError : Limits → Meaning → Error → Type 0
-IsImageError limits meaning (Refused fault) =
-    IsTooLongToDescribe limits meaning × (fault ≡ too_large limits.file)
-IsImageError limits meaning OutOfMemory = ⊤
-IsImageError limits meaning ReadFailed = ⊥
-IsImageError limits meaning WriteFailed = ⊥
+IsImageError limits meaning =
+    IsRefusal (λ fault. IsTooLongToDescribe limits meaning × (fault ≡ too_large limits.file))
 
 -- The file means something that is too long to describe.
 pub record MeansTooMuch (limits : Limits) (file : List ℕ) : Type 0 where
@@ -50,12 +46,7 @@ pub record MeansTooMuch (limits : Limits) (file : List ℕ) : Type 0 where
 -- The error that describing a file in memory can have: one of reading it, or TooLarge at the limit
 -- if it means something that is too long to describe.
 abbrev pub IsDescribeError : Limits → List ℕ → Error → Type 0
-IsDescribeError limits file (Refused fault) =
-    IsOpenError limits file (Refused fault)
-    ⊎ (MeansTooMuch limits file × (fault ≡ too_large limits.file))
-IsDescribeError limits file OutOfMemory = IsOpenError limits file OutOfMemory
-IsDescribeError limits file ReadFailed = ⊥
-IsDescribeError limits file WriteFailed = ⊥
+IsDescribeError limits file = IsOpenErrorOrTooLarge limits file (MeansTooMuch limits file)
 
 -- What describing promises as a command.
 abbrev pub describe_promise : Limits → CommandPromise (Unit {0}) Error

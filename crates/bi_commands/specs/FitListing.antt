@@ -62,7 +62,7 @@ key_line configuration key BadList =
     line (codes "key" ∷ shown_text configuration ∷ key_name key ∷ codes "bad-list" ∷ [])
 key_line configuration key (Missing index) =
     line (codes "key" ∷ shown_text configuration ∷ key_name key ∷ codes "missing"
-        ∷ decimal index ∷ [])
+    ∷ decimal index ∷ [])
 key_line configuration key (ListedImages images) =
     line
     (codes "key" ∷ shown_text configuration ∷ key_name key ∷ codes "ok"

@@ -1,8 +1,7 @@
 use Rattle.std.specs.Prelude.{ℕ, ◌<◌, ◌≡◌, ◌⊎◌, ⊤, true, List, length, unwrap_or}
+use Rattle.bi_base.specs.Errors.{IsRefusal}
 use Rattle.bi_base.specs.Commands.{CommandPromise, PromiseLaws}
 use Rattle.bi_base.specs.declared.fault.Error.{Error}
-use Rattle.bi_base.specs.declared.fault.Error.TheVariants.{Refused, OutOfMemory, ReadFailed}
-use Rattle.bi_base.specs.declared.fault.Error.TheVariants.{WriteFailed}
 use Rattle.bi_base.specs.Limits.{Limits}
 use Rattle.bi_base.specs.Reading.{too_large}
 use Rattle.bi_fit.specs.declared.changes.Changes.{Changes}
@@ -14,7 +13,7 @@ use Rattle.bi_legacy.specs.Meaning.{with_new_time}
 use Rattle.bi_norm.specs.Comparing.{MeansOnly}
 use Rattle.bi_norm.specs.Meaning.{Meaning, OfLegacy, OfFit, Means, normal_text}
 use Rattle.bi_norm.specs.Meaning.{meaning_signature_count}
-use Rattle.bi_norm.specs.NormalForm.{IsOpenError}
+use Rattle.bi_norm.specs.NormalForm.{IsOpenErrorOrTooLarge}
 use Rattle.bi_commands.specs.PayloadBounds.{IsOverPayloadBound}
 
 -- Updating a boot image: its time, and the digests in its hash nodes (profile of this project).
@@ -65,12 +64,8 @@ pub record IsTooLongToUpdate (changes : Changes) (limits : Limits) (form : Form)
 
 -- The error that updating a file in memory can have: one of reading it, or TooLarge at the limit.
 abbrev pub IsUpdateError : Changes → Limits → Form → List ℕ → Error → Type 0
-IsUpdateError changes limits form file (Refused fault) =
-    IsOpenError limits file (Refused fault)
-    ⊎ (IsTooLongToUpdate changes limits form file × (fault ≡ too_large limits.file))
-IsUpdateError changes limits form file OutOfMemory = IsOpenError limits file OutOfMemory
-IsUpdateError changes limits form file ReadFailed = ⊥
-IsUpdateError changes limits form file WriteFailed = ⊥
+IsUpdateError changes limits form file =
+    IsOpenErrorOrTooLarge limits file (IsTooLongToUpdate changes limits form file)
 
 -- These are the digests that the hash nodes get, one after another. If there are any, the payloads
 -- are within the payload bound.
@@ -81,11 +76,9 @@ pub record HasNewDigests (changes : Changes) (limits : Limits) (tree : ImageTree
 
 -- The error of computing them: TooLarge at the limit, or memory ran out.
 abbrev pub IsDigestsError : Changes → Limits → ImageTree → Error → Type 0
-IsDigestsError changes limits tree (Refused fault) =
-    HashesTooMuch changes limits (OfFit tree) × (fault ≡ too_large limits.file)
-IsDigestsError changes limits tree OutOfMemory = ⊤
-IsDigestsError changes limits tree ReadFailed = ⊥
-IsDigestsError changes limits tree WriteFailed = ⊥
+IsDigestsError changes limits tree =
+    IsRefusal (λ fault.
+    HashesTooMuch changes limits (OfFit tree) × (fault ≡ too_large limits.file))
 
 -- What updating promises as a command.
 abbrev pub update_promise : Changes → Form → Limits → CommandPromise ℕ Error

@@ -20,7 +20,9 @@ use Rattle.bi_fdt.specs.Table.{item_of}
 use Rattle.bi_fdt.specs.Reading.{IsTable, HasTable}
 use Rattle.bi_fdt.specs.Content.{root_in}
 use Rattle.bi_fdt.specs.Fields.{IsBlobHeld}
-use Rattle.bi_fdt.specs.Refused.{IsOnlyFault, IsRefused}
+use Rattle.bi_fdt.specs.ReadBlobs.{IsOnlyFault, IsReadBlob, IsRefused}
+use Rattle.bi_blob.proofs.Blobs.OneBlob.{one_blob}
+use Rattle.bi_blob.proofs.Blobs.Faults.{blob_has_no_fault}
 use Rattle.bi_fdt.proofs.Parsing.{root_in-table}
 
 -- What a blob that was read holds.
@@ -85,6 +87,28 @@ pub is_blob_within : (bounds : Limits) (file : List ℕ) (count : ℕ) (entries 
     IsBlobWithin bounds file
 is_blob_within bounds file count entries bytes fine has table =
     blob_of_parts bounds file count bytes fine has (record { root = table.root; holds = table.holds; shallow = table.shallow })
+
+-- The blob of these was read from the file.
+pub is_read_blob : (bounds : Limits) (file : List ℕ) (count : ℕ) (entries : List Entry) → AreBytes file → HasNoHeaderFault bounds file →
+    HasReservations file (off_mem_rsvmap file) (totalsize file) count → HasTable (tree_blocks file) bounds.depth entries →
+    IsReadBlob bounds file (record {
+      file = file;
+      cpu = boot_cpuid_phys file;
+      total_size = totalsize file;
+      reservations = reservations_at file (off_mem_rsvmap file) count;
+      table = map item_of entries;
+    })
+is_read_blob bounds file count entries bytes fine has table =
+    let blob = is_blob bounds file count entries bytes fine has table in
+    let within = is_blob_within bounds file count entries bytes fine has table in
+    record {
+      is_file = refl;
+      size = refl;
+      means = blob;
+      within = within;
+      only = λ cpu reservations root is. one_blob file _ cpu _ reservations _ root blob is;
+      no_fault = λ fault is. blob_has_no_fault bounds file fault within is;
+    }
 
 -- The numbers of a reservation.
 abbrev pub numbers : Reservation → ℕ × ℕ

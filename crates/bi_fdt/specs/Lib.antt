@@ -6,7 +6,7 @@ pub mod Growth
 pub mod Reading
 pub mod Content
 pub mod Fields
-pub mod Refused
+pub mod ReadBlobs
 pub mod Views
 pub mod Digests
 pub mod Strings

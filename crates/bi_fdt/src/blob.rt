@@ -1,21 +1,18 @@
 //! Reading a devicetree blob.
 
-ghost use Rattle.std.specs.Prelude.{◌≡◌, ℕ, ◌<◌, ◌^◌, List, length, map, slice_get, IfOk};
+ghost use Rattle.std.specs.Prelude.{◌≡◌, ◌<◌, ◌^◌, length, map, slice_get, IfOk};
 ghost use Rattle.std.specs.Prelude.{IfErr, OnOk};
 ghost use Rattle.bi_base.specs.declared.fault.Fault.{Fault};
-ghost use Rattle.bi_blob.specs.Tree.{Root, FileNode};
-ghost use Rattle.bi_blob.specs.Blob.{Reservation};
 ghost use Rattle.bi_blob.specs.Blob as header;
-ghost use Rattle.bi_blob.specs.Blob.{tree_blocks as tree_blocks_of, IsBlob, IsBlobWithin, Header};
+ghost use Rattle.bi_blob.specs.Blob.{tree_blocks as tree_blocks_of, Header};
 ghost use Rattle.bi_blob.specs.BlobFaults.{HasNoHeaderFault, HasReservations};
-ghost use Rattle.bi_blob.specs.BlobFaults.{IsFaultBeforeTree, IsBlobFault};
-ghost use Rattle.bi_blob.specs.BlobLaws.{SameContent};
+ghost use Rattle.bi_blob.specs.BlobFaults.{IsFaultBeforeTree};
 ghost use Rattle.bi_fdt.specs.Blocks.{blocks_of};
 ghost use Rattle.bi_blob.specs.Lookups.{root_node};
 ghost use Rattle.bi_fdt.specs.Table.{item_of};
 ghost use Rattle.bi_fdt.specs.Reading.{IsTable};
 ghost use Rattle.bi_fdt.specs.Content.{root_of};
-ghost use Rattle.bi_fdt.specs.Refused.{IsRefused};
+ghost use Rattle.bi_fdt.specs.ReadBlobs.{IsReadBlob, IsRefused};
 
 use crate::blocks::Blocks;
 use crate::fields::{
@@ -85,17 +82,7 @@ impl<'a> Blob<'a> {
     /// OutOfMemory comes only if the header and the reservation block have no fault. ReadFailed and
     /// WriteFailed never come.
     pub fn read(alloc: Global, file: &'a [u8], limits: Limits) -> Result<Blob<'a>, Error>
-        ensures accepts { OnOk result (IsBlobWithin limits file.entry.now) }
-        ensures content { IfOk result
-            (λ blob. IsBlob file.entry.now blob.cpu blob.reservations (root_of blob)) }
-        ensures one_content { IfOk result
-            (λ blob. (cpu : ℕ) (reservations : List Reservation) (root : Root FileNode)
-            → IsBlob file.entry.now cpu reservations root
-            → SameContent blob.cpu cpu blob.reservations reservations (root_of blob) root) }
-        ensures no_fault { OnOk result ((fault : Fault)
-            → ¬ (IsBlobFault limits file.entry.now fault)) }
-        ensures file { IfOk result (λ blob. (blob.file ≡ file.entry.now)
-            × (blob.total_size ≡ header.totalsize file.entry.now)) }
+        ensures read { IfOk result (IsReadBlob limits file.entry.now) }
         ensures failed { IfErr result (IsRefused limits file.entry.now) }
     {
         let reservation_count = check_before_tree(file, limits)?;

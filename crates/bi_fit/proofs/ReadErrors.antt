@@ -5,7 +5,7 @@ use Rattle.bi_base.specs.declared.fault.Fault.{Fault}
 use Rattle.bi_base.specs.Limits.{Limits}
 use Rattle.bi_blob.specs.BlobFaults.{HasNoFaultBeforeTree, IsFaultBeforeTree, IsBlobFault}
 use Rattle.bi_blob.proofs.Blobs.BeforeTree.{fault_before_tree_comes_first}
-use Rattle.bi_fdt.specs.Refused.{IsRefused}
+use Rattle.bi_fdt.specs.ReadBlobs.{IsRefused}
 use Rattle.bi_fit.specs.Faults.{IsFitFault, InBlob}
 use Rattle.bi_fit.specs.Reading.{IsOnlyFitFault, IsFitReadError}
 use Rattle.bi_fit.proofs.Faults.{one_fit_fault, fit_has_no_fault}

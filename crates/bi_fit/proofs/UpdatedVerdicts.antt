@@ -145,8 +145,13 @@ module _ (entry : Sibling PropertyMap) (payload : List ℕ) where
 
   -- A hash node of it after the update.
   hash_is : (name : List ℕ) (own : PropertyMap) (children later new_later : Nodes PropertyMap) →
-      checked_hash image_of (record { name = name; own = with_digest_by (known_algorithm own) payload own; children = children; later =
-      new_later }) ≡ new_hash true image_of (record { name = name; own = own; children = children; later = later })
+      checked_hash image_of (record {
+        name = name;
+        own = with_digest_by (known_algorithm own) payload own;
+        children = children;
+        later =
+            new_later;
+      }) ≡ new_hash true image_of (record { name = name; own = own; children = children; later = later })
   hash_is name own children later new_later = where_known (known_algorithm own) refl
     where
       where_known : (found : Option Algo) → known_algorithm own ≡ found → checked_hash image_of (record { name = name; own = with_digest_by found payload own; children = children; later = new_later }) ≡ rechecked_by image_of (record { name = name; own = own; children = children; later = later }) (Some payload) found
@@ -169,9 +174,13 @@ module _ (entry : Sibling PropertyMap) (payload : List ℕ) where
 
 -- The same where there may be no payload: then the hash nodes are as they were.
 hashes_of : (payload : Option (List ℕ)) (name : List ℕ) (own : PropertyMap) (children later new_later : Nodes PropertyMap) →
-    map (checked_hash (record { entry = record { name = name; own = own; children = with_digests_of payload children; later = new_later };
-    payload = payload })) (hash_nodes
-    (record { entry = record { name = name; own = own; children = with_digests_of payload children; later = new_later }; payload = payload
+    map (checked_hash (record {
+      entry = record { name = name; own = own; children = with_digests_of payload children; later = new_later };
+      payload = payload;
+    })) (hash_nodes
+    (record {
+      entry = record { name = name; own = own; children = with_digests_of payload children; later = new_later };
+      payload = payload;
     })) ≡ map (new_hash true (record { entry = record { name = name; own = own; children = children; later = later }; payload = payload }))
     (hash_nodes (record { entry = record { name = name; own = own; children = children; later = later }; payload = payload }))
 hashes_of None name own children later new_later = refl

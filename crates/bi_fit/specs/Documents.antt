@@ -1,7 +1,6 @@
 use Rattle.std.specs.Prelude.{ℕ, ◌≡◌, ◌<◌, ◌≤◌, List, Option, length}
+use Rattle.bi_base.specs.Errors.{FailsWith}
 use Rattle.bi_base.specs.declared.fault.Error.{Error}
-use Rattle.bi_base.specs.declared.fault.Error.TheVariants.{Refused, OutOfMemory, ReadFailed}
-use Rattle.bi_base.specs.declared.fault.Error.TheVariants.{WriteFailed}
 use Rattle.bi_base.specs.Limits.{Limits}
 use Rattle.bi_base.specs.Reading.{too_large}
 use Rattle.bi_blob.specs.Events.{events_of}
@@ -39,9 +38,7 @@ length_after_blob External payloads = payloads_end 0 payloads
 -- The error of making the document: TooLarge at the limit, exactly if the normal text is longer, or
 -- memory ran out. It never runs out where what follows the blob is longer than the limit by itself.
 abbrev pub IsDocumentError : Limits → Form → ImageTree → Error → Type 0
-IsDocumentError limits form tree (Refused fault) =
-    (fault ≡ too_large limits.file) × (limits.file < length (fit_text form tree))
-IsDocumentError limits form tree OutOfMemory =
-    length_after_blob form tree.payloads ≤ limits.file
-IsDocumentError limits form tree ReadFailed = ⊥
-IsDocumentError limits form tree WriteFailed = ⊥
+IsDocumentError limits form tree =
+    FailsWith (λ fault.
+    (fault ≡ too_large limits.file) × (limits.file < length (fit_text form tree)))
+    (length_after_blob form tree.payloads ≤ limits.file)

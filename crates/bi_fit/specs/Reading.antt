@@ -1,7 +1,6 @@
 use Rattle.std.specs.Prelude.{◌≡◌, ℕ, List}
+use Rattle.bi_base.specs.Errors.{FailsWith}
 use Rattle.bi_base.specs.declared.fault.Error.{Error}
-use Rattle.bi_base.specs.declared.fault.Error.TheVariants.{Refused, OutOfMemory, ReadFailed}
-use Rattle.bi_base.specs.declared.fault.Error.TheVariants.{WriteFailed}
 use Rattle.bi_base.specs.declared.fault.Fault.{Fault}
 use Rattle.bi_base.specs.Limits.{Limits}
 use Rattle.bi_blob.specs.BlobFaults.{HasNoFaultBeforeTree}
@@ -32,7 +31,5 @@ pub record IsOnlyFitFault (limits : Limits) (file : List ℕ) (fault : Fault) : 
 -- The error of reading a file: its fault; or that memory ran out, which happens only if the header
 -- and the reservation block have no fault.
 abbrev pub IsFitReadError : Limits → List ℕ → Error → Type 0
-IsFitReadError limits file (Refused fault) = IsOnlyFitFault limits file fault
-IsFitReadError limits file OutOfMemory = HasNoFaultBeforeTree limits file
-IsFitReadError limits file ReadFailed = ⊥
-IsFitReadError limits file WriteFailed = ⊥
+IsFitReadError limits file =
+    FailsWith (IsOnlyFitFault limits file) (HasNoFaultBeforeTree limits file)

@@ -40,7 +40,7 @@ parsed_of file limits (Ok value) bytes none image unused =
     sym (read_end_is file limits none) ∙ ap (λ (i : LegacyImage). parts_end i.image_type i.parts) (sym image) in
     record {
       means = means;
-      only_meaning = λ other other_means. one_legacy_meaning file other (read_image file) other_means.is_file read.is_file ∙ sym image;
+      only = λ other other_means. one_legacy_meaning file other (read_image file) other_means.is_file read.is_file ∙ sym image;
       at_offsets = parts_at_offsets file value.image means.is_file;
       unused = omega (arith, unused, ends, parts_end_in_file file value.image means.is_file);
       no_fault = none;

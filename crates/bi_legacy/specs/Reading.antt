@@ -24,7 +24,7 @@ part_places image = map (λ (part : PartModel). part.place) (placed_parts image)
 -- and the image has a normal form.
 pub record IsParsedImage (limits : Limits) (file : List ℕ) (value : LegacyModel) : Type 0 where
   pub means : LegacyMeans limits file value.image
-  pub only_meaning : (other : LegacyImage) → LegacyMeans limits file other → other ≡ value.image
+  pub only : (other : LegacyImage) → LegacyMeans limits file other → other ≡ value.image
   pub at_offsets : AreAtOffsets file (placed_parts value.image)
   pub unused : 64 + parts_end value.image.image_type value.image.parts + value.unused ≡ length file
   pub no_fault : HasNoLegacyFault limits file

@@ -39,7 +39,7 @@ is_converted limits file parsed tree text opened can most same is =
     record {
       image = image;
       means = opened.means;
-      only = opened.only_meaning;
+      only = opened.only;
       can = can;
       is_text = is_text;
       converted = λ bounds file_limit deep.

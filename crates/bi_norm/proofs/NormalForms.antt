@@ -56,7 +56,7 @@ texts_differ form image tree same =
 -- A file that means a legacy image means nothing else.
 pub only_legacy : (limits : Limits) (file : List ℕ) (parsed : LegacyModel) → IsParsedImage limits file parsed → (other : Meaning) →
     Means limits file other → other ≡ OfLegacy parsed.image
-only_legacy limits file parsed opened (OfLegacy other) means = ap OfLegacy (opened.only_meaning other means)
+only_legacy limits file parsed opened (OfLegacy other) means = ap OfLegacy (opened.only other means)
 only_legacy limits file parsed opened (OfFit tree) means =
     absurd (means_tree limits file tree means (means_legacy limits file parsed.image opened.means))
 

@@ -1,10 +1,9 @@
 use Rattle.std.specs.Prelude.{ℕ, ◌≡◌, ◌≢◌, ◌+◌, ◌≤◌, List, [], ◌∷◌, ◌++◌, length, map, IsSome}
+use Rattle.bi_base.specs.Errors.{FailsWith}
 use Rattle.bi_base.specs.declared.fault.Fault.{Fault}
 use Rattle.bi_base.specs.declared.fault.Cause.TheVariants.{TooLarge, NoCodeName, BadField}
 use Rattle.bi_base.specs.declared.fault.Cause.TheVariants.{DuplicateNode}
 use Rattle.bi_base.specs.declared.fault.Error.{Error}
-use Rattle.bi_base.specs.declared.fault.Error.TheVariants.{Refused, OutOfMemory, ReadFailed}
-use Rattle.bi_base.specs.declared.fault.Error.TheVariants.{WriteFailed}
 use Rattle.bi_base.specs.Checks.{IsFirstFault, HasNoFault}
 use Rattle.bi_base.specs.Limits.{Limits}
 use Rattle.bi_blob.specs.Tree.{HasNoZero, IsChildName, IsNew}
@@ -136,11 +135,9 @@ checks_without_memory images = HasFewImages ∷ HasTextDescription ∷ first_ima
 -- The error that building can have, except those of a sink. Memory is needed only after the checks
 -- that need none.
 abbrev pub IsBuildError : Limits → Form → Head → List ImageSpec → Error → Type 0
-IsBuildError limits form head images (Refused fault) = IsBuildFault limits form head images fault
-IsBuildError limits form head images OutOfMemory =
-    HasNoFault (BuildPasses limits form head images) (checks_without_memory images)
-IsBuildError limits form head images ReadFailed = ⊥
-IsBuildError limits form head images WriteFailed = ⊥
+IsBuildError limits form head images =
+    FailsWith (IsBuildFault limits form head images)
+    (HasNoFault (BuildPasses limits form head images) (checks_without_memory images))
 
 -- The text is that of the tree that is built. Under the same limit on files, if four nodes or more
 -- may be open, it is accepted and means the tree. Its payloads are those of the images, its

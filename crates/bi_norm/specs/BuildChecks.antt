@@ -1,8 +1,7 @@
 use Rattle.std.specs.Prelude.{ℕ, List, [], ◌∷◌}
+use Rattle.bi_base.specs.Errors.{FailsWith}
 use Rattle.bi_base.specs.declared.fault.Fault.{Fault}
 use Rattle.bi_base.specs.declared.fault.Error.{Error}
-use Rattle.bi_base.specs.declared.fault.Error.TheVariants.{Refused, OutOfMemory, ReadFailed}
-use Rattle.bi_base.specs.declared.fault.Error.TheVariants.{WriteFailed}
 use Rattle.bi_base.specs.Cells.{AreBytes}
 use Rattle.bi_base.specs.Checks.{IsFirstFault, HasNoFault}
 use Rattle.bi_base.specs.Limits.{Limits}
@@ -34,10 +33,8 @@ IsFirstFailure checks fault =
 -- The error that the checks of images can have. Memory is needed only after the checks of the first
 -- image that look at no other.
 abbrev pub IsImagesError : List ImageSpec → Error → Type 0
-IsImagesError images (Refused fault) = IsFirstFailure (spec_checks 0 [] images) fault
-IsImagesError images OutOfMemory = AllPass (first_image_checks images)
-IsImagesError images ReadFailed = ⊥
-IsImagesError images WriteFailed = ⊥
+IsImagesError images =
+    FailsWith (IsFirstFailure (spec_checks 0 [] images)) (AllPass (first_image_checks images))
 
 -- An image at an index after images of these names.
 abbrev pub at_index : ℕ → List (List ℕ) → ImageSpec → IndexedImage

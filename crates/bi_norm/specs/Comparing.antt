@@ -1,7 +1,7 @@
 use Rattle.std.specs.Prelude.{ℕ, ◌≡◌, ◌↔◌, ◌⊎◌, Bool, IsTrue, List}
+use Rattle.bi_base.specs.Errors.{FailsWith}
 use Rattle.bi_base.specs.declared.fault.Error.{Error}
-use Rattle.bi_base.specs.declared.fault.Error.TheVariants.{Refused, OutOfMemory, ReadFailed}
-use Rattle.bi_base.specs.declared.fault.Error.TheVariants.{WriteFailed}
+use Rattle.bi_base.specs.declared.fault.Error.TheVariants.{Refused}
 use Rattle.bi_base.specs.Limits.{Limits}
 use Rattle.bi_norm.specs.Meaning.{Meaning, Means}
 use Rattle.bi_norm.specs.NormalForm.{IsOpenError, NeedsMemory}
@@ -30,8 +30,7 @@ pub record IsErrorOfSecond (limits : Limits) (one other : List ℕ) (error : Err
 -- The error that comparing two files can have: one of reading the first, or else one of reading the
 -- second. Memory never runs out if the first file fails a check that needs none.
 abbrev pub IsCompareError : Limits → List ℕ → List ℕ → Error → Type 0
-IsCompareError limits one other (Refused fault) =
-    IsOpenError limits one (Refused fault) ⊎ IsErrorOfSecond limits one other (Refused fault)
-IsCompareError limits one other OutOfMemory = NeedsMemory limits one
-IsCompareError limits one other ReadFailed = ⊥
-IsCompareError limits one other WriteFailed = ⊥
+IsCompareError limits one other =
+    FailsWith (λ fault.
+    IsOpenError limits one (Refused fault) ⊎ IsErrorOfSecond limits one other (Refused fault))
+    (NeedsMemory limits one)

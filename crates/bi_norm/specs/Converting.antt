@@ -1,11 +1,10 @@
 use Rattle.std.specs.Prelude.{◌≡◌, ◌≢◌, ℕ, ◌<◌, ◌≤◌, ◌==◌, Bool, true, false, List, [], ◌∷◌, Option}
 use Rattle.std.specs.Prelude.{None, Some, IsSome, length, map, codes, unwrap_or, if◌then◌else◌}
 use Rattle.std.specs.List.{AllByRecursion}
+use Rattle.bi_base.specs.Errors.{FailsWith}
 use Rattle.bi_base.specs.declared.fault.Fault.{Fault}
 use Rattle.bi_base.specs.declared.fault.Cause.TheVariants.{NoCodeName, TooManyParts, EmptyPart}
 use Rattle.bi_base.specs.declared.fault.Error.{Error}
-use Rattle.bi_base.specs.declared.fault.Error.TheVariants.{Refused, OutOfMemory, ReadFailed}
-use Rattle.bi_base.specs.declared.fault.Error.TheVariants.{WriteFailed}
 use Rattle.bi_base.specs.Checks.{IsFirstFault, HasNoFault}
 use Rattle.bi_base.specs.Limits.{Limits}
 use Rattle.bi_base.specs.Reading.{too_large}
@@ -233,7 +232,5 @@ pub data IsFileConvertFault (limits : Limits) (file : List ℕ) (fault : Fault) 
 
 -- The error that converting a file in memory can have, except those of a sink.
 abbrev pub IsConvertError : Limits → List ℕ → Error → Type 0
-IsConvertError limits file (Refused fault) = IsFileConvertFault limits file fault
-IsConvertError limits file OutOfMemory = IsConvertible limits file
-IsConvertError limits file ReadFailed = ⊥
-IsConvertError limits file WriteFailed = ⊥
+IsConvertError limits file =
+    FailsWith (IsFileConvertFault limits file) (IsConvertible limits file)

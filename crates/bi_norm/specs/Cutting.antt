@@ -1,10 +1,9 @@
 use Rattle.std.specs.Prelude.{ℕ, ◌≡◌, ◌+◌, ◌<◌, ◌≤◌, List, ◌∷◌, ◌++◌, length, map}
 use Rattle.std.specs.List.{concat, sum}
+use Rattle.bi_base.specs.Errors.{FailsWith}
 use Rattle.bi_base.specs.declared.fault.Fault.{Fault}
 use Rattle.bi_base.specs.declared.fault.Cause.TheVariants.{BadPart}
 use Rattle.bi_base.specs.declared.fault.Error.{Error}
-use Rattle.bi_base.specs.declared.fault.Error.TheVariants.{Refused, OutOfMemory, ReadFailed}
-use Rattle.bi_base.specs.declared.fault.Error.TheVariants.{WriteFailed}
 
 -- Cutting an input into pieces of given lengths (profile of this project).
 
@@ -24,7 +23,4 @@ pub data IsCutFault (input lengths : List ℕ) (fault : Fault) : Type 0 where
 
 -- The error that cutting an input can have. Memory is needed only for an input that can be cut.
 abbrev pub IsCutError : List ℕ → List ℕ → Error → Type 0
-IsCutError input lengths (Refused fault) = IsCutFault input lengths fault
-IsCutError input lengths OutOfMemory = sum lengths ≡ length input
-IsCutError input lengths ReadFailed = ⊥
-IsCutError input lengths WriteFailed = ⊥
+IsCutError input lengths = FailsWith (IsCutFault input lengths) (sum lengths ≡ length input)

@@ -1,7 +1,6 @@
 use Rattle.std.specs.Prelude.{ℕ, ◌≡◌, List}
+use Rattle.bi_base.specs.Errors.{FailsWith}
 use Rattle.bi_base.specs.declared.fault.Error.{Error}
-use Rattle.bi_base.specs.declared.fault.Error.TheVariants.{Refused, OutOfMemory, ReadFailed}
-use Rattle.bi_base.specs.declared.fault.Error.TheVariants.{WriteFailed}
 use Rattle.bi_base.specs.Limits.{Limits}
 use Rattle.bi_legacy.specs.Emitting.{HasNoEmitFault, IsEmitFault}
 use Rattle.bi_legacy.specs.File.{LegacyMeans}
@@ -20,7 +19,5 @@ pub record IsBuiltLegacy (limits : Limits) (image : LegacyImage) (text : List �
 -- The error that building the image can have, except those of a sink. Memory is needed only for an
 -- image that has no fault.
 abbrev pub IsBuildLegacyError : Limits → LegacyImage → Error → Type 0
-IsBuildLegacyError limits image (Refused fault) = IsEmitFault limits image fault
-IsBuildLegacyError limits image OutOfMemory = HasNoEmitFault limits image
-IsBuildLegacyError limits image ReadFailed = ⊥
-IsBuildLegacyError limits image WriteFailed = ⊥
+IsBuildLegacyError limits image =
+    FailsWith (IsEmitFault limits image) (HasNoEmitFault limits image)

@@ -1,7 +1,7 @@
 use Rattle.std.specs.Prelude.{ℕ, ◌<◌, ◌≡◌, ◌↔◌, ◌⊎◌, List, length}
+use Rattle.bi_base.specs.Errors.{FailsWith}
 use Rattle.bi_base.specs.declared.fault.Error.{Error}
-use Rattle.bi_base.specs.declared.fault.Error.TheVariants.{Refused, OutOfMemory, ReadFailed}
-use Rattle.bi_base.specs.declared.fault.Error.TheVariants.{WriteFailed}
+use Rattle.bi_base.specs.declared.fault.Error.TheVariants.{Refused}
 use Rattle.bi_base.specs.Commands.{CommandPromise, PromiseLaws}
 use Rattle.bi_base.specs.Limits.{Limits}
 use Rattle.bi_base.specs.Reading.{too_large}
@@ -62,18 +62,22 @@ pub data NeedsMemory (limits : Limits) (file : List ℕ) : Type 0 where
 
 -- The error that reading a file in memory can have.
 abbrev pub IsOpenError : Limits → List ℕ → Error → Type 0
-IsOpenError limits file (Refused fault) = IsFileFault limits file fault × MeansNothing limits file
-IsOpenError limits file OutOfMemory = NeedsMemory limits file
-IsOpenError limits file ReadFailed = ⊥
-IsOpenError limits file WriteFailed = ⊥
+IsOpenError limits file =
+    FailsWith (λ fault. IsFileFault limits file fault × MeansNothing limits file)
+    (NeedsMemory limits file)
+
+-- The error of a call that reads a file in memory and makes something of it: one of reading it, or
+-- TooLarge at the limit, if what is made is too large.
+abbrev pub IsOpenErrorOrTooLarge : Limits → List ℕ → (IsTooLarge : Type 0) → Error → Type 0
+IsOpenErrorOrTooLarge limits file IsTooLarge =
+    FailsWith (λ fault. IsOpenError limits file (Refused fault)
+    ⊎ (IsTooLarge × (fault ≡ too_large limits.file)))
+    (NeedsMemory limits file)
 
 -- The error that normalising a file in memory can have: one of reading it, or its normal text is
 -- longer than the limit.
 abbrev pub IsNormaliseError : Limits → Form → List ℕ → Error → Type 0
-IsNormaliseError limits form file (Refused fault) =
-    IsOpenError limits file (Refused fault)
-    ⊎ (IsTooLong limits form file × (fault ≡ too_large limits.file))
-IsNormaliseError limits form file error = IsOpenError limits file error
+IsNormaliseError limits form file = IsOpenErrorOrTooLarge limits file (IsTooLong limits form file)
 
 -- What normalising promises as a command.
 abbrev pub normalise_promise : Form → Limits → CommandPromise ℕ Error

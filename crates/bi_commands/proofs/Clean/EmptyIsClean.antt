@@ -92,7 +92,7 @@ one_list_of_nodes limits file one other means also =
 one_unused : (limits : Limits) (file : List ℕ) (one other : LegacyModel) → IsParsedImage limits file one → IsParsedImage limits file other →
     one.unused ≡ other.unused
 one_unused limits file one other means also =
-    let same : other.image ≡ one.image = means.only_meaning other.image also.means in
+    let same : other.image ≡ one.image = means.only other.image also.means in
     let ends : parts_end other.image.image_type other.image.parts ≡ parts_end one.image.image_type one.image.parts = ap (λ (image : LegacyImage). parts_end image.image_type image.parts) same in
     omega (arith, means.unused, also.unused, ends)
 

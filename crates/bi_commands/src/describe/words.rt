@@ -186,7 +186,7 @@ fn put_path<S: Sink>(names: &[&[u8]], sink: &mut S) -> Result<(), Error>
 
 /// Appends the names of a path, each after a slash. Fails as the sink does.
 fn put_steps<S: Sink>(names: &[&[u8]], sink: &mut S) -> Result<(), Error>
-    ensures { Wrote S.appends S.fails sink.old 
+    ensures { Wrote S.appends S.fails sink.old
         (flat_map (λ name. 47 ∷ shown_text name.now) names.now)
         result sink.new }
 {

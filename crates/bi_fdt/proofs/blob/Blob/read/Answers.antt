@@ -4,10 +4,8 @@ use Rattle.bi_base.specs.Errors.{IsRefusal}
 use Rattle.bi_base.proofs.Refusals.{error_passed_on}
 use Rattle.bi_blob.specs.Blob.{tree_blocks}
 use Rattle.bi_blob.specs.BlobFaults.{IsStructureFault}
-use Rattle.bi_blob.proofs.Blobs.OneBlob.{one_blob}
-use Rattle.bi_blob.proofs.Blobs.Faults.{blob_has_no_fault}
 use Rattle.bi_fdt.specs.Reading.{HasTable}
-use Rattle.bi_fdt.proofs.BlobViews.{only_fault, refused_in_tree, is_held, is_blob, is_blob_within}
+use Rattle.bi_fdt.proofs.BlobViews.{only_fault, refused_in_tree, is_held, is_read_blob}
 use Rattle.bi_blob.proofs.Blobs.BeforeTree.{first_fault}
 use Rattle.bi_fdt.proofs.blob.Blob.read.Goals as goal
 
@@ -34,27 +32,11 @@ invariant_of-result c =
     (subst (λ n. HasTable (tree_blocks c.args.file.now) n c.in_ok-entries.entries.items) depth
     (subst (λ b. HasTable b c.from.result c.in_ok-entries.entries.items) c.tree_blocks-blocks.ensures c.in_ok-entries.ensures.ok))
 
-pub returns-clause-accepts : goal.returns-clause-accepts
-returns-clause-accepts c =
+pub returns-clause-read : goal.returns-clause-read
+returns-clause-read c =
     let depth : c.from.result ≡ c.args.limits.depth = search rules in
     let bytes : AreBytes c.args.file.now = record { each = λ i. omega (arith, c.type_inv.file i) } in
-    is_blob_within c.args.limits c.args.file.now c.in_ok-reservation_count.reservation_count c.in_ok-entries.entries.items bytes
+    is_read_blob c.args.limits c.args.file.now c.in_ok-reservation_count.reservation_count c.in_ok-entries.entries.items bytes
     c.in_ok-reservation_count.ensures.header c.in_ok-reservation_count.ensures.reservations
     (subst (λ n. HasTable (tree_blocks c.args.file.now) n c.in_ok-entries.entries.items) depth
     (subst (λ b. HasTable b c.from.result c.in_ok-entries.entries.items) c.tree_blocks-blocks.ensures c.in_ok-entries.ensures.ok))
-
-pub returns-clause-content : goal.returns-clause-content
-returns-clause-content c =
-    let depth : c.from.result ≡ c.args.limits.depth = search rules in
-    let bytes : AreBytes c.args.file.now = record { each = λ i. omega (arith, c.type_inv.file i) } in
-    is_blob c.args.limits c.args.file.now c.in_ok-reservation_count.reservation_count c.in_ok-entries.entries.items bytes
-    c.in_ok-reservation_count.ensures.header c.in_ok-reservation_count.ensures.reservations
-    (subst (λ n. HasTable (tree_blocks c.args.file.now) n c.in_ok-entries.entries.items) depth
-    (subst (λ b. HasTable b c.from.result c.in_ok-entries.entries.items) c.tree_blocks-blocks.ensures c.in_ok-entries.ensures.ok))
-
-pub returns-clause-one_content : goal.returns-clause-one_content
-returns-clause-one_content c = λ cpu reservations root is.
-    one_blob c.args.file.now _ cpu _ reservations _ root (returns-clause-content c) is
-
-pub returns-clause-no_fault : goal.returns-clause-no_fault
-returns-clause-no_fault c = λ fault is. blob_has_no_fault c.args.limits c.args.file.now fault (returns-clause-accepts c) is

@@ -25,7 +25,7 @@ returns-in_default-clause-failed c =
     let none : image_nodes (root_of blob) ≡ None =
     found_images c.root-root.result blob c.child.result c.root-root.ensures c.child.ensures ∙ ap (option_map (λ images. (node_of images).children)) c.in_default.is in
     subst (λ place. IsOnlyFitFault c.args.limits c.args.file.now (record { cause = NoImages; offset = place })) (sym (c.place.ensures ∙ ap (λ (root : Sibling FileNode). root.own.place) c.root-root.ensures))
-    (no_images c.args.limits c.args.file.now blob c.in_ok-blob.ensures.accepts c.in_ok-blob.ensures.content none)
+    (no_images c.args.limits c.args.file.now blob c.in_ok-blob.ensures.read.within c.in_ok-blob.ensures.read.means none)
 
 -- The image nodes of the blob.
 images_found : (c : In-Some) → image_nodes (root_of c.in_ok-blob.blob) ≡ Some (node_of c.in-Some.node).children
@@ -34,13 +34,13 @@ images_found c =
 
 pub read_images-requires-clause-data : goal.read_images-requires-clause-data
 read_images-requires-clause-data c =
-    images_have_data c.args.limits c.args.file.now c.in_ok-blob.blob c.in_ok-blob.ensures.accepts c.in_ok-blob.ensures.content (node_of c.in-Some.node).children
+    images_have_data c.args.limits c.args.file.now c.in_ok-blob.blob c.in_ok-blob.ensures.read.within c.in_ok-blob.ensures.read.means (node_of c.in-Some.node).children
     (images_found (goal.at.read_images-requires-clause-data c).In-Some)
 
 pub returns-in_err-images-clause-failed : goal.returns-in_err-images-clause-failed
 returns-in_err-images-clause-failed c =
     error_passed_on _ _ _ c.from_residual-in_err-images.ensures.1
-    (images_error c.args.limits c.args.file.now c.in_ok-blob.blob c.in_ok-blob.ensures.accepts c.in_ok-blob.ensures.content (node_of c.in-Some.node).children
+    (images_error c.args.limits c.args.file.now c.in_ok-blob.blob c.in_ok-blob.ensures.read.within c.in_ok-blob.ensures.read.means (node_of c.in-Some.node).children
     (images_found (goal.at.returns-in_err-images-clause-failed c).In-Some) c.in_err-images.field-0.0 c.in_err-images.ensures.failed)
 
 pub invariant_of-result : goal.invariant_of-result
@@ -49,14 +49,14 @@ invariant_of-result c =
     let deepest : c.args.limits.depth ≤ 64 = omega arith in
     record {
       held =
-          is_held c.args.limits c.args.file.now c.in_ok-blob.blob c.in_ok-blob.ensures.accepts c.in_ok-blob.ensures.content (node_of c.in-Some.node).children
+          is_held c.args.limits c.args.file.now c.in_ok-blob.blob c.in_ok-blob.ensures.read.within c.in_ok-blob.ensures.read.means (node_of c.in-Some.node).children
           (images_found (goal.at.invariant_of-result c).In-Some) (map image_model c.in_ok-images.images.items) c.in_ok-images.ensures.images
-          c.in_ok-blob.ensures.file.0 c.in_ok-blob.ensures.file.1 most deepest;
+          c.in_ok-blob.ensures.read.is_file c.in_ok-blob.ensures.read.size most deepest;
       indices = subst (λ images. HasIndices c.in_ok-indices.indices (map image_model images)) c.deref.ensures.value c.in_ok-indices.ensures.indices;
     }
 
 pub returns-clause-read : goal.returns-clause-read
 returns-clause-read c =
-    is_read c.args.limits c.args.file.now c.in_ok-blob.blob c.in_ok-blob.ensures.accepts c.in_ok-blob.ensures.content (node_of c.in-Some.node).children
+    is_read c.args.limits c.args.file.now c.in_ok-blob.blob c.in_ok-blob.ensures.read.within c.in_ok-blob.ensures.read.means (node_of c.in-Some.node).children
     (images_found (goal.at.returns-clause-read c).In-Some) (map image_model c.in_ok-images.images.items) c.in_ok-images.ensures.images
-    c.in_ok-blob.ensures.file.0 (invariant_of-result c).held
+    c.in_ok-blob.ensures.read.is_file (invariant_of-result c).held
