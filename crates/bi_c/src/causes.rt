@@ -1,6 +1,6 @@
 //! The names of causes, and the version of the library.
 
-ghost use Rattle.std.specs.Prelude.{◌≡◌, IfSome, MatchOption, codes};
+ghost use Rattle.std.specs.Prelude.{◌≡◌, MatchOption};
 ghost use Rattle.bi_base.specs.declared.fault.Cause.{Cause};
 ghost use Rattle.bi_base.specs.Causes.{number_of};
 ghost use Rattle.bi_c.specs.Answers.{Fills};

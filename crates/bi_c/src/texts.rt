@@ -1,6 +1,5 @@
 //! Texts about a file, and the flattened image tree of a legacy image.
 
-ghost use Rattle.std.specs.Prelude.{IfOk};
 ghost use Rattle.bi_c.specs.Answers.{Fills};
 ghost use Rattle.bi_c.specs.Calls.{IsTextOnly, IsTextWithFlag, IsFailureOfOne};
 ghost use Rattle.bi_commands.specs.Describing.{IsDescription, IsDescribeError};

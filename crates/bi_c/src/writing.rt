@@ -1,12 +1,11 @@
 //! Writing the normal texts of images that were read to a buffer of the caller's.
 
-ghost use Rattle.std.specs.Prelude.{◌≡◌, ◌≤◌, ℕ, List, length};
+ghost use Rattle.std.specs.Prelude.{◌≡◌, ◌≤◌, length};
 ghost use Rattle.bi_blob.specs.Following.{stage_of_events};
 ghost use Rattle.bi_blob.specs.Layout.{longest_text};
 ghost use Rattle.bi_blob.specs.Stages.{AfterRoot};
 ghost use Rattle.bi_lay.specs.Contents.{text_of};
 ghost use Rattle.bi_fit.specs.NormalNodes.{AreWithin, payloads_of};
-ghost use Rattle.bi_legacy.specs.Meaning.{with_new_time};
 ghost use Rattle.bi_legacy.specs.Reading.{IsParsedImage};
 ghost use Rattle.bi_legacy.specs.Text.{legacy_text};
 ghost use Rattle.bi_norm.specs.Texts.{whole_text};

@@ -1,6 +1,6 @@
 //! Building a flattened image tree of payloads that are given or are in an input.
 
-ghost use Rattle.std.specs.Prelude.{◌≡◌, length, IfOk, IfErr};
+ghost use Rattle.std.specs.Prelude.{◌≡◌, length, IfOk};
 ghost use Rattle.bi_base.specs.declared.fault.Error.TheVariants.{OutOfMemory};
 ghost use Rattle.bi_base.specs.Pipes.{IsPiped};
 ghost use Rattle.bi_base.specs.Slices.{bytes_of};
@@ -11,7 +11,7 @@ ghost use Rattle.bi_commands.specs.Parts.{parts_of_lengths};
 use crate::parts::{Part, fill, pieces};
 use bi_base::{Command, Error, Limits, Sink, pipe_to};
 use bi_norm::{Form, Head, ImageSpec, build_fit_into};
-use std::alloc::Global;
+use std::alloc::{AllocError, Global};
 use std::io::{Read, Write};
 
 /// Building a flattened image tree, as a command: `build_fit_into` with these images. The payloads
@@ -98,11 +98,10 @@ fn with_payloads<'a>(
     alloc: Global,
     images: &[ImageSpec<'a>],
     payloads: &[&'a [u8]],
-) -> Result<Vec<ImageSpec<'a>>, Error>
+) -> Result<Vec<ImageSpec<'a>>, AllocError>
     requires { length payloads.now ≡ length images.now }
     ensures have { IfOk result (λ complete. HavePayloads images.now (bytes_of payloads.now)
         complete.items) }
-    ensures failed { IfErr result (λ error. error ≡ OutOfMemory) }
 {
     let mut complete = Vec::with_capacity(alloc, images.len())?;
     for (image, payload) in images.iter().zip(payloads) {

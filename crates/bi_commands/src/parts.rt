@@ -3,14 +3,13 @@
 ghost use Rattle.std.specs.Prelude.{◌≡◌, ◌≤◌, length, map, IfOk, IfErr, OnOk};
 ghost use Rattle.std.specs.List.{AllByRecursion, sum};
 ghost use Rattle.bi_base.specs.Cells.{AreBytes};
-ghost use Rattle.bi_base.specs.declared.fault.Error.TheVariants.{OutOfMemory};
 ghost use Rattle.bi_base.specs.Slices.{bytes_of};
 ghost use Rattle.bi_norm.specs.Cutting.{IsCutError, IsCutFault};
 ghost use Rattle.bi_commands.specs.Parts.{IsFilled, content_of, input_length_of, lengths_of};
 ghost use Rattle.bi_commands.specs.Parts.{parts_of_lengths};
 
 use bi_base::{Cause, Error, Fault, are_bytes, refuse};
-use std::alloc::Global;
+use std::alloc::{AllocError, Global};
 
 /// A part of a legacy image, or the payload of an image of a flattened image tree.
 #[derive(Clone, Copy, Debug, PartialEq, Eq)]
@@ -21,10 +20,10 @@ pub enum Part<'a> {
     Length(u32),
 }
 
-/// Returns the parts that are pieces of an input, of these lengths. Fails with OutOfMemory.
-pub(crate) fn pieces<'a>(alloc: Global, lengths: &[u32]) -> Result<Vec<Part<'a>>, Error>
+/// Returns the parts that are pieces of an input, of these lengths. It fails if memory
+/// runs out.
+pub(crate) fn pieces<'a>(alloc: Global, lengths: &[u32]) -> Result<Vec<Part<'a>>, AllocError>
     ensures parts { IfOk result (λ parts. parts.items ≡ parts_of_lengths lengths.now) }
-    ensures failed { IfErr result (λ error. error ≡ OutOfMemory) }
 {
     let mut parts = Vec::with_capacity(alloc, lengths.len())?;
     for length in lengths {

@@ -10,7 +10,7 @@ ghost use Rattle.bi_commands.specs.Unshown.{IsNameShownAs, IsShownOfNoBytes, IsN
 
 use crate::shown::is_plain;
 use bi_base::{Error, are_bytes};
-use std::alloc::Global;
+use std::alloc::{AllocError, Global};
 
 /// Returns the name that `shown_name` prints as this text. It is the only one. None exactly if no
 /// bytes are printed so, as for the empty text, for `%41`, which would be `A`, and for `%2d`,
@@ -40,12 +40,11 @@ pub fn name_shown_as(alloc: Global, text: &[u8]) -> Result<Option<Vec<u8>>, Erro
 }
 
 /// Returns the bytes that are printed as this text one by one. None exactly if there are none.
-/// Fails only with OutOfMemory.
-fn bytes_shown_as(alloc: Global, text: &[u8]) -> Result<Option<Vec<u8>>, Error>
+/// It fails if memory runs out.
+fn bytes_shown_as(alloc: Global, text: &[u8]) -> Result<Option<Vec<u8>>, AllocError>
     ensures some { IfOk result (λ found. IfSome found (λ name.
         flat_map shown_byte name.items ≡ text.now)) }
     ensures none { IfOk result (λ found. IfNone found (IsNoShownBytes text.now)) }
-    ensures failed { IfErr result (λ error. error ≡ OutOfMemory) }
 {
     let mut name = Vec::new(alloc);
     let mut rest = text;

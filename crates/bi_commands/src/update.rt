@@ -4,7 +4,6 @@ ghost use Rattle.std.specs.Prelude.{⊤, ℕ, List, IfOk, IfErr};
 ghost use Rattle.bi_base.specs.Commands.{Appended, AppendFailed};
 ghost use Rattle.bi_base.specs.Pipes.{IsPiped};
 ghost use Rattle.bi_fit.specs.Content.{tree_of};
-ghost use Rattle.bi_fit.specs.NewDigests.{new_digests as new_digests_of};
 ghost use Rattle.bi_fit.specs.Reading.{IsReadFrom};
 ghost use Rattle.bi_legacy.specs.Reading.{IsParsedImage};
 ghost use Rattle.bi_commands.specs.UpdatedFiles.{IsUpdated, Updated, IsUpdateError};

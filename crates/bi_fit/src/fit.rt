@@ -11,7 +11,7 @@ use crate::image::{Image, Place};
 use crate::images::read_images;
 use bi_base::{Cause, Error, Fault, Limits};
 use bi_fdt::Blob;
-use std::alloc::Global;
+use std::alloc::{AllocError, Global};
 use std::collections::BTreeMap;
 use std::marker::Model;
 
@@ -137,9 +137,8 @@ impl<'a> Fit<'a> {
 fn index_by_name<'a>(
     alloc: Global,
     images: &[Image<'a>],
-) -> Result<BTreeMap<&'a [u8], usize>, Error>
+) -> Result<BTreeMap<&'a [u8], usize>, AllocError>
     ensures indices { IfOk result (λ indices. HasIndices indices (map image_model images.now)) }
-    ensures failed { IfErr result (λ error. error ≡ OutOfMemory) }
 {
     let mut indices = BTreeMap::new(alloc);
     // The first image of a name is inserted last, so its index stays.

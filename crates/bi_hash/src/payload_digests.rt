@@ -1,9 +1,8 @@
 //! The digests of one payload.
 #![tactic(auto, unfolding(bi_base::specs::Strings::text_before_nul))]
 
-ghost use Rattle.std.specs.Prelude.{◌≡◌, ◌<◌, ◌≤◌, ◌++◌, Option, Some, IfSome, OnOk, OnErr};
+ghost use Rattle.std.specs.Prelude.{◌≡◌, ◌<◌, ◌++◌, Option, Some, OnOk, OnErr};
 ghost use Rattle.std.specs.Option.{option_copied};
-ghost use Rattle.bi_hash.specs.Algos.{algorithm_index};
 ghost use Rattle.bi_hash.specs.Digests.{digest_or_nothing};
 ghost use Rattle.bi_hash.specs.Verdicts.{verdict_of};
 ghost use Rattle.bi_hash.specs.KeptDigests.{IsDigest};

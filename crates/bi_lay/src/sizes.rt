@@ -1,6 +1,6 @@
 //! The sizes of the blocks of a text.
 
-ghost use Rattle.std.specs.Prelude.{◌≡◌, ◌+◌, ◌-◌, ◌*◌, ◌<◌, ◌≤◌, ◌^◌, min, length, MatchOption};
+ghost use Rattle.std.specs.Prelude.{◌≡◌, ◌+◌, ◌-◌, ◌*◌, ◌<◌, ◌≤◌, length, MatchOption};
 ghost use Rattle.bi_base.specs.Cells.{up4 as up4_of};
 ghost use Rattle.bi_blob.specs.Layout.{length_before_padding, longest_text};
 ghost use Rattle.bi_lay.specs.Items.{structure_of_items};

@@ -1,7 +1,7 @@
 //! Writing a text: its header, reservation block, structure block and strings block (Devicetree
 //! Specification, chapter 5).
 
-ghost use Rattle.std.specs.Prelude.{◌≡◌, ◌++◌, ◌∷◌, [], length};
+ghost use Rattle.std.specs.Prelude.{◌≡◌, ◌++◌, length};
 ghost use Rattle.bi_base.specs.Cells.{cell8};
 ghost use Rattle.bi_base.specs.Sinks.{Wrote};
 ghost use Rattle.bi_blob.specs.Blob.{reservation_block};

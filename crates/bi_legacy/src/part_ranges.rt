@@ -1,6 +1,7 @@
 //! Where the parts of an image are in its data, by their sizes.
 
 ghost use Rattle.std.specs.Prelude.{◌≡◌, ◌+◌, ◌*◌, ◌^◌, ◌<◌, ◌≤◌, List, ◌∷◌, length, drop};
+ghost use Rattle.std.specs.Prelude.{if◌then◌else◌};
 ghost use Rattle.std.specs.Iterator.{YieldsFirst, at_most};
 ghost use Rattle.bi_legacy.specs.PartRanges.{IsRangesState, part_sizes, first_part_offset};
 ghost use Rattle.bi_legacy.specs.PartRanges.{part_ranges};

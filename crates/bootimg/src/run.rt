@@ -1,6 +1,6 @@
 //! The program, over any files and any three streams.
 
-ghost use Rattle.std.specs.Prelude.{◌≡◌, List, None, Option};
+ghost use Rattle.std.specs.Prelude.{List, None, Option};
 ghost use Rattle.bi_base.specs.Traces.{ReadTrace};
 ghost use Rattle.bootimg.specs.Files.{FileStep, SavesNothing, no_files};
 ghost use Rattle.bootimg.specs.Runs.{IsPlainRun, IsRun, IsTextRun};

@@ -1,6 +1,6 @@
 //! The concerns about the configurations of a flattened image tree.
 
-ghost use Rattle.std.specs.Prelude.{◌≡◌, ◌++◌, OnOk, flat_map, string_bytes};
+ghost use Rattle.std.specs.Prelude.{◌≡◌, ◌++◌, OnOk, string_bytes};
 ghost use Rattle.std.specs.Option.{option_map};
 ghost use Rattle.bi_blob.specs.Tree.{names};
 ghost use Rattle.bi_fit.specs.Content.{tree_of};

@@ -1,8 +1,7 @@
 //! The entries of image nodes, and of the tree that has them.
 
-ghost use Rattle.std.specs.Prelude.{◌≡◌, ◌∷◌, ◌++◌, [], map, true, OnOk, IfOk, IfErr};
+ghost use Rattle.std.specs.Prelude.{◌≡◌, ◌∷◌, ◌++◌, [], map, true, OnOk, IfOk};
 ghost use Rattle.std.specs.Option.{option_map};
-ghost use Rattle.bi_base.specs.declared.fault.Error.TheVariants.{OutOfMemory};
 ghost use Rattle.bi_fdt.specs.Views.{node_of};
 ghost use Rattle.bi_fit.specs.NormalNodes.{payloads_of, properties_by_name};
 ghost use Rattle.bi_fit.specs.Content.{tree_of};
@@ -14,17 +13,15 @@ use super::digests::digest_of;
 use super::entries::Entry;
 use super::nodes::{add_children, add_node, begin_node};
 use super::properties::{add_properties, properties_of, remove_payload};
-use bi_base::Error;
 use bi_fdt::NodeRef;
 use bi_fit::{Fit, Image};
-use std::alloc::Global;
+use std::alloc::{AllocError, Global};
 
 /// Returns the entries of a flattened image tree: those of the properties of the root, and those of
 /// all nodes below it.
-pub(super) fn entries_of<'a>(alloc: Global, fit: &Fit<'a>) -> Result<Vec<Entry<'a>>, Error>
+pub(super) fn entries_of<'a>(alloc: Global, fit: &Fit<'a>) -> Result<Vec<Entry<'a>>, AllocError>
     ensures entries { IfOk result (λ entries. map as_entry entries.items
         ≡ tree_entries (tree_of fit.now)) }
-    ensures failed { IfErr result (λ error. error ≡ OutOfMemory) }
 {
     let mut entries = Vec::new(alloc);
     let root = fit.blob().root();
@@ -40,11 +37,10 @@ fn add_root_children<'a>(
     entries: &mut Vec<Entry<'a>>,
     root: NodeRef<'a, '_>,
     images: &[Image<'a>],
-) -> Result<(), Error>
+) -> Result<(), AllocError>
     ensures added { OnOk result (map as_entry entries.new.items ≡ map as_entry entries.old.items
         ++ root_children_entries true (node_of root.entry).children
         (payloads_of images.entry.now)) }
-    ensures failed { IfErr result (λ error. error ≡ OutOfMemory) }
 {
     let mut next = root.first_child();
     let mut is_first = true;
@@ -69,12 +65,11 @@ fn add_images<'a>(
     node: NodeRef<'a, '_>,
     images: &[Image<'a>],
     is_first: bool,
-) -> Result<(), Error>
+) -> Result<(), AllocError>
     ensures added { OnOk result (map as_entry entries.new.items ≡ map as_entry entries.old.items
         ++ (begin_entries (node_of node.entry).name (properties_by_name (node_of node.entry).own)
         ++ (images_entries is_first (node_of node.entry).children (payloads_of images.entry.now)
         ++ NodeEnds ∷ []))) }
-    ensures failed { IfErr result (λ error. error ≡ OutOfMemory) }
 {
     begin_node(alloc, entries, node)?;
     add_image_nodes(alloc, entries, node, images, is_first)?;
@@ -90,11 +85,10 @@ fn add_image_nodes<'a>(
     node: NodeRef<'a, '_>,
     images: &[Image<'a>],
     is_first: bool,
-) -> Result<(), Error>
+) -> Result<(), AllocError>
     ensures added { OnOk result (map as_entry entries.new.items ≡ map as_entry entries.old.items
         ++ images_entries is_first (node_of node.entry).children
         (payloads_of images.entry.now)) }
-    ensures failed { IfErr result (λ error. error ≡ OutOfMemory) }
 {
     let mut next = node.first_child();
     for image in images {
@@ -114,11 +108,10 @@ fn add_image<'a>(
     node: NodeRef<'a, '_>,
     payload: Option<&'a [u8]>,
     is_first: bool,
-) -> Result<(), Error>
+) -> Result<(), AllocError>
     ensures added { OnOk result (map as_entry entries.new.items ≡ map as_entry entries.old.items
         ++ image_entries is_first (node_of node.entry)
         (option_map (λ payload. payload.now) payload.entry)) }
-    ensures failed { IfErr result (λ error. error ≡ OutOfMemory) }
 {
     entries.push(Entry::Begin(node.name()))?;
     entries.push(Entry::Payload(payload.map(|payload| digest_of(payload))))?;

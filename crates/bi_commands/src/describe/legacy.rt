@@ -6,7 +6,6 @@ ghost use Rattle.std.specs.Fmt.{decimal};
 ghost use Rattle.std.specs.Option.{option_map};
 ghost use Rattle.bi_base.specs.Commands.{Appended, AppendFailed};
 ghost use Rattle.bi_base.specs.Sinks.{Wrote};
-ghost use Rattle.bi_base.specs.declared.fault.Error.TheVariants.{OutOfMemory};
 ghost use Rattle.bi_legacy.specs.Meaning.{image_of};
 ghost use Rattle.bi_norm.specs.Meaning.{OfLegacy};
 ghost use Rattle.bi_commands.specs.Describing.{IsImageError};
@@ -24,7 +23,7 @@ use super::words::{Word, put_line, put_lines};
 use bi_base::{Error, Limits, Sink};
 use bi_legacy::codes::{arch_name, compression_name, os_name, type_name};
 use bi_legacy::{Fields, Legacy};
-use std::alloc::Global;
+use std::alloc::{AllocError, Global};
 
 /// Appends the description of a legacy image that was read.
 pub(super) fn describe_legacy<S: Sink>(
@@ -47,10 +46,9 @@ pub(super) fn describe_legacy<S: Sink>(
 }
 
 /// Returns the digest of each part.
-fn digests_of(alloc: Global, image: &Legacy) -> Result<Vec<PayloadDigest>, Error>
+fn digests_of(alloc: Global, image: &Legacy) -> Result<Vec<PayloadDigest>, AllocError>
     ensures digests { IfOk result (λ digests. map digest_made digests.items
         ≡ map digest_of_payload image.now.image.parts) }
-    ensures failed { IfErr result (λ error. error ≡ OutOfMemory) }
 {
     let mut digests = Vec::new(alloc);
     for part in image.parts() {

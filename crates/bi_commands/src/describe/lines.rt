@@ -1,6 +1,6 @@
 //! The lines of a description, appended to a sink.
 
-ghost use Rattle.std.specs.Prelude.{◌≡◌, ◌≤◌, ◌<◌, ◌+◌, ◌^◌, ◌∷◌, ◌++◌, [], codes};
+ghost use Rattle.std.specs.Prelude.{◌≡◌, ◌≤◌, ◌<◌, ◌+◌, ◌^◌, ◌∷◌, [], codes};
 ghost use Rattle.std.specs.Prelude.{flat_map, length, map, max, take};
 ghost use Rattle.std.specs.Option.{option_map};
 ghost use Rattle.bi_base.specs.Sinks.{Wrote};

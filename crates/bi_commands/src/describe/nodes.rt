@@ -1,7 +1,6 @@
 //! The entries of nodes.
 
-ghost use Rattle.std.specs.Prelude.{◌≡◌, ◌++◌, map, OnOk, IfErr};
-ghost use Rattle.bi_base.specs.declared.fault.Error.TheVariants.{OutOfMemory};
+ghost use Rattle.std.specs.Prelude.{◌≡◌, ◌++◌, map, OnOk};
 ghost use Rattle.bi_fdt.specs.Views.{node_of};
 ghost use Rattle.bi_fit.specs.NormalNodes.{alone, properties_by_name};
 ghost use Rattle.bi_commands.specs.MadeEntries.{begin_entries, plain_entries};
@@ -9,9 +8,8 @@ ghost use Rattle.bi_commands.specs.TreeEntries.{as_entry};
 
 use super::entries::Entry;
 use super::properties::{add_properties, properties_of};
-use bi_base::Error;
 use bi_fdt::NodeRef;
-use std::alloc::Global;
+use std::alloc::{AllocError, Global};
 
 /// Appends the entries of a node, and of all nodes below it.
 #[cycle(nodes)]
@@ -19,10 +17,9 @@ pub(super) fn add_node<'a>(
     alloc: Global,
     entries: &mut Vec<Entry<'a>>,
     node: NodeRef<'a, '_>,
-) -> Result<(), Error>
+) -> Result<(), AllocError>
     ensures added { OnOk result (map as_entry entries.new.items ≡ map as_entry entries.old.items
         ++ plain_entries (alone (node_of node.entry))) }
-    ensures failed { IfErr result (λ error. error ≡ OutOfMemory) }
 {
     begin_node(alloc, entries, node)?;
     add_children(alloc, entries, node)?;
@@ -36,10 +33,9 @@ pub(super) fn add_children<'a>(
     alloc: Global,
     entries: &mut Vec<Entry<'a>>,
     node: NodeRef<'a, '_>,
-) -> Result<(), Error>
+) -> Result<(), AllocError>
     ensures added { OnOk result (map as_entry entries.new.items ≡ map as_entry entries.old.items
         ++ plain_entries (node_of node.entry).children) }
-    ensures failed { IfErr result (λ error. error ≡ OutOfMemory) }
 {
     let mut next = node.first_child();
     while let Some(child) = next {
@@ -54,11 +50,10 @@ pub(super) fn begin_node<'a>(
     alloc: Global,
     entries: &mut Vec<Entry<'a>>,
     node: NodeRef<'a, '_>,
-) -> Result<(), Error>
+) -> Result<(), AllocError>
     ensures added { OnOk result (map as_entry entries.new.items ≡ map as_entry entries.old.items
         ++ begin_entries (node_of node.entry).name
         (properties_by_name (node_of node.entry).own)) }
-    ensures failed { IfErr result (λ error. error ≡ OutOfMemory) }
 {
     entries.push(Entry::Begin(node.name()))?;
     let properties = properties_of(alloc, node)?;

@@ -1,8 +1,7 @@
 //! The properties of nodes in a description.
 
-ghost use Rattle.std.specs.Prelude.{◌≡◌, ◌++◌, map, OnOk, IfOk, IfErr};
+ghost use Rattle.std.specs.Prelude.{◌≡◌, ◌++◌, map, OnOk, IfOk};
 ghost use Rattle.std.specs.FinMap.{entries as entries_of};
-ghost use Rattle.bi_base.specs.declared.fault.Error.TheVariants.{OutOfMemory};
 ghost use Rattle.bi_fdt.specs.Views.{node_of};
 ghost use Rattle.bi_fit.specs.NormalNodes.{properties_by_name};
 ghost use Rattle.bi_fit.specs.ImageTree.{without_payload};
@@ -11,20 +10,21 @@ ghost use Rattle.bi_commands.specs.SortedProperties.{IsSorted, by_name};
 ghost use Rattle.bi_commands.specs.TreeEntries.{PropertyEntry, as_entry};
 
 use super::entries::Entry;
-use bi_base::Error;
 use bi_fdt::NodeRef;
-use std::alloc::Global;
+use std::alloc::{AllocError, Global};
 use std::collections::BTreeMap;
 
 /// The properties of a node by name, in byte order of the names.
 pub(super) type ByName<'a> = BTreeMap<&'a [u8], &'a [u8]>;
 
 /// Returns the properties of a node. The first of several with one name counts.
-pub(super) fn properties_of<'a>(alloc: Global, node: NodeRef<'a, '_>) -> Result<ByName<'a>, Error>
+pub(super) fn properties_of<'a>(
+    alloc: Global,
+    node: NodeRef<'a, '_>,
+) -> Result<ByName<'a>, AllocError>
     ensures all { IfOk result (λ properties. by_name properties.entries
         ≡ properties_by_name (node_of node.entry).own) }
     ensures ordered { IfOk result (λ properties. IsSorted properties.entries) }
-    ensures failed { IfErr result (λ error. error ≡ OutOfMemory) }
 {
     let mut properties = BTreeMap::new(alloc);
     // The first property of a name is inserted last, so its value stays.
@@ -40,11 +40,10 @@ pub(super) fn properties_of<'a>(alloc: Global, node: NodeRef<'a, '_>) -> Result<
 pub(super) fn add_properties<'a>(
     entries: &mut Vec<Entry<'a>>,
     properties: &ByName<'a>,
-) -> Result<(), Error>
+) -> Result<(), AllocError>
     requires { IsSorted properties.now.entries }
     ensures added { OnOk result (map as_entry entries.new.items ≡ map as_entry entries.old.items
         ++ map PropertyEntry (entries_of (by_name properties.entry.now.entries))) }
-    ensures failed { IfErr result (λ error. error ≡ OutOfMemory) }
 {
     for (name, value) in properties {
         entries.push(Entry::Property { name, value })?;

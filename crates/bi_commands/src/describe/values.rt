@@ -1,6 +1,6 @@
 //! The values of properties in a description.
 
-ghost use Rattle.std.specs.Prelude.{◌≡◌, ◌∷◌, ◌++◌, [], codes, false, flat_map};
+ghost use Rattle.std.specs.Prelude.{◌≡◌, ◌++◌, [], codes, false, flat_map};
 ghost use Rattle.std.specs.List.{join_with_byte};
 ghost use Rattle.bi_base.specs.Sinks.{Wrote};
 ghost use Rattle.bi_commands.specs.DescribedValues.{end_texts, quoted_byte};

@@ -1,6 +1,6 @@
 //! Lines, appended to a sink word by word.
 
-ghost use Rattle.std.specs.Prelude.{◌≡◌, ◌<◌, ◌≤◌, ◌∷◌, ◌++◌, flat_map, length, map, true};
+ghost use Rattle.std.specs.Prelude.{◌≡◌, ◌<◌, ◌≤◌, ◌∷◌, flat_map, length, map, true};
 ghost use Rattle.std.specs.Fmt.{decimal, digit_glyph};
 ghost use Rattle.std.specs.List.{join_with_byte};
 ghost use Rattle.bi_base.specs.Cells.{cell, cell8};

@@ -1,7 +1,7 @@
 //! The lines of the configurations of a flattened image tree. What a configuration lists is read
 //! from its node, so that no list is made in memory.
 
-ghost use Rattle.std.specs.Prelude.{◌≡◌, ◌∷◌, codes, flat_map, map};
+ghost use Rattle.std.specs.Prelude.{◌∷◌, codes, flat_map, map};
 ghost use Rattle.bi_base.specs.Sinks.{Wrote};
 ghost use Rattle.bi_blob.specs.Lookups.{siblings};
 ghost use Rattle.bi_fdt.specs.Views.{node_of};

@@ -1,6 +1,6 @@
 //! Adding the image nodes to a document.
 
-ghost use Rattle.std.specs.Prelude.{◌≡◌, length, OnOk, IfOk, IfErr};
+ghost use Rattle.std.specs.Prelude.{◌≡◌, OnOk, IfOk, IfErr};
 ghost use Rattle.std.specs.Option.{option_map};
 ghost use Rattle.bi_base.specs.declared.fault.Error.TheVariants.{OutOfMemory};
 ghost use Rattle.bi_blob.specs.Tree.{EachOwn};
@@ -24,7 +24,7 @@ use crate::new_digests::hash_algo;
 use bi_base::{Error, up4};
 use bi_fdt::NodeRef;
 use bi_lay::Doc;
-use std::alloc::Global;
+use std::alloc::{AllocError, Global};
 
 /// Adds a node with all nodes below it, as a child of the innermost open node. Its children are the
 /// nodes of these images.
@@ -108,13 +108,12 @@ fn image_properties<'a>(
     form: Form,
     begin: u32,
     payload: Option<&'a [u8]>,
-) -> Result<PropertyMap<'a>, Error>
+) -> Result<PropertyMap<'a>, AllocError>
     requires sized { HasCellSize form (option_map (λ payload. payload.now) payload) }
     requires distinct { HasDistinctNames (node_of node).own }
     ensures all { let given = option_map (λ payload. payload.now) payload.entry in
         IfOk result (λ properties. properties
         ≡ image_properties_of form begin given (node_of node.entry).own) }
-    ensures failed { IfErr result (λ error. error ≡ OutOfMemory) }
 {
     let mut properties = PropertyMap::from_node(alloc, node)?;
     properties.set_payload(form, begin, payload)?;

@@ -20,7 +20,7 @@ use bi_base::Error;
 use bi_fdt::NodeRef;
 use bi_hash::Algo;
 use bi_lay::{Doc, Value};
-use std::alloc::Global;
+use std::alloc::{AllocError, Global};
 use std::collections::BTreeMap;
 use std::marker::Model;
 
@@ -57,11 +57,13 @@ impl<'a> PropertyMap<'a> {
     }
 
     /// The properties of a node.
-    pub(super) fn from_node(alloc: Global, node: NodeRef<'a, '_>) -> Result<PropertyMap<'a>, Error>
+    pub(super) fn from_node(
+        alloc: Global,
+        node: NodeRef<'a, '_>,
+    ) -> Result<PropertyMap<'a>, AllocError>
         requires { HasDistinctNames (node_of node).own }
         ensures all { IfOk result (λ properties. properties
             ≡ properties_by_name (node_of node.entry).own) }
-        ensures failed { IfErr result (λ error. error ≡ OutOfMemory) }
     {
         let mut properties = PropertyMap::new(alloc);
         for property in node.properties() {
@@ -73,11 +75,10 @@ impl<'a> PropertyMap<'a> {
     /// Adds a property, or gives the property of this name another value. Takes time log n in the
     /// number n of properties.
     ///
-    /// The only error is `OutOfMemory`. It is not specified which properties the map has then.
-    pub fn insert(&mut self, name: &'a [u8], value: Value<'a>) -> Result<(), Error>
+    /// It fails if memory runs out. It is not specified which properties the map has then.
+    pub fn insert(&mut self, name: &'a [u8], value: Value<'a>) -> Result<(), AllocError>
         ensures inserted { OnOk result (self.new ≡ insert self.old name.entry.now
             (value_bytes value.entry)) }
-        ensures failed { IfErr result (λ error. error ≡ OutOfMemory) }
     {
         self.values.insert(name, value)?;
         Ok(())
@@ -89,17 +90,16 @@ impl<'a> PropertyMap<'a> {
     /// `data-offset`, which is `begin`, and `data-size`; the payload has fewer than 2^32 bytes.
     /// `begin` is the offset of an external payload in bytes from the end of the blob.
     ///
-    /// The only error is `OutOfMemory`. It is not specified which properties the map has then.
+    /// It fails if memory runs out. It is not specified which properties the map has then.
     pub fn set_payload(
         &mut self,
         form: Form,
         begin: u32,
         payload: Option<&'a [u8]>,
-    ) -> Result<(), Error>
+    ) -> Result<(), AllocError>
         requires { HasCellSize form (option_map (λ payload. payload.now) payload) }
         ensures set { let given = option_map (λ payload. payload.now) payload.entry in
             OnOk result (self.new ≡ with_payload form begin given (without_payload self.old)) }
-        ensures failed { IfErr result (λ error. error ≡ OutOfMemory) }
     {
         self.remove_payload();
         let Some(payload) = payload else {
@@ -117,10 +117,9 @@ impl<'a> PropertyMap<'a> {
     /// Gives a root this time of creation, if there is one: the property `timestamp` has it as its
     /// value.
     ///
-    /// The only error is `OutOfMemory`. It is not specified which properties the map has then.
-    pub(super) fn set_time(&mut self, time: Option<u32>) -> Result<(), Error>
+    /// It fails if memory runs out. It is not specified which properties the map has then.
+    pub(super) fn set_time(&mut self, time: Option<u32>) -> Result<(), AllocError>
         ensures set { OnOk result (self.new ≡ with_time time self.old) }
-        ensures failed { IfErr result (λ error. error ≡ OutOfMemory) }
     {
         if let Some(time) = time {
             self.insert(b"timestamp", Value::Cell(time))?;
@@ -131,16 +130,15 @@ impl<'a> PropertyMap<'a> {
     /// Gives a hash node the first of these digests as its value, if there is an algorithm. Returns
     /// the bytes after it.
     ///
-    /// The only error is `OutOfMemory`. It is not specified which properties the map has then.
+    /// It fails if memory runs out. It is not specified which properties the map has then.
     pub(super) fn set_digest(
         &mut self,
         algo: Option<Algo>,
         digests: &'a [u8],
-    ) -> Result<&'a [u8], Error>
+    ) -> Result<&'a [u8], AllocError>
         requires { HasDigest algo digests.now }
         ensures set { OnOk result (self.new ≡ with_first_digest algo digests.entry.now self.old) }
         ensures left { IfOk result (λ left. left.now ≡ after_digest algo digests.entry.now) }
-        ensures failed { IfErr result (λ error. error ≡ OutOfMemory) }
     {
         let Some(algo) = algo else {
             return Ok(digests);

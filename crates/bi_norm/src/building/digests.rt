@@ -1,23 +1,20 @@
 //! The digests of the payloads of images to be built.
 
-ghost use Rattle.std.specs.Prelude.{◌≡◌, map, IfOk, IfErr};
-ghost use Rattle.bi_base.specs.declared.fault.Error.TheVariants.{OutOfMemory};
+ghost use Rattle.std.specs.Prelude.{◌≡◌, map, IfOk};
 ghost use Rattle.bi_hash.specs.declared.algo.Algo.TheVariants.{Sha256};
 ghost use Rattle.bi_hash.specs.Digests.{digest_of};
 
 use crate::building::ImageSpec;
-use bi_base::Error;
 use bi_hash::Algo;
-use std::alloc::Global;
+use std::alloc::{AllocError, Global};
 
 /// Returns the SHA-256 of the payload of each image, in their order.
 pub(super) fn digest_payloads(
     alloc: Global,
     images: &[ImageSpec<'_>],
-) -> Result<Vec<[u8; 32]>, Error>
+) -> Result<Vec<[u8; 32]>, AllocError>
     ensures digests { IfOk result (λ digests. digests.items
         ≡ map (λ image. digest_of Sha256 image.payload.now) images.now) }
-    ensures failed { IfErr result (λ error. error ≡ OutOfMemory) }
 {
     let mut digests = Vec::with_capacity(alloc, images.len())?;
     for image in images {

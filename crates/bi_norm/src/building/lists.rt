@@ -1,7 +1,6 @@
 //! The lists of the configuration of a tree to be built.
 
-ghost use Rattle.std.specs.Prelude.{◌≡◌, IfOk, IfErr};
-ghost use Rattle.bi_base.specs.declared.fault.Error.TheVariants.{OutOfMemory};
+ghost use Rattle.std.specs.Prelude.{◌≡◌, IfOk};
 ghost use Rattle.bi_blob.specs.Layout.{strings_of};
 ghost use Rattle.bi_fit.specs.Building.{names_under};
 ghost use Rattle.bi_norm.specs.BuildCalls.{first_key, spec_models};
@@ -9,9 +8,8 @@ ghost use Rattle.bi_norm.specs.BuiltNodes.{AreKeyLists};
 ghost use Rattle.bi_norm.specs.Converting.{keys_of_type};
 
 use crate::building::ImageSpec;
-use bi_base::Error;
 use bi_fit::Key;
-use std::alloc::Global;
+use std::alloc::{AllocError, Global};
 
 /// The names of images to be built that each key of the configuration lists, each followed by a
 /// zero.
@@ -27,9 +25,8 @@ pub(super) struct KeyLists {
 
 impl KeyLists {
     /// Lists the names of images by their types.
-    pub(super) fn new(alloc: Global, images: &[ImageSpec<'_>]) -> Result<KeyLists, Error>
+    pub(super) fn new(alloc: Global, images: &[ImageSpec<'_>]) -> Result<KeyLists, AllocError>
         ensures lists { IfOk result (λ lists. AreKeyLists (spec_models images.now) lists) }
-        ensures failed { IfErr result (λ error. error ≡ OutOfMemory) }
     {
         Ok(KeyLists {
             kernel: list_names(alloc, images, Key::Kernel)?,
@@ -43,10 +40,9 @@ impl KeyLists {
 }
 
 /// Returns the names of the images that a key lists, in their order, each followed by a zero.
-fn list_names(alloc: Global, images: &[ImageSpec<'_>], key: Key) -> Result<Vec<u8>, Error>
+fn list_names(alloc: Global, images: &[ImageSpec<'_>], key: Key) -> Result<Vec<u8>, AllocError>
     ensures names { IfOk result (λ names. names.items
         ≡ strings_of (names_under key (spec_models images.now))) }
-    ensures failed { IfErr result (λ error. error ≡ OutOfMemory) }
 {
     let mut names = Vec::new(alloc);
     for image in images {

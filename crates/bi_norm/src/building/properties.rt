@@ -1,9 +1,7 @@
 //! The properties of the nodes of a tree to be built.
 
 ghost use Rattle.std.specs.Prelude.{◌≡◌, ◌++◌, ◌∷◌, [], ℕ, List, option_map, unwrap_or, OnOk, IfOk};
-ghost use Rattle.std.specs.Prelude.{IfErr};
 ghost use Rattle.std.specs.FinMap.{from_entries};
-ghost use Rattle.bi_base.specs.declared.fault.Error.TheVariants.{OutOfMemory};
 ghost use Rattle.bi_blob.specs.Layout.{strings_of};
 ghost use Rattle.bi_blob.specs.Tree.{Property};
 ghost use Rattle.bi_hash.specs.declared.algo.Algo.TheVariants.{Sha256};
@@ -21,21 +19,22 @@ ghost use Rattle.bi_norm.specs.BuiltNodes.{AreKeyLists, with_cell_property};
 
 use crate::building::lists::KeyLists;
 use crate::building::{Head, ImageSpec};
-use bi_base::Error;
 use bi_fit::{Key, PropertyMap};
 use bi_hash::Algo;
 use bi_lay::Value;
 use bi_legacy::codes::{arch_name, compression_name, os_name, type_name};
-use std::alloc::Global;
+use std::alloc::{AllocError, Global};
 
 /// The name of the one configuration.
 pub(super) const CONFIGURATION_NAME: &[u8] = b"conf-1";
 
 /// Returns the properties of the root.
-pub(super) fn root_properties<'a>(alloc: Global, head: Head<'a>) -> Result<PropertyMap<'a>, Error>
+pub(super) fn root_properties<'a>(
+    alloc: Global,
+    head: Head<'a>,
+) -> Result<PropertyMap<'a>, AllocError>
     ensures all { IfOk result (λ properties. properties
         ≡ from_entries (root_properties_of (head_model head.entry))) }
-    ensures failed { IfErr result (λ error. error ≡ OutOfMemory) }
 {
     let mut properties = PropertyMap::new(alloc);
     properties.insert(b"timestamp", Value::Cell(head.time))?;
@@ -49,11 +48,10 @@ pub(super) fn image_properties<'a>(
     alloc: Global,
     head: Head<'a>,
     image: &ImageSpec<'a>,
-) -> Result<PropertyMap<'a>, Error>
+) -> Result<PropertyMap<'a>, AllocError>
     requires { HasBuildableType image.now }
     ensures all { IfOk result (λ properties. properties
         ≡ from_entries (image_properties_of (head_model head.entry) (spec_model image.now))) }
-    ensures failed { IfErr result (λ error. error ≡ OutOfMemory) }
 {
     let mut properties = PropertyMap::new(alloc);
     insert_cell(&mut properties, b"entry", image.entry)?;
@@ -70,10 +68,12 @@ pub(super) fn image_properties<'a>(
 }
 
 /// Returns the properties of a hash node with this SHA-256.
-pub(super) fn hash_properties(alloc: Global, digest: &[u8; 32]) -> Result<PropertyMap<'_>, Error>
+pub(super) fn hash_properties(
+    alloc: Global,
+    digest: &[u8; 32],
+) -> Result<PropertyMap<'_>, AllocError>
     ensures all { (payload : List ℕ) → digest.entry.now ≡ digest_of Sha256 payload →
         IfOk result (λ properties. properties ≡ from_entries (hash_properties_of payload)) }
-    ensures failed { IfErr result (λ error. error ≡ OutOfMemory) }
 {
     let mut properties = PropertyMap::new(alloc);
     properties.insert(b"value", Value::Slice(digest))?;
@@ -82,10 +82,9 @@ pub(super) fn hash_properties(alloc: Global, digest: &[u8; 32]) -> Result<Proper
 }
 
 /// Returns the properties of the node of the configuration.
-pub(super) fn default_properties<'a>(alloc: Global) -> Result<PropertyMap<'a>, Error>
+pub(super) fn default_properties<'a>(alloc: Global) -> Result<PropertyMap<'a>, AllocError>
     ensures all { IfOk result (λ properties. properties
         ≡ from_entries ((default_name, text_value configuration_name) ∷ [])) }
-    ensures failed { IfErr result (λ error. error ≡ OutOfMemory) }
 {
     let mut properties = PropertyMap::new(alloc);
     properties.insert(b"default", Value::Text(CONFIGURATION_NAME))?;
@@ -97,11 +96,10 @@ pub(super) fn configuration_properties<'a>(
     alloc: Global,
     head: Head<'a>,
     lists: &'a KeyLists,
-) -> Result<PropertyMap<'a>, Error>
+) -> Result<PropertyMap<'a>, AllocError>
     ensures all { (images : List ImageSpecModel) → AreKeyLists images lists.entry.now →
         IfOk result (λ properties. properties
         ≡ from_entries (configuration_properties_of (head_model head.entry) images)) }
-    ensures failed { IfErr result (λ error. error ≡ OutOfMemory) }
 {
     let mut properties = PropertyMap::new(alloc);
     insert_list(&mut properties, Key::Script, &lists.script)?;
@@ -119,10 +117,9 @@ fn insert_cell<'a>(
     properties: &mut PropertyMap<'a>,
     name: &'a [u8],
     number: Option<u32>,
-) -> Result<(), Error>
+) -> Result<(), AllocError>
     ensures inserted { OnOk result
         (properties.new ≡ with_cell_property name.entry.now number properties.old) }
-    ensures failed { IfErr result (λ error. error ≡ OutOfMemory) }
 {
     match number {
         Some(number) => properties.insert(name, Value::Cell(number)),
@@ -131,11 +128,14 @@ fn insert_cell<'a>(
 }
 
 /// Adds the property of a key that lists names, if it lists one at least.
-fn insert_list<'a>(properties: &mut PropertyMap<'a>, key: Key, list: &'a [u8]) -> Result<(), Error>
+fn insert_list<'a>(
+    properties: &mut PropertyMap<'a>,
+    key: Key,
+    list: &'a [u8],
+) -> Result<(), AllocError>
     ensures inserted { (names : List (List ℕ)) (rest : List Property)
         → list.entry.now ≡ strings_of names → properties.old ≡ from_entries rest →
         OnOk result (properties.new ≡ from_entries (list_property key names ++ rest)) }
-    ensures failed { IfErr result (λ error. error ≡ OutOfMemory) }
 {
     if list.is_empty() {
         return Ok(());

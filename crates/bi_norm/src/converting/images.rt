@@ -1,6 +1,6 @@
 //! The images that the parts of a legacy image become.
 
-ghost use Rattle.std.specs.Prelude.{◌≡◌, ◌≢◌, ◌<◌, IsSome, length, List, [], ℕ, IfOk, IfErr};
+ghost use Rattle.std.specs.Prelude.{◌≡◌, ◌≢◌, ◌<◌, IsSome, [], IfOk, IfErr};
 ghost use Rattle.std.specs.List.{AllByRecursion};
 ghost use Rattle.bi_legacy.specs.Codes.{name_of_code, os_names, arch_names, type_names};
 ghost use Rattle.bi_legacy.specs.Codes.{compression_names};

@@ -1,8 +1,8 @@
 //! The images that the arguments name, and the command `compare`.
 
-ghost use Rattle.std.specs.Prelude.{IfOk, IfErr, option_map};
+ghost use Rattle.std.specs.Prelude.{IfOk, IfErr};
 ghost use Rattle.bootimg.specs.CommandLine.{option_of, IsBadValue, IsComparePlan};
-ghost use Rattle.bootimg.specs.CommandLine.{IsImageSource, IsQuiet};
+ghost use Rattle.bootimg.specs.CommandLine.{IsImageSource};
 
 use crate::failure::Failure;
 use clap::ArgMatches;
