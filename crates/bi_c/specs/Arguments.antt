@@ -8,7 +8,7 @@ use Rattle.bi_fit.specs.declared.key.Key.{Key}
 use Rattle.bi_fit.specs.declared.key.Key.TheVariants.{Kernel, Fdt, Ramdisk, Firmware, Loadables}
 use Rattle.bi_fit.specs.declared.key.Key.TheVariants.{Script}
 
--- What the numbers that C passes stand for (profile of this project).
+-- The options and limits that C passes as numbers (profile of this project).
 
 -- The limits of a call.
 abbrev pub bounds : ℕ → ℕ → Limits

@@ -31,7 +31,7 @@ pub(crate) struct Region {
     pub(crate) size: usize,
 }
 
-/// Returns where in a boot image the bytes are that are selected. The errors are those of
+/// Returns where in the file of a boot image that was read the selected bytes are. The errors are those of
 /// `extract`.
 pub(crate) fn find(
     alloc: Global,
@@ -49,7 +49,7 @@ pub(crate) fn find(
     }
 }
 
-/// Returns where the part of a legacy image is that is selected.
+/// Returns where the selected part of a legacy image that was read is.
 fn find_part(image: &Legacy<'_>, select: Select) -> Result<Region, ExtractError>
     ensures found { (limits : Limits) (file : List ℕ) → IsParsedImage limits file image.now →
         IfOk result (λ region. IsChosenAt file (choice_of select.entry (OfLegacy image.now.image))
@@ -63,7 +63,8 @@ fn find_part(image: &Legacy<'_>, select: Select) -> Result<Region, ExtractError>
     }
 }
 
-/// Returns where the part of this index is. None exactly if there is no such part.
+/// Returns where the part of this index is in the file that the image was read from. None exactly
+/// if there is no such part.
 fn part_at(image: &Legacy<'_>, index: usize) -> Option<Region>
     ensures found { (limits : Limits) (file : List ℕ) → IsParsedImage limits file image.now →
         IfSome result (λ region. IsChosenAt file
@@ -78,7 +79,7 @@ fn part_at(image: &Legacy<'_>, index: usize) -> Option<Region>
     })
 }
 
-/// Returns where the payload of a flattened image tree is that is selected.
+/// Returns where the selected payload of a flattened image tree that was read is.
 fn find_payload(alloc: Global, fit: &Fit<'_>, select: Select) -> Result<Region, ExtractError>
     requires held { IsHeld fit.now }
     requires placed { ArePlaced fit.now }

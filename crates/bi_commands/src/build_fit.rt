@@ -100,7 +100,7 @@ fn with_payloads<'a>(
     payloads: &[&'a [u8]],
 ) -> Result<Vec<ImageSpec<'a>>, AllocError>
     requires { length payloads.now ≡ length images.now }
-    ensures have { IfOk result (λ complete. HavePayloads images.now (bytes_of payloads.now)
+    ensures { IfOk result (λ complete. HavePayloads images.now (bytes_of payloads.now)
         complete.items) }
 {
     let mut complete = Vec::with_capacity(alloc, images.len())?;

@@ -23,7 +23,7 @@ pub enum Part<'a> {
 /// Returns the parts that are pieces of an input, of these lengths. It fails if memory
 /// runs out.
 pub(crate) fn pieces<'a>(alloc: Global, lengths: &[u32]) -> Result<Vec<Part<'a>>, AllocError>
-    ensures parts { IfOk result (λ parts. parts.items ≡ parts_of_lengths lengths.now) }
+    ensures { IfOk result (λ parts. parts.items ≡ parts_of_lengths lengths.now) }
 {
     let mut parts = Vec::with_capacity(alloc, lengths.len())?;
     for length in lengths {

@@ -138,7 +138,7 @@ fn index_by_name<'a>(
     alloc: Global,
     images: &[Image<'a>],
 ) -> Result<BTreeMap<&'a [u8], usize>, AllocError>
-    ensures indices { IfOk result (λ indices. HasIndices indices (map image_model images.now)) }
+    ensures { IfOk result (λ indices. HasIndices indices (map image_model images.now)) }
 {
     let mut indices = BTreeMap::new(alloc);
     // The first image of a name is inserted last, so its index stays.

@@ -143,7 +143,7 @@ impl<'a, R: Files> FileSystem for SystemFiles<'a, R> {
         Ok(NewFile::new(SystemFile { file }))
     }
 
-    // The system closes a file when it is dropped, and tells no failure of that.
+    // The system closes a file when it is dropped, and reports no failure of that.
     fn close(&mut self, _name: &str, _file: NewFile<SystemFile<R::File>>) -> io::Result<()> {
         Ok(())
     }

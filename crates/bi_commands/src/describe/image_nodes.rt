@@ -20,7 +20,7 @@ use std::alloc::{AllocError, Global};
 /// Returns the entries of a flattened image tree: those of the properties of the root, and those of
 /// all nodes below it.
 pub(super) fn entries_of<'a>(alloc: Global, fit: &Fit<'a>) -> Result<Vec<Entry<'a>>, AllocError>
-    ensures entries { IfOk result (λ entries. map as_entry entries.items
+    ensures { IfOk result (λ entries. map as_entry entries.items
         ≡ tree_entries (tree_of fit.now)) }
 {
     let mut entries = Vec::new(alloc);
@@ -38,7 +38,7 @@ fn add_root_children<'a>(
     root: NodeRef<'a, '_>,
     images: &[Image<'a>],
 ) -> Result<(), AllocError>
-    ensures added { OnOk result (map as_entry entries.new.items ≡ map as_entry entries.old.items
+    ensures { OnOk result (map as_entry entries.new.items ≡ map as_entry entries.old.items
         ++ root_children_entries true (node_of root.entry).children
         (payloads_of images.entry.now)) }
 {
@@ -66,7 +66,7 @@ fn add_images<'a>(
     images: &[Image<'a>],
     is_first: bool,
 ) -> Result<(), AllocError>
-    ensures added { OnOk result (map as_entry entries.new.items ≡ map as_entry entries.old.items
+    ensures { OnOk result (map as_entry entries.new.items ≡ map as_entry entries.old.items
         ++ (begin_entries (node_of node.entry).name (properties_by_name (node_of node.entry).own)
         ++ (images_entries is_first (node_of node.entry).children (payloads_of images.entry.now)
         ++ NodeEnds ∷ []))) }
@@ -86,7 +86,7 @@ fn add_image_nodes<'a>(
     images: &[Image<'a>],
     is_first: bool,
 ) -> Result<(), AllocError>
-    ensures added { OnOk result (map as_entry entries.new.items ≡ map as_entry entries.old.items
+    ensures { OnOk result (map as_entry entries.new.items ≡ map as_entry entries.old.items
         ++ images_entries is_first (node_of node.entry).children
         (payloads_of images.entry.now)) }
 {
@@ -109,7 +109,7 @@ fn add_image<'a>(
     payload: Option<&'a [u8]>,
     is_first: bool,
 ) -> Result<(), AllocError>
-    ensures added { OnOk result (map as_entry entries.new.items ≡ map as_entry entries.old.items
+    ensures { OnOk result (map as_entry entries.new.items ≡ map as_entry entries.old.items
         ++ image_entries is_first (node_of node.entry)
         (option_map (λ payload. payload.now) payload.entry)) }
 {

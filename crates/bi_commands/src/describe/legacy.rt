@@ -47,7 +47,7 @@ pub(super) fn describe_legacy<S: Sink>(
 
 /// Returns the digest of each part.
 fn digests_of(alloc: Global, image: &Legacy) -> Result<Vec<PayloadDigest>, AllocError>
-    ensures digests { IfOk result (λ digests. map digest_made digests.items
+    ensures { IfOk result (λ digests. map digest_made digests.items
         ≡ map digest_of_payload image.now.image.parts) }
 {
     let mut digests = Vec::new(alloc);

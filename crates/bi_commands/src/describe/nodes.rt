@@ -18,7 +18,7 @@ pub(super) fn add_node<'a>(
     entries: &mut Vec<Entry<'a>>,
     node: NodeRef<'a, '_>,
 ) -> Result<(), AllocError>
-    ensures added { OnOk result (map as_entry entries.new.items ≡ map as_entry entries.old.items
+    ensures { OnOk result (map as_entry entries.new.items ≡ map as_entry entries.old.items
         ++ plain_entries (alone (node_of node.entry))) }
 {
     begin_node(alloc, entries, node)?;
@@ -34,7 +34,7 @@ pub(super) fn add_children<'a>(
     entries: &mut Vec<Entry<'a>>,
     node: NodeRef<'a, '_>,
 ) -> Result<(), AllocError>
-    ensures added { OnOk result (map as_entry entries.new.items ≡ map as_entry entries.old.items
+    ensures { OnOk result (map as_entry entries.new.items ≡ map as_entry entries.old.items
         ++ plain_entries (node_of node.entry).children) }
 {
     let mut next = node.first_child();
@@ -51,7 +51,7 @@ pub(super) fn begin_node<'a>(
     entries: &mut Vec<Entry<'a>>,
     node: NodeRef<'a, '_>,
 ) -> Result<(), AllocError>
-    ensures added { OnOk result (map as_entry entries.new.items ≡ map as_entry entries.old.items
+    ensures { OnOk result (map as_entry entries.new.items ≡ map as_entry entries.old.items
         ++ begin_entries (node_of node.entry).name
         (properties_by_name (node_of node.entry).own)) }
 {

@@ -42,7 +42,7 @@ pub(super) fn add_properties<'a>(
     properties: &ByName<'a>,
 ) -> Result<(), AllocError>
     requires { IsSorted properties.now.entries }
-    ensures added { OnOk result (map as_entry entries.new.items ≡ map as_entry entries.old.items
+    ensures { OnOk result (map as_entry entries.new.items ≡ map as_entry entries.old.items
         ++ map PropertyEntry (entries_of (by_name properties.entry.now.entries))) }
 {
     for (name, value) in properties {

@@ -111,7 +111,7 @@ fn image_properties<'a>(
 ) -> Result<PropertyMap<'a>, AllocError>
     requires sized { HasCellSize form (option_map (λ payload. payload.now) payload) }
     requires distinct { HasDistinctNames (node_of node).own }
-    ensures all { let given = option_map (λ payload. payload.now) payload.entry in
+    ensures { let given = option_map (λ payload. payload.now) payload.entry in
         IfOk result (λ properties. properties
         ≡ image_properties_of form begin given (node_of node.entry).own) }
 {

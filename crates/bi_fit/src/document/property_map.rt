@@ -62,7 +62,7 @@ impl<'a> PropertyMap<'a> {
         node: NodeRef<'a, '_>,
     ) -> Result<PropertyMap<'a>, AllocError>
         requires { HasDistinctNames (node_of node).own }
-        ensures all { IfOk result (λ properties. properties
+        ensures { IfOk result (λ properties. properties
             ≡ properties_by_name (node_of node.entry).own) }
     {
         let mut properties = PropertyMap::new(alloc);
@@ -77,7 +77,7 @@ impl<'a> PropertyMap<'a> {
     ///
     /// It fails if memory runs out. It is not specified which properties the map has then.
     pub fn insert(&mut self, name: &'a [u8], value: Value<'a>) -> Result<(), AllocError>
-        ensures inserted { OnOk result (self.new ≡ insert self.old name.entry.now
+        ensures { OnOk result (self.new ≡ insert self.old name.entry.now
             (value_bytes value.entry)) }
     {
         self.values.insert(name, value)?;
@@ -98,7 +98,7 @@ impl<'a> PropertyMap<'a> {
         payload: Option<&'a [u8]>,
     ) -> Result<(), AllocError>
         requires { HasCellSize form (option_map (λ payload. payload.now) payload) }
-        ensures set { let given = option_map (λ payload. payload.now) payload.entry in
+        ensures { let given = option_map (λ payload. payload.now) payload.entry in
             OnOk result (self.new ≡ with_payload form begin given (without_payload self.old)) }
     {
         self.remove_payload();
@@ -119,7 +119,7 @@ impl<'a> PropertyMap<'a> {
     ///
     /// It fails if memory runs out. It is not specified which properties the map has then.
     pub(super) fn set_time(&mut self, time: Option<u32>) -> Result<(), AllocError>
-        ensures set { OnOk result (self.new ≡ with_time time self.old) }
+        ensures { OnOk result (self.new ≡ with_time time self.old) }
     {
         if let Some(time) = time {
             self.insert(b"timestamp", Value::Cell(time))?;

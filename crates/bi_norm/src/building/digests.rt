@@ -13,7 +13,7 @@ pub(super) fn digest_payloads(
     alloc: Global,
     images: &[ImageSpec<'_>],
 ) -> Result<Vec<[u8; 32]>, AllocError>
-    ensures digests { IfOk result (λ digests. digests.items
+    ensures { IfOk result (λ digests. digests.items
         ≡ map (λ image. digest_of Sha256 image.payload.now) images.now) }
 {
     let mut digests = Vec::with_capacity(alloc, images.len())?;

@@ -26,7 +26,7 @@ pub(super) struct KeyLists {
 impl KeyLists {
     /// Lists the names of images by their types.
     pub(super) fn new(alloc: Global, images: &[ImageSpec<'_>]) -> Result<KeyLists, AllocError>
-        ensures lists { IfOk result (λ lists. AreKeyLists (spec_models images.now) lists) }
+        ensures { IfOk result (λ lists. AreKeyLists (spec_models images.now) lists) }
     {
         Ok(KeyLists {
             kernel: list_names(alloc, images, Key::Kernel)?,
@@ -41,7 +41,7 @@ impl KeyLists {
 
 /// Returns the names of the images that a key lists, in their order, each followed by a zero.
 fn list_names(alloc: Global, images: &[ImageSpec<'_>], key: Key) -> Result<Vec<u8>, AllocError>
-    ensures names { IfOk result (λ names. names.items
+    ensures { IfOk result (λ names. names.items
         ≡ strings_of (names_under key (spec_models images.now))) }
 {
     let mut names = Vec::new(alloc);

@@ -33,7 +33,7 @@ pub(super) fn root_properties<'a>(
     alloc: Global,
     head: Head<'a>,
 ) -> Result<PropertyMap<'a>, AllocError>
-    ensures all { IfOk result (λ properties. properties
+    ensures { IfOk result (λ properties. properties
         ≡ from_entries (root_properties_of (head_model head.entry))) }
 {
     let mut properties = PropertyMap::new(alloc);
@@ -50,7 +50,7 @@ pub(super) fn image_properties<'a>(
     image: &ImageSpec<'a>,
 ) -> Result<PropertyMap<'a>, AllocError>
     requires { HasBuildableType image.now }
-    ensures all { IfOk result (λ properties. properties
+    ensures { IfOk result (λ properties. properties
         ≡ from_entries (image_properties_of (head_model head.entry) (spec_model image.now))) }
 {
     let mut properties = PropertyMap::new(alloc);
@@ -72,7 +72,7 @@ pub(super) fn hash_properties(
     alloc: Global,
     digest: &[u8; 32],
 ) -> Result<PropertyMap<'_>, AllocError>
-    ensures all { (payload : List ℕ) → digest.entry.now ≡ digest_of Sha256 payload →
+    ensures { (payload : List ℕ) → digest.entry.now ≡ digest_of Sha256 payload →
         IfOk result (λ properties. properties ≡ from_entries (hash_properties_of payload)) }
 {
     let mut properties = PropertyMap::new(alloc);
@@ -83,7 +83,7 @@ pub(super) fn hash_properties(
 
 /// Returns the properties of the node of the configuration.
 pub(super) fn default_properties<'a>(alloc: Global) -> Result<PropertyMap<'a>, AllocError>
-    ensures all { IfOk result (λ properties. properties
+    ensures { IfOk result (λ properties. properties
         ≡ from_entries ((default_name, text_value configuration_name) ∷ [])) }
 {
     let mut properties = PropertyMap::new(alloc);
@@ -97,7 +97,7 @@ pub(super) fn configuration_properties<'a>(
     head: Head<'a>,
     lists: &'a KeyLists,
 ) -> Result<PropertyMap<'a>, AllocError>
-    ensures all { (images : List ImageSpecModel) → AreKeyLists images lists.entry.now →
+    ensures { (images : List ImageSpecModel) → AreKeyLists images lists.entry.now →
         IfOk result (λ properties. properties
         ≡ from_entries (configuration_properties_of (head_model head.entry) images)) }
 {
@@ -118,7 +118,7 @@ fn insert_cell<'a>(
     name: &'a [u8],
     number: Option<u32>,
 ) -> Result<(), AllocError>
-    ensures inserted { OnOk result
+    ensures { OnOk result
         (properties.new ≡ with_cell_property name.entry.now number properties.old) }
 {
     match number {
@@ -133,7 +133,7 @@ fn insert_list<'a>(
     key: Key,
     list: &'a [u8],
 ) -> Result<(), AllocError>
-    ensures inserted { (names : List (List ℕ)) (rest : List Property)
+    ensures { (names : List (List ℕ)) (rest : List Property)
         → list.entry.now ≡ strings_of names → properties.old ≡ from_entries rest →
         OnOk result (properties.new ≡ from_entries (list_property key names ++ rest)) }
 {

@@ -24,4 +24,4 @@ returns g c =
     (λ (payloads : List Part). IsPiped (build_fit_promise c.args.form c.args.head c.args.images.now payloads c.args.limits) c.args.limits
     (g.R.Read.remaining c.args.reader.now) (g.R.Read.remaining c.pipe_to.new.reader) (g.W.Write.contents c.args.writer.now)
     (g.W.Write.contents c.pipe_to.new.writer) c.pipe_to.result)
-    (c.deref.ensures.value ∙ c.in_ok-payloads.ensures.parts) c.pipe_to.ensures
+    (c.deref.ensures.value ∙ c.in_ok-payloads.ensures) c.pipe_to.ensures

@@ -23,4 +23,4 @@ returns g c =
     (λ (parts : List Part). IsPiped (build_legacy_promise c.args.fields parts c.args.limits) c.args.limits
     (g.R.Read.remaining c.args.reader.now) (g.R.Read.remaining c.pipe_to.new.reader) (g.W.Write.contents c.args.writer.now)
     (g.W.Write.contents c.pipe_to.new.writer) c.pipe_to.result)
-    (c.deref.ensures.value ∙ c.in_ok-parts.ensures.parts) c.pipe_to.ensures
+    (c.deref.ensures.value ∙ c.in_ok-parts.ensures) c.pipe_to.ensures

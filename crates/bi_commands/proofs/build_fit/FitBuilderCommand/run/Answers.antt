@@ -27,7 +27,7 @@ returns-in_err-build_fit_into-clause-failed g c =
     let given = c.args.self.now.images.now in
     let have : HavePayloads given contents images =
     subst (HavePayloads given contents) (sym c.deref-2.ensures.value)
-    (subst (λ bytes. HavePayloads given bytes c.in_ok-complete.complete.items) (ap bytes_of c.deref.ensures.value) c.in_ok-complete.ensures.have) in
+    (subst (λ bytes. HavePayloads given bytes c.in_ok-complete.complete.items) (ap bytes_of c.deref.ensures.value) c.in_ok-complete.ensures) in
     let completed : HasPayloads c.args.limits given c.args.self.now.payloads.now c.args.input.now contents images = record { short = c.requires.short; filled = c.in_ok-contents.ensures.filled; have = have } in
     let p = err_from_is_err_and c.from_residual-in_err-build_fit_into.result c.from_residual-in_err-build_fit_into.ensures.1 in
     rw (p.1, p.2)

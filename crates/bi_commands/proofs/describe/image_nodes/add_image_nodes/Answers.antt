@@ -17,8 +17,8 @@ loop-image-init c =
     let all : nodes_from (option_map node_of c.first_child-next.result) ≡ s.children = ap nodes_from c.first_child-next.ensures ∙ nodes_from_first s.children in
     ap (λ nodes. map as_entry c.args.entries.now.items ++ images_entries c.args.is_first nodes (payloads_of c.args.images.now)) all
 
-pub returns-in_default-clause-added : goal.returns-in_default-clause-added
-returns-in_default-clause-added c =
+pub returns-in_default : goal.returns-in_default
+returns-in_default c =
     let start = map as_entry c.loop-image.entries.items in
     let payloads = payloads_of (drop c.loop-image.image-index c.args.images.now) in
     let no_nodes = ap (λ next. nodes_from (option_map node_of next)) c.in_default.is in
@@ -41,10 +41,10 @@ loop-image-preserved c =
     (subst (λ nodes. start ++ images_entries c.args.is_first nodes (payloads_of (drop c.loop-image.image-index c.args.images.now)) ≡ target) here c.loop-image.invariant) in
     let left : start ++ (image_entries c.args.is_first s payload ++ images_entries c.args.is_first s.later later) ≡ target =
     ap (λ l. start ++ l) (sym (images-first c.args.is_first s payload later)) ∙ all in
-    rw rest (appended_first start (image_entries c.args.is_first s payload) (images_entries c.args.is_first s.later later) target (map as_entry c.add_image.new.entries.items) left c.in_ok-add_image.ensures.added)
+    rw rest (appended_first start (image_entries c.args.is_first s payload) (images_entries c.args.is_first s.later later) target (map as_entry c.add_image.new.entries.items) left c.in_ok-add_image.ensures)
 
-pub returns-clause-added : goal.returns-clause-added
-returns-clause-added c =
+pub returns : goal.returns
+returns c =
     let start = map as_entry c.loop-image.entries.items in
     let nodes = nodes_from (option_map node_of c.loop-image.next) in
     sym (append-nil start)

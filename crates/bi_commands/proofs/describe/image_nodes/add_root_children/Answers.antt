@@ -50,8 +50,8 @@ loop-next-preserved c =
     ] in
     rw rest left
 
-pub returns-clause-added : goal.returns-clause-added
-returns-clause-added c =
+pub returns : goal.returns
+returns c =
     let start = map as_entry c.loop-next.entries.items in
     let payloads = payloads_of c.args.images.now in
     let no_nodes = ap (λ next. nodes_from (option_map node_of next)) c.in_default.is in

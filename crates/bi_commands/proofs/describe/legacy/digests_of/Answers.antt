@@ -5,8 +5,8 @@ use Rattle.bi_commands.specs.TreeEntries.{digest_made}
 use Rattle.bi_commands.proofs.DescribedImages.{digests_of_bytes}
 use Rattle.bi_commands.proofs.describe.legacy.digests_of.Goals as goal
 
-pub returns-clause-digests : goal.returns-clause-digests
-returns-clause-digests c =
+pub returns : goal.returns
+returns c =
     let digest = λ (part : PartModel). digest_of_payload part.bytes in
     sym (append-nil (map digest_made c.loop-part.digests.items))
     ∙ ap (λ left. map digest_made c.loop-part.digests.items ++ map digest left) (sym c.in-None.ensures.steps.0)

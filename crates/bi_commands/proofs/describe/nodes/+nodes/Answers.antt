@@ -45,12 +45,12 @@ add_children-loop-next-preserved t c =
     let shallow : max (depth s.children + 1) (depth s.later) ≤ depth (node_of c.args.node).children =
     subst (λ nodes. depth nodes ≤ depth (node_of c.args.node).children) here c.loop-next.invariant.shallow in
     rw rest (record {
-      left = appended_first (map as_entry c.loop-next.entries.items) (plain_entries (alone s)) (plain_entries s.later) target (map as_entry c.add_node.new.entries.items) left c.in_ok-add_node.ensures.added;
+      left = appended_first (map as_entry c.loop-next.entries.items) (plain_entries (alone s)) (plain_entries s.later) target (map as_entry c.add_node.new.entries.items) left c.in_ok-add_node.ensures;
       shallow = omega arith;
     })
 
-pub add_children-returns-clause-added : goal.add_children-returns-clause-added
-add_children-returns-clause-added t c =
+pub add_children-returns : goal.add_children-returns
+add_children-returns t c =
     let target = map as_entry c.args.entries.now.items ++ plain_entries (node_of c.args.node).children in
     let none_left = ap (λ next. nodes_from (option_map node_of next)) c.in_default.is in
     sym (append-nil (map as_entry c.loop-next.entries.items))
@@ -59,9 +59,9 @@ add_children-returns-clause-added t c =
 pub add_node-add_children-requires : goal.add_node-add_children-requires
 add_node-add_children-requires t c = (omega arith, tt)
 
-pub add_node-returns-clause-added : goal.add_node-returns-clause-added
-add_node-returns-clause-added t c =
+pub add_node-returns : goal.add_node-returns
+add_node-returns t c =
     let s = node_of c.args.node in
     node_appended (map as_entry c.args.entries.now.items) (begin_entries s.name (properties_by_name s.own)) (plain_entries s.children)
     (map as_entry c.begin_node.new.entries.items) c.add_children.new.entries.items c.push.new.self.items
-    c.in_ok-begin_node.ensures.added c.in_ok-add_children.ensures.added c.in_ok-push.ensures.items
+    c.in_ok-begin_node.ensures c.in_ok-add_children.ensures c.in_ok-push.ensures.items

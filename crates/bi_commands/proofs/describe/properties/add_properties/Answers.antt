@@ -19,8 +19,8 @@ loop-name-preserved c =
     appended_first (map as_entry c.loop-name.entries.items) (PropertyEntry (c.in-Some.name.now.now, c.in-Some.value.now.now) ∷ []) (map PropertyEntry (properties_of_slices c.next.new.self)) _ (map as_entry c.push.new.self.items) left
     (ap (map as_entry) c.in_ok-push.ensures.items ∙ entries-push c.loop-name.entries.items _)
 
-pub returns-clause-added : goal.returns-clause-added
-returns-clause-added c =
+pub returns : goal.returns
+returns c =
     sym (append-nil (map as_entry c.loop-name.entries.items))
     ∙ ap (λ l. map as_entry c.loop-name.entries.items ++ map PropertyEntry (properties_of_slices l)) (sym c.in-None.ensures.steps.0)
     ∙ c.loop-name.invariant

@@ -17,7 +17,7 @@ begins c =
       | then-hashed w ↦ rw w.if-hashed.true (w.algo-is ∙ w.hash_algo-algo.ensures)
       | else-hashed w ↦ rw w.if-hashed.false w.algo-is
     ] in
-    child_begins c.args.hashed c.args.digests.now s c.if-hashed.algo c.name.result.now c.in_ok-properties.properties c.set_digest.new.self algo c.name.ensures c.in_ok-properties.ensures.all c.in_ok-left.ensures.set
+    child_begins c.args.hashed c.args.digests.now s c.if-hashed.algo c.name.result.now c.in_ok-properties.properties c.set_digest.new.self algo c.name.ensures c.in_ok-properties.ensures c.in_ok-left.ensures.set
 
 pub begin_with-requires : goal.begin_with-requires
 begin_with-requires c =

@@ -51,7 +51,7 @@ add_image_node-requires-clause-may c =
     (subst (λ nodes. IsAdding c.loop-image.doc target (sorted_images hashes c.args.form c.loop-image.end (payloads_of (drop c.loop-image.image-index c.args.images.now)) left nodes))
     (ap (λ next. nodes_from (option_map node_of next)) c.in-Some.is) c.loop-image.invariant.adding) in
     let properties : c.in_ok-properties.properties ≡ image_properties c.args.form (up4 c.loop-image.end) payload s.own =
-    c.in_ok-properties.ensures.all ∙ ap (λ begin. image_properties c.args.form begin payload s.own) c.up4.ensures in
+    c.in_ok-properties.ensures ∙ ap (λ begin. image_properties c.args.form begin payload s.own) c.up4.ensures in
     subst (λ hashed. MayAdd c.loop-image.doc (events (sorted_image c.in_ok-properties.properties hashed left s))) (sym c.is_hashed-hashed.ensures)
     (subst (λ properties. MayAdd c.loop-image.doc (events (sorted_image properties (is_hashed hashes payload) left s))) (sym properties)
     (may_add_first c.loop-image.doc target s.name (entries (image_properties c.args.form (up4 c.loop-image.end) payload s.own)) (sorted_image_children (is_hashed hashes payload) left s.children)
@@ -85,7 +85,7 @@ loop-image-preserved c =
     let count : c.loop-image.image-index + suc (length (siblings s.later)) ≡ length c.args.images.now =
     subst (λ nodes. c.loop-image.image-index + length (siblings nodes) ≡ length c.args.images.now) here c.loop-image.invariant.same_count in
     let properties : c.in_ok-properties.properties ≡ image_properties c.args.form (up4 c.loop-image.end) payload s.own =
-    c.in_ok-properties.ensures.all ∙ ap (λ begin. image_properties c.args.form begin payload s.own) c.up4.ensures in
+    c.in_ok-properties.ensures ∙ ap (λ begin. image_properties c.args.form begin payload s.own) c.up4.ensures in
     let added : c.add_image_node.new.doc ≡ with_events c.loop-image.doc (events (sorted_image (image_properties c.args.form (up4 c.loop-image.end) payload s.own) (is_hashed hashes payload) left s)) =
     c.in_ok-left.ensures.added
     ∙ ap (λ hashed. with_events c.loop-image.doc (events (sorted_image c.in_ok-properties.properties hashed left s))) c.is_hashed-hashed.ensures

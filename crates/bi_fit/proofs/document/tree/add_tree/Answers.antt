@@ -13,7 +13,7 @@ begins : (c : After-name) → begin_events c.name.result.now c.set_time.new.self
 begins c =
     let s = node_of c.args.root in
     begin_events-same c.name.result.now s.name c.set_time.new.self (with_time c.args.changes.time (properties_by_name s.own)) c.name.ensures
-    (c.in_ok-set_time.ensures.set ∙ ap (with_time c.args.changes.time) c.in_ok-properties.ensures.all)
+    (c.in_ok-set_time.ensures ∙ ap (with_time c.args.changes.time) c.in_ok-properties.ensures)
 
 pub begin_with-requires : goal.begin_with-requires
 begin_with-requires c =

@@ -52,7 +52,7 @@ invariant_of-result c =
           is_held c.args.limits c.args.file.now c.in_ok-blob.blob c.in_ok-blob.ensures.read.within c.in_ok-blob.ensures.read.means (node_of c.in-Some.node).children
           (images_found (goal.at.invariant_of-result c).In-Some) (map image_model c.in_ok-images.images.items) c.in_ok-images.ensures.images
           c.in_ok-blob.ensures.read.is_file c.in_ok-blob.ensures.read.size most deepest;
-      indices = subst (λ images. HasIndices c.in_ok-indices.indices (map image_model images)) c.deref.ensures.value c.in_ok-indices.ensures.indices;
+      indices = subst (λ images. HasIndices c.in_ok-indices.indices (map image_model images)) c.deref.ensures.value c.in_ok-indices.ensures;
     }
 
 pub returns-clause-read : goal.returns-clause-read

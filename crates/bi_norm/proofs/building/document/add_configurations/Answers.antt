@@ -19,7 +19,7 @@ begin_with-requires c =
     let images = spec_models c.args.parts.images.now in
     let head = head_model c.args.parts.head in
     let begins : begin_events configurations_name c.in_ok-properties.properties ≡ begin_events configurations_name own =
-    ap (begin_events configurations_name) c.in_ok-properties.ensures.all in
+    ap (begin_events configurations_name) c.in_ok-properties.ensures in
     let children = events (configuration_node head images) in
     subst (MayAdd c.args.doc.now) (sym begins) (may_begin c.args.doc.now (begin_events configurations_name own) children c.requires.may)
 
@@ -28,12 +28,12 @@ add_leaf-requires c =
     let images = spec_models c.args.parts.images.now in
     let head = head_model c.args.parts.head in
     let begins : begin_events configurations_name c.in_ok-properties.properties ≡ begin_events configurations_name own =
-    ap (begin_events configurations_name) c.in_ok-properties.ensures.all in
+    ap (begin_events configurations_name) c.in_ok-properties.ensures in
     let children = events (configuration_node head images) in
     let begun : c.begin_with.new.doc ≡ with_events c.args.doc.now (begin_events configurations_name own) =
     c.in_ok-begin_with.ensures.added ∙ ap (with_events c.args.doc.now) begins in
     let leaf_is : events (leaf configuration_name c.in_ok-properties-2.properties) ≡ children =
-    ap (λ properties. events (leaf configuration_name properties)) (c.in_ok-properties-2.ensures.all images c.requires.prepared.lists) in
+    ap (λ properties. events (leaf configuration_name properties)) (c.in_ok-properties-2.ensures images c.requires.prepared.lists) in
     subst (MayAdd c.begin_with.new.doc) (sym leaf_is) (may_have_children c.args.doc.now (begin_events configurations_name own) children c.begin_with.new.doc begun c.requires.may)
 
 pub end-requires : goal.end-requires
@@ -41,12 +41,12 @@ end-requires c =
     let images = spec_models c.args.parts.images.now in
     let head = head_model c.args.parts.head in
     let begins : begin_events configurations_name c.in_ok-properties.properties ≡ begin_events configurations_name own =
-    ap (begin_events configurations_name) c.in_ok-properties.ensures.all in
+    ap (begin_events configurations_name) c.in_ok-properties.ensures in
     let children = events (configuration_node head images) in
     let begun : c.begin_with.new.doc ≡ with_events c.args.doc.now (begin_events configurations_name own) =
     c.in_ok-begin_with.ensures.added ∙ ap (with_events c.args.doc.now) begins in
     let leaf_is : events (leaf configuration_name c.in_ok-properties-2.properties) ≡ children =
-    ap (λ properties. events (leaf configuration_name properties)) (c.in_ok-properties-2.ensures.all images c.requires.prepared.lists) in
+    ap (λ properties. events (leaf configuration_name properties)) (c.in_ok-properties-2.ensures images c.requires.prepared.lists) in
     let filled : c.add_leaf.new.doc ≡ with_events c.begin_with.new.doc children =
     c.in_ok-add_leaf.ensures.added ∙ ap (with_events c.begin_with.new.doc) leaf_is in
     may_end c.args.doc.now (begin_events configurations_name own) children c.begin_with.new.doc c.add_leaf.new.doc begun filled c.requires.may
@@ -56,12 +56,12 @@ returns-clause-added c =
     let images = spec_models c.args.parts.images.now in
     let head = head_model c.args.parts.head in
     let begins : begin_events configurations_name c.in_ok-properties.properties ≡ begin_events configurations_name own =
-    ap (begin_events configurations_name) c.in_ok-properties.ensures.all in
+    ap (begin_events configurations_name) c.in_ok-properties.ensures in
     let children = events (configuration_node head images) in
     let begun : c.begin_with.new.doc ≡ with_events c.args.doc.now (begin_events configurations_name own) =
     c.in_ok-begin_with.ensures.added ∙ ap (with_events c.args.doc.now) begins in
     let leaf_is : events (leaf configuration_name c.in_ok-properties-2.properties) ≡ children =
-    ap (λ properties. events (leaf configuration_name properties)) (c.in_ok-properties-2.ensures.all images c.requires.prepared.lists) in
+    ap (λ properties. events (leaf configuration_name properties)) (c.in_ok-properties-2.ensures images c.requires.prepared.lists) in
     let filled : c.add_leaf.new.doc ≡ with_events c.begin_with.new.doc children =
     c.in_ok-add_leaf.ensures.added ∙ ap (with_events c.begin_with.new.doc) leaf_is in
     c.end.ensures ∙ whole_added c.args.doc.now (begin_events configurations_name own) children c.begin_with.new.doc c.add_leaf.new.doc begun filled

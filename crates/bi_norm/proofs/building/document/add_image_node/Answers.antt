@@ -14,7 +14,7 @@ begin_with-requires c =
     let head = head_model c.args.head in
     let own = placed_properties c.args.form c.args.begin head image in
     let begins : begin_events image.name c.set_payload.new.self ≡ begin_events image.name own =
-    ap (begin_events image.name) (properties_placed c.args.form c.args.begin head image c.in_ok-properties.properties c.set_payload.new.self c.in_ok-properties.ensures.all c.in_ok-set_payload.ensures.set) in
+    ap (begin_events image.name) (properties_placed c.args.form c.args.begin head image c.in_ok-properties.properties c.set_payload.new.self c.in_ok-properties.ensures c.in_ok-set_payload.ensures) in
     let children = events (hash_node image.payload) in
     subst (MayAdd c.args.doc.now) (sym begins) (may_begin c.args.doc.now (begin_events image.name own) children c.requires.may)
 
@@ -24,12 +24,12 @@ add_leaf-requires c =
     let head = head_model c.args.head in
     let own = placed_properties c.args.form c.args.begin head image in
     let begins : begin_events image.name c.set_payload.new.self ≡ begin_events image.name own =
-    ap (begin_events image.name) (properties_placed c.args.form c.args.begin head image c.in_ok-properties.properties c.set_payload.new.self c.in_ok-properties.ensures.all c.in_ok-set_payload.ensures.set) in
+    ap (begin_events image.name) (properties_placed c.args.form c.args.begin head image c.in_ok-properties.properties c.set_payload.new.self c.in_ok-properties.ensures c.in_ok-set_payload.ensures) in
     let children = events (hash_node image.payload) in
     let begun : c.begin_with.new.doc ≡ with_events c.args.doc.now (begin_events image.name own) =
     c.in_ok-begin_with.ensures.added ∙ ap (with_events c.args.doc.now) begins in
     let leaf_is : events (leaf hash_node_name c.in_ok-properties-2.properties) ≡ children =
-    ap (λ properties. events (leaf hash_node_name properties)) (c.in_ok-properties-2.ensures.all image.payload c.requires.digest) in
+    ap (λ properties. events (leaf hash_node_name properties)) (c.in_ok-properties-2.ensures image.payload c.requires.digest) in
     subst (MayAdd c.begin_with.new.doc) (sym leaf_is) (may_have_children c.args.doc.now (begin_events image.name own) children c.begin_with.new.doc begun c.requires.may)
 
 pub end-requires : goal.end-requires
@@ -38,12 +38,12 @@ end-requires c =
     let head = head_model c.args.head in
     let own = placed_properties c.args.form c.args.begin head image in
     let begins : begin_events image.name c.set_payload.new.self ≡ begin_events image.name own =
-    ap (begin_events image.name) (properties_placed c.args.form c.args.begin head image c.in_ok-properties.properties c.set_payload.new.self c.in_ok-properties.ensures.all c.in_ok-set_payload.ensures.set) in
+    ap (begin_events image.name) (properties_placed c.args.form c.args.begin head image c.in_ok-properties.properties c.set_payload.new.self c.in_ok-properties.ensures c.in_ok-set_payload.ensures) in
     let children = events (hash_node image.payload) in
     let begun : c.begin_with.new.doc ≡ with_events c.args.doc.now (begin_events image.name own) =
     c.in_ok-begin_with.ensures.added ∙ ap (with_events c.args.doc.now) begins in
     let leaf_is : events (leaf hash_node_name c.in_ok-properties-2.properties) ≡ children =
-    ap (λ properties. events (leaf hash_node_name properties)) (c.in_ok-properties-2.ensures.all image.payload c.requires.digest) in
+    ap (λ properties. events (leaf hash_node_name properties)) (c.in_ok-properties-2.ensures image.payload c.requires.digest) in
     let filled : c.add_leaf.new.doc ≡ with_events c.begin_with.new.doc children =
     c.in_ok-add_leaf.ensures.added ∙ ap (with_events c.begin_with.new.doc) leaf_is in
     may_end c.args.doc.now (begin_events image.name own) children c.begin_with.new.doc c.add_leaf.new.doc begun filled c.requires.may
@@ -54,12 +54,12 @@ returns-clause-added c =
     let head = head_model c.args.head in
     let own = placed_properties c.args.form c.args.begin head image in
     let begins : begin_events image.name c.set_payload.new.self ≡ begin_events image.name own =
-    ap (begin_events image.name) (properties_placed c.args.form c.args.begin head image c.in_ok-properties.properties c.set_payload.new.self c.in_ok-properties.ensures.all c.in_ok-set_payload.ensures.set) in
+    ap (begin_events image.name) (properties_placed c.args.form c.args.begin head image c.in_ok-properties.properties c.set_payload.new.self c.in_ok-properties.ensures c.in_ok-set_payload.ensures) in
     let children = events (hash_node image.payload) in
     let begun : c.begin_with.new.doc ≡ with_events c.args.doc.now (begin_events image.name own) =
     c.in_ok-begin_with.ensures.added ∙ ap (with_events c.args.doc.now) begins in
     let leaf_is : events (leaf hash_node_name c.in_ok-properties-2.properties) ≡ children =
-    ap (λ properties. events (leaf hash_node_name properties)) (c.in_ok-properties-2.ensures.all image.payload c.requires.digest) in
+    ap (λ properties. events (leaf hash_node_name properties)) (c.in_ok-properties-2.ensures image.payload c.requires.digest) in
     let filled : c.add_leaf.new.doc ≡ with_events c.begin_with.new.doc children =
     c.in_ok-add_leaf.ensures.added ∙ ap (with_events c.begin_with.new.doc) leaf_is in
     c.end.ensures ∙ whole_added c.args.doc.now (begin_events image.name own) children c.begin_with.new.doc c.add_leaf.new.doc begun filled

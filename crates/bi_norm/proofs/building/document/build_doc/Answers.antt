@@ -9,7 +9,7 @@ pub begin_with-requires : goal.begin_with-requires
 begin_with-requires c =
     let head = head_model c.args.parts.head in
     let images = spec_models c.args.parts.images.now in
-    subst (λ properties. MayAdd c.in_ok-doc.doc (begin_events [] properties)) (sym c.in_ok-properties.ensures.all)
+    subst (λ properties. MayAdd c.in_ok-doc.doc (begin_events [] properties)) (sym c.in_ok-properties.ensures)
     (may_begin_root c.args.form head images c.in_ok-doc.doc c.in_ok-doc.ensures.empty c.requires.prepared.can)
 
 pub add_images-requires-clause-may : goal.add_images-requires-clause-may
@@ -17,7 +17,7 @@ add_images-requires-clause-may c =
     let head = head_model c.args.parts.head in
     let images = spec_models c.args.parts.images.now in
     let begun : c.begin_with.new.doc ≡ with_events c.in_ok-doc.doc (root_begin c.args.form head images) =
-    c.in_ok-begin_with.ensures.added ∙ ap (λ properties. with_events c.in_ok-doc.doc (begin_events [] properties)) c.in_ok-properties.ensures.all in
+    c.in_ok-begin_with.ensures.added ∙ ap (λ properties. with_events c.in_ok-doc.doc (begin_events [] properties)) c.in_ok-properties.ensures in
     may_add_images c.args.form head images c.in_ok-doc.doc c.in_ok-doc.ensures.empty c.requires.prepared.can c.begin_with.new.doc begun
 
 pub add_configurations-requires-clause-may : goal.add_configurations-requires-clause-may
@@ -25,7 +25,7 @@ add_configurations-requires-clause-may c =
     let head = head_model c.args.parts.head in
     let images = spec_models c.args.parts.images.now in
     let begun : c.begin_with.new.doc ≡ with_events c.in_ok-doc.doc (root_begin c.args.form head images) =
-    c.in_ok-begin_with.ensures.added ∙ ap (λ properties. with_events c.in_ok-doc.doc (begin_events [] properties)) c.in_ok-properties.ensures.all in
+    c.in_ok-begin_with.ensures.added ∙ ap (λ properties. with_events c.in_ok-doc.doc (begin_events [] properties)) c.in_ok-properties.ensures in
     may_add_configurations c.args.form head images c.in_ok-doc.doc c.in_ok-doc.ensures.empty c.requires.prepared.can c.begin_with.new.doc begun
     c.add_images.new.doc c.in_ok-add_images.ensures.added
 
@@ -34,7 +34,7 @@ end-requires c =
     let head = head_model c.args.parts.head in
     let images = spec_models c.args.parts.images.now in
     let begun : c.begin_with.new.doc ≡ with_events c.in_ok-doc.doc (root_begin c.args.form head images) =
-    c.in_ok-begin_with.ensures.added ∙ ap (λ properties. with_events c.in_ok-doc.doc (begin_events [] properties)) c.in_ok-properties.ensures.all in
+    c.in_ok-begin_with.ensures.added ∙ ap (λ properties. with_events c.in_ok-doc.doc (begin_events [] properties)) c.in_ok-properties.ensures in
     may_end_root c.args.form head images c.in_ok-doc.doc c.in_ok-doc.ensures.empty c.requires.prepared.can c.begin_with.new.doc begun
     c.add_images.new.doc c.in_ok-add_images.ensures.added c.add_configurations.new.doc c.in_ok-add_configurations.ensures.added
 
@@ -43,7 +43,7 @@ returns-clause-document c =
     let head = head_model c.args.parts.head in
     let images = spec_models c.args.parts.images.now in
     let begun : c.begin_with.new.doc ≡ with_events c.in_ok-doc.doc (root_begin c.args.form head images) =
-    c.in_ok-begin_with.ensures.added ∙ ap (λ properties. with_events c.in_ok-doc.doc (begin_events [] properties)) c.in_ok-properties.ensures.all in
+    c.in_ok-begin_with.ensures.added ∙ ap (λ properties. with_events c.in_ok-doc.doc (begin_events [] properties)) c.in_ok-properties.ensures in
     is_document c.args.form head images c.in_ok-doc.doc c.in_ok-doc.ensures.empty c.requires.prepared.can c.begin_with.new.doc begun
     c.add_images.new.doc c.in_ok-add_images.ensures.added c.add_configurations.new.doc c.in_ok-add_configurations.ensures.added c.end.new.self c.end.ensures
 
@@ -52,6 +52,6 @@ returns-clause-closed c =
     let head = head_model c.args.parts.head in
     let images = spec_models c.args.parts.images.now in
     let begun : c.begin_with.new.doc ≡ with_events c.in_ok-doc.doc (root_begin c.args.form head images) =
-    c.in_ok-begin_with.ensures.added ∙ ap (λ properties. with_events c.in_ok-doc.doc (begin_events [] properties)) c.in_ok-properties.ensures.all in
+    c.in_ok-begin_with.ensures.added ∙ ap (λ properties. with_events c.in_ok-doc.doc (begin_events [] properties)) c.in_ok-properties.ensures in
     is_closed c.args.form head images c.in_ok-doc.doc c.in_ok-doc.ensures.empty c.requires.prepared.can c.begin_with.new.doc begun
     c.add_images.new.doc c.in_ok-add_images.ensures.added c.add_configurations.new.doc c.in_ok-add_configurations.ensures.added c.end.new.self c.end.ensures

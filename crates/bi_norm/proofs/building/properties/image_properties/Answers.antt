@@ -8,12 +8,12 @@ use Rattle.bi_norm.specs.BuiltNodes.{with_cell_property}
 use Rattle.bi_norm.proofs.BuiltProperties.{addresses, type_of_key}
 use Rattle.bi_norm.proofs.building.properties.image_properties.Goals as goal
 
-pub returns-clause-all : goal.returns-clause-all
-returns-clause-all c =
+pub returns : goal.returns
+returns c =
     let image = spec_model c.args.image.now in
     let cells : c.insert_cell-2.new.properties ≡ from_entries {R = slice_cmp nat_cmp} (cell_property (codes "load") image.load ++ cell_property (codes "entry") image.entry) =
-    c.in_ok-insert_cell-2.ensures.inserted
-    ∙ ap (with_cell_property (codes "load") image.load) (c.in_ok-insert_cell.ensures.inserted ∙ ap (with_cell_property (codes "entry") image.entry) c.new-properties.ensures)
+    c.in_ok-insert_cell-2.ensures
+    ∙ ap (with_cell_property (codes "load") image.load) (c.in_ok-insert_cell.ensures ∙ ap (with_cell_property (codes "entry") image.entry) c.new-properties.ensures)
     ∙ addresses image.load image.entry in
     let type : value_bytes c.code_text.result ≡ text_value (type_name image.key) =
     c.code_text.ensures ∙ ap (λ name. text_value (unwrap_or name [])) c.type_name.ensures
