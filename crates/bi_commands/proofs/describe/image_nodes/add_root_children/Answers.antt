@@ -42,11 +42,11 @@ loop-next-preserved c =
       | then-eq+in_ok-add_images w ↦
           rw (w.entries-is, w.is_first-is)
           (appended_first start (begin_entries s.name (properties_by_name s.own) ++ (images_entries c.loop-next.is_first s.children payloads ++ NodeEnds ∷ [])) (root_children_entries false s.later payloads) target (map as_entry w.add_images.new.entries.items)
-          (ap (λ l. start ++ l) (sym (root-images c.loop-next.is_first s payloads (same ∙ w.if-eq.true))) ∙ all) w.in_ok-add_images.ensures.added)
+          (ap (λ l. start ++ l) (sym (root-images c.loop-next.is_first s payloads (same ∙ w.if-eq.true))) ∙ all) w.in_ok-add_images.ensures)
       | else-eq+in_ok-add_node w ↦
           rw (w.entries-is, w.is_first-is)
           (appended_first start (plain_entries (alone s)) (root_children_entries c.loop-next.is_first s.later payloads) target (map as_entry w.add_node.new.entries.items)
-          (ap (λ l. start ++ l) (sym (root-other c.loop-next.is_first s payloads (same ∙ w.if-eq.false))) ∙ all) w.in_ok-add_node.ensures.added)
+          (ap (λ l. start ++ l) (sym (root-other c.loop-next.is_first s payloads (same ∙ w.if-eq.false))) ∙ all) w.in_ok-add_node.ensures)
     ] in
     rw rest left
 
