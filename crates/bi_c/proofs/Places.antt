@@ -21,8 +21,7 @@ use Rattle.bi_legacy.specs.PlacedParts.{PartModel, placed_parts_from, AreAtOffse
 use Rattle.bi_legacy.specs.Reading.{LegacyModel, IsParsedImage, part_places}
 use Rattle.bi_legacy.specs.Meaning.{has_part_table}
 use Rattle.bi_legacy.proofs.EmitParts.{parts_end_from-grows}
-use Rattle.bi_legacy.proofs.PartOffsets.{up4_of_four}
-use Rattle.bi_legacy.proofs.TableParts.{length-part_table}
+use Rattle.bi_legacy.proofs.PartOffsets.{up4_of_four, length-part_table}
 use Rattle.bi_commands.specs.declared.extract.ExtractError.TheVariants.{NoPart, NoPayload}
 use Rattle.bi_commands.specs.Extracting.{Choice, HasNoPayload, IsReason, choice_of_part, choice_of_payload, choice_by_name}
 use Rattle.bi_commands.proofs.Choices.{choice_at, chosen_by_name}

@@ -14,7 +14,7 @@ use Rattle.bi_legacy.specs.Meaning.{LegacyImage, IsImageName, has_part_table}
 use Rattle.bi_legacy.specs.Parts.{part_table}
 use Rattle.bi_legacy.specs.Text.{joined_parts, normal_body, legacy_text}
 use Rattle.bi_legacy.proofs.CheckLists.{HasNoFault-map, IsFirstFault-map}
-use Rattle.bi_legacy.proofs.TableParts.{length-part_table}
+use Rattle.bi_legacy.proofs.PartOffsets.{length-part_table}
 use Rattle.bi_legacy.proofs.NormalLength.{length-legacy_text, length-normal_body}
 
 -- The fault of an image to be written.

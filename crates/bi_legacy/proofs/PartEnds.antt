@@ -10,7 +10,8 @@ use Rattle.bi_legacy.specs.Parts.{part_table, parts_end_from, parts_end}
 use Rattle.bi_legacy.specs.PartRanges.{part_slices, FitWithin, first_part_offset, part_sizes}
 use Rattle.bi_legacy.specs.ReadImage.{parts_of_body, read_end}
 use Rattle.bi_legacy.proofs.CheckLists.{HasNoFault-unmap}
-use Rattle.bi_legacy.proofs.TableParts.{first_offset, parts_in_table, length-part_table}
+use Rattle.bi_legacy.proofs.TableParts.{first_offset, parts_in_table}
+use Rattle.bi_legacy.proofs.PartOffsets.{length-part_table}
 use Rattle.bi_legacy.proofs.PartSlices.{length-slices, ends_checked}
 
 -- Where parts begin and end, by their sizes.

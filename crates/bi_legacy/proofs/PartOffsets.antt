@@ -1,15 +1,28 @@
-use Rattle.std.proofs.Common.{◌≡◌, ℕ, ◌+◌, ◌-◌, ◌*◌, ◌≤◌, List, ◌++◌, [], ◌∷◌, length, take, drop, arith, sym, ap, ◌∙◌, subst₂, append_assoc}
+use Rattle.std.proofs.Common.{◌≡◌, ℕ, ◌+◌, ◌-◌, ◌*◌, ◌≤◌, List, ◌++◌, [], ◌∷◌, length, take, drop, flat_map, refl, arith, sym, ap, ◌∙◌, subst₂, append_assoc}
 use Rattle.std.proofs.Math.Seq.{drop-append_seam}
 use Rattle.std.proofs.lemmas.List.{length-append, take-append-drop}
-use Rattle.bi_base.specs.Cells.{slice, up4}
-use Rattle.bi_base.proofs.CellLaws.{slice-append, length-slice}
-use Rattle.bi_legacy.specs.Parts.{ArePaddedParts}
+use Rattle.bi_base.specs.Cells.{cell, slice, up4}
+use Rattle.bi_base.proofs.CellLaws.{slice-append, length-slice, length-cell}
+use Rattle.bi_legacy.specs.Parts.{ArePaddedParts, part_table}
 
 -- Padded parts in order are the parts at increasing multiples of four.
 
 -- A multiple of four is its own next multiple of four.
 pub up4_of_four : (n : ℕ) → up4 (4 * n) ≡ 4 * n
 up4_of_four n = omega arith
+
+-- The cells of the lengths of parts are four bytes each.
+length-part_cells : (parts : List (List ℕ)) → length (flat_map (λ (part : List ℕ). cell (length part)) parts) ≡ 4 * length parts
+length-part_cells [] = refl
+length-part_cells (part ∷ later) =
+    length-append (cell (length part)) (flat_map (λ (other : List ℕ). cell (length other)) later)
+    ∙ omega (arith, length-cell (length part), length-part_cells later)
+
+-- The part table has a cell for each part, and one more.
+pub length-part_table : (parts : List (List ℕ)) → length (part_table parts) ≡ 4 * (length parts + 1)
+length-part_table parts =
+    length-append (flat_map (λ (part : List ℕ). cell (length part)) parts) (cell 0)
+    ∙ omega (arith, length-part_cells parts, length-cell 0)
 
 -- The next multiple of four is a multiple of four.
 pub up4-up4 : (n : ℕ) → up4 (up4 n) ≡ up4 n

@@ -9,23 +9,10 @@ use Rattle.bi_legacy.specs.Parts.{part_table, HasPartTable}
 use Rattle.bi_legacy.specs.PartRanges.{part_slices, FitWithin}
 use Rattle.bi_legacy.proofs.PartSlices.{length-slices, part_slices-at, part_slices-table_parts, part_slices-are, parts_at-fit, sizes_of_parts}
 use Rattle.bi_legacy.proofs.TableCells.{part_table-cells, table_sizes-cells, part_table-ends, part_table-split}
-use Rattle.bi_legacy.proofs.PartOffsets.{ArePartsAt, padded_parts-at, padded_parts-from, up4_of_four}
+use Rattle.bi_legacy.proofs.PartOffsets.{ArePartsAt, padded_parts-at, padded_parts-from, up4_of_four, length-part_table}
 use Rattle.bi_base.proofs.NulLaws.{before_nul-nonzero}
 
 -- Data with a part table, and the parts that are read by it.
-
--- Cells are four bytes each.
-length-cells : (numbers : List ℕ) → length (flat_map cell numbers) ≡ 4 * length numbers
-length-cells [] = refl
-length-cells (number ∷ numbers) =
-    length-append (cell number) (flat_map cell numbers) ∙ omega (arith, length-cell number, length-cells numbers)
-
--- The part table has a cell for each part, and one more.
-pub length-part_table : (parts : List (List ℕ)) → length (part_table parts) ≡ 4 * (length parts + 1)
-length-part_table parts =
-    let sizes = map length parts in
-    ap length (part_table-cells parts) ∙ length-append (flat_map cell sizes) (cell 0)
-    ∙ omega (arith, length-cells sizes, length-cell 0, length-map parts length)
 
 -- A part table ends at a multiple of four.
 pub part_table-aligned : (parts : List (List ℕ)) → up4 (length (part_table parts)) ≡ length (part_table parts)

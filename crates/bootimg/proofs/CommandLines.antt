@@ -14,7 +14,7 @@ use Rattle.bootimg.specs.CodeWords.{IsCode}
 use Rattle.clap.specs.Matches.{raw_values}
 use Rattle.clap.specs.declared.parser.matches.MatchedArg.{MatchedArg}
 use Rattle.bootimg.specs.CommandLine.{given_count, list_of, option_of, parts_of, texts_of, AreEscaped, AreGiven, AreImages, ArePartSources}
-use Rattle.bootimg.specs.CommandLine.{FailsWith, IsEntry, IsFirstBad, IsSelection, IsSelectionFailure, IsTaskFailure, IsTaskOutcome}
+use Rattle.bootimg.specs.CommandLine.{IsFailureOutcome, IsEntry, IsFirstBad, IsSelection, IsSelectionFailure, IsTaskFailure, IsTaskOutcome}
 use Rattle.bootimg.specs.CommandLine.{IsAddress, IsBadValue, IsImage, IsImageText, IsNameOf, IsPartSource, NoneIs, SelectsDefault}
 use Rattle.bootimg.specs.Numbers.{IsNumber}
 use Rattle.bootimg.specs.declared.codes.CodeField.TheVariants.{Os, Arch, ImageType, Compression}
@@ -218,9 +218,9 @@ none_given (Some value) P holds none = absurd cc
 
 -- The outcome of a failure.
 pub fails_with : {T : Type 0} (Is : Failure → Type 0) (result : Result T Outcome) (failure : Failure) →
-    IsErrAnd result (λ given. given ≡ outcome.Failure failure) → Is failure → IfErr result (FailsWith Is)
+    IsErrAnd result (λ given. given ≡ outcome.Failure failure) → Is failure → IfErr result (IsFailureOutcome Is)
 fails_with Is (Ok value) failure is holds = tt
-fails_with Is (Err given) failure is holds = subst (λ o. FailsWith Is o) (sym is) (inl holds)
+fails_with Is (Err given) failure is holds = subst (λ o. IsFailureOutcome Is o) (sym is) (inl holds)
 
 -- The failure of a value that another one is made of.
 pub bad_part : {T U V : Type 0} (IsPart : T → Type 0) (IsWhole : U → Type 0) (result : Result V Failure) (failure : Failure) →
@@ -232,19 +232,19 @@ bad_part IsPart IsWhole (Err given) failure is bad part =
 
 -- The outcome of an outcome.
 pub outcome_weaker : {T : Type 0} (P Q : Failure → Type 0) (result : Result T Outcome) (failed : Outcome) →
-    IsErrAnd result (λ given. given ≡ failed) → FailsWith P failed → ((failure : Failure) → P failure → Q failure) →
-    IfErr result (FailsWith Q)
+    IsErrAnd result (λ given. given ≡ failed) → IsFailureOutcome P failed → ((failure : Failure) → P failure → Q failure) →
+    IfErr result (IsFailureOutcome Q)
 outcome_weaker P Q (Ok value) failed is fails weaker = tt
 outcome_weaker P Q (Err given) (outcome.Text text) is fails weaker = absurd fails
 outcome_weaker P Q (Err given) (outcome.Failure failure) is fails weaker =
-    subst (λ o. FailsWith Q o) (sym is) (elim fails [
+    subst (λ o. IsFailureOutcome Q o) (sym is) (elim fails [
       | inl holds ↦ inl (weaker failure holds)
       | inr memory ↦ inr memory
     ])
 
 -- The outcome of a command.
 pub task_outcome : {T : Type 0} (name : List ℕ) (options : ArgMatches) (P : Failure → Type 0) (result : Result T Outcome)
-    (failed : Outcome) → IsErrAnd result (λ given. given ≡ failed) → FailsWith P failed →
+    (failed : Outcome) → IsErrAnd result (λ given. given ≡ failed) → IsFailureOutcome P failed →
     ((failure : Failure) → P failure → IsTaskFailure name options failure) → IfErr result (IsTaskOutcome name options)
 task_outcome name options P (Ok value) failed is fails task = tt
 task_outcome name options P (Err given) (outcome.Text text) is fails task = absurd fails

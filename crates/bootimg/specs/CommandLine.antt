@@ -95,9 +95,9 @@ abbrev pub IsBadValue : {T : Type 0} → (T → Type 0) → Failure → Type 0
 IsBadValue Is failure = (failure ≡ BadValue) × NoneIs Is
 
 -- The outcome is such a failure, or memory ran out.
-abbrev pub FailsWith : (Failure → Type 0) → Outcome → Type 0
-FailsWith IsFailure (outcome.Failure failure) = IsFailure failure ⊎ (failure ≡ Call OutOfMemory)
-FailsWith IsFailure (outcome.Text text) = ⊥
+abbrev pub IsFailureOutcome : (Failure → Type 0) → Outcome → Type 0
+IsFailureOutcome IsFailure (outcome.Failure failure) = IsFailure failure ⊎ (failure ≡ Call OutOfMemory)
+IsFailureOutcome IsFailure (outcome.Text text) = ⊥
 
 -- ---- options of several commands
 

@@ -3,7 +3,7 @@
 ghost use Rattle.std.specs.Prelude.{◌≡◌, IfOk, IfErr, length};
 ghost use Rattle.bootimg.specs.CodeWords.{IsCode};
 ghost use Rattle.bootimg.specs.CommandLine.{texts_of, sources_of, AreImages, ArePartSources};
-ghost use Rattle.bootimg.specs.CommandLine.{FailsWith, IsBadImage, IsBadValue, IsFields};
+ghost use Rattle.bootimg.specs.CommandLine.{IsFailureOutcome, IsBadImage, IsBadValue, IsFields};
 ghost use Rattle.bootimg.specs.CommandLine.{IsFitPlan, IsFitPlanFailure, IsLegacyPlan};
 
 use crate::codes::{CodeField, parse_code};
@@ -65,7 +65,7 @@ impl<'a> BuildPlan<'a> {
 /// or a part is neither a length nor `@FILE`, or with OutOfMemory.
 pub fn legacy_plan<'a>(alloc: Global, options: &ArgMatches<'a>) -> Result<LegacyPlan<'a>, Outcome>
     ensures plan { IfOk result (IsLegacyPlan options.now) }
-    ensures failure { IfErr result (FailsWith (IsBadValue (IsLegacyPlan options.now))) }
+    ensures failure { IfErr result (IsFailureOutcome (IsBadValue (IsLegacyPlan options.now))) }
 {
     let fields = fields(options)?;
     let words = options.get_strs("lengths").unwrap_or(&[]);
@@ -105,7 +105,7 @@ fn code(field: CodeField, word: &str) -> Result<u8, Failure>
 /// OutOfMemory.
 fn parse_parts<'a>(alloc: Global, words: &[&'a str]) -> Result<Vec<PartSource<'a>>, Outcome>
     ensures parts { IfOk result (λ parts. ArePartSources (texts_of words.now) parts.items) }
-    ensures failure { IfErr result (FailsWith
+    ensures failure { IfErr result (IsFailureOutcome
         (IsBadValue (ArePartSources (texts_of words.now)))) }
 {
     let mut parts = Vec::with_capacity(alloc, words.len())?;
@@ -121,7 +121,7 @@ pub fn fit_plan<'a>(alloc: Global, options: &ArgMatches<'a>) -> Result<FitPlan<'
     ensures plan { IfOk result (IsFitPlan options.now) }
     ensures lengths { IfOk result (λ plan. length plan.payloads.items
         ≡ length plan.images.items) }
-    ensures failure { IfErr result (FailsWith (IsFitPlanFailure options.now)) }
+    ensures failure { IfErr result (IsFailureOutcome (IsFitPlanFailure options.now)) }
 {
     let head = Head {
         description: value(options, "description", "").as_bytes(),
@@ -146,7 +146,7 @@ fn parse_images<'a>(
     ensures images { IfOk result (λ built. AreImages (texts_of words.now) built.0.items
         built.1.items) }
     ensures lengths { IfOk result (λ built. length built.1.items ≡ length built.0.items) }
-    ensures failure { IfErr result (FailsWith (IsBadImage (texts_of words.now))) }
+    ensures failure { IfErr result (IsFailureOutcome (IsBadImage (texts_of words.now))) }
 {
     let mut images = Vec::with_capacity(alloc, words.len())?;
     let mut payloads = Vec::with_capacity(alloc, words.len())?;

@@ -5,7 +5,7 @@ ghost use Rattle.bi_fit.specs.declared.key.Key.{Key};
 ghost use Rattle.bi_fit.specs.Names.{key_name};
 ghost use Rattle.bi_norm.specs.Meaning.{Meaning};
 ghost use Rattle.bi_commands.specs.Extracting.{choice_of};
-ghost use Rattle.bootimg.specs.CommandLine.{FailsWith, IsBadValue, IsEntry, IsNameOf};
+ghost use Rattle.bootimg.specs.CommandLine.{IsFailureOutcome, IsBadValue, IsEntry, IsNameOf};
 ghost use Rattle.bootimg.specs.CommandLine.{IsSelected, IsSelectionFailure};
 ghost use Rattle.bootimg.specs.Selections.{select_of};
 
@@ -54,7 +54,7 @@ impl Selected {
 /// index have no effect on a part or an image, and `--escaped` has none without a name.
 pub fn selection(alloc: Global, options: &ArgMatches<'_>) -> Result<Selected, Outcome>
     ensures selection { IfOk result (IsSelected options.now) }
-    ensures failure { IfErr result (FailsWith (IsSelectionFailure options.now)) }
+    ensures failure { IfErr result (IsFailureOutcome (IsSelectionFailure options.now)) }
 {
     let part = options.get_str("part");
     let image = options.get_str("image");
@@ -88,7 +88,7 @@ pub fn selection(alloc: Global, options: &ArgMatches<'_>) -> Result<Selected, Ou
 /// Fails with BadValue if there is none, or with OutOfMemory.
 fn name(alloc: Global, word: &str, escaped: bool) -> Result<Vec<u8>, Outcome>
     ensures name { IfOk result (λ name. IsNameOf escaped word.now name.items) }
-    ensures failure { IfErr result (FailsWith (IsBadValue (IsNameOf escaped word.now))) }
+    ensures failure { IfErr result (IsFailureOutcome (IsBadValue (IsNameOf escaped word.now))) }
 {
     if !escaped {
         return Ok(Vec::from_slice(alloc, word.as_bytes())?);

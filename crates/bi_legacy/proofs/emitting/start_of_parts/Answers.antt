@@ -3,7 +3,7 @@ use Rattle.std.proofs.lemmas.List.{length-map}
 use Rattle.bi_base.specs.Slices.{bytes_of}
 use Rattle.bi_legacy.specs.Meaning.{has_part_table}
 use Rattle.bi_legacy.specs.Parts.{part_table}
-use Rattle.bi_legacy.proofs.TableParts.{length-part_table}
+use Rattle.bi_legacy.proofs.PartOffsets.{length-part_table}
 use Rattle.bi_legacy.proofs.emitting.start_of_parts.Goals as goal
 
 pub returns-then-has_part_table : goal.returns-then-has_part_table

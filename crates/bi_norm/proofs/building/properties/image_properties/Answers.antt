@@ -24,4 +24,9 @@ returns c =
     c.code_text-3.ensures ∙ ap (λ name. text_value (unwrap_or name [])) c.compression_name.ensures in
     let arch : value_bytes c.code_text-4.result ≡ text_value image.arch =
     c.code_text-4.ensures ∙ ap (λ name. text_value (unwrap_or name [])) c.arch_name.ensures in
+    let with_type = c.in_ok-insert.ensures in
+    let with_os = c.in_ok-insert-2.ensures in
+    let with_description = c.in_ok-insert-3.ensures in
+    let with_compression = c.in_ok-insert-4.ensures in
+    let with_arch = c.in_ok-insert-5.ensures in
     search rules
