@@ -1,4 +1,4 @@
-use Rattle.std.proofs.Common.{◌≡◌, ◌+◌, ◌<◌, ◌≤◌, ℕ, List, [], ◌∷◌, ◌++◌, Bor, length, map, take, drop, get_or, refl, sym, ap, subst, ◌∙◌}
+use Rattle.std.proofs.Common.{◌≡◌, ◌↔◌, ◌+◌, ◌<◌, ◌≤◌, ℕ, List, [], ◌∷◌, ◌++◌, Bor, length, map, take, drop, get_or, refl, sym, ap, subst, ◌∙◌}
 use Rattle.std.proofs.Common.{arith, add-one, append-nil}
 use Rattle.std.specs.List.{AllByRecursion, AllZip, concat, sum, sum_by, slice_range}
 use Rattle.std.proofs.Math.Seq.{drop-cons}
@@ -146,8 +146,9 @@ as_many [] (c ∷ contents) given = absurd given
 as_many (size ∷ lengths) [] given = absurd given
 as_many (size ∷ lengths) (c ∷ contents) given = let more = as_many lengths contents given.1 in omega (arith, more)
 
-pub lengths_are_cut : LengthsAreCut
-lengths_are_cut lengths input contents = (
+contents_are_cut : (lengths input : List ℕ) (contents : List (List ℕ)) →
+    IsFilled (parts_of_lengths lengths) input contents ↔ IsCut input lengths contents
+contents_are_cut lengths input contents = (
   λ filled.
       let same = as_many lengths contents filled.given in
       subst (IsCut input lengths) (pieces_back lengths contents same)
@@ -161,3 +162,6 @@ lengths_are_cut lengths input contents = (
             (subst (IsCut input lengths) (sym (pieces_back lengths contents same)) cut);
       },
 )
+
+pub lengths_are_cut : LengthsAreCut
+lengths_are_cut = record { contents = contents_are_cut; lengths = lengths_back }

@@ -34,10 +34,12 @@ pub record IsFilled (parts : List Part) (input : List ℕ) (contents : List (Lis
 abbrev pub parts_of_lengths : List ℕ → List Part
 parts_of_lengths lengths = map Length lengths
 
--- If each part is a piece of the input, their contents are the pieces that the input is cut into.
-abbrev pub LengthsAreCut : Type 0
-LengthsAreCut = (lengths input : List ℕ) (contents : List (List ℕ))
-    → IsFilled (parts_of_lengths lengths) input contents ↔ IsCut input lengths contents
+-- If each part is a piece of the input, their contents are the pieces that the input is cut into,
+-- and the lengths of the parts that have one are those of the pieces.
+pub record LengthsAreCut : Type 0 where
+  pub contents : (lengths input : List ℕ) (contents : List (List ℕ))
+      → IsFilled (parts_of_lengths lengths) input contents ↔ IsCut input lengths contents
+  pub lengths : (lengths : List ℕ) → lengths_of (parts_of_lengths lengths) ≡ lengths
 
 -- ---- what is computed of one part
 

@@ -3,7 +3,7 @@ use Rattle.std.proofs.lemmas.Bool.{cases_lt, false≢true}
 use Rattle.std.proofs.lemmas.Bool.Decides.{eqb_tells}
 use Rattle.bi_base.specs.Reading.{too_large}
 use Rattle.bi_legacy.specs.File.{legacy_magic}
-use Rattle.bi_norm.specs.Converting.{IsConvertError, NotLegacy}
+use Rattle.bi_norm.specs.Converting.{IsFileConvertFault, NotLegacy}
 use Rattle.bi_norm.specs.Faults.{IsFileFault, OfLegacyImage, OfTree}
 use Rattle.bi_base.specs.declared.fault.Error.{Error}
 use Rattle.bi_base.specs.declared.fault.Error.TheVariants.{Refused, OutOfMemory, ReadFailed, WriteFailed}
@@ -102,7 +102,7 @@ too_long_is_file_fault limits file longer =
 
 -- It is not converted.
 pub too_long_is_not_converted : (limits : Limits) (file : List ℕ) → limits.file < length file →
-    IsConvertError limits file (Refused (too_large limits.file))
+    IsFileConvertFault limits file (too_large limits.file)
 too_long_is_not_converted limits file longer =
     NotLegacy (inl (λ short. omega (arith, longer, short), refl)) (λ image means. omega (arith, longer, means.short))
 

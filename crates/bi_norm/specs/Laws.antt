@@ -1,7 +1,8 @@
-use Rattle.std.specs.Prelude.{◌≡◌, ◌⊎◌, ◌↔◌, ℕ, ◌≤◌, List, length}
+use Rattle.std.specs.Prelude.{◌≡◌, ◌⊎◌, ◌↔◌, ℕ, ◌≤◌, ◌<◌, List, length}
 use Rattle.bi_base.specs.declared.fault.Fault.{Fault}
 use Rattle.bi_base.specs.Cells.{AreBytes}
 use Rattle.bi_base.specs.Limits.{Limits}
+use Rattle.bi_base.specs.Reading.{too_large}
 use Rattle.bi_blob.specs.Layout.{longest_text}
 use Rattle.bi_fit.specs.declared.form.Form.{Form}
 use Rattle.bi_fit.specs.File.{IsFitFile}
@@ -10,8 +11,9 @@ use Rattle.bi_fit.specs.Text.{fit_text}
 use Rattle.bi_legacy.specs.File.{IsLegacyFile}
 use Rattle.bi_legacy.specs.Meaning.{LegacyImage}
 use Rattle.bi_legacy.specs.Text.{legacy_text}
+use Rattle.bi_norm.specs.Converting.{IsFileConvertFault}
 use Rattle.bi_norm.specs.Faults.{IsFileFault}
-use Rattle.bi_norm.specs.Meaning.{Meaning, Means, normal_text}
+use Rattle.bi_norm.specs.Meaning.{Meaning, Means, MeansNothing, normal_text}
 
 -- Laws of boot images of both kinds. Each is the contract of a function in `laws`.
 
@@ -66,3 +68,13 @@ NormalTextsDiffer =
     → Means limits file one → Means other_limits other_file other
     → length (normal_text form one) ≤ longest_text
     → (normal_text form one ≡ normal_text form other) ↔ (one ≡ other)
+
+-- A file that is longer than the limit has the fault TooLarge at the limit and means nothing. Of a
+-- conversion, that is the fault, too.
+pub record TooLongIsRefused : Type 0 where
+  pub is_fault : (limits : Limits) (file : List ℕ) → limits.file < length file
+      → IsFileFault limits file (too_large limits.file)
+  pub means_nothing : (limits : Limits) (file : List ℕ) → limits.file < length file
+      → MeansNothing limits file
+  pub is_convert_fault : (limits : Limits) (file : List ℕ) → limits.file < length file
+      → IsFileConvertFault limits file (too_large limits.file)

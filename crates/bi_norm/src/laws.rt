@@ -4,8 +4,7 @@
 ghost use Rattle.bi_norm.specs.Converting.{ConvertedHasItsParts, ConvertedIsAccepted};
 ghost use Rattle.bi_norm.specs.Laws.{OneKind, OneFileMeaning, OneFileFault, FileHasNoFault};
 ghost use Rattle.bi_norm.specs.Laws.{FileMeaningOrFault, FileMeaningWhereNoFault};
-ghost use Rattle.bi_norm.specs.Laws.{TextsOfKindsDiffer};
-ghost use Rattle.bi_norm.specs.Laws.{NormalTextsDiffer};
+ghost use Rattle.bi_norm.specs.Laws.{NormalTextsDiffer, TextsOfKindsDiffer, TooLongIsRefused};
 
 /// No file is both a legacy image and a flattened image tree.
 pub fn one_kind()
@@ -42,6 +41,13 @@ pub fn meaning_where_no_fault()
 {
     bi_legacy::laws::meaning_or_fault();
 }
+
+/// A file that is longer than the limit has the fault TooLarge at the limit and means nothing. Of a
+/// conversion, that is the fault, too. So the calls on readers, which read no more than the limit
+/// and one byte, refuse a longer input as the calls on bytes do.
+pub fn too_long_is_refused()
+    ensures { TooLongIsRefused }
+{}
 
 /// No normal text of a legacy image is one of a flattened image tree, in any form.
 pub fn texts_of_kinds_differ()

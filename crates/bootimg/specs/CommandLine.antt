@@ -96,7 +96,8 @@ IsBadValue Is failure = (failure ≡ BadValue) × NoneIs Is
 
 -- The outcome is such a failure, or memory ran out.
 abbrev pub IsFailureOutcome : (Failure → Type 0) → Outcome → Type 0
-IsFailureOutcome IsFailure (outcome.Failure failure) = IsFailure failure ⊎ (failure ≡ Call OutOfMemory)
+IsFailureOutcome IsFailure (outcome.Failure failure) =
+    IsFailure failure ⊎ (failure ≡ Call OutOfMemory)
 IsFailureOutcome IsFailure (outcome.Text text) = ⊥
 
 -- ---- options of several commands
