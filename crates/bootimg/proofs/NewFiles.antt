@@ -1,4 +1,4 @@
-use Rattle.std.proofs.Common.{◌≡◌, ◌++◌, ◌∷◌, [], ◌∙◌, ◌<◌, ◌≤◌, ◌+◌, ◌⊎◌, ℕ, List, Option, Some, None, option_map, map, Contains, Result}
+use Rattle.std.proofs.Common.{◌≡◌, ◌≢◌, ◌++◌, ◌∷◌, [], ◌∙◌, ◌<◌, ◌≤◌, ◌+◌, ◌⊎◌, ℕ, List, Option, Some, None, option_map, map, Contains, Result}
 use Rattle.std.proofs.Common.{OnOk, OnErr, IfErr, Ok, Err, ap, subst, sym, inl, inr, refl, arith}
 use Rattle.bi_base.specs.Sinks.{Wrote}
 use Rattle.bi_base.specs.Traces.{WriteTrace}
@@ -6,12 +6,10 @@ use Rattle.bi_base.specs.Writing.{WroteAndFlushed, WriteOrFlushStopped}
 use Rattle.bi_base.specs.declared.fault.Error.{Error}
 use Rattle.bootimg.specs.declared.failure.Failure.{Failure}
 use Rattle.bootimg.specs.declared.failure.Failure.TheVariants.{NotWritten}
-use Rattle.std.proofs.lemmas.Bool.{cases_lt}
 use Rattle.std.proofs.lemmas.List.{append_assoc, append-nil, map_push}
-use Rattle.std.proofs.lemmas.List.Elements.{All-nil, All-push, Contains-push, Contains-append_left}
-use Rattle.bootimg.specs.Files.{AreNamesTaken, Closed, ClosingFailed, FilePromise, FileStep, IsBeside, IsMadeBeside, IsNotWrittenFile}
+use Rattle.bootimg.specs.Files.{AreNamesTaken, NoNumbers, OwnName, OneMoreName, Closed, ClosingFailed, FilePromise, FileStep, IsBeside, IsNotWrittenFile}
 use Rattle.bootimg.specs.Files.{IsNotMade}
-use Rattle.bootimg.specs.Files.{IsNotPutInPlace, IsNotSaved, IsTried, MakingFailed, NameTaken, NewFileFailed, NotClosed, NotMade}
+use Rattle.bootimg.specs.Files.{IsNotPutInPlace, IsNotSaved, MakingFailed, NameTaken, NewFileFailed, NotClosed, NotMade}
 use Rattle.bootimg.specs.Files.{NotRemoved, Removed, SavesNothing, TookSteps, WritingStopped, no_files}
 
 -- New files beside a file.
@@ -37,59 +35,36 @@ steps_in_turn old middle new first second one other = other ∙ ap (option_map (
 
 -- No name was tried.
 pub none_tried : (name : List ℕ) (now : Option (List FileStep)) → AreNamesTaken name 0 now now
-none_tried name now = record {
-  taken = [];
-  each_is_beside = All-nil _;
-  each_is_tried = λ number below. absurd (omega arith);
-  steps = no_steps now;
-}
-
--- One more number was tried, and the names that were taken still are.
-more_tried : (name : List ℕ) (taken more : List (List ℕ)) (count : ℕ) → ((number : ℕ) → number < count → IsTried name taken number)
-    → IsTried name more count → ((beside : List ℕ) → Contains taken beside → Contains more beside)
-    → (number : ℕ) → number < count + 1 → IsTried name more number
-more_tried name taken more count before last kept number below = by_order (cases_lt number count)
-  where
-    still : (beside : List ℕ) → (beside ≡ name) ⊎ Contains taken beside → (beside ≡ name) ⊎ Contains more beside
-    still beside (inl same) = inl same
-    still beside (inr has) = inr (kept beside has)
-
-    by_order : (number < count) ⊎ (count ≤ number) → IsTried name more number
-    by_order (inl less) =
-        let tried = before number less in
-        (tried.0, tried.1, still tried.0 tried.2)
-    by_order (inr not_less) = subst (IsTried name more) (omega arith) last
+none_tried name now = record { taken = []; are_names = NoNumbers refl refl; steps = no_steps now }
 
 -- The next name is that of the file itself.
 pub own_name_tried : (name beside shown : List ℕ) (number : ℕ) (old new : Option (List FileStep)) → AreNamesTaken name number old new
     → IsBeside name number beside → shown ≡ beside → shown ≡ name → AreNamesTaken name (number + 1) old new
 own_name_tried name beside shown number old new are is shows same = record {
   taken = are.taken;
-  each_is_beside = are.each_is_beside;
-  each_is_tried = more_tried name are.taken are.taken number are.each_is_tried (beside, is, inl (sym shows ∙ same)) (λ other has. has);
+  are_names = OwnName number refl are.are_names (subst (IsBeside name number) (sym shows ∙ same) is);
   steps = are.steps;
 }
 
 -- Something has the next name.
 pub taken_name_tried : (name beside shown : List ℕ) (number : ℕ) (old middle new : Option (List FileStep))
-    → AreNamesTaken name number old middle → IsBeside name number beside → shown ≡ beside → TookSteps middle new (NameTaken shown ∷ [])
-    → AreNamesTaken name (number + 1) old new
-taken_name_tried name beside shown number old middle new are is shows took = record {
+    → AreNamesTaken name number old middle → IsBeside name number beside → shown ≡ beside → shown ≢ name
+    → TookSteps middle new (NameTaken shown ∷ []) → AreNamesTaken name (number + 1) old new
+taken_name_tried name beside shown number old middle new are is shows other took = record {
   taken = are.taken ++ beside ∷ [];
-  each_is_beside = All-push (λ other. (n : ℕ) × IsBeside name n other) are.taken beside are.each_is_beside (number, is);
-  each_is_tried = more_tried name are.taken (are.taken ++ beside ∷ []) number are.each_is_tried
-      (beside, is, inr (Contains-push are.taken beside)) (λ other has. Contains-append_left are.taken (beside ∷ []) other has);
+  are_names = OneMoreName number are.taken beside refl are.are_names is (λ same. other (shows ∙ same)) refl;
   steps = subst (TookSteps old new) (sym (map_push NameTaken are.taken beside))
       (steps_in_turn old middle new (map NameTaken are.taken) (NameTaken beside ∷ []) are.steps
       (subst (λ s. TookSteps middle new (NameTaken s ∷ [])) shows took));
 }
 
 -- A file of the next name could not be made.
-pub making_failed : (name beside shown : List ℕ) (number : ℕ) (old middle new : Option (List FileStep)) →
-    AreNamesTaken name number old middle
-    → IsBeside name number beside → shown ≡ beside → TookSteps middle new (NotMade shown ∷ []) → IsNotMade name NotWritten old new
-making_failed name beside shown number old middle new are is shows took =
-    MakingFailed number beside middle are is (subst (λ s. TookSteps middle new (NotMade s ∷ [])) shows took) refl
+pub making_failed : (name beside shown : List ℕ) (number : ℕ) (old middle new : Option (List FileStep)) → number < 10000
+    → AreNamesTaken name number old middle → IsBeside name number beside → shown ≡ beside → shown ≢ name
+    → TookSteps middle new (NotMade shown ∷ []) → IsNotMade name NotWritten old new
+making_failed name beside shown number old middle new within are is shows other took =
+    MakingFailed number beside middle are (record { within = within; is_beside = is; is_another = λ same. other (shows ∙ same) })
+    (subst (λ s. TookSteps middle new (NotMade s ∷ [])) shows took) refl
 
 -- ---- the steps with a new file
 

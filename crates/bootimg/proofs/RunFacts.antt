@@ -32,18 +32,20 @@ line_is_logged old new bytes (Err error) wrote = HasStopped error wrote
 -- A run over traced streams is one over plain streams with what the traces say.
 pub plain_run : (files : FilePromise) (steps new_steps : Option (List FileStep)) (run : Run)
     (remaining new_remaining contents new_contents errors new_errors : Option (List ℕ)) → IsRun files run
-    → ReadsWell run.input → run.input.taken ≡ 0 → WritesWell run.output → run.steps ≡ steps → run.new_steps ≡ new_steps
+    → ReadsWell run.input → run.input.taken ≡ 0 → WritesWell run.output → WritesWell run.errors
+    → run.steps ≡ steps → run.new_steps ≡ new_steps
     → run.input.remaining ≡ remaining → run.new_input.remaining ≡ new_remaining
     → run.output.contents ≡ contents → run.new_output.contents ≡ new_contents
     → run.errors.contents ≡ errors → run.new_errors.contents ≡ new_errors
     → IsPlainRun files steps new_steps remaining new_remaining contents new_contents errors new_errors run.status
-plain_run files steps new_steps run remaining new_remaining contents new_contents errors new_errors is reads taken writes ch nch r nr c nc e ne = record {
+plain_run files steps new_steps run remaining new_remaining contents new_contents errors new_errors is reads taken writes logs ch nch r nr c nc e ne = record {
   run = run;
   is_run = is;
   is_status = refl;
   reads_well = reads;
   none_taken = taken;
   writes_well = writes;
+  errors_write_well = logs;
   steps_before = ch;
   steps_after = nch;
   remaining_before = r;

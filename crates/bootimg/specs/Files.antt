@@ -1,5 +1,5 @@
-use Rattle.std.specs.Prelude.{◌≡◌, ◌≢◌, ◌⊎◌, ◌<◌, ⊤, ℕ, List, [], ◌∷◌, ◌++◌, length, get_or}
-use Rattle.std.specs.Prelude.{All, Contains, Option, None, Some, codes, map, option_map}
+use Rattle.std.specs.Prelude.{◌≡◌, ◌≢◌, ◌⊎◌, ◌<◌, ◌+◌, ⊤, ℕ, List, [], ◌∷◌, ◌++◌, length, get_or}
+use Rattle.std.specs.Prelude.{Option, None, Some, codes, map, option_map}
 use Rattle.std.specs.Fmt.{decimal}
 use Rattle.bi_base.specs.Traces.{ReadTrace, WriteTrace, ReadsWell, WritesWell}
 use Rattle.bi_base.specs.Writing.{WroteAndFlushed, WriteOrFlushStopped}
@@ -98,42 +98,51 @@ pub record IsBeside (name : List ℕ) (number : ℕ) (beside : List ℕ) : Type 
   pub ends_with_slash : (directory ≡ []) ⊎ ((before : List ℕ) × (directory ≡ before ++ 47 ∷ []))
   pub last_has_no_slash : (index : ℕ) → index < length last → get_or last index 0 ≢ 47
 
--- The name of this number beside a file is one of these, or it is that of the file itself.
-abbrev pub IsTried : (name : List ℕ) → (taken : List (List ℕ)) → (number : ℕ) → Type 0
-IsTried name taken number =
-    (beside : List ℕ) × IsBeside name number beside × ((beside ≡ name) ⊎ Contains taken beside)
+-- These are the names beside a file with the numbers below this one, in their order, without the
+-- file's own.
+pub data AreNamesBelow (name : List ℕ) (count : ℕ) (names : List (List ℕ)) : Type 0 where
+  NoNumbers : count ≡ 0 → names ≡ [] → AreNamesBelow name count names
+  OwnName : (below : ℕ) → count ≡ below + 1 → AreNamesBelow name below names
+      → IsBeside name below name → AreNamesBelow name count names
+  OneMoreName : (below : ℕ) (before : List (List ℕ)) (beside : List ℕ) → count ≡ below + 1
+      → AreNamesBelow name below before → IsBeside name below beside → beside ≢ name
+      → names ≡ before ++ beside ∷ [] → AreNamesBelow name count names
 
 -- No file was made of a name beside this file with a number below this one: something has each of
--- these names.
+-- these names, and no other was tried.
 pub record AreNamesTaken (name : List ℕ) (count : ℕ) (old new : Option (List FileStep)) : Type 0
   where
     pub taken : List (List ℕ)
-    pub each_is_beside : All (λ beside. (number : ℕ) × IsBeside name number beside) taken
-    pub each_is_tried : (number : ℕ) → number < count → IsTried name taken number
+    pub are_names : AreNamesBelow name count taken
     pub steps : TookSteps old new (map NameTaken taken)
 
+-- The name is beside a file, with one of the numbers that are tried, and is not the file's own.
+pub record IsNewName (name : List ℕ) (number : ℕ) (beside : List ℕ) : Type 0 where
+  pub within : number < 10000
+  pub is_beside : IsBeside name number beside
+  pub is_another : beside ≢ name
+
 -- A new file was made beside the file of this name. It has the first of the numbered names that
--- nothing has.
+-- nothing has and that is not the file's own.
 pub record IsMadeBeside (name beside : List ℕ) (file : WriteTrace)
     (old new : Option (List FileStep)) : Type 0
   where
     pub number : ℕ
     pub tried : Option (List FileStep)
     pub are_taken : AreNamesTaken name number old tried
-    pub is_beside : IsBeside name number beside
-    pub is_another : beside ≢ name
+    pub is_name : IsNewName name number beside
     pub is_new : IsNewFile file
     pub made : TookSteps tried new (Made beside file ∷ [])
 
 -- No new file was made beside the file of this name, for this reason.
 pub data IsNotMade (name : List ℕ) (failure : Failure) (old new : Option (List FileStep)) : Type 0
   where
-    NoMemoryForName : (number : ℕ) → AreNamesTaken name number old new → failure ≡ Call OutOfMemory
-        → IsNotMade name failure old new
+    NoMemoryForName : (number : ℕ) → number < 10000 → AreNamesTaken name number old new
+        → failure ≡ Call OutOfMemory → IsNotMade name failure old new
     AllNamesTaken : AreNamesTaken name 10000 old new → failure ≡ NotWritten
         → IsNotMade name failure old new
     MakingFailed : (number : ℕ) (beside : List ℕ) (tried : Option (List FileStep))
-        → AreNamesTaken name number old tried → IsBeside name number beside
+        → AreNamesTaken name number old tried → IsNewName name number beside
         → TookSteps tried new (NotMade beside ∷ []) → failure ≡ NotWritten
         → IsNotMade name failure old new
 

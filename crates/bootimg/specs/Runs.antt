@@ -449,6 +449,7 @@ pub record IsPlainRun (files : FilePromise) (steps new_steps : Option (List File
   pub reads_well : ReadsWell run.input
   pub none_taken : run.input.taken ≡ 0
   pub writes_well : WritesWell run.output
+  pub errors_write_well : WritesWell run.errors
   pub steps_before : run.steps ≡ steps
   pub steps_after : run.new_steps ≡ new_steps
   pub remaining_before : run.input.remaining ≡ remaining

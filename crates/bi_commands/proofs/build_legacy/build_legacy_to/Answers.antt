@@ -1,7 +1,6 @@
-use Rattle.std.proofs.Common.{◌≡◌, List, subst, ◌∙◌}
+use Rattle.std.proofs.Common.{List, subst, ◌∙◌}
 use Rattle.std.proofs.lemmas.Result.{err_from_is_err_and}
 use Rattle.bi_base.specs.Pipes.{IsPiped}
-use Rattle.bi_base.specs.declared.fault.Error.TheVariants.{OutOfMemory}
 use Rattle.bi_commands.specs.BuildCommands.{build_legacy_promise, IsLegacyOutput, IsLegacyOutputError}
 use Rattle.bi_commands.specs.Parts.{parts_of_lengths}
 use Rattle.bi_commands.specs.declared.parts.Part.{Part}
@@ -11,9 +10,8 @@ use Rattle.bi_commands.proofs.build_legacy.build_legacy_to.Goals as goal
 pub returns-in_err-parts : goal.returns-in_err-parts
 returns-in_err-parts g c =
     let p = err_from_is_err_and c.from_residual.result c.from_residual.ensures.1 in
-    let error : c.in_err-parts.field-0.0 ≡ OutOfMemory = c.in_err-parts.ensures.error in
     let parts = parts_of_lengths c.args.lengths.now in
-    rw (p.1, p.2, error)
+    rw (p.1, p.2)
     (not_begun (IsLegacyOutput c.args.limits c.args.fields parts) (IsLegacyOutputError c.args.limits c.args.fields parts) c.args.limits
     (g.R.Read.remaining c.args.reader.now) (g.W.Write.contents c.args.writer.now))
 

@@ -1,4 +1,4 @@
-use Rattle.std.proofs.Common.{◌≡◌, ◌≢◌, refl, rules, string_bytes}
+use Rattle.std.proofs.Common.{◌≡◌, ◌≢◌, refl, rules, arith, string_bytes}
 use Rattle.std.proofs.lemmas.Result.{err_from_is_err_and}
 use Rattle.std.specs.IoError.{error_kind}
 use Rattle.std.specs.declared.io.ErrorKind.TheVariants.{AlreadyExists}
@@ -12,7 +12,7 @@ loop-number-init g c = none_tried _ _
 pub returns-in_err-beside-clause-failed : goal.returns-in_err-beside-clause-failed
 returns-in_err-beside-clause-failed g c =
     let p = err_from_is_err_and c.from_residual.result c.from_residual.ensures.1 in
-    rw (p.1, p.2) (NoMemoryForName _ c.loop-number.invariant refl)
+    rw (p.1, p.2) (NoMemoryForName _ (omega arith) c.loop-number.invariant refl)
 
 pub loop-number-preserved-then-eq : goal.loop-number-preserved-then-eq
 loop-number-preserved-then-eq g c =
@@ -23,11 +23,14 @@ loop-number-preserved-then-eq g c =
 pub returns-in-Err-2-clause-failed : goal.returns-in-Err-2-clause-failed
 returns-in-Err-2-clause-failed g c =
     let other : error_kind c.in-Err.error ≢ AlreadyExists = search rules in
+    let another : c.as_str-in-loop-number.result.now ≢ c.args.name.now = search rules in
     making_failed c.args.name.now (string_bytes c.in_ok-beside.beside) c.as_str-in-loop-number.result.now c.loop-number.number _ _ _
-    c.loop-number.invariant c.in_ok-beside.ensures c.as_str-in-loop-number.ensures.value (c.in-Err.ensures.not_made other)
+    (omega arith) c.loop-number.invariant c.in_ok-beside.ensures c.as_str-in-loop-number.ensures.value another
+    (c.in-Err.ensures.not_made other)
 
 pub loop-number-preserved : goal.loop-number-preserved
 loop-number-preserved g c =
     let kind : error_kind c.in-Err.error ≡ AlreadyExists = search rules in
+    let another : c.as_str-in-loop-number.result.now ≢ c.args.name.now = search rules in
     taken_name_tried c.args.name.now (string_bytes c.in_ok-beside.beside) c.as_str-in-loop-number.result.now c.loop-number.number _ _ _
-    c.loop-number.invariant c.in_ok-beside.ensures c.as_str-in-loop-number.ensures.value (c.in-Err.ensures.taken kind)
+    c.loop-number.invariant c.in_ok-beside.ensures c.as_str-in-loop-number.ensures.value another (c.in-Err.ensures.taken kind)

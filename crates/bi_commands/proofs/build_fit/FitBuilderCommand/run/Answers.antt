@@ -1,6 +1,5 @@
-use Rattle.std.proofs.Common.{◌≡◌, refl, subst, ap, sym}
+use Rattle.std.proofs.Common.{refl, subst, ap, sym}
 use Rattle.std.proofs.lemmas.Result.{err_from_is_err_and}
-use Rattle.bi_base.specs.declared.fault.Error.TheVariants.{OutOfMemory}
 use Rattle.bi_base.specs.Slices.{bytes_of}
 use Rattle.bi_base.specs.Commands.{WasRefused}
 use Rattle.bi_commands.specs.BuildCommands.{HavePayloads}
@@ -16,8 +15,7 @@ returns-in_err-contents-clause-failed g c =
 pub returns-in_err-complete-clause-failed : goal.returns-in_err-complete-clause-failed
 returns-in_err-complete-clause-failed g c =
     let p = err_from_is_err_and c.from_residual-in_err-complete.result c.from_residual-in_err-complete.ensures.1 in
-    let error : c.in_err-complete.field-0.0 ≡ OutOfMemory = c.in_err-complete.ensures.failed in
-    rw (p.1, p.2, error)
+    rw (p.1, p.2)
     (WasRefused (sum_of_cut c.args.input.now (lengths_of c.args.self.now.payloads.now) (pieces_among c.args.self.now.payloads.now (bytes_of c.in_ok-contents.contents.items)) c.in_ok-contents.ensures.filled.cut) refl)
 
 pub returns-in_err-build_fit_into-clause-failed : goal.returns-in_err-build_fit_into-clause-failed
