@@ -53,41 +53,41 @@ pub not_parsed : {T : Type 0} (Is : T → Type 0) (option : Option T) (result : 
 not_parsed Is (Some value) result same none = subst (λ r. IfErr r (IsBadValue Is)) (sym same) tt
 not_parsed Is None result same none = subst (λ r. IfErr r (IsBadValue Is)) (sym same) (refl, none)
 
--- A word that is neither `-` nor a number is no address.
-pub no_address : (word : List ℕ) → (IsAddress word None → ⊥) → ((number : ℕ) → IsNumber word number → ⊥) → NoneIs (IsAddress word)
-no_address word differs none None is = differs is
-no_address word differs none (Some number) is = none number is
+-- An argument that is neither `-` nor a number is no address.
+pub no_address : (argument : List ℕ) → (IsAddress argument None → ⊥) → ((number : ℕ) → IsNumber argument number → ⊥) → NoneIs (IsAddress argument)
+no_address argument differs none None is = differs is
+no_address argument differs none (Some number) is = none number is
 
--- A word that is neither a number nor begins with `@` is no part.
-pub no_source : (word : List ℕ) → ((rest : List ℕ) → word ≡ 64 ∷ rest → ⊥) → ((number : ℕ) → IsNumber word number → ⊥) →
-    NoneIs (IsPartSource word)
-no_source word no_name none (source.Input size) is = none size is
-no_source word no_name none (source.File name) is = no_name name.now is
+-- An argument that is neither a number nor begins with `@` is no part.
+pub no_source : (argument : List ℕ) → ((rest : List ℕ) → argument ≡ 64 ∷ rest → ⊥) → ((number : ℕ) → IsNumber argument number → ⊥) →
+    NoneIs (IsPartSource argument)
+no_source argument no_name none (source.Input size) is = none size is
+no_source argument no_name none (source.File name) is = no_name name.now is
 
 -- A text that is split at its first colon.
-pub field_split : (word : List ℕ) (result : Option (Bor (List ℕ) × Bor (List ℕ))) →
-    MatchOption result (position_or_len (λ b. b == 58) word ≡ length word)
-    (λ x. (x.0.now ≡ before_first (λ b. b == 58) word) × (x.1.now ≡ after_first (λ b. b == 58) word)
-    × (position_or_len (λ b. b == 58) word < length word)) → IfSome result (λ split. parts_of word ≡ split.0.now ∷ parts_of split.1.now)
-field_split word None is = tt
-field_split word (Some split) is = rw (is.0, is.1) (slice_split_first (λ b. b == 58) word 0 is.2)
+pub field_split : (argument : List ℕ) (result : Option (Bor (List ℕ) × Bor (List ℕ))) →
+    MatchOption result (position_or_len (λ b. b == 58) argument ≡ length argument)
+    (λ x. (x.0.now ≡ before_first (λ b. b == 58) argument) × (x.1.now ≡ after_first (λ b. b == 58) argument)
+    × (position_or_len (λ b. b == 58) argument < length argument)) → IfSome result (λ split. parts_of argument ≡ split.0.now ∷ parts_of split.1.now)
+field_split argument None is = tt
+field_split argument (Some split) is = rw (is.0, is.1) (slice_split_first (λ b. b == 58) argument 0 is.2)
 
 -- A text without a colon.
-pub no_field : (word : List ℕ) (result : Option (Bor (List ℕ) × Bor (List ℕ))) →
-    MatchOption result (position_or_len (λ b. b == 58) word ≡ length word)
-    (λ x. (x.0.now ≡ before_first (λ b. b == 58) word) × (x.1.now ≡ after_first (λ b. b == 58) word)
-    × (position_or_len (λ b. b == 58) word < length word)) → IfNone result (parts_of word ≡ word ∷ [])
-no_field word (Some split) is = tt
-no_field word None is =
-    slice_split_none (λ b. b == 58) word
-    (All-from_get_or (λ x. (x == 58) ≡ false) word 0
-    (λ i below. fails_before_first (λ b. b == 58) word i 0 (omega (arith, is))))
+pub no_field : (argument : List ℕ) (result : Option (Bor (List ℕ) × Bor (List ℕ))) →
+    MatchOption result (position_or_len (λ b. b == 58) argument ≡ length argument)
+    (λ x. (x.0.now ≡ before_first (λ b. b == 58) argument) × (x.1.now ≡ after_first (λ b. b == 58) argument)
+    × (position_or_len (λ b. b == 58) argument < length argument)) → IfNone result (parts_of argument ≡ argument ∷ [])
+no_field argument (Some split) is = tt
+no_field argument None is =
+    slice_split_none (λ b. b == 58) argument
+    (All-from_get_or (λ x. (x == 58) ≡ false) argument 0
+    (λ i below. fails_before_first (λ b. b == 58) argument i 0 (omega (arith, is))))
 
 -- A text has at least one part.
-pub parts_not_empty : (word : List ℕ) → parts_of word ≢ []
-parts_not_empty word empty =
-    let counted = length-slice_split (λ b. b == 58) word in
-    let none : length (parts_of word) ≡ 0 = ap (λ parts. length parts) empty in
+pub parts_not_empty : (argument : List ℕ) → parts_of argument ≢ []
+parts_not_empty argument empty =
+    let counted = length-slice_split (λ b. b == 58) argument in
+    let none : length (parts_of argument) ≡ 0 = ap (λ parts. length parts) empty in
     omega arith
 
 -- The image of the same fields.
@@ -115,9 +115,9 @@ same_image texts others image same is =
     }
 
 -- A text is no image if its fields are none.
-pub no_image_text : (word : List ℕ) (texts : ImageTexts) → parts_of word ≡ list_of texts → NoneIs (IsImage texts) →
-    NoneIs (IsImageText word)
-no_image_text word texts same none image is = none image (same_image texts is.0 image (sym same ∙ is.1) is.2)
+pub no_image_text : (argument : List ℕ) (texts : ImageTexts) → parts_of argument ≡ list_of texts → NoneIs (IsImage texts) →
+    NoneIs (IsImageText argument)
+no_image_text argument texts same none image is = none image (same_image texts is.0 image (sym same ∙ is.1) is.2)
 
 -- Two lists, place by place, and one more of each.
 pub zip_push : {A B : Type 0} (R : A → B → Type 0) (xs : List A) (ys : List B) (x : A) (y : B) → AllZip R xs ys → R x y →
@@ -128,73 +128,73 @@ zip_push R (a ∷ xs) [] x y all one = absurd all
 zip_push R (a ∷ xs) (b ∷ ys) x y all one = (all.0, zip_push R xs ys x y all.1 one)
 
 -- A text with eight colons does not have eight fields.
-pub nine_fields : (word a b1 b c1 c d1 d e1 e f1 f g1 g h1 h i1 : List ℕ) (texts : ImageTexts) → parts_of word ≡ a ∷ parts_of b1 →
+pub nine_fields : (argument a b1 b c1 c d1 d e1 e f1 f g1 g h1 h i1 : List ℕ) (texts : ImageTexts) → parts_of argument ≡ a ∷ parts_of b1 →
     parts_of b1 ≡ b ∷ parts_of c1 → parts_of c1 ≡ c ∷ parts_of d1 → parts_of d1 ≡ d ∷ parts_of e1 → parts_of e1 ≡ e ∷ parts_of f1 →
-    parts_of f1 ≡ f ∷ parts_of g1 → parts_of g1 ≡ g ∷ parts_of h1 → parts_of h1 ≡ h ∷ parts_of i1 → parts_of word ≢ list_of texts
-nine_fields word a b1 b c1 c d1 d e1 e f1 f g1 g h1 h i1 texts e0 e2 e3 e4 e5 e6 e7 e8 same =
+    parts_of f1 ≡ f ∷ parts_of g1 → parts_of g1 ≡ g ∷ parts_of h1 → parts_of h1 ≡ h ∷ parts_of i1 → parts_of argument ≢ list_of texts
+nine_fields argument a b1 b c1 c d1 d e1 e f1 f g1 g h1 h i1 texts e0 e2 e3 e4 e5 e6 e7 e8 same =
     let empty : parts_of i1 ≡ [] = cc in
     parts_not_empty i1 empty
 
--- A word that differs from `-` in the code differs from it.
-pub not_dash : (word : List ℕ) (result : Bool) → result ≡ bytes_eq word (codes "-") → result ≡ false → word ≡ codes "-" → ⊥
-not_dash word result is not same =
-    let yes : bytes_eq word (codes "-") ≡ true = rw (same) refl in
+-- An argument that differs from `-` in the code differs from it.
+pub not_dash : (argument : List ℕ) (result : Bool) → result ≡ bytes_eq argument (codes "-") → result ≡ false → argument ≡ codes "-" → ⊥
+not_dash argument result is not same =
+    let yes : bytes_eq argument (codes "-") ≡ true = rw (same) refl in
     absurd (let e : true ≡ false = sym yes ∙ sym is ∙ not in cc)
 
--- The words of an argument are none if it has no entry.
+-- The arguments of an argument are none if it has no entry.
 pub words_are : (found : Option (Bor (List (Bor (List ℕ))))) (entry : Option MatchedArg) (none result : Bor (List (Bor (List ℕ)))) →
     option_map (λ s. map (λ v. v.now) s.now) found ≡ option_map raw_values entry → result ≡ unwrap_or found none → none.now ≡ [] →
     texts_of result.now ≡ option_map_or raw_values entry []
 words_are None None none result same is empty = rw (is, empty) refl
 words_are None (Some entry) none result same is empty = absurd cc
-words_are (Some words) None none result same is empty = absurd cc
-words_are (Some words) (Some entry) none result same is empty = rw (is) (cc)
+words_are (Some arguments) None none result same is empty = absurd cc
+words_are (Some arguments) (Some entry) none result same is empty = rw (is) (cc)
 
--- One more word of a list.
-pub texts_push : (words : List (Bor (List ℕ))) (index : ℕ) (d : Bor (List ℕ)) → index < length words →
-    texts_of (take (index + 1) words) ≡ texts_of (take index words) ++ (get_or words index d).now ∷ []
-texts_push words index d within =
-    ap texts_of (take_more words index d within) ∙ map-append (λ (word : Bor (List ℕ)). word.now) (take index words) (get_or words index d ∷ [])
+-- One more argument of a list.
+pub texts_push : (arguments : List (Bor (List ℕ))) (index : ℕ) (d : Bor (List ℕ)) → index < length arguments →
+    texts_of (take (index + 1) arguments) ≡ texts_of (take index arguments) ++ (get_or arguments index d).now ∷ []
+texts_push arguments index d within =
+    ap texts_of (take_more arguments index d within) ∙ map-append (λ (argument : Bor (List ℕ)). argument.now) (take index arguments) (get_or arguments index d ∷ [])
 
--- A word that is no part is in no list of parts.
-pub no_parts : (words : List (Bor (List ℕ))) (index : ℕ) (d : Bor (List ℕ)) → index < length words →
-    NoneIs (IsPartSource (get_or words index d).now) → NoneIs (ArePartSources (texts_of words))
+-- An argument that is no part is in no list of parts.
+pub no_parts : (arguments : List (Bor (List ℕ))) (index : ℕ) (d : Bor (List ℕ)) → index < length arguments →
+    NoneIs (IsPartSource (get_or arguments index d).now) → NoneIs (ArePartSources (texts_of arguments))
 no_parts [] index d within none parts are = absurd (omega (arith, within))
-no_parts (word ∷ words) index d within none [] are = absurd are
-no_parts (word ∷ words) zero d within none (part ∷ parts) are = none part are.0
-no_parts (word ∷ words) (suc index) d within none (part ∷ parts) are =
-    no_parts words index d (omega (arith, within)) none parts are.1
+no_parts (argument ∷ arguments) index d within none [] are = absurd are
+no_parts (argument ∷ arguments) zero d within none (part ∷ parts) are = none part are.0
+no_parts (argument ∷ arguments) (suc index) d within none (part ∷ parts) are =
+    no_parts arguments index d (omega (arith, within)) none parts are.1
 
 -- One more image.
-pub images_push : (words : List (List ℕ)) (images : List ImageSpec) (payloads : List PartSource) (word : List ℕ) (image : ImageSpec)
-    (payload : PartSource) → AreImages words images payloads → IsImageText word (image, payload) →
-    AreImages (words ++ word ∷ []) (images ++ image ∷ []) (payloads ++ payload ∷ [])
-images_push [] [] [] word image payload are is = (is, tt)
-images_push [] [] (s ∷ payloads) word image payload are is = absurd are
-images_push [] (i ∷ images) payloads word image payload are is = absurd are
-images_push (w ∷ words) [] payloads word image payload are is = absurd are
-images_push (w ∷ words) (i ∷ images) [] word image payload are is = absurd are
-images_push (w ∷ words) (i ∷ images) (s ∷ payloads) word image payload are is = (are.0, images_push words images payloads word image payload are.1 is)
+pub images_push : (arguments : List (List ℕ)) (images : List ImageSpec) (payloads : List PartSource) (argument : List ℕ) (image : ImageSpec)
+    (payload : PartSource) → AreImages arguments images payloads → IsImageText argument (image, payload) →
+    AreImages (arguments ++ argument ∷ []) (images ++ image ∷ []) (payloads ++ payload ∷ [])
+images_push [] [] [] argument image payload are is = (is, tt)
+images_push [] [] (s ∷ payloads) argument image payload are is = absurd are
+images_push [] (i ∷ images) payloads argument image payload are is = absurd are
+images_push (w ∷ arguments) [] payloads argument image payload are is = absurd are
+images_push (w ∷ arguments) (i ∷ images) [] argument image payload are is = absurd are
+images_push (w ∷ arguments) (i ∷ images) (s ∷ payloads) argument image payload are is = (are.0, images_push arguments images payloads argument image payload are.1 is)
 
--- Each of words that are images is one.
-pub image_at : (words : List (List ℕ)) (images : List ImageSpec) (payloads : List PartSource) (index : ℕ) (word : List ℕ) →
-    AreImages words images payloads → slice_get words index ≡ Some word → (image : ImageSpec × PartSource) × IsImageText word image
-image_at [] images payloads index word are is = absurd cc
-image_at (w ∷ words) [] payloads index word are is = absurd are
-image_at (w ∷ words) (i ∷ images) [] index word are is = absurd are
-image_at (w ∷ words) (i ∷ images) (s ∷ payloads) zero word are is =
-    let same : w ≡ word = cc in ((i, s), subst (λ text. IsImageText text (i, s)) same are.0)
-image_at (w ∷ words) (i ∷ images) (s ∷ payloads) (suc index) word are is = image_at words images payloads index word are.1 is
+-- Each of arguments that are images is one.
+pub image_at : (arguments : List (List ℕ)) (images : List ImageSpec) (payloads : List PartSource) (index : ℕ) (argument : List ℕ) →
+    AreImages arguments images payloads → slice_get arguments index ≡ Some argument → (image : ImageSpec × PartSource) × IsImageText argument image
+image_at [] images payloads index argument are is = absurd cc
+image_at (w ∷ arguments) [] payloads index argument are is = absurd are
+image_at (w ∷ arguments) (i ∷ images) [] index argument are is = absurd are
+image_at (w ∷ arguments) (i ∷ images) (s ∷ payloads) zero argument are is =
+    let same : w ≡ argument = cc in ((i, s), subst (λ text. IsImageText text (i, s)) same are.0)
+image_at (w ∷ arguments) (i ∷ images) (s ∷ payloads) (suc index) argument are is = image_at arguments images payloads index argument are.1 is
 
 -- As many images as payloads.
-pub images_long : (words : List (List ℕ)) (images : List ImageSpec) (payloads : List PartSource) → AreImages words images payloads →
+pub images_long : (arguments : List (List ℕ)) (images : List ImageSpec) (payloads : List PartSource) → AreImages arguments images payloads →
     length payloads ≡ length images
 images_long [] [] [] are = refl
 images_long [] [] (s ∷ payloads) are = absurd are
 images_long [] (i ∷ images) payloads are = absurd are
-images_long (w ∷ words) [] payloads are = absurd are
-images_long (w ∷ words) (i ∷ images) [] are = absurd are
-images_long (w ∷ words) (i ∷ images) (s ∷ payloads) are = let e = images_long words images payloads are.1 in cc
+images_long (w ∷ arguments) [] payloads are = absurd are
+images_long (w ∷ arguments) (i ∷ images) [] are = absurd are
+images_long (w ∷ arguments) (i ∷ images) (s ∷ payloads) are = let e = images_long arguments images payloads are.1 in cc
 
 -- What is known of the value that was taken out of an option.
 pub ok_or_is : {T E : Type 0} (P : T → Type 0) (option : Option T) (error : E) (result : Result T E) (value : T) →
@@ -255,47 +255,47 @@ task_outcome name options P (Err given) (outcome.Failure failure) is fails task 
     ])
 
 -- The parts so far, and one more.
-pub parts_next : (words : List (Bor (List ℕ))) (index : ℕ) (d : Bor (List ℕ)) (parts next : List PartSource) (part : PartSource) →
-    index < length words → ArePartSources (texts_of (take index words)) parts → next ≡ parts ++ part ∷ [] →
-    IsPartSource (get_or words index d).now part → ArePartSources (texts_of (take (index + 1) words)) next
-parts_next words index d parts next part within are is one =
-    rw (texts_push words index d within, is)
-    (zip_push IsPartSource (texts_of (take index words)) parts (get_or words index d).now part are one)
+pub parts_next : (arguments : List (Bor (List ℕ))) (index : ℕ) (d : Bor (List ℕ)) (parts next : List PartSource) (part : PartSource) →
+    index < length arguments → ArePartSources (texts_of (take index arguments)) parts → next ≡ parts ++ part ∷ [] →
+    IsPartSource (get_or arguments index d).now part → ArePartSources (texts_of (take (index + 1) arguments)) next
+parts_next arguments index d parts next part within are is one =
+    rw (texts_push arguments index d within, is)
+    (zip_push IsPartSource (texts_of (take index arguments)) parts (get_or arguments index d).now part are one)
 
 -- The images so far, and one more.
-pub images_next : (words : List (Bor (List ℕ))) (index : ℕ) (d : Bor (List ℕ)) (images more : List ImageSpec)
-    (payloads longer : List PartSource) (image : ImageSpec) (payload : PartSource) → index < length words →
-    AreImages (texts_of (take index words)) images payloads → more ≡ images ++ image ∷ [] → longer ≡ payloads ++ payload ∷ [] →
-    IsImageText (get_or words index d).now (image, payload) → AreImages (texts_of (take (index + 1) words)) more longer
-images_next words index d images more payloads longer image payload within are is lengths one =
-    rw (texts_push words index d within, is, lengths)
-    (images_push (texts_of (take index words)) images payloads (get_or words index d).now image payload are one)
+pub images_next : (arguments : List (Bor (List ℕ))) (index : ℕ) (d : Bor (List ℕ)) (images more : List ImageSpec)
+    (payloads longer : List PartSource) (image : ImageSpec) (payload : PartSource) → index < length arguments →
+    AreImages (texts_of (take index arguments)) images payloads → more ≡ images ++ image ∷ [] → longer ≡ payloads ++ payload ∷ [] →
+    IsImageText (get_or arguments index d).now (image, payload) → AreImages (texts_of (take (index + 1) arguments)) more longer
+images_next arguments index d images more payloads longer image payload within are is lengths one =
+    rw (texts_push arguments index d within, is, lengths)
+    (images_push (texts_of (take index arguments)) images payloads (get_or arguments index d).now image payload are one)
 
--- The text of a word.
-text_at : (words : List (Bor (List ℕ))) (index : ℕ) (d : Bor (List ℕ)) → index < length words →
-    slice_get (texts_of words) index ≡ Some (get_or words index d).now
+-- The text of an argument.
+text_at : (arguments : List (Bor (List ℕ))) (index : ℕ) (d : Bor (List ℕ)) → index < length arguments →
+    slice_get (texts_of arguments) index ≡ Some (get_or arguments index d).now
 text_at [] index d within = absurd (omega (arith, within))
-text_at (word ∷ words) zero d within = refl
-text_at (word ∷ words) (suc index) d within = text_at words index d (omega (arith, within))
+text_at (argument ∷ arguments) zero d within = refl
+text_at (argument ∷ arguments) (suc index) d within = text_at arguments index d (omega (arith, within))
 
--- A word before an index is among the first words.
-before_taken : (words : List (Bor (List ℕ))) (index other : ℕ) (text : List ℕ) → other < index →
-    slice_get (texts_of words) other ≡ Some text → slice_get (texts_of (take index words)) other ≡ Some text
+-- An argument before an index is among the first arguments.
+before_taken : (arguments : List (Bor (List ℕ))) (index other : ℕ) (text : List ℕ) → other < index →
+    slice_get (texts_of arguments) other ≡ Some text → slice_get (texts_of (take index arguments)) other ≡ Some text
 before_taken [] index other text before is = absurd cc
-before_taken (word ∷ words) zero other text before is = absurd (omega (arith, before))
-before_taken (word ∷ words) (suc index) zero text before is = is
-before_taken (word ∷ words) (suc index) (suc other) text before is =
-    before_taken words index other text (omega (arith, before)) is
+before_taken (argument ∷ arguments) zero other text before is = absurd (omega (arith, before))
+before_taken (argument ∷ arguments) (suc index) zero text before is = is
+before_taken (argument ∷ arguments) (suc index) (suc other) text before is =
+    before_taken arguments index other text (omega (arith, before)) is
 
--- The first word that is no image.
-pub first_bad : (words : List (Bor (List ℕ))) (index : ℕ) (d : Bor (List ℕ)) (images : List ImageSpec) (payloads : List PartSource) →
-    index < length words → AreImages (texts_of (take index words)) images payloads → NoneIs (IsImageText (get_or words index d).now) →
-    IsFirstBad (texts_of words) index
-first_bad words index d images payloads within are none = record {
-  word = (get_or words index d).now;
-  is = text_at words index d within;
+-- The first argument that is no image.
+pub first_bad : (arguments : List (Bor (List ℕ))) (index : ℕ) (d : Bor (List ℕ)) (images : List ImageSpec) (payloads : List PartSource) →
+    index < length arguments → AreImages (texts_of (take index arguments)) images payloads → NoneIs (IsImageText (get_or arguments index d).now) →
+    IsFirstBad (texts_of arguments) index
+first_bad arguments index d images payloads within are none = record {
+  argument = (get_or arguments index d).now;
+  is = text_at arguments index d within;
   bad = none;
-  before = λ other text before is. image_at (texts_of (take index words)) images payloads other text are (before_taken words index other text before is);
+  before = λ other text before is. image_at (texts_of (take index arguments)) images payloads other text are (before_taken arguments index other text before is);
 }
 
 -- The selections that are given, from the results of the calls.
@@ -337,14 +337,14 @@ not_both : {A : Type 0} {one : A} {P : Type 0} (option : Option A) → option �
 not_both option is also = absurd (let e = sym is ∙ also in cc)
 
 -- The index of a part is no number.
-pub no_part : (options : ArgMatches) (escaped : Bool) (word : List ℕ) → AreGiven options (Some word) None None false →
-    AreEscaped options escaped → NoneIs (IsNumber word) → IsSelectionFailure options BadValue
-no_part options escaped word given flag none = record {
+pub no_part : (options : ArgMatches) (escaped : Bool) (argument : List ℕ) → AreGiven options (Some argument) None None false →
+    AreEscaped options escaped → NoneIs (IsNumber argument) → IsSelectionFailure options BadValue
+no_part options escaped argument given flag none = record {
   default = false;
   default_is = given.default_is;
   escaped = escaped;
   escaped_is = flag;
-  one = count_given options (Some word) None None false given;
+  one = count_given options (Some argument) None None false given;
   none = no_select;
 }
   where
@@ -357,14 +357,14 @@ no_part options escaped word given flag none = record {
     no_select (Default key index) is = let other = is.0 in not_both (option_of options (codes "part")) other.part_is given.part_is
 
 -- The name of an image is not the one of any bytes.
-pub no_image_name : (options : ArgMatches) (escaped : Bool) (word : List ℕ) → AreGiven options None (Some word) None false →
-    AreEscaped options escaped → NoneIs (IsNameOf escaped word) → IsSelectionFailure options BadValue
-no_image_name options escaped word given flag none = record {
+pub no_image_name : (options : ArgMatches) (escaped : Bool) (argument : List ℕ) → AreGiven options None (Some argument) None false →
+    AreEscaped options escaped → NoneIs (IsNameOf escaped argument) → IsSelectionFailure options BadValue
+no_image_name options escaped argument given flag none = record {
   default = false;
   default_is = given.default_is;
   escaped = escaped;
   escaped_is = flag;
-  one = count_given options None (Some word) None false given;
+  one = count_given options None (Some argument) None false given;
   none = no_select;
 }
   where
@@ -377,14 +377,14 @@ no_image_name options escaped word given flag none = record {
     no_select (Default key index) is = let other = is.0 in not_both (option_of options (codes "image")) other.image_is given.image_is
 
 -- So is the name of a configuration.
-pub no_config_name : (options : ArgMatches) (escaped : Bool) (word : List ℕ) → AreGiven options None None (Some word) false →
-    AreEscaped options escaped → NoneIs (IsNameOf escaped word) → IsSelectionFailure options BadValue
-no_config_name options escaped word given flag none = record {
+pub no_config_name : (options : ArgMatches) (escaped : Bool) (argument : List ℕ) → AreGiven options None None (Some argument) false →
+    AreEscaped options escaped → NoneIs (IsNameOf escaped argument) → IsSelectionFailure options BadValue
+no_config_name options escaped argument given flag none = record {
   default = false;
   default_is = given.default_is;
   escaped = escaped;
   escaped_is = flag;
-  one = count_given options None None (Some word) false given;
+  one = count_given options None None (Some argument) false given;
   none = no_select;
 }
   where

@@ -78,9 +78,9 @@ option_of options id = first_value (found_of options) id
 abbrev pub value_of : ArgMatches → List ℕ → List ℕ → List ℕ
 value_of options id default = unwrap_or (option_of options id) default
 
--- The texts of words.
+-- The texts of arguments.
 abbrev pub texts_of : List (Bor (List ℕ)) → List (List ℕ)
-texts_of words = map (λ word. word.now) words
+texts_of arguments = map (λ argument. argument.now) arguments
 
 -- The arguments that are no options, under this name.
 abbrev pub values_of : ArgMatches → List ℕ → List (List ℕ)
@@ -106,9 +106,9 @@ IsFailureOutcome IsFailure (outcome.Text text) = ⊥
 abbrev pub limit_of : ArgMatches → List ℕ
 limit_of options = value_of options (codes "limit") (codes "2147483647")
 
--- The word is a number, which is the most bytes of an image. A tree may have 64 levels.
-pub record IsLimits (word : List ℕ) (limits : Limits) : Type 0 where
-  pub file : IsNumber word limits.file
+-- The argument is a number, which is the most bytes of an image. A tree may have 64 levels.
+pub record IsLimits (argument : List ℕ) (limits : Limits) : Type 0 where
+  pub file : IsNumber argument limits.file
   pub least : 64 ≤ limits.file
   pub most : limits.file ≤ 0x7fffffff
   pub depth : limits.depth ≡ 64
@@ -129,8 +129,8 @@ pub record IsForm (options : ArgMatches) (form : Form) : Type 0 where
 abbrev pub IsImageSource : Option (List ℕ) → ImageSource → Type 0
 IsImageSource None Standard = ⊤
 IsImageSource None (File name) = ⊥
-IsImageSource (Some word) Standard = word ≡ codes "-"
-IsImageSource (Some word) (File name) = (name.now ≡ word) × (word ≢ codes "-")
+IsImageSource (Some argument) Standard = argument ≡ codes "-"
+IsImageSource (Some argument) (File name) = (name.now ≡ argument) × (argument ≢ codes "-")
 
 -- ---- compare
 
@@ -197,8 +197,8 @@ pub record ChangesHashes (options : ArgMatches) (hashes : Bool) : Type 0 where
 -- The new time is the value of `--time`, if that is given.
 abbrev pub IsNewTime : Option (List ℕ) → Option ℕ → Type 0
 IsNewTime None None = ⊤
-IsNewTime (Some word) (Some time) = IsNumber word time
-IsNewTime word time = ⊥
+IsNewTime (Some argument) (Some time) = IsNumber argument time
+IsNewTime argument time = ⊥
 
 -- The options request these changes, of which there is one at least.
 pub record IsChanges (options : ArgMatches) (changes : Changes) : Type 0 where
@@ -211,21 +211,21 @@ pub record IsChanges (options : ArgMatches) (changes : Changes) : Type 0 where
 abbrev pub IsChangesFailure : ArgMatches → Failure → Type 0
 IsChangesFailure options NoChange =
     (option_of options (codes "time") ≡ None) × ChangesHashes options false
-IsChangesFailure options BadValue = (word : List ℕ)
-    × (option_of options (codes "time") ≡ Some word) × NoneIs (IsNumber word)
+IsChangesFailure options BadValue = (argument : List ℕ)
+    × (option_of options (codes "time") ≡ Some argument) × NoneIs (IsNumber argument)
 IsChangesFailure options failure = ⊥
 
 -- ---- explain
 
--- The word is the name of this cause.
+-- The argument is the name of this cause.
 abbrev pub NamesCause : List ℕ → Cause → Type 0
-NamesCause word cause = word ≡ name_of cause
+NamesCause argument cause = argument ≡ name_of cause
 
 -- The argument is the name of this cause. Without an argument there is no cause.
 abbrev pub IsExplained : Option (List ℕ) → Option Cause → Type 0
 IsExplained None None = ⊤
-IsExplained (Some word) (Some cause) = NamesCause word cause
-IsExplained word cause = ⊥
+IsExplained (Some argument) (Some cause) = NamesCause argument cause
+IsExplained argument cause = ⊥
 
 -- ---- extract
 
@@ -273,22 +273,22 @@ pub record AreEscaped (options : ArgMatches) (escaped : Bool) : Type 0 where
   pub not_given : escaped_flag options ≡ Some (codes "false") → escaped ≡ false
   pub unknown : escaped_flag options ≡ None → escaped ≡ false
 
--- The word is this name, or how the name is printed if it is escaped.
+-- The argument is this name, or how the name is printed if it is escaped.
 abbrev pub IsNameOf : (escaped : Bool) → List ℕ → List ℕ → Type 0
-IsNameOf true word name = IsNameShownAs word name
-IsNameOf false word name = name ≡ word
+IsNameOf true argument name = IsNameShownAs argument name
+IsNameOf false argument name = name ≡ argument
 
 -- The options select this, and nothing else. The key and the index have to be good even if they
 -- have no effect.
 abbrev pub IsSelection : ArgMatches → (escaped : Bool) → Selected → Type 0
-IsSelection options escaped (Part index) = (word : List ℕ)
-    × AreGiven options (Some word) None None false × HasEntry options × IsNumber word index
-IsSelection options escaped (Image name) = (word : List ℕ)
-    × AreGiven options None (Some word) None false × HasEntry options
-    × IsNameOf escaped word name.items
-IsSelection options escaped (Config name key index) = (word : List ℕ)
-    × AreGiven options None None (Some word) false × IsEntry options (key, index)
-    × IsNameOf escaped word name.items
+IsSelection options escaped (Part index) = (argument : List ℕ)
+    × AreGiven options (Some argument) None None false × HasEntry options × IsNumber argument index
+IsSelection options escaped (Image name) = (argument : List ℕ)
+    × AreGiven options None (Some argument) None false × HasEntry options
+    × IsNameOf escaped argument name.items
+IsSelection options escaped (Config name key index) = (argument : List ℕ)
+    × AreGiven options None None (Some argument) false × IsEntry options (key, index)
+    × IsNameOf escaped argument name.items
 IsSelection options escaped (Default key index) =
     AreGiven options None None None true × IsEntry options (key, index)
 
@@ -315,14 +315,14 @@ IsSelectionFailure options failure = ⊥
 
 -- ---- parts of images to be built
 
--- The word is a part in standard input, of this length, or `@` and the name of this file.
+-- The argument is a part in standard input, of this length, or `@` and the name of this file.
 abbrev pub IsPartSource : List ℕ → PartSource → Type 0
-IsPartSource word (part.Input size) = IsNumber word size
-IsPartSource word (part.File name) = word ≡ codes "@" ++ name.now
+IsPartSource argument (part.Input size) = IsNumber argument size
+IsPartSource argument (part.File name) = argument ≡ codes "@" ++ name.now
 
--- The words are these parts, in this order.
+-- The arguments are these parts, in this order.
 abbrev pub ArePartSources : List (List ℕ) → List PartSource → Type 0
-ArePartSources words sources = AllZip IsPartSource words sources
+ArePartSources arguments sources = AllZip IsPartSource arguments sources
 
 -- Whether a part is in standard input.
 abbrev pub is_input : PartSource → Bool
@@ -355,10 +355,10 @@ pub record IsLegacyPlan (options : ArgMatches) (plan : LegacyPlan) : Type 0 wher
 
 -- ---- build-fit
 
--- The word is an address, or `-` for none.
+-- The argument is an address, or `-` for none.
 abbrev pub IsAddress : List ℕ → Option ℕ → Type 0
-IsAddress word None = word ≡ codes "-"
-IsAddress word (Some address) = IsNumber word address
+IsAddress argument None = argument ≡ codes "-"
+IsAddress argument (Some address) = IsNumber argument address
 
 -- The fields in the order in which the text has them.
 abbrev pub list_of : ImageTexts → List (List ℕ)
@@ -367,7 +367,7 @@ list_of texts = texts.name.now ∷ texts.image_type.now ∷ texts.arch.now ∷ t
 
 -- The parts of a text between its colons.
 abbrev pub parts_of : List ℕ → List (List ℕ)
-parts_of word = slice_split (λ byte. byte == 58) word
+parts_of argument = slice_split (λ byte. byte == 58) argument
 
 -- The fields are this image, without its payload, and the payload.
 pub record IsImage (texts : ImageTexts) (image : ImageSpec × PartSource) : Type 0 where
@@ -381,17 +381,17 @@ pub record IsImage (texts : ImageTexts) (image : ImageSpec × PartSource) : Type
   pub payload : image.0.payload.now ≡ []
   pub source : IsPartSource texts.length.now image.1
 
--- The word is this image, and its payload: eight fields between colons.
+-- The argument is this image, and its payload: eight fields between colons.
 abbrev pub IsImageText : List ℕ → ImageSpec × PartSource → Type 0
-IsImageText word image =
-    (texts : ImageTexts) × (parts_of word ≡ list_of texts) × IsImage texts image
+IsImageText argument image =
+    (texts : ImageTexts) × (parts_of argument ≡ list_of texts) × IsImage texts image
 
--- The words are these images, and their payloads.
+-- The arguments are these images, and their payloads.
 abbrev pub AreImages : List (List ℕ) → List ImageSpec → List PartSource → Type 0
 AreImages [] [] [] = ⊤
-AreImages (word ∷ words) (image ∷ images) (payload ∷ payloads) =
-    IsImageText word (image, payload) × AreImages words images payloads
-AreImages words images payloads = ⊥
+AreImages (argument ∷ arguments) (image ∷ images) (payload ∷ payloads) =
+    IsImageText argument (image, payload) × AreImages arguments images payloads
+AreImages arguments images payloads = ⊥
 
 -- The options of `build-fit` are this plan.
 pub record IsFitPlan (options : ArgMatches) (plan : FitPlan) : Type 0 where
@@ -401,18 +401,18 @@ pub record IsFitPlan (options : ArgMatches) (plan : FitPlan) : Type 0 where
       plan.payloads.items
   pub form : IsForm options plan.form
 
--- The first word that is no image has this index.
-pub record IsFirstBad (words : List (List ℕ)) (index : ℕ) : Type 0 where
-  pub word : List ℕ
-  pub is : slice_get words index ≡ Some word
-  pub bad : NoneIs (IsImageText word)
-  pub before : (other : ℕ) (text : List ℕ) → other < index → slice_get words other ≡ Some text
+-- The first argument that is no image has this index.
+pub record IsFirstBad (arguments : List (List ℕ)) (index : ℕ) : Type 0 where
+  pub argument : List ℕ
+  pub is : slice_get arguments index ≡ Some argument
+  pub bad : NoneIs (IsImageText argument)
+  pub before : (other : ℕ) (text : List ℕ) → other < index → slice_get arguments other ≡ Some text
       → (image : ImageSpec × PartSource) × IsImageText text image
 
--- The failure is that of the first word that is no image.
+-- The failure is that of the first argument that is no image.
 abbrev pub IsBadImage : List (List ℕ) → Failure → Type 0
-IsBadImage words (BadImage index) = IsFirstBad words index
-IsBadImage words failure = ⊥
+IsBadImage arguments (BadImage index) = IsFirstBad arguments index
+IsBadImage arguments failure = ⊥
 
 -- The failure of options of `build-fit` that are no plan.
 abbrev pub IsFitPlanFailure : ArgMatches → Failure → Type 0

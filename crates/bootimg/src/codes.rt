@@ -36,13 +36,13 @@ impl CodeField {
 
 /// Parses a code of this field: the name of one, or else a number of at most 255. Returns None
 /// exactly for any other text: the name of a code of another field is not allowed.
-pub fn parse_code(field: CodeField, word: &str) -> Option<u8>
-    ensures some { IfSome result (IsCode field word.now) }
-    ensures exactly { (code : ℕ) → IsCode field word.now code → result ≡ Some code }
+pub fn parse_code(field: CodeField, argument: &str) -> Option<u8>
+    ensures some { IfSome result (IsCode field argument.now) }
+    ensures exactly { (code : ℕ) → IsCode field argument.now code → result ≡ Some code }
 {
-    match named_code(field, word) {
+    match named_code(field, argument) {
         Some(code) => Some(code),
-        None => u8::try_from(parse_number(word)?).ok(),
+        None => u8::try_from(parse_number(argument)?).ok(),
     }
 }
 

@@ -39,11 +39,11 @@ const CAUSES: [Cause; 26] = [
 ];
 
 /// Parses the name of a cause. Returns None exactly for any other text.
-pub fn parse_cause(word: &str) -> Option<Cause>
-    ensures some { IfSome result (NamesCause word.now) }
-    ensures none { IfNone result (NoneIs (NamesCause word.now)) }
+pub fn parse_cause(argument: &str) -> Option<Cause>
+    ensures some { IfSome result (NamesCause argument.now) }
+    ensures none { IfNone result (NoneIs (NamesCause argument.now)) }
 {
-    match word {
+    match argument {
         "Truncated" => Some(Cause::Truncated),
         "BadMagic" => Some(Cause::BadMagic),
         "BadHeaderCrc" => Some(Cause::BadHeaderCrc),
@@ -116,7 +116,7 @@ fn put_cause(text: &mut String, cause: Cause) -> Result<(), AllocError>
     Ok(())
 }
 
-/// Returns what a cause means, and what a user can do. The manual page has the same words.
+/// Returns what a cause means, and what a user can do. The manual page has the same arguments.
 fn sentence(cause: Cause) -> &'static str
     ensures { result.now ≡ sentence_of cause }
 {

@@ -7,13 +7,13 @@ ghost use Rattle.bootimg.specs.Numbers.{IsNumber, AreDigitsOf};
 /// either case. Leading zeros are allowed. Returns None exactly for any other text, and for a
 /// number over 0xffffffff: a sign, `_`, `0X`, a digit of another alphabet and the empty text are
 /// not allowed.
-pub fn parse_number(word: &str) -> Option<u32>
-    ensures some { IfSome result (IsNumber word.now) }
-    ensures exactly { (number : ℕ) → IsNumber word.now number → result ≡ Some number }
+pub fn parse_number(argument: &str) -> Option<u32>
+    ensures some { IfSome result (IsNumber argument.now) }
+    ensures exactly { (number : ℕ) → IsNumber argument.now number → result ≡ Some number }
 {
-    match word.strip_prefix("0x") {
+    match argument.strip_prefix("0x") {
         Some(digits) => number_of(digits, 16),
-        None => number_of(word, 10),
+        None => number_of(argument, 10),
     }
 }
 

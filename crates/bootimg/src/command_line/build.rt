@@ -68,8 +68,8 @@ pub fn legacy_plan<'a>(alloc: Global, options: &ArgMatches<'a>) -> Result<Legacy
     ensures failure { IfErr result (IsFailureOutcome (IsBadValue (IsLegacyPlan options.now))) }
 {
     let fields = fields(options)?;
-    let words = options.get_strs("lengths").unwrap_or(&[]);
-    let parts = parse_parts(alloc, words)?;
+    let arguments = options.get_strs("lengths").unwrap_or(&[]);
+    let parts = parse_parts(alloc, arguments)?;
     Ok(LegacyPlan { fields, parts })
 }
 
@@ -94,23 +94,23 @@ fn fields<'a>(options: &ArgMatches<'a>) -> Result<Fields<'a>, Failure>
 }
 
 /// Parses a code. Fails with BadValue.
-fn code(field: CodeField, word: &str) -> Result<u8, Failure>
-    ensures value { IfOk result (IsCode field word.now) }
-    ensures bad { IfErr result (IsBadValue (IsCode field word.now)) }
+fn code(field: CodeField, argument: &str) -> Result<u8, Failure>
+    ensures value { IfOk result (IsCode field argument.now) }
+    ensures bad { IfErr result (IsBadValue (IsCode field argument.now)) }
 {
-    parse_code(field, word).ok_or(Failure::BadValue)
+    parse_code(field, argument).ok_or(Failure::BadValue)
 }
 
-/// Parses parts. Fails with BadValue at a word that is neither a length nor `@FILE`, or with
+/// Parses parts. Fails with BadValue at an argument that is neither a length nor `@FILE`, or with
 /// OutOfMemory.
-fn parse_parts<'a>(alloc: Global, words: &[&'a str]) -> Result<Vec<PartSource<'a>>, Outcome>
-    ensures parts { IfOk result (λ parts. ArePartSources (texts_of words.now) parts.items) }
+fn parse_parts<'a>(alloc: Global, arguments: &[&'a str]) -> Result<Vec<PartSource<'a>>, Outcome>
+    ensures parts { IfOk result (λ parts. ArePartSources (texts_of arguments.now) parts.items) }
     ensures failure { IfErr result (IsFailureOutcome
-        (IsBadValue (ArePartSources (texts_of words.now)))) }
+        (IsBadValue (ArePartSources (texts_of arguments.now)))) }
 {
-    let mut parts = Vec::with_capacity(alloc, words.len())?;
-    for word in words {
-        parts.push(parse_part(word).ok_or(Failure::BadValue)?)?;
+    let mut parts = Vec::with_capacity(alloc, arguments.len())?;
+    for argument in arguments {
+        parts.push(parse_part(argument).ok_or(Failure::BadValue)?)?;
     }
     Ok(parts)
 }
@@ -127,8 +127,8 @@ pub fn fit_plan<'a>(alloc: Global, options: &ArgMatches<'a>) -> Result<FitPlan<'
         description: value(options, "description", "").as_bytes(),
         time: number(options, "time")?,
     };
-    let words = options.get_strs("images").unwrap_or(&[]);
-    let (images, payloads) = parse_images(alloc, words)?;
+    let arguments = options.get_strs("images").unwrap_or(&[]);
+    let (images, payloads) = parse_images(alloc, arguments)?;
     Ok(FitPlan {
         head,
         images,
@@ -137,21 +137,21 @@ pub fn fit_plan<'a>(alloc: Global, options: &ArgMatches<'a>) -> Result<FitPlan<'
     })
 }
 
-/// Parses images, and where their payloads come from. Fails with BadImage at the first word that is
+/// Parses images, and where their payloads come from. Fails with BadImage at the first argument that is
 /// no image, or with OutOfMemory.
 fn parse_images<'a>(
     alloc: Global,
-    words: &[&'a str],
+    arguments: &[&'a str],
 ) -> Result<(Vec<ImageSpec<'a>>, Vec<PartSource<'a>>), Outcome>
-    ensures images { IfOk result (λ built. AreImages (texts_of words.now) built.0.items
+    ensures images { IfOk result (λ built. AreImages (texts_of arguments.now) built.0.items
         built.1.items) }
     ensures lengths { IfOk result (λ built. length built.1.items ≡ length built.0.items) }
-    ensures failure { IfErr result (IsFailureOutcome (IsBadImage (texts_of words.now))) }
+    ensures failure { IfErr result (IsFailureOutcome (IsBadImage (texts_of arguments.now))) }
 {
-    let mut images = Vec::with_capacity(alloc, words.len())?;
-    let mut payloads = Vec::with_capacity(alloc, words.len())?;
-    for (index, word) in words.iter().enumerate() {
-        let (image, payload) = parse_image(word).ok_or(Failure::BadImage(index))?;
+    let mut images = Vec::with_capacity(alloc, arguments.len())?;
+    let mut payloads = Vec::with_capacity(alloc, arguments.len())?;
+    for (index, argument) in arguments.iter().enumerate() {
+        let (image, payload) = parse_image(argument).ok_or(Failure::BadImage(index))?;
         images.push(image)?;
         payloads.push(payload)?;
     }

@@ -63,18 +63,18 @@ pub fn selection(alloc: Global, options: &ArgMatches<'_>) -> Result<Selected, Ou
     let escaped = options.get_flag("escaped");
     let entry = entry(options);
     match (part, image, config, default) {
-        (Some(word), None, None, false) => {
+        (Some(argument), None, None, false) => {
             entry?;
-            let index = parse_number(word).ok_or(Failure::BadValue)?;
+            let index = parse_number(argument).ok_or(Failure::BadValue)?;
             Ok(Selected::Part(index))
         }
-        (None, Some(word), None, false) => {
+        (None, Some(argument), None, false) => {
             entry?;
-            Ok(Selected::Image(name(alloc, word, escaped)?))
+            Ok(Selected::Image(name(alloc, argument, escaped)?))
         }
-        (None, None, Some(word), false) => {
+        (None, None, Some(argument), false) => {
             let (key, index) = entry?;
-            Ok(Selected::Config(name(alloc, word, escaped)?, key, index))
+            Ok(Selected::Config(name(alloc, argument, escaped)?, key, index))
         }
         (None, None, None, true) => {
             let (key, index) = entry?;
@@ -84,16 +84,16 @@ pub fn selection(alloc: Global, options: &ArgMatches<'_>) -> Result<Selected, Ou
     }
 }
 
-/// Returns the name that the word is, or the one that is printed as the word if it is escaped.
+/// Returns the name that the argument is, or the one that is printed as the argument if it is escaped.
 /// Fails with BadValue if there is none, or with OutOfMemory.
-fn name(alloc: Global, word: &str, escaped: bool) -> Result<Vec<u8>, Outcome>
-    ensures name { IfOk result (λ name. IsNameOf escaped word.now name.items) }
-    ensures failure { IfErr result (IsFailureOutcome (IsBadValue (IsNameOf escaped word.now))) }
+fn name(alloc: Global, argument: &str, escaped: bool) -> Result<Vec<u8>, Outcome>
+    ensures name { IfOk result (λ name. IsNameOf escaped argument.now name.items) }
+    ensures failure { IfErr result (IsFailureOutcome (IsBadValue (IsNameOf escaped argument.now))) }
 {
     if !escaped {
-        return Ok(Vec::from_slice(alloc, word.as_bytes())?);
+        return Ok(Vec::from_slice(alloc, argument.as_bytes())?);
     }
-    match name_shown_as(alloc, word.as_bytes()) {
+    match name_shown_as(alloc, argument.as_bytes()) {
         Ok(Some(name)) => Ok(name),
         Ok(None) => Err(Outcome::Failure(Failure::BadValue)),
         Err(error) => Err(Outcome::Failure(Failure::Call(error))),

@@ -25,19 +25,19 @@ struct ImageTexts<'a> {
 
 /// Parses `NAME:TYPE:ARCH:OS:COMPRESSION:LOAD:ENTRY:LEN`, where LEN may be `@FILE`: an image with
 /// an empty payload, and where its payload comes from. Returns None exactly for any other text.
-pub fn parse_image(word: &str) -> Option<(ImageSpec<'_>, PartSource<'_>)>
-    ensures some { IfSome result (IsImageText word.now) }
-    ensures none { IfNone result (NoneIs (IsImageText word.now)) }
+pub fn parse_image(argument: &str) -> Option<(ImageSpec<'_>, PartSource<'_>)>
+    ensures some { IfSome result (IsImageText argument.now) }
+    ensures none { IfNone result (NoneIs (IsImageText argument.now)) }
 {
-    parse_fields(split_image(word)?)
+    parse_fields(split_image(argument)?)
 }
 
 /// Splits the text of an image at its colons. Returns None exactly if it has not eight fields.
-fn split_image(word: &str) -> Option<ImageTexts<'_>>
-    ensures some { IfSome result (λ texts. parts_of word.now ≡ list_of texts) }
-    ensures none { IfNone result ((texts : ImageTexts) → parts_of word.now ≢ list_of texts) }
+fn split_image(argument: &str) -> Option<ImageTexts<'_>>
+    ensures some { IfSome result (λ texts. parts_of argument.now ≡ list_of texts) }
+    ensures none { IfNone result ((texts : ImageTexts) → parts_of argument.now ≢ list_of texts) }
 {
-    let (name, rest) = split_field(word)?;
+    let (name, rest) = split_field(argument)?;
     let (image_type, rest) = split_field(rest)?;
     let (arch, rest) = split_field(rest)?;
     let (os, rest) = split_field(rest)?;
@@ -60,12 +60,12 @@ fn split_image(word: &str) -> Option<ImageTexts<'_>>
 }
 
 /// Splits a text at its first colon. Returns None exactly if it has none.
-fn split_field(word: &str) -> Option<(&str, &str)>
-    ensures some { IfSome result (λ split. parts_of word.now
+fn split_field(argument: &str) -> Option<(&str, &str)>
+    ensures some { IfSome result (λ split. parts_of argument.now
         ≡ split.0.now ∷ parts_of split.1.now) }
-    ensures none { IfNone result (parts_of word.now ≡ word.now ∷ []) }
+    ensures none { IfNone result (parts_of argument.now ≡ argument.now ∷ []) }
 {
-    word.split_once(':')
+    argument.split_once(':')
 }
 
 /// Parses the fields of the text of an image. Returns None exactly if one of them is malformed.
@@ -87,12 +87,12 @@ fn parse_fields(texts: ImageTexts<'_>) -> Option<(ImageSpec<'_>, PartSource<'_>)
 }
 
 /// Parses an address, or `-` for none. Returns None exactly for any other text.
-fn parse_address(word: &str) -> Option<Option<u32>>
-    ensures some { IfSome result (IsAddress word.now) }
-    ensures none { IfNone result (NoneIs (IsAddress word.now)) }
+fn parse_address(argument: &str) -> Option<Option<u32>>
+    ensures some { IfSome result (IsAddress argument.now) }
+    ensures none { IfNone result (NoneIs (IsAddress argument.now)) }
 {
-    if word == "-" {
+    if argument == "-" {
         return Some(None);
     }
-    Some(Some(parse_number(word)?))
+    Some(Some(parse_number(argument)?))
 }

@@ -25,11 +25,11 @@ pub fn limits(options: &ArgMatches<'_>) -> Result<Limits, Failure>
 }
 
 /// Parses the limit for a file. Returns None exactly for any text but a number of 64 to 0x7fffffff.
-fn parse_limits(word: &str) -> Option<Limits>
-    ensures some { IfSome result (IsLimits word.now) }
-    ensures none { IfNone result (NoneIs (IsLimits word.now)) }
+fn parse_limits(argument: &str) -> Option<Limits>
+    ensures some { IfSome result (IsLimits argument.now) }
+    ensures none { IfNone result (NoneIs (IsLimits argument.now)) }
 {
-    Limits::new(parse_number(word)?, DEPTH)
+    Limits::new(parse_number(argument)?, DEPTH)
 }
 
 /// Returns the form that the options give.

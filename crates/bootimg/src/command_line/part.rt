@@ -15,12 +15,12 @@ pub enum PartSource<'a> {
 }
 
 /// Parses a length, or `@FILE`. Returns None exactly for any other text.
-pub fn parse_part(word: &str) -> Option<PartSource<'_>>
-    ensures some { IfSome result (IsPartSource word.now) }
-    ensures none { IfNone result (NoneIs (IsPartSource word.now)) }
+pub fn parse_part(argument: &str) -> Option<PartSource<'_>>
+    ensures some { IfSome result (IsPartSource argument.now) }
+    ensures none { IfNone result (NoneIs (IsPartSource argument.now)) }
 {
-    match word.strip_prefix("@") {
+    match argument.strip_prefix("@") {
         Some(name) => Some(PartSource::File(name)),
-        None => Some(PartSource::Input(parse_number(word)?)),
+        None => Some(PartSource::Input(parse_number(argument)?)),
     }
 }

@@ -18,8 +18,8 @@ pub fn changes(options: &ArgMatches<'_>) -> Result<Changes, Failure>
     match options.get_str("time") {
         None if hashes => Ok(Changes { time: None, hashes }),
         None => Err(Failure::NoChange),
-        Some(word) => {
-            let time = parse_number(word).ok_or(Failure::BadValue)?;
+        Some(argument) => {
+            let time = parse_number(argument).ok_or(Failure::BadValue)?;
             Ok(Changes {
                 time: Some(time),
                 hashes,

@@ -28,34 +28,34 @@ pub returns-in_err-code-clause-bad : goal.returns-in_err-code-clause-bad
 returns-in_err-code-clause-bad c =
     let options = c.args.options.now in
     bad_part (IsCode Os c.value.result.now) (IsFields options) c.from_residual-in_err-code.result c.in_err-code.field-0.0 c.from_residual-in_err-code.ensures.1 c.in_err-code.ensures.bad
-    (λ fields is. (fields.os, subst (λ word. IsCode Os word fields.os) (sym c.value.ensures) is.os))
+    (λ fields is. (fields.os, subst (λ argument. IsCode Os argument fields.os) (sym c.value.ensures) is.os))
 
 pub returns-in_err-code-2-clause-bad : goal.returns-in_err-code-2-clause-bad
 returns-in_err-code-2-clause-bad c =
     let options = c.args.options.now in
     bad_part (IsCode Arch c.value-2.result.now) (IsFields options) c.from_residual-in_err-code-2.result c.in_err-code-2.field-0.0 c.from_residual-in_err-code-2.ensures.1 c.in_err-code-2.ensures.bad
-    (λ fields is. (fields.arch, subst (λ word. IsCode Arch word fields.arch) (sym c.value-2.ensures) is.arch))
+    (λ fields is. (fields.arch, subst (λ argument. IsCode Arch argument fields.arch) (sym c.value-2.ensures) is.arch))
 
 pub returns-in_err-code-3-clause-bad : goal.returns-in_err-code-3-clause-bad
 returns-in_err-code-3-clause-bad c =
     let options = c.args.options.now in
     bad_part (IsCode ImageType c.value-3.result.now) (IsFields options) c.from_residual-in_err-code-3.result c.in_err-code-3.field-0.0 c.from_residual-in_err-code-3.ensures.1 c.in_err-code-3.ensures.bad
-    (λ fields is. (fields.image_type, subst (λ word. IsCode ImageType word fields.image_type) (sym c.value-3.ensures) is.image_type))
+    (λ fields is. (fields.image_type, subst (λ argument. IsCode ImageType argument fields.image_type) (sym c.value-3.ensures) is.image_type))
 
 pub returns-in_err-code-4-clause-bad : goal.returns-in_err-code-4-clause-bad
 returns-in_err-code-4-clause-bad c =
     let options = c.args.options.now in
     bad_part (IsCode Compression c.value-4.result.now) (IsFields options) c.from_residual-in_err-code-4.result c.in_err-code-4.field-0.0 c.from_residual-in_err-code-4.ensures.1 c.in_err-code-4.ensures.bad
-    (λ fields is. (fields.compression, subst (λ word. IsCode Compression word fields.compression) (sym c.value-4.ensures) is.compression))
+    (λ fields is. (fields.compression, subst (λ argument. IsCode Compression argument fields.compression) (sym c.value-4.ensures) is.compression))
 
 pub returns-clause-fields : goal.returns-clause-fields
 returns-clause-fields c = record {
   time = c.in_ok-number.ensures.value;
   load = c.in_ok-number-2.ensures.value;
   entry = c.in_ok-number-3.ensures.value;
-  os = subst (λ word. IsCode Os word c.in_ok-code.field-0) c.value.ensures c.in_ok-code.ensures.value;
-  arch = subst (λ word. IsCode Arch word c.in_ok-code-2.field-0) c.value-2.ensures c.in_ok-code-2.ensures.value;
-  image_type = subst (λ word. IsCode ImageType word c.in_ok-code-3.field-0) c.value-3.ensures c.in_ok-code-3.ensures.value;
-  compression = subst (λ word. IsCode Compression word c.in_ok-code-4.field-0) c.value-4.ensures c.in_ok-code-4.ensures.value;
+  os = subst (λ argument. IsCode Os argument c.in_ok-code.field-0) c.value.ensures c.in_ok-code.ensures.value;
+  arch = subst (λ argument. IsCode Arch argument c.in_ok-code-2.field-0) c.value-2.ensures c.in_ok-code-2.ensures.value;
+  image_type = subst (λ argument. IsCode ImageType argument c.in_ok-code-3.field-0) c.value-3.ensures c.in_ok-code-3.ensures.value;
+  compression = subst (λ argument. IsCode Compression argument c.in_ok-code-4.field-0) c.value-4.ensures c.in_ok-code-4.ensures.value;
   name = c.as_bytes.ensures.value ∙ c.value-5.ensures;
 }

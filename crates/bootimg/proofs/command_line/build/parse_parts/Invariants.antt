@@ -2,6 +2,6 @@ use Rattle.std.proofs.Common.{take}
 use Rattle.bootimg.specs.CommandLine.{texts_of, ArePartSources}
 use Rattle.bootimg.proofs.command_line.build.parse_parts.Given as goal
 
--- The words so far are the parts so far.
-abbrev pub invariant-loop-word : goal.invariant-loop-word
-invariant-loop-word l = ArePartSources (texts_of (take l.word-index l.words)) l.parts.items
+-- The arguments so far are the parts so far.
+abbrev pub invariant-loop-argument : goal.invariant-loop-argument
+invariant-loop-argument l = ArePartSources (texts_of (take l.argument-index l.arguments)) l.parts.items

@@ -4,8 +4,8 @@ use Rattle.bootimg.proofs.command_line.image.split_field.Goals as goal
 
 pub returns-clause-some : goal.returns-clause-some
 returns-clause-some c =
-    field_split c.args.word.now c.split_once.result (c.split_once.ensures.byte (omega arith) (λ text place found. found))
+    field_split c.args.argument.now c.split_once.result (c.split_once.ensures.byte (omega arith) (λ text place found. found))
 
 pub returns-clause-none : goal.returns-clause-none
 returns-clause-none c =
-    no_field c.args.word.now c.split_once.result (c.split_once.ensures.byte (omega arith) (λ text place found. found))
+    no_field c.args.argument.now c.split_once.result (c.split_once.ensures.byte (omega arith) (λ text place found. found))

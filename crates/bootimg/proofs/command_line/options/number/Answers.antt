@@ -7,4 +7,4 @@ use Rattle.bootimg.proofs.command_line.options.number.Goals as goal
 pub returns-clause-bad : goal.returns-clause-bad
 returns-clause-bad c =
     bad_value (IsNumber (value_of c.args.options.now c.args.id.now (codes "0"))) c.parse_number.result c.ok_or.result c.ok_or.ensures.value
-    (λ number is. c.parse_number.ensures.exactly number (subst (λ word. IsNumber word number) (sym c.value.ensures) is))
+    (λ number is. c.parse_number.ensures.exactly number (subst (λ argument. IsNumber argument number) (sym c.value.ensures) is))

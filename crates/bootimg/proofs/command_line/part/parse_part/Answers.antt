@@ -4,6 +4,6 @@ use Rattle.bootimg.proofs.command_line.part.parse_part.Goals as goal
 
 pub returns-in_err-parse_number-in-None-clause-none : goal.returns-in_err-parse_number-in-None-clause-none
 returns-in_err-parse_number-in-None-clause-none c =
-    if_none c.from_residual.result (NoneIs (IsPartSource c.args.word.now))
-    (no_source c.args.word.now c.in-None.ensures.cases
+    if_none c.from_residual.result (NoneIs (IsPartSource c.args.argument.now))
+    (no_source c.args.argument.now c.in-None.ensures.cases
     (λ number is. absurd (let e = c.in_err-parse_number-in-None.ensures.exactly number is in cc)))

@@ -11,7 +11,7 @@ returns-in_err-time-in-Some-clause-failure c =
     let failed = ok_or_failed c.parse_number.result BadValue exit.field-0.0 c.ok_or.result c.ok_or.ensures.value exit.was in
     err_if (IsChangesFailure options) c.from_residual.result c.from_residual.ensures.1
     (λ failure same. subst (IsChangesFailure options) (sym (same ∙ failed.1)) (
-      c.in-Some.word.now,
-      text_given options (codes "time") c.get_str.result c.in-Some.word c.get_str.ensures c.in-Some.is,
+      c.in-Some.argument.now,
+      text_given options (codes "time") c.get_str.result c.in-Some.argument c.get_str.ensures c.in-Some.is,
       λ number is. absurd (let e = c.parse_number.ensures.exactly number is in let none = failed.0 in cc),
     ))
