@@ -103,7 +103,7 @@ edit src/document.rt '{ MatchOption result (longest_text < length (text_of self.
 unprove document/Doc/size
 
 boundary bi_legacy legacy::Legacy::read bi_norm image::BootImage::read returns-in_ok-read-in-Legacy-clause-read
-edit src/legacy.rt '{ IfOk result (IsParsedImage limits file.entry.now) }' '{ result ≡ result }'
+edit src/legacy.rt '{ IfOk result (IsReadLegacy limits file.entry.now) }' '{ result ≡ result }'
 unprove legacy/Legacy/read returns-clause-read
 
 boundary bi_fit fit::Fit::to_doc bi_norm normal_form::emit_fit append_document-requires-clause-closed

@@ -1,5 +1,4 @@
-use Rattle.std.proofs.Common.{◌≡◌, ◌≤◌, ℕ, List, [], ◌++◌, Result, Ok, Err, length, take, drop, sym, subst, arith}
-use Rattle.std.proofs.lemmas.List.{length-take, take-append-drop}
+use Rattle.std.proofs.Common.{◌≡◌, ◌≤◌, ℕ, List, [], ◌++◌, Result, Ok, Err, length, take, drop, ap, ◌∙◌, ◌+◌, subst, arith}
 use Rattle.bi_base.specs.declared.fault.Error.{Error}
 use Rattle.bi_base.specs.declared.slice_sink.SliceSink.{SliceSink}
 use Rattle.bi_base.specs.Commands.{AppendFailed, WasRefused, SinkFailed}
@@ -14,8 +13,9 @@ pub slice_has_text : (old new : SliceSink) (text : List ℕ) → filled_of old �
     (slice_of new).now ≡ text ++ drop (length text) (slice_of old).now
 slice_has_text old new text empty room grows =
     let bytes = (slice_of old).now in
-    (grows.overwrites [] (take (length text) bytes) (drop (length text) bytes) (sym (take-append-drop (length text) bytes)) empty
-    (omega (arith, length-take (length text) bytes, room))).is
+    let size : 0 + length text ≡ length text = omega arith in
+    grows.is ∙ ap (λ (n : ℕ). take n bytes ++ (text ++ drop (n + length text) bytes)) empty
+    ∙ ap (λ (n : ℕ). text ++ drop n bytes) size
 
 -- which cannot fail if there is room.
 pub not_full : (old new : SliceSink) (text : List ℕ) (error : Error) → filled_of old ≡ 0 → length text ≤ length (slice_of old).now →

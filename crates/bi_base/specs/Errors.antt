@@ -13,5 +13,5 @@ FailsWith IsFault NeedsMemory error.ReadFailed = ⊥
 FailsWith IsFault NeedsMemory error.WriteFailed = ⊥
 
 -- The call fails with a fault of which this holds, or runs out of memory.
-abbrev pub IsRefusal : (Fault → Type 0) → Error → Type 0
-IsRefusal IsFault = FailsWith IsFault (Unit {0})
+abbrev pub IsFaultOrNoMemory : (Fault → Type 0) → Error → Type 0
+IsFaultOrNoMemory IsFault = FailsWith IsFault (Unit {0})

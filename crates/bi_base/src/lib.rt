@@ -34,7 +34,7 @@ pub use count_sink::CountSink;
 pub use crc::Crc32;
 pub use fault::{Cause, Error, Fault, refuse};
 pub use limits::Limits;
-pub use outcomes::Outcome;
+pub use outcomes::CallOutcome;
 pub use pipes::{pipe, pipe_to};
 pub use reading::{read_all, read_all_traced};
 pub use sinks::Sink;

@@ -11,36 +11,38 @@ pub const MOST_INTERRUPTIONS: u32 = 1024;
 /// The outcome of the calls so far: whether the last one failed with an error other than an
 /// interruption, and how many in a row were interrupted, up to the last one.
 #[derive(Clone, Copy)]
-pub struct Outcome {
+pub struct CallOutcome {
+    /// Whether the last call failed with an error other than an interruption.
     pub failed: bool,
+    /// How many calls in a row were interrupted, up to the last one. The count stops at 2^32 - 1.
     pub interruptions: u32,
 }
 
-impl Outcome {
+impl CallOutcome {
     /// The outcome before any call.
-    pub fn new() -> Outcome
+    pub fn new() -> CallOutcome
         ensures not_failed { IsFalse result.failed }
         ensures not_interrupted { result.interruptions ≡ 0 }
     {
-        Outcome {
+        CallOutcome {
             failed: false,
             interruptions: 0,
         }
     }
 
     /// The outcome after one more call with this result.
-    pub fn after<T>(self, call: &io::Result<T>) -> Outcome
+    pub fn after<T>(self, call: &io::Result<T>) -> CallOutcome
         ensures failed { RecordsFailure result.failed call.now }
         ensures interruptions { CountsInterruptions self.interruptions result.interruptions
             call.now }
     {
         match call {
-            Ok(_) => Outcome::new(),
-            Err(error) if error.kind() == ErrorKind::Interrupted => Outcome {
+            Ok(_) => CallOutcome::new(),
+            Err(error) if error.kind() == ErrorKind::Interrupted => CallOutcome {
                 failed: false,
                 interruptions: self.interruptions.saturating_add(1),
             },
-            Err(_) => Outcome {
+            Err(_) => CallOutcome {
                 failed: true,
                 interruptions: 0,
             },

@@ -1,6 +1,7 @@
 //! A sink that writes to a slice.
 
-ghost use Rattle.std.specs.Prelude.{◌≡◌};
+ghost use Rattle.std.specs.Prelude.{◌≡◌, OnErr};
+ghost use Rattle.bi_base.specs.Sinks.{Wrote};
 
 use crate::fault::Error;
 use crate::sinks::Sink;
@@ -37,7 +38,11 @@ impl<'a> Sink for SliceSink<'a> {
 
     /// Writes these bytes after those that were written. The only error is `WriteFailed`, which
     /// comes exactly if the slice has no room for them, and nothing was written then.
-    fn put(&mut self, bytes: &[u8]) -> Result<(), Error> {
+    fn put(&mut self, bytes: &[u8]) -> Result<(), Error>
+        ensures wrote { Wrote ⟦<SliceSink<'a> as Sink>⟧.appends ⟦<SliceSink<'a> as Sink>⟧.fails
+            self.old bytes.now result self.new }
+        ensures unchanged { OnErr result (self.new ≡ self.old) }
+    {
         let size = self.bytes.len();
         if self.filled > size || size - self.filled < bytes.len() {
             return Err(Error::WriteFailed);

@@ -4,7 +4,7 @@ ghost use Rattle.std.specs.Prelude.{◌≡◌, IsFalse};
 ghost use Rattle.std.specs.Io.{ReadsAtMost};
 ghost use Rattle.bi_base.specs.Traces.{ReadTrace, IsReadCall, ReadsWell};
 
-use crate::outcomes::Outcome;
+use crate::outcomes::CallOutcome;
 use std::io::{self, Read};
 
 /// A reader that records the outcome of each of its calls.
@@ -25,7 +25,7 @@ pub trait TracedRead {
 pub struct TracedReader<'a, R> {
     reader: &'a mut R,
     taken: u64,
-    outcome: Outcome,
+    outcome: CallOutcome,
     stopped: bool,
 }
 
@@ -43,7 +43,7 @@ impl<'a, R: Read> TracedReader<'a, R> {
         TracedReader {
             reader,
             taken: 0,
-            outcome: Outcome::new(),
+            outcome: CallOutcome::new(),
             stopped: false,
         }
     }

@@ -4,7 +4,7 @@ ghost use Rattle.std.specs.Prelude.{◌≡◌, IsFalse};
 ghost use Rattle.std.specs.Io.{WritesAtMost};
 ghost use Rattle.bi_base.specs.Traces.{WriteTrace, IsWriteCall, IsFlushCall, WritesWell};
 
-use crate::outcomes::Outcome;
+use crate::outcomes::CallOutcome;
 use std::io::{self, Write};
 
 /// A writer that records the outcome of each of its calls.
@@ -28,7 +28,7 @@ pub trait TracedWrite {
 #[derive(Drop)]
 pub struct TracedWriter<'a, W> {
     writer: &'a mut W,
-    outcome: Outcome,
+    outcome: CallOutcome,
     stalled: bool,
     flushing: bool,
     stopped: bool,
@@ -50,7 +50,7 @@ impl<'a, W: Write> TracedWriter<'a, W> {
     {
         TracedWriter {
             writer,
-            outcome: Outcome::new(),
+            outcome: CallOutcome::new(),
             stalled: false,
             flushing: false,
             stopped: false,

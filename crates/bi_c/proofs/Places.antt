@@ -12,13 +12,13 @@ use Rattle.bi_fit.specs.declared.image.Place.{Place}
 use Rattle.bi_fit.specs.Content.{FitModel, ImageModel, IsReadImage, IsHeld, index_of, tree_of, place_of, place_or_absent}
 use Rattle.bi_fit.specs.ImageTree.{each_own, image_nodes, nodes_or_none}
 use Rattle.bi_fit.specs.Payloads.{PayloadSource, NoSource, Data, DataOffset, DataPosition, source_of, payload_place, IsAt, IsAtPlace}
-use Rattle.bi_fit.specs.Reading.{IsReadFrom}
+use Rattle.bi_fit.specs.Reading.{IsReadFit}
 use Rattle.bi_fit.proofs.Meanings.{same_in_some}
 use Rattle.bi_fit.proofs.FilePayloads.{payloads_are_at_places}
 use Rattle.bi_legacy.specs.Meaning.{LegacyImage}
 use Rattle.bi_legacy.specs.Parts.{parts_start, parts_end_from, part_table}
 use Rattle.bi_legacy.specs.PlacedParts.{PartModel, placed_parts_from, AreAtOffsets}
-use Rattle.bi_legacy.specs.Reading.{LegacyModel, IsParsedImage, part_places}
+use Rattle.bi_legacy.specs.Reading.{LegacyModel, IsReadLegacy, part_places}
 use Rattle.bi_legacy.specs.Meaning.{has_part_table}
 use Rattle.bi_legacy.proofs.EmitParts.{parts_end_from-grows}
 use Rattle.bi_legacy.proofs.PartOffsets.{up4_of_four, length-part_table}
@@ -51,7 +51,7 @@ placed_images file (node name own children later) (image ∷ images) read there 
 )
 
 -- The payload of each image of a file that was read is in it at its place.
-pub are_placed : (limits : Limits) (file : List ℕ) (content : FitModel) → IsReadFrom limits file content → ArePlaced content
+pub are_placed : (limits : Limits) (file : List ℕ) (content : FitModel) → IsReadFit limits file content → ArePlaced content
 are_placed limits file content read =
     let is = read.means.is_file in
     let nodes : image_nodes (root_of content.blob) ≡ Some is.images = sym (ap image_nodes read.same_root) ∙ is.has_images in
@@ -135,7 +135,7 @@ start-aligned image_type parts = by (has_part_table image_type)
 
 -- The part of an image that was read is in the file at its offset.
 pub part_in_file : (limits : Limits) (file : List ℕ) (value : LegacyModel) (index offset : ℕ) (bytes : List ℕ) →
-    IsParsedImage limits file value → slice_get value.image.parts index ≡ Some bytes
+    IsReadLegacy limits file value → slice_get value.image.parts index ≡ Some bytes
     → slice_get (part_places value.image) index ≡ Some offset → IsAt file offset bytes
 part_in_file limits file value index offset bytes parsed is_part is_offset =
     let image = value.image in

@@ -8,7 +8,7 @@ use Rattle.bi_base.specs.CountSinks.{Counts}
 use Rattle.bi_base.specs.Sinks.{Wrote}
 use Rattle.bi_base.specs.Limits.{Limits}
 use Rattle.bi_blob.specs.Layout.{longest_text}
-use Rattle.bi_legacy.specs.Reading.{LegacyModel, IsParsedImage}
+use Rattle.bi_legacy.specs.Reading.{LegacyModel, IsReadLegacy}
 use Rattle.bi_legacy.specs.Text.{legacy_text}
 use Rattle.bi_legacy.proofs.NormalLength.{length-legacy_text}
 use Rattle.bi_c.specs.declared.failure.Failure.{Failure}
@@ -56,7 +56,7 @@ fills_as IsOutput IsOther HasFailed HasOther before after answer status output f
 fills_as IsOutput IsOther HasFailed HasOther before after answer status output failed (FilledNothing failure is same told is_status) = FilledNothing failure (failed failure is) same told is_status
 
 -- The normal text of a legacy image is as long as what its parts end before.
-pub legacy_size : (limits : Limits) (file : List ℕ) (value : LegacyModel) (unused : ℕ) → IsParsedImage limits file value →
+pub legacy_size : (limits : Limits) (file : List ℕ) (value : LegacyModel) (unused : ℕ) → IsReadLegacy limits file value →
     unused ≡ value.unused → length file - unused ≡ length (legacy_text value.image)
 legacy_size limits file value unused parsed is_unused =
     omega (arith, is_unused, parsed.unused, length-legacy_text value.image parsed.means.is_file.name.is_name)

@@ -2,8 +2,8 @@
 
 ghost use Rattle.std.specs.Prelude.{ℕ, List};
 ghost use Rattle.bi_fit.specs.declared.form.Form.{Form};
-ghost use Rattle.bi_fit.specs.Reading.{IsReadFrom};
-ghost use Rattle.bi_legacy.specs.Reading.{IsParsedImage};
+ghost use Rattle.bi_fit.specs.Reading.{IsReadFit};
+ghost use Rattle.bi_legacy.specs.Reading.{IsReadLegacy};
 ghost use Rattle.bi_norm.specs.NormalForm.{Normalised, IsNormaliseError};
 ghost use Rattle.bi_c.specs.Answers.{Fills, IsFailureBy};
 ghost use Rattle.bi_c.specs.Calls.{IsNormalised, IsNormaliseFailure};
@@ -57,7 +57,7 @@ fn normalise_legacy(
     buffer: &mut [u8],
     answer: &mut Answer,
 ) -> u32
-    requires { IsParsedImage limits file.now image.now }
+    requires { IsReadLegacy limits file.now image.now }
     ensures { (form : Form) → Fills (λ text value. Normalised limits form value file.now text)
         (IsFailureBy (IsNormaliseError limits form file.now)) buffer.old buffer.new answer.new
         result }
@@ -75,7 +75,7 @@ fn normalise_fit(
     buffer: &mut [u8],
     answer: &mut Answer,
 ) -> u32
-    ensures { (file : List ℕ) → IsReadFrom limits file fit.now →
+    ensures { (file : List ℕ) → IsReadFit limits file fit.now →
         Fills (λ text value. Normalised limits form value file text)
         (IsFailureBy (IsNormaliseError limits form file)) buffer.old buffer.new answer.new result }
 {

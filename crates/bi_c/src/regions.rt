@@ -6,7 +6,7 @@ ghost use Rattle.std.specs.Option.{option_and_then};
 ghost use Rattle.bi_base.specs.declared.fault.Error.TheVariants.{OutOfMemory};
 ghost use Rattle.bi_base.specs.Limits.{Limits};
 ghost use Rattle.bi_fit.specs.Content.{IsHeld, tree_of};
-ghost use Rattle.bi_legacy.specs.Reading.{IsParsedImage};
+ghost use Rattle.bi_legacy.specs.Reading.{IsReadLegacy};
 ghost use Rattle.bi_norm.specs.Meaning.{OfLegacy, OfFit};
 ghost use Rattle.bi_commands.specs.declared.extract.ExtractError.TheVariants.{Failed};
 ghost use Rattle.bi_commands.specs.Extracting.{HasNoPayload, IsExtractError, IsReason, choice_of};
@@ -51,7 +51,7 @@ pub(crate) fn find(
 
 /// Returns where the selected part of a legacy image that was read is.
 fn find_part(image: &Legacy<'_>, select: Select) -> Result<Region, ExtractError>
-    ensures found { (limits : Limits) (file : List ℕ) → IsParsedImage limits file image.now →
+    ensures found { (limits : Limits) (file : List ℕ) → IsReadLegacy limits file image.now →
         IfOk result (λ region. IsChosenAt file (choice_of select.entry (OfLegacy image.now.image))
         region.size region.offset) }
     ensures failed { IfErr result (λ error. IsReason error
@@ -66,7 +66,7 @@ fn find_part(image: &Legacy<'_>, select: Select) -> Result<Region, ExtractError>
 /// Returns where the part of this index is in the file that the image was read from. None exactly
 /// if there is no such part.
 fn part_at(image: &Legacy<'_>, index: usize) -> Option<Region>
-    ensures found { (limits : Limits) (file : List ℕ) → IsParsedImage limits file image.now →
+    ensures found { (limits : Limits) (file : List ℕ) → IsReadLegacy limits file image.now →
         IfSome result (λ region. IsChosenAt file
         (choice_of_part (slice_get image.now.image.parts index)) region.size region.offset) }
     ensures none { IfNone result (slice_get image.now.image.parts index ≡ None) }

@@ -6,7 +6,7 @@ ghost use Rattle.bi_blob.specs.Layout.{longest_text};
 ghost use Rattle.bi_blob.specs.Stages.{AfterRoot};
 ghost use Rattle.bi_lay.specs.Contents.{text_of};
 ghost use Rattle.bi_fit.specs.NormalNodes.{AreWithin, payloads_of};
-ghost use Rattle.bi_legacy.specs.Reading.{IsParsedImage};
+ghost use Rattle.bi_legacy.specs.Reading.{IsReadLegacy};
 ghost use Rattle.bi_legacy.specs.Text.{legacy_text};
 ghost use Rattle.bi_norm.specs.Texts.{whole_text};
 ghost use Rattle.bi_c.specs.Answers.{Fills, IsJust};
@@ -31,7 +31,7 @@ pub(crate) fn write_legacy(
     buffer: &mut [u8],
     answer: &mut Answer,
 ) -> u32
-    requires { IsParsedImage limits file.now image.now }
+    requires { IsReadLegacy limits file.now image.now }
     ensures { Fills (IsJust (legacy_text image.now.image) 0) (λ failure. failure ≡ OutOfMemory)
         buffer.old buffer.new answer.new result }
 {

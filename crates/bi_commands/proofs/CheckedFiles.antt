@@ -19,9 +19,9 @@ use Rattle.bi_fit.specs.Judgement.{Image, CheckedHash, images_of, images_with, c
 use Rattle.bi_fit.specs.Names.{is_hash_name}
 use Rattle.bi_fit.specs.HashNodes.{file_images}
 use Rattle.bi_fit.specs.Payloads.{PayloadSource, NoSource, Data, DataOffset, DataPosition, source_of, IsPayload}
-use Rattle.bi_fit.specs.Reading.{IsReadFrom}
+use Rattle.bi_fit.specs.Reading.{IsReadFit}
 use Rattle.bi_fit.proofs.FileNodes.{sibling_by_name, bare_image, siblings-by_name, image_siblings}
-use Rattle.bi_legacy.specs.Reading.{LegacyModel, IsParsedImage}
+use Rattle.bi_legacy.specs.Reading.{LegacyModel, IsReadLegacy}
 use Rattle.bi_norm.specs.Meaning.{OfLegacy, OfFit}
 use Rattle.bi_norm.specs.NormalForm.{IsOpenError}
 use Rattle.bi_norm.proofs.NormalForms.{only_legacy, only_tree}
@@ -107,14 +107,14 @@ end_of_content file total (node name own children later) (image ∷ images) same
     ap₂ max (ap (λ place. end_at place image.payload) is.0.place ∙ placed_end file (source_of own) image.payload is.0.payload) (end_of_content file total later images same is.1)
 
 -- The image nodes of a file that was read.
-abbrev nodes_found : (limits : Limits) (file : List ℕ) (content : FitModel) (is : IsReadFrom limits file content) →
+abbrev nodes_found : (limits : Limits) (file : List ℕ) (content : FitModel) (is : IsReadFit limits file content) →
     file_images content.blob ≡ is.means.is_file.images
 nodes_found limits file content is =
     ap (λ root. nodes_or_none (image_nodes root)) (sym is.same_root) ∙ ap nodes_or_none is.means.is_file.has_images
 
 -- The concerns about a flattened image tree that was read are those about the file.
 pub concerns_of_file : (limits : Limits) (file : List ℕ) (content : FitModel) (hashes : List CheckedHash)
-    (is : IsReadFrom limits file content) → hashes ≡ verdicts_of (tree_of content) →
+    (is : IsReadFit limits file content) → hashes ≡ verdicts_of (tree_of content) →
     read_concerns file content hashes
     ≡ tree_concerns (tree_of content) ++ trailing_concerns (drop (content_end file is.means.is_file.images (tree_of content).payloads) file)
 concerns_of_file limits file content hashes is are =
@@ -134,7 +134,7 @@ concerns_of_file limits file content hashes is are =
     ∙ simp append_assoc refl
 
 -- A legacy image that was read is checked by the concern about the bytes after it,
-pub legacy_checked : (allowed : Allowed) (limits : Limits) (file text : List ℕ) (parsed : LegacyModel) → IsParsedImage limits file parsed →
+pub legacy_checked : (allowed : Allowed) (limits : Limits) (file text : List ℕ) (parsed : LegacyModel) → IsReadLegacy limits file parsed →
     text ≡ concern_lines allowed (trailing_concerns (drop (length file - parsed.unused) file)) → IsChecked allowed limits file text
 legacy_checked allowed limits file text parsed opened is = record {
   meaning = OfLegacy parsed.image;
@@ -147,7 +147,7 @@ legacy_checked allowed limits file text parsed opened is = record {
 
 -- and a flattened image tree by all concerns about it.
 pub tree_checked : (allowed : Allowed) (limits : Limits) (file text : List ℕ) (content : FitModel) (hashes : List CheckedHash) →
-    IsReadFrom limits file content →
+    IsReadFit limits file content →
     ¬ (IsOverPayloadBound limits (OfFit (tree_of content))) → hashes ≡ verdicts_of (tree_of content) →
     text ≡ concern_lines allowed (read_concerns file content hashes) →
     IsChecked allowed limits file text
@@ -162,7 +162,7 @@ tree_checked allowed limits file text content hashes is short are written = reco
 
 -- Payloads that are too long are refused.
 pub payloads_refused : (limits : Limits) (file : List ℕ) (content : FitModel) (images : List ImageRead) (limit : ℕ) (fault : Fault) →
-    IsReadFrom limits file content → limit ≡ limits.file →
+    IsReadFit limits file content → limit ≡ limits.file →
     map image_model images ≡ content.images → fault ≡ too_large limit → limit < payloads_length (payloads_of images) →
     IsCheckError limits file (Refused fault)
 payloads_refused limits file content images limit fault is same are refused longer =

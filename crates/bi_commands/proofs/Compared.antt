@@ -9,7 +9,7 @@ use Rattle.bi_norm.specs.Comparing.{AreCompared}
 use Rattle.bi_norm.specs.Meaning.{Meaning, OfLegacy, OfFit}
 use Rattle.bi_norm.specs.NormalForm.{IsOpenError, NeedsMemory}
 use Rattle.bi_norm.specs.OpenedMeaning.{meaning_of}
-use Rattle.bi_norm.specs.Opening.{IsBootImage}
+use Rattle.bi_norm.specs.Opening.{IsReadBootImage}
 use Rattle.bi_norm.proofs.NormalForms.{needs_memory}
 use Rattle.bi_commands.specs.declared.compare.CompareError.{CompareError}
 use Rattle.bi_commands.specs.declared.compare.CompareError.TheVariants.{OutOfMemory}
@@ -31,7 +31,7 @@ memory_of_reading limits file ReadFailed other is = absurd is
 memory_of_reading limits file WriteFailed other is = absurd is
 
 abbrev pub are_compared : (limits : Limits) (one other : List ℕ) (image other_image : BootImage) (same : Bool) →
-    IsBootImage limits one image → IsBootImage limits other other_image → IsTrue same ↔ (meaning_of image ≡ meaning_of other_image)
+    IsReadBootImage limits one image → IsReadBootImage limits other other_image → IsTrue same ↔ (meaning_of image ≡ meaning_of other_image)
     → AreCompared limits one other same
 are_compared limits one other image other_image same opened other_opened is = record {
   meaning = meaning_of image;
@@ -43,31 +43,31 @@ are_compared limits one other image other_image same opened other_opened is = re
 
 -- Whether the files mean the same, by the result of the comparison.
 pub result_same : (limits : Limits) (one other : List ℕ) (image other_image : BootImage) (result : Result Bool CompareError) →
-    IsBootImage limits one image → IsBootImage limits other other_image
+    IsReadBootImage limits one image → IsReadBootImage limits other other_image
     → IfOk result (λ same. IsTrue same ↔ (meaning_of image ≡ meaning_of other_image)) → IfOk result (AreCompared limits one other)
 result_same limits one other image other_image (Ok same) opened other_opened is = are_compared limits one other image other_image same opened other_opened is
 result_same limits one other image other_image (Err error) opened other_opened is = tt
 
 -- Memory may run out after the first file was read.
-pub memory_error : (limits : Limits) (one other : List ℕ) (image : BootImage) (error : CompareError) → IsBootImage limits one image →
+pub memory_error : (limits : Limits) (one other : List ℕ) (image : BootImage) (error : CompareError) → IsReadBootImage limits one image →
     error ≡ OutOfMemory → IsReadingError limits one other error
 memory_error limits one other image error opened is =
     subst (IsReadingError limits one other) (sym is) (needs_memory limits one (meaning_of image) (opened_means limits one image opened).means)
 
 pub result_memory : (limits : Limits) (one other : List ℕ) (image : BootImage) (result : Result Bool CompareError) →
-    IsBootImage limits one image → IfErr result (λ error. error ≡ OutOfMemory) → IfErr result (IsReadingError limits one other)
+    IsReadBootImage limits one image → IfErr result (λ error. error ≡ OutOfMemory) → IfErr result (IsReadingError limits one other)
 result_memory limits one other image (Ok same) opened is = tt
 result_memory limits one other image (Err error) opened is = memory_error limits one other image error opened is
 
 -- The result of comparing two files that do not mean the same.
-false_compared : (limits : Limits) (one other : List ℕ) (image other_image : BootImage) (same : Bool) → IsBootImage limits one image →
-    IsBootImage limits other other_image → IsTrue same ↔ (meaning_of image ≡ meaning_of other_image)
+false_compared : (limits : Limits) (one other : List ℕ) (image other_image : BootImage) (same : Bool) → IsReadBootImage limits one image →
+    IsReadBootImage limits other other_image → IsTrue same ↔ (meaning_of image ≡ meaning_of other_image)
     → same ≡ false → IsTrue false ↔ (meaning_of image ≡ meaning_of other_image)
 false_compared limits one other image other_image same opened other_opened is is_false = subst (λ b. IsTrue b ↔ (meaning_of image ≡ meaning_of other_image)) is_false is
 
 -- The error of describing one of two files that differ.
 pub describing_error : (limits : Limits) (one other : List ℕ) (image other_image : BootImage) (same : Bool) (error : CompareError) →
-    IsBootImage limits one image → IsBootImage limits other other_image → IsTrue same ↔ (meaning_of image ≡ meaning_of other_image)
+    IsReadBootImage limits one image → IsReadBootImage limits other other_image → IsTrue same ↔ (meaning_of image ≡ meaning_of other_image)
     → same ≡ false → (error ≡ OutOfMemory) ⊎ IsDescribingError limits (meaning_of image) (meaning_of other_image) error →
     IsComparisonError limits one other error
 describing_error limits one other image other_image same error opened other_opened is is_false (inl memory) = inl (memory_error limits one other image error opened memory)
@@ -111,7 +111,7 @@ comparison_is_not_empty (OfFit one) (OfFit other) =
 
 -- Two files that mean the same have no differences.
 pub compared_same : (limits : Limits) (one other : List ℕ) (image other_image : BootImage) (same : Bool) (text : List ℕ) →
-    IsBootImage limits one image → IsBootImage limits other other_image → IsTrue same ↔ (meaning_of image ≡ meaning_of other_image)
+    IsReadBootImage limits one image → IsReadBootImage limits other other_image → IsTrue same ↔ (meaning_of image ≡ meaning_of other_image)
     → same ≡ true → text ≡ [] → IsComparison limits one other true text
 compared_same limits one other image other_image same text opened other_opened is is_true is_empty = record {
   compared = are_compared limits one other image other_image true opened other_opened (subst (λ b. IsTrue b ↔ (meaning_of image ≡ meaning_of other_image)) is_true is);
@@ -121,7 +121,7 @@ compared_same limits one other image other_image same text opened other_opened i
 
 -- The differences of two files that do not mean the same.
 pub compared_different : (limits : Limits) (one other : List ℕ) (image other_image : BootImage) (same : Bool) (text : List ℕ) →
-    IsBootImage limits one image → IsBootImage limits other other_image → IsTrue same ↔ (meaning_of image ≡ meaning_of other_image)
+    IsReadBootImage limits one image → IsReadBootImage limits other other_image → IsTrue same ↔ (meaning_of image ≡ meaning_of other_image)
     → same ≡ false → CanBeDescribed limits (meaning_of image) → CanBeDescribed limits (meaning_of other_image) →
     text ≡ comparison (meaning_of image) (meaning_of other_image) → IsComparison limits one other false text
 compared_different limits one other image other_image same text opened other_opened is is_false described other_described is_text = record {

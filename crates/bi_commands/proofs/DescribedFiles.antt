@@ -6,7 +6,7 @@ use Rattle.bi_base.specs.Limits.{Limits}
 use Rattle.bi_norm.specs.declared.image.BootImage.{BootImage}
 use Rattle.bi_norm.specs.NormalForm.{IsOpenError}
 use Rattle.bi_norm.specs.OpenedMeaning.{meaning_of}
-use Rattle.bi_norm.specs.Opening.{IsBootImage}
+use Rattle.bi_norm.specs.Opening.{IsReadBootImage}
 use Rattle.bi_norm.proofs.NormalForms.{needs_memory}
 use Rattle.bi_commands.specs.Descriptions.{description}
 use Rattle.bi_commands.specs.Describing.{CanBeDescribed, IsDescription, IsDescribeError, IsImageError}
@@ -15,7 +15,7 @@ use Rattle.bi_norm.proofs.Comparisons.{opened_means}
 
 -- The description of what was read from a file is that of the file.
 
-pub description_of_file : (limits : Limits) (file : List ℕ) (image : BootImage) (text : List ℕ) → IsBootImage limits file image
+pub description_of_file : (limits : Limits) (file : List ℕ) (image : BootImage) (text : List ℕ) → IsReadBootImage limits file image
     → IsDescriptionOf limits (meaning_of image) text → IsDescription limits file text
 description_of_file limits file image text opened is = record {
   meaning = meaning_of image;
@@ -27,14 +27,14 @@ description_of_file limits file image text opened is = record {
 -- The same of a call that returns the description.
 pub described_of_result : {T : Type 0} (bytes_of : T → List ℕ) (limits : Limits) (file : List ℕ) (image : BootImage)
     (result : Result T Error)
-    → IsBootImage limits file image → OnOk result (CanBeDescribed limits (meaning_of image))
+    → IsReadBootImage limits file image → OnOk result (CanBeDescribed limits (meaning_of image))
     → IfOk result (λ text. bytes_of text ≡ description (meaning_of image)) → IfOk result (λ text. IsDescription limits file (bytes_of text))
 described_of_result bytes_of limits file image (Ok text) opened within is =
     description_of_file limits file image (bytes_of text) opened (record { within = within; is_text = is })
 described_of_result bytes_of limits file image (Err error) opened within is = tt
 
 -- An error of describing what was read from a file is one of describing the file.
-pub error_of_file : (limits : Limits) (file : List ℕ) (image : BootImage) (error : Error) → IsBootImage limits file image
+pub error_of_file : (limits : Limits) (file : List ℕ) (image : BootImage) (error : Error) → IsReadBootImage limits file image
     → IsImageError limits (meaning_of image) error → IsDescribeError limits file error
 error_of_file limits file image (Refused fault) opened is =
     inr (record { meaning = meaning_of image; means = (opened_means limits file image opened).means; is_too_long = is.0 }, is.1)
@@ -44,7 +44,7 @@ error_of_file limits file image ReadFailed opened is = is
 error_of_file limits file image WriteFailed opened is = is
 
 pub failed_of_result : {T : Type 0} (limits : Limits) (file : List ℕ) (image : BootImage) (result : Result T Error) →
-    IsBootImage limits file image
+    IsReadBootImage limits file image
     → IfErr result (IsImageError limits (meaning_of image)) → IfErr result (IsDescribeError limits file)
 failed_of_result limits file image (Ok value) opened is = tt
 failed_of_result limits file image (Err error) opened is = error_of_file limits file image error opened is
@@ -59,14 +59,14 @@ describe_error_of_reading limits file WriteFailed is = is
 
 -- The same of a call that appends the description.
 pub appended_of_file : {S : Type 0} (appends : S → List ℕ → S → Type 0) (limits : Limits) (file : List ℕ) (image : BootImage) (old new : S)
-    → IsBootImage limits file image → Appended appends (IsDescriptionOf limits (meaning_of image)) old new
+    → IsReadBootImage limits file image → Appended appends (IsDescriptionOf limits (meaning_of image)) old new
     → Appended appends (IsDescription limits file) old new
 appended_of_file appends limits file image old new opened is =
     record { text = is.text; is_text = description_of_file limits file image is.text opened is.is_text; appended = is.appended }
 
 pub describe_failed_of_file : {S : Type 0} (fails : S → List ℕ → S → Error → Type 0) (limits : Limits) (file : List ℕ) (image : BootImage)
     (old new : S) (error : Error)
-    → IsBootImage limits file image →
+    → IsReadBootImage limits file image →
     AppendFailed fails (IsDescriptionOf limits (meaning_of image)) (IsImageError limits (meaning_of image)) old new error
     → AppendFailed fails (IsDescription limits file) (IsDescribeError limits file) old new error
 describe_failed_of_file fails limits file image old new error opened (WasRefused is kept) = WasRefused (error_of_file limits file image error opened is) kept

@@ -10,7 +10,7 @@ use Rattle.bi_fit.specs.Content.{FitModel, ImageModel, tree_of, place_of, IsRead
 use Rattle.bi_fit.specs.ImageTree.{image_nodes, nodes_or_none}
 use Rattle.bi_fit.specs.Judgement.{default_of}
 use Rattle.bi_fit.specs.Payloads.{PayloadSource, NoSource, Data, DataOffset, DataPosition, source_of, IsPayload}
-use Rattle.bi_fit.specs.Reading.{IsReadFrom}
+use Rattle.bi_fit.specs.Reading.{IsReadFit}
 use Rattle.bi_commands.specs.FitListing.{image_line, image_lines, fit_listing, reservation_line, default_line}
 use Rattle.bi_commands.specs.Listing.{IsListing, OfImageTree}
 use Rattle.bi_commands.specs.ReadListing.{read_image_line, placed_line, read_listing, configurations_lines}
@@ -48,7 +48,7 @@ lines_of_images file (node name own children later) (image ∷ images) is =
     (lines_of_images file later images is.1)
 
 -- What was read of a file is listed as the definitions list the file.
-pub listing_of_file : (limits : Limits) (file : List ℕ) (content : FitModel) (is : IsReadFrom limits file content) →
+pub listing_of_file : (limits : Limits) (file : List ℕ) (content : FitModel) (is : IsReadFit limits file content) →
     read_listing content ≡ fit_listing file is.means.is_file.images (tree_of content)
 listing_of_file limits file content is =
     let total : content.blob.total_size ≡ totalsize file = is.held.total_size ∙ ap totalsize is.is_file in
@@ -65,7 +65,7 @@ listing_of_file limits file content is =
     total (lines_of_images file is.means.is_file.images content.images images)
 
 -- The listing of what was read of a file is the listing of the file.
-pub tree_listing : (limits : Limits) (file text : List ℕ) (content : FitModel) → IsReadFrom limits file content →
+pub tree_listing : (limits : Limits) (file text : List ℕ) (content : FitModel) → IsReadFit limits file content →
     text ≡ read_listing content → IsListing limits file text
 tree_listing limits file text content is written =
     OfImageTree (record { tree = tree_of content; means = is.means; is = written ∙ listing_of_file limits file content is })

@@ -6,7 +6,7 @@ use Rattle.bi_blob.specs.BlobFaults.{HasNoFaultBeforeTree, IsFaultBeforeTree}
 use Rattle.bi_blob.proofs.Blobs.BeforeTree.{fault_before_tree_comes_first}
 use Rattle.bi_fit.specs.Content.{FitModel}
 use Rattle.bi_fit.specs.Faults.{InBlob}
-use Rattle.bi_fit.specs.Reading.{IsReadFrom}
+use Rattle.bi_fit.specs.Reading.{IsReadFit}
 use Rattle.bi_norm.specs.declared.kind.Kind.TheVariants.{Legacy}
 use Rattle.bi_norm.specs.Kinds.{BeginsAs}
 use Rattle.bi_norm.specs.Meaning.{Meaning, Means}
@@ -19,7 +19,7 @@ use Rattle.bi_commands.specs.Extracting.{Chosen, IsReason, choice_of, IsChosen, 
 -- Calls on an image that was read from a file.
 
 -- Memory may run out for a flattened image tree that was read from a file.
-pub tree_needs_memory : (limits : Limits) (file : List ℕ) (content : FitModel) → IsReadFrom limits file content → NeedsMemory limits file
+pub tree_needs_memory : (limits : Limits) (file : List ℕ) (content : FitModel) → IsReadFit limits file content → NeedsMemory limits file
 tree_needs_memory limits file content read =
     ForTree other_kind (by (fault_before_tree_comes_first limits file).decided)
   where

@@ -11,8 +11,8 @@ use Rattle.bi_fit.specs.declared.hashes.Checked.{Checked}
 use Rattle.bi_fit.specs.Content.{FitModel, tree_of}
 use Rattle.bi_fit.specs.Judgement.{CheckedHash, verdicts_of}
 use Rattle.bi_fit.specs.JudgementCalls.{checked_hash_of}
-use Rattle.bi_fit.specs.Reading.{IsReadFrom}
-use Rattle.bi_legacy.specs.Reading.{LegacyModel, IsParsedImage}
+use Rattle.bi_fit.specs.Reading.{IsReadFit}
+use Rattle.bi_legacy.specs.Reading.{LegacyModel, IsReadLegacy}
 use Rattle.bi_norm.specs.Meaning.{OfLegacy, OfFit}
 use Rattle.hex.specs.Hex.{encode_lower, encode_with, lower_digits}
 use Rattle.bi_commands.specs.Reports.{is_verdict, count_of, AreGood, Verified, legacy_report, hash_line, summary_line}
@@ -63,7 +63,7 @@ all_good (hash ∷ later) = (forth (all_good later).0, back (all_good later).1) 
   back rest good = rw (ap (is_verdict Good) good.0) (rest good.1)
 
 -- The report on a legacy image that was read from a file.
-pub legacy_verified : (limits : Limits) (file text : List ℕ) (parsed : LegacyModel) → IsParsedImage limits file parsed →
+pub legacy_verified : (limits : Limits) (file text : List ℕ) (parsed : LegacyModel) → IsReadLegacy limits file parsed →
     text ≡ legacy_report → Verified limits true file text
 legacy_verified limits file text parsed opened is = record {
   report = record { meaning = OfLegacy parsed.image; means = opened.means; is = is };
@@ -72,7 +72,7 @@ legacy_verified limits file text parsed opened is = record {
 
 -- The report on a flattened image tree that was read from a file.
 pub tree_verified : (limits : Limits) (file text : List ℕ) (content : FitModel) (hashes : List Checked) (good : Bool) →
-    IsReadFrom limits file content →
+    IsReadFit limits file content →
     map checked_hash_of hashes ≡ verdicts_of (tree_of content) →
     text ≡ flat_map hash_line (map checked_hash_of hashes) ++ summary_line (map checked_hash_of hashes) →
     good ≡ list_all (λ (hash : Checked). is_verdict Good hash.verdict) hashes → Verified limits good file text

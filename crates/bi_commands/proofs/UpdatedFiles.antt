@@ -10,7 +10,7 @@ use Rattle.bi_fit.specs.Content.{FitModel, tree_of}
 use Rattle.bi_fit.specs.Documents.{IsDocumentError}
 use Rattle.bi_fit.specs.ImageTree.{ImageTree}
 use Rattle.bi_fit.specs.Judgement.{signature_count as signatures_of_tree}
-use Rattle.bi_fit.specs.Reading.{IsReadFrom}
+use Rattle.bi_fit.specs.Reading.{IsReadFit}
 use Rattle.bi_fit.specs.Text.{fit_text}
 use Rattle.bi_fit.specs.Updating.{with_changes}
 use Rattle.bi_fit.proofs.FileTrees.{is_image_tree, depth-image_tree}
@@ -18,7 +18,7 @@ use Rattle.bi_fit.proofs.UpdatedTrees.{updated_is_accepted}
 use Rattle.bi_fit.proofs.UpdatedVerdicts.{updated_judgement, signatures-updated}
 use Rattle.bi_legacy.specs.File.{LegacyMeans}
 use Rattle.bi_legacy.specs.Meaning.{with_new_time}
-use Rattle.bi_legacy.specs.Reading.{LegacyModel, IsParsedImage}
+use Rattle.bi_legacy.specs.Reading.{LegacyModel, IsReadLegacy}
 use Rattle.bi_legacy.specs.Text.{legacy_text}
 use Rattle.bi_legacy.proofs.UpdatedImages.{updated_has_normal_form}
 use Rattle.bi_norm.specs.Meaning.{Meaning, OfLegacy, OfFit, normal_text}
@@ -42,7 +42,7 @@ pub updated_needs_memory : (changes : Changes) (limits : Limits) (form : Form) (
 updated_needs_memory changes limits form file text is = needs_memory limits file is.meaning is.means.means
 
 -- The text of a legacy image that was read, with its new time.
-module _ (changes : Changes) (limits : Limits) (form : Form) (file : List ℕ) (parsed : LegacyModel) (opened : IsParsedImage limits file parsed) (time : ℕ) (is_time : time ≡ unwrap_or changes.time parsed.image.time) (small : time < 2 ^ 32) where
+module _ (changes : Changes) (limits : Limits) (form : Form) (file : List ℕ) (parsed : LegacyModel) (opened : IsReadLegacy limits file parsed) (time : ℕ) (is_time : time ≡ unwrap_or changes.time parsed.image.time) (small : time < 2 ^ 32) where
   abbrev updated_legacy_text : List ℕ
   updated_legacy_text = legacy_text (with_new_time time parsed.image)
 
@@ -75,7 +75,7 @@ module _ (changes : Changes) (limits : Limits) (form : Form) (file : List ℕ) (
       SinkFailed text cause (subst (IsUpdated changes limits form file) (sym is) legacy_is_updated) failed same
 
 -- The text of a flattened image tree that was read, with the changes.
-module _ (changes : Changes) (limits : Limits) (form : Form) (file : List ℕ) (content : FitModel) (opened : IsReadFrom limits file content) (most : limits.file ≤ longest_text) where
+module _ (changes : Changes) (limits : Limits) (form : Form) (file : List ℕ) (content : FitModel) (opened : IsReadFit limits file content) (most : limits.file ≤ longest_text) where
   abbrev updated_tree : ImageTree
   updated_tree = with_changes changes (tree_of content)
 

@@ -15,7 +15,7 @@ use Rattle.bi_fit.specs.Judgement.{ListedImages, configuration_nodes, listed_of,
 use Rattle.bi_fit.specs.Names.{key_name, all_keys}
 use Rattle.bi_fit.specs.Payloads.{PayloadSource, source_of, payload_place}
 use Rattle.bi_hash.specs.declared.verdicts.Verdict.TheVariants.{Good}
-use Rattle.bi_legacy.specs.Reading.{LegacyModel, IsParsedImage}
+use Rattle.bi_legacy.specs.Reading.{LegacyModel, IsReadLegacy}
 use Rattle.bi_commands.specs.declared.check.Allowed.{Allowed}
 use Rattle.bi_commands.specs.declared.check.ConcernKind.{ConcernKind}
 use Rattle.bi_commands.specs.declared.check.ConcernKind.TheVariants as kind
@@ -188,7 +188,7 @@ content_end file nodes payloads = totalsize file
 
 -- These are the concerns about a file, in their order.
 pub data AreConcerns (limits : Limits) (file : List ℕ) (concerns : List Concern) : Type 0 where
-  OfLegacyImage : (parsed : LegacyModel) → IsParsedImage limits file parsed
+  OfLegacyImage : (parsed : LegacyModel) → IsReadLegacy limits file parsed
       → concerns ≡ trailing_concerns (drop (length file - parsed.unused) file)
       → AreConcerns limits file concerns
   OfImageTree : (tree : ImageTree) → (means : FitMeans limits file tree)

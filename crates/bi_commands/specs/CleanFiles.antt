@@ -9,7 +9,7 @@ use Rattle.bi_fit.specs.ImageTree.{ImageTree}
 use Rattle.bi_fit.specs.Judgement.{Image, images_of, CheckedHash, verdicts_of, BadList}
 use Rattle.bi_fit.specs.Judgement.{Missing, configuration_nodes, listed_of, default_of}
 use Rattle.bi_hash.specs.declared.verdicts.Verdict.TheVariants.{Good}
-use Rattle.bi_legacy.specs.Reading.{LegacyModel, IsParsedImage}
+use Rattle.bi_legacy.specs.Reading.{LegacyModel, IsReadLegacy}
 use Rattle.bi_commands.specs.declared.check.Allowed.{Allowed}
 use Rattle.bi_commands.specs.CheckedFiles.{IsChecked}
 use Rattle.bi_commands.specs.Checking.{hashes_of_image, strong_algorithms, content_end}
@@ -79,7 +79,7 @@ AreZeros bytes = AllByRecursion (λ byte. byte ≡ 0) bytes
 -- Nothing in a file is a concern, but for what is allowed: it is a legacy image, or a flattened
 -- image tree in which nothing is, and no byte after the image is other than zero.
 pub data IsClean (allowed : Allowed) (limits : Limits) (file : List ℕ) : Type 0 where
-  CleanLegacyImage : (parsed : LegacyModel) → IsParsedImage limits file parsed
+  CleanLegacyImage : (parsed : LegacyModel) → IsReadLegacy limits file parsed
       → (IsFalse allowed.trailing → AreZeros (drop (length file - parsed.unused) file))
       → IsClean allowed limits file
   CleanImageTree : (tree : ImageTree) → (means : FitMeans limits file tree)

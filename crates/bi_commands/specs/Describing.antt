@@ -1,5 +1,5 @@
 use Rattle.std.specs.Prelude.{ℕ, ◌<◌, ◌≤◌, ◌≡◌, ◌⊎◌, List, length, ⊤}
-use Rattle.bi_base.specs.Errors.{IsRefusal}
+use Rattle.bi_base.specs.Errors.{IsFaultOrNoMemory}
 use Rattle.bi_base.specs.Commands.{CommandPromise, PromiseLaws, unit_promise, unit_laws}
 use Rattle.bi_base.specs.declared.fault.Error.{Error}
 use Rattle.bi_base.specs.Limits.{Limits}
@@ -35,7 +35,8 @@ IsTooLongToDescribe limits meaning =
 -- limit if it is too long to describe, or that memory ran out.
 abbrev pub IsImageError : Limits → Meaning → Error → Type 0
 IsImageError limits meaning =
-    IsRefusal (λ fault. IsTooLongToDescribe limits meaning × (fault ≡ too_large limits.file))
+    IsFaultOrNoMemory
+    (λ fault. IsTooLongToDescribe limits meaning × (fault ≡ too_large limits.file))
 
 -- The file means something that is too long to describe.
 pub record MeansTooMuch (limits : Limits) (file : List ℕ) : Type 0 where

@@ -7,7 +7,7 @@ use Rattle.bi_legacy.specs.Codes.{CodeName, os_names, arch_names, type_names, co
 use Rattle.bi_legacy.specs.Codes.{name_of_code}
 use Rattle.bi_legacy.specs.Meaning.{LegacyImage}
 use Rattle.bi_legacy.specs.PlacedParts.{PartModel, placed_parts}
-use Rattle.bi_legacy.specs.Reading.{LegacyModel, IsParsedImage}
+use Rattle.bi_legacy.specs.Reading.{LegacyModel, IsReadLegacy}
 use Rattle.bi_norm.specs.NormalForm.{IsOpenError}
 use Rattle.bi_commands.specs.FitListing.{IsFitListing}
 use Rattle.bi_commands.specs.Shown.{line, hexadecimal, shown_text}
@@ -62,7 +62,7 @@ legacy_listing parsed =
 
 -- The text is the listing of the file, which is a legacy image or a flattened image tree.
 pub data IsListing (limits : Limits) (file text : List ℕ) : Type 0 where
-  OfLegacyImage : (parsed : LegacyModel) → IsParsedImage limits file parsed
+  OfLegacyImage : (parsed : LegacyModel) → IsReadLegacy limits file parsed
       → text ≡ legacy_listing parsed → IsListing limits file text
   OfImageTree : IsFitListing limits file text → IsListing limits file text
 

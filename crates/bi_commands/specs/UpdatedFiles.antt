@@ -1,5 +1,5 @@
 use Rattle.std.specs.Prelude.{ℕ, ◌<◌, ◌≡◌, ◌⊎◌, ⊤, true, List, length, unwrap_or}
-use Rattle.bi_base.specs.Errors.{IsRefusal}
+use Rattle.bi_base.specs.Errors.{IsFaultOrNoMemory}
 use Rattle.bi_base.specs.Commands.{CommandPromise, PromiseLaws}
 use Rattle.bi_base.specs.declared.fault.Error.{Error}
 use Rattle.bi_base.specs.Limits.{Limits}
@@ -77,7 +77,7 @@ pub record HasNewDigests (changes : Changes) (limits : Limits) (tree : ImageTree
 -- The error of computing them: TooLarge at the limit, or memory ran out.
 abbrev pub IsDigestsError : Changes → Limits → ImageTree → Error → Type 0
 IsDigestsError changes limits tree =
-    IsRefusal (λ fault.
+    IsFaultOrNoMemory (λ fault.
     HashesTooMuch changes limits (OfFit tree) × (fault ≡ too_large limits.file))
 
 -- What updating promises as a command.

@@ -10,7 +10,7 @@ ghost use Rattle.bi_norm.specs.Comparing.{AreCompared};
 ghost use Rattle.bi_norm.specs.Meaning.{Meaning, Means};
 ghost use Rattle.bi_norm.specs.NormalForm.{IsOpenError};
 ghost use Rattle.bi_norm.specs.OpenedMeaning.{meaning_of};
-ghost use Rattle.bi_norm.specs.Opening.{IsBootImage};
+ghost use Rattle.bi_norm.specs.Opening.{IsReadBootImage};
 ghost use Rattle.bi_commands.specs.Comparing.{IsComparison, IsComparisonError};
 ghost use Rattle.bi_commands.specs.Comparing.{IsReadingError, IsDescribingError, comparison};
 ghost use Rattle.bi_commands.specs.Descriptions.{description};
@@ -108,7 +108,7 @@ impl From<AllocError> for CompareError {
 
 /// Reads the first file.
 fn read_one(alloc: Global, file: &[u8], limits: Limits) -> Result<BootImage<'_>, CompareError>
-    ensures opened { IfOk result (IsBootImage limits file.entry.now) }
+    ensures opened { IfOk result (IsReadBootImage limits file.entry.now) }
     ensures failed { IfErr result (λ error. (other : List ℕ)
         → IsReadingError limits file.entry.now other error) }
 {
@@ -131,7 +131,7 @@ fn reading_failure(error: Error) -> CompareError
 
 /// Reads the second file.
 fn read_other(alloc: Global, file: &[u8], limits: Limits) -> Result<BootImage<'_>, CompareError>
-    ensures opened { IfOk result (IsBootImage limits file.entry.now) }
+    ensures opened { IfOk result (IsReadBootImage limits file.entry.now) }
     ensures failed { IfErr result (λ error. (one : List ℕ) (meaning : Meaning)
         → Means limits one meaning → IsReadingError limits one file.entry.now error) }
 {

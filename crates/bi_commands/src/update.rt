@@ -4,8 +4,8 @@ ghost use Rattle.std.specs.Prelude.{⊤, ℕ, List, IfOk, IfErr};
 ghost use Rattle.bi_base.specs.Commands.{Appended, AppendFailed};
 ghost use Rattle.bi_base.specs.Pipes.{IsPiped};
 ghost use Rattle.bi_fit.specs.Content.{tree_of};
-ghost use Rattle.bi_fit.specs.Reading.{IsReadFrom};
-ghost use Rattle.bi_legacy.specs.Reading.{IsParsedImage};
+ghost use Rattle.bi_fit.specs.Reading.{IsReadFit};
+ghost use Rattle.bi_legacy.specs.Reading.{IsReadLegacy};
 ghost use Rattle.bi_commands.specs.UpdatedFiles.{IsUpdated, Updated, IsUpdateError};
 ghost use Rattle.bi_commands.specs.UpdatedFiles.{HasNewDigests, IsDigestsError};
 ghost use Rattle.bi_commands.specs.UpdatedFiles.{update_promise, update_laws};
@@ -130,10 +130,10 @@ fn update_legacy<S: Sink>(
     limits: Limits,
     sink: &mut S,
 ) -> Result<usize, Error>
-    ensures appended { (form : Form) (file : List ℕ) → IsParsedImage limits file image.now →
+    ensures appended { (form : Form) (file : List ℕ) → IsReadLegacy limits file image.now →
         IfOk result (λ count. Appended S.appends (Updated changes limits form count file)
         sink.old sink.new) }
-    ensures failed { (form : Form) (file : List ℕ) → IsParsedImage limits file image.now →
+    ensures failed { (form : Form) (file : List ℕ) → IsReadLegacy limits file image.now →
         IfErr result (AppendFailed S.fails (IsUpdated changes limits form file)
         (IsUpdateError changes limits form file) sink.old sink.new) }
 {
@@ -152,10 +152,10 @@ fn update_fit<S: Sink>(
     limits: Limits,
     sink: &mut S,
 ) -> Result<usize, Error>
-    ensures appended { (file : List ℕ) → IsReadFrom limits file fit.now →
+    ensures appended { (file : List ℕ) → IsReadFit limits file fit.now →
         IfOk result (λ count. Appended S.appends (Updated changes limits form count file)
         sink.old sink.new) }
-    ensures failed { (file : List ℕ) → IsReadFrom limits file fit.now →
+    ensures failed { (file : List ℕ) → IsReadFit limits file fit.now →
         IfErr result (AppendFailed S.fails (IsUpdated changes limits form file)
         (IsUpdateError changes limits form file) sink.old sink.new) }
 {

@@ -7,8 +7,8 @@ ghost use Rattle.bi_base.specs.Limits.{Limits};
 ghost use Rattle.bi_base.specs.Pipes.{IsPiped};
 ghost use Rattle.bi_fit.specs.JudgementCalls.{checked_hash_of};
 ghost use Rattle.bi_hash.specs.declared.verdicts.Verdict.TheVariants.{Good};
-ghost use Rattle.bi_fit.specs.Reading.{IsReadFrom};
-ghost use Rattle.bi_legacy.specs.Reading.{IsParsedImage};
+ghost use Rattle.bi_fit.specs.Reading.{IsReadFit};
+ghost use Rattle.bi_legacy.specs.Reading.{IsReadLegacy};
 ghost use Rattle.bi_norm.specs.NormalForm.{IsOpenError};
 ghost use Rattle.bi_commands.specs.Reports.{Verified, hash_line, summary_line};
 ghost use Rattle.bi_commands.specs.Reports.{verify_promise, verify_laws};
@@ -101,9 +101,9 @@ pub fn verify_to<R: Read, W: Write>(
 
 /// Returns the report on a legacy image that was read, so its checksums are right.
 fn verify_legacy(alloc: Global, _image: &Legacy) -> Result<Report, Error>
-    ensures verified { (limits : Limits) (file : List ℕ) → IsParsedImage limits file _image.now →
+    ensures verified { (limits : Limits) (file : List ℕ) → IsReadLegacy limits file _image.now →
         IfOk result (λ report. Verified limits report.all_good file (string_bytes report.text)) }
-    ensures failed { (limits : Limits) (file : List ℕ) → IsParsedImage limits file _image.now →
+    ensures failed { (limits : Limits) (file : List ℕ) → IsReadLegacy limits file _image.now →
         IfErr result (IsOpenError limits file) }
 {
     let text = legacy_lines(alloc)?;
@@ -122,9 +122,9 @@ fn legacy_lines(alloc: Global) -> Result<String, AllocError>
 
 /// Returns the report on a flattened image tree that was read.
 fn verify_fit(alloc: Global, fit: &Fit) -> Result<Report, Error>
-    ensures verified { (limits : Limits) (file : List ℕ) → IsReadFrom limits file fit.now →
+    ensures verified { (limits : Limits) (file : List ℕ) → IsReadFit limits file fit.now →
         IfOk result (λ report. Verified limits report.all_good file (string_bytes report.text)) }
-    ensures failed { (limits : Limits) (file : List ℕ) → IsReadFrom limits file fit.now →
+    ensures failed { (limits : Limits) (file : List ℕ) → IsReadFit limits file fit.now →
         IfErr result (IsOpenError limits file) }
 {
     let hashes = fit.verdicts(alloc)?;

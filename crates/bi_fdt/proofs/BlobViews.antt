@@ -7,7 +7,7 @@ use Rattle.bi_base.specs.declared.fault.Error.TheVariants as error
 use Rattle.bi_base.specs.declared.fault.Fault.{Fault}
 use Rattle.bi_base.specs.Cells.{AreBytes, u64_at}
 use Rattle.bi_base.specs.Limits.{Limits}
-use Rattle.bi_base.specs.Errors.{IsRefusal}
+use Rattle.bi_base.specs.Errors.{IsFaultOrNoMemory}
 use Rattle.bi_blob.specs.Tree.{Root, FileNode}
 use Rattle.bi_blob.specs.Blob.{Reservation, boot_cpuid_phys, header_length, lacks_structure_size, totalsize, off_mem_rsvmap, tree_blocks}
 use Rattle.bi_blob.specs.Blob.{Header, IsBlob, IsBlobWithin, reservations_at}
@@ -20,7 +20,7 @@ use Rattle.bi_fdt.specs.Table.{item_of}
 use Rattle.bi_fdt.specs.Reading.{IsTable, HasTable}
 use Rattle.bi_fdt.specs.Content.{root_in}
 use Rattle.bi_fdt.specs.Fields.{IsBlobHeld}
-use Rattle.bi_fdt.specs.ReadBlobs.{IsOnlyFault, IsReadBlob, IsRefused}
+use Rattle.bi_fdt.specs.ReadBlobs.{IsOnlyFault, IsReadBlob, IsBlobReadError}
 use Rattle.bi_blob.proofs.Blobs.OneBlob.{one_blob}
 use Rattle.bi_blob.proofs.Blobs.Faults.{blob_has_no_fault}
 use Rattle.bi_fdt.proofs.Parsing.{root_in-table}
@@ -37,8 +37,9 @@ only_fault bounds file fault is = record {
 
 -- What an error in the structure block says of the file.
 pub refused_in_tree : (bounds : Limits) (file : List ℕ) (count : ℕ) (error : Error) → HasNoHeaderFault bounds file →
-    HasReservations file (off_mem_rsvmap file) (totalsize file) count → IsRefusal (IsStructureFault (tree_blocks file) bounds.depth) error →
-    IsRefused bounds file error
+    HasReservations file (off_mem_rsvmap file) (totalsize file) count →
+    IsFaultOrNoMemory (IsStructureFault (tree_blocks file) bounds.depth) error →
+    IsBlobReadError bounds file error
 refused_in_tree bounds file count (error.Refused fault) fine has refusal = only_fault bounds file fault (InStructure fine count has refusal)
 refused_in_tree bounds file count error.OutOfMemory fine has refusal = record { header = fine; count = count; reservations = has }
 refused_in_tree bounds file count error.ReadFailed fine has refusal = refusal

@@ -11,8 +11,8 @@ use Rattle.bi_fdt.specs.Content.{Blob, root_of}
 
 -- What reading a blob returns.
 
--- The blob was read from this file: the file is it and nothing else within the limits, and has no
--- fault under them.
+-- The blob was read from this file: within the limits the file holds this blob and no other, and it
+-- has no fault under them.
 pub record IsReadBlob (limits : Limits) (file : List ℕ) (blob : Blob) : Type 0 where
   pub is_file : blob.file ≡ file
   pub size : blob.total_size ≡ totalsize file
@@ -23,7 +23,7 @@ pub record IsReadBlob (limits : Limits) (file : List ℕ) (blob : Blob) : Type 0
       → SameContent blob.cpu cpu blob.reservations reservations (root_of blob) root
   pub no_fault : (fault : Fault) → ¬ (IsBlobFault limits file fault)
 
--- A file that has this fault, and no other, is no blob within the limits.
+-- The file has this fault and no other, and is no blob within the limits.
 pub record IsOnlyFault (bounds : Limits) (file : List ℕ) (fault : Fault) : Type 0 where
   pub is_fault : IsBlobFault bounds file fault
   pub only : (other : Fault) → IsBlobFault bounds file other → other ≡ fault
@@ -31,5 +31,5 @@ pub record IsOnlyFault (bounds : Limits) (file : List ℕ) (fault : Fault) : Typ
 
 -- The error of reading a file: its fault; or that memory ran out, which happens only if the header
 -- and the reservation block have no fault.
-abbrev pub IsRefused : Limits → List ℕ → Error → Type 0
-IsRefused bounds file = FailsWith (IsOnlyFault bounds file) (HasNoFaultBeforeTree bounds file)
+abbrev pub IsBlobReadError : Limits → List ℕ → Error → Type 0
+IsBlobReadError bounds file = FailsWith (IsOnlyFault bounds file) (HasNoFaultBeforeTree bounds file)

@@ -12,7 +12,7 @@ ghost use Rattle.bi_blob.specs.Lookups.{root_node};
 ghost use Rattle.bi_fdt.specs.Table.{item_of};
 ghost use Rattle.bi_fdt.specs.Reading.{IsTable};
 ghost use Rattle.bi_fdt.specs.Content.{root_of};
-ghost use Rattle.bi_fdt.specs.ReadBlobs.{IsReadBlob, IsRefused};
+ghost use Rattle.bi_fdt.specs.ReadBlobs.{IsReadBlob, IsBlobReadError};
 
 use crate::blocks::Blocks;
 use crate::fields::{
@@ -83,7 +83,7 @@ impl<'a> Blob<'a> {
     /// WriteFailed never come.
     pub fn read(alloc: Global, file: &'a [u8], limits: Limits) -> Result<Blob<'a>, Error>
         ensures read { IfOk result (IsReadBlob limits file.entry.now) }
-        ensures failed { IfErr result (IsRefused limits file.entry.now) }
+        ensures failed { IfErr result (IsBlobReadError limits file.entry.now) }
     {
         let reservation_count = check_before_tree(file, limits)?;
         let strings = Strings::new(alloc, strings_block(file))?;

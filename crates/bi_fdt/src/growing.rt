@@ -2,7 +2,7 @@
 
 ghost use Rattle.std.specs.Prelude.{◌≡◌, ◌+◌, List, [], ◌∷◌, ◌↔◌, length, map, IsTrue, IfOk};
 ghost use Rattle.std.specs.Prelude.{IfErr, OnOk};
-ghost use Rattle.bi_base.specs.Errors.{IsRefusal};
+ghost use Rattle.bi_base.specs.Errors.{IsFaultOrNoMemory};
 ghost use Rattle.bi_blob.specs.Tree.{names, IsNew};
 ghost use Rattle.bi_blob.specs.BlobFaults.{token_fault, IsNewNode, IsNewProperty};
 ghost use Rattle.bi_blob.specs.OpenNodes.{OpenFileNode, new_node, with_one_property};
@@ -48,7 +48,7 @@ impl<'a> Growing<'a> {
     /// A tree whose root has started at `place`.
     pub(crate) fn new(alloc: Global, name: &'a [u8], place: u32) -> Result<Growing<'a>, Error>
         ensures ok { IfOk result (λ growing. IsGrowing growing (new_node name.entry.now place) []) }
-        ensures failed { IfErr result (IsRefusal (λ _. ⊥)) }
+        ensures failed { IfErr result (IsFaultOrNoMemory (λ _. ⊥)) }
     {
         let mut entries = Vec::new(alloc);
         entries.push(Entry::Node(NodeEntry {
@@ -101,8 +101,9 @@ impl<'a> Growing<'a> {
             (λ grown. (innermost : OpenFileNode) (outer : List OpenFileNode)
             → IsGrowing self.entry innermost outer
             → IsGrowing grown (new_node name.entry.now place) (innermost ∷ outer)) }
-        ensures fault { IfErr result (IsRefusal (λ fault. fault ≡ token_fault place IsNewNode)) }
-        ensures duplicate { IfErr result (IsRefusal
+        ensures fault { IfErr result (IsFaultOrNoMemory
+            (λ fault. fault ≡ token_fault place IsNewNode)) }
+        ensures duplicate { IfErr result (IsFaultOrNoMemory
             (λ _. (innermost : OpenFileNode) (outer : List OpenFileNode)
             → IsGrowing self.entry innermost outer
             → ¬ (IsNew name.entry.now (names innermost.children)))) }
@@ -156,9 +157,9 @@ impl<'a> Growing<'a> {
             → names innermost.children ≡ []
             → IsGrowing grown
             (with_one_property innermost (file_property_of property.entry)) outer) }
-        ensures fault { IfErr result (IsRefusal (λ fault. fault
+        ensures fault { IfErr result (IsFaultOrNoMemory (λ fault. fault
             ≡ token_fault property.entry.place IsNewProperty)) }
-        ensures duplicate { IfErr result (IsRefusal
+        ensures duplicate { IfErr result (IsFaultOrNoMemory
             (λ _. (innermost : OpenFileNode) (outer : List OpenFileNode)
             → IsGrowing self.entry innermost outer
             → names innermost.children ≡ []

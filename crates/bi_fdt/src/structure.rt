@@ -1,7 +1,7 @@
 //! The structure block as a whole (Devicetree Specification, 5.4.2).
 
 ghost use Rattle.std.specs.Prelude.{ℕ, ◌+◌, ◌≤◌, IfOk, IfErr, OnOk};
-ghost use Rattle.bi_base.specs.Errors.{IsRefusal};
+ghost use Rattle.bi_base.specs.Errors.{IsFaultOrNoMemory};
 ghost use Rattle.bi_blob.specs.Tokens.{begin_node_number};
 ghost use Rattle.bi_blob.specs.Tree.{Root, FileNode, depth_of};
 ghost use Rattle.bi_blob.specs.Blob.{HoldsTree};
@@ -30,7 +30,7 @@ pub(crate) fn read_tree<'a>(
     requires depth { 1 ≤ depth_limit }
     ensures ok { IfOk result (λ entries. HasTable
         (blocks_of blocks.entry) depth_limit entries.items) }
-    ensures failed { IfErr result (IsRefusal
+    ensures failed { IfErr result (IsFaultOrNoMemory
         (IsStructureFault (blocks_of blocks.entry) depth_limit)) }
 {
     let place = skip_to_root(blocks)?;
@@ -76,7 +76,7 @@ fn begin_root<'a>(
     requires number { IsNumberAt (blocks_of blocks) place begin_node_number }
     requires position { IsOpenAt (blocks_of blocks) depth_limit place NoTree }
     ensures ok { IfOk result (IsReading (blocks_of blocks.entry) depth_limit) }
-    ensures failed { IfErr result (IsRefusal
+    ensures failed { IfErr result (IsFaultOrNoMemory
         (IsStructureFault (blocks_of blocks.entry) depth_limit)) }
 {
     let name = root_name(blocks, place, depth_limit)?;
@@ -98,7 +98,7 @@ fn read_root<'a>(
     requires reading { IsReading (blocks_of blocks) depth_limit begun }
     ensures ok { IfOk result (λ after. IsAfter (blocks_of blocks.entry)
         depth_limit after.0 after.1.items) }
-    ensures failed { IfErr result (IsRefusal
+    ensures failed { IfErr result (IsFaultOrNoMemory
         (IsStructureFault (blocks_of blocks.entry) depth_limit)) }
 {
     let mut reading = begun;

@@ -1,7 +1,7 @@
 //! The tokens of the structure block, one at a time (Devicetree Specification, 5.4.1).
 
 ghost use Rattle.std.specs.Prelude.{IfOk, IfErr};
-ghost use Rattle.bi_base.specs.Errors.{IsRefusal};
+ghost use Rattle.bi_base.specs.Errors.{IsFaultOrNoMemory};
 ghost use Rattle.bi_blob.specs.BlobFaults.{IsStructureFault};
 ghost use Rattle.bi_blob.specs.Tokens.{begin_node_number, prop_number};
 ghost use Rattle.bi_fdt.specs.Blocks.{blocks_of, AreBlocks, IsNumberAt};
@@ -41,7 +41,7 @@ pub(crate) fn step<'a>(
     requires blocks { AreBlocks (blocks_of blocks) }
     requires reading { IsReading (blocks_of blocks) depth_limit reading }
     ensures ok { IfOk result (IsAhead (blocks_of blocks.entry) depth_limit reading.entry.place) }
-    ensures failed { IfErr result (IsRefusal
+    ensures failed { IfErr result (IsFaultOrNoMemory
         (IsStructureFault (blocks_of blocks.entry) depth_limit)) }
 {
     let number = number_at(blocks, reading.place)?;
@@ -79,7 +79,7 @@ fn begin_node<'a>(
     requires reading { IsReading (blocks_of blocks) depth_limit reading }
     requires number { IsNumberAt (blocks_of blocks) reading.place begin_node_number }
     ensures ok { IfOk result (IsAhead (blocks_of blocks.entry) depth_limit reading.entry.place) }
-    ensures failed { IfErr result (IsRefusal
+    ensures failed { IfErr result (IsFaultOrNoMemory
         (IsStructureFault (blocks_of blocks.entry) depth_limit)) }
 {
     let Reading { place, growing } = reading;
@@ -102,7 +102,7 @@ fn add_property<'a>(
     requires reading { IsReading (blocks_of blocks) depth_limit reading }
     requires number { IsNumberAt (blocks_of blocks) reading.place prop_number }
     ensures added { IfOk result (IsAhead (blocks_of blocks.entry) depth_limit reading.entry.place) }
-    ensures failed { IfErr result (IsRefusal
+    ensures failed { IfErr result (IsFaultOrNoMemory
         (IsStructureFault (blocks_of blocks.entry) depth_limit)) }
 {
     let Reading { place, growing } = reading;

@@ -8,7 +8,7 @@ use Rattle.bi_base.specs.declared.fault.Error.TheVariants.{Refused, OutOfMemory,
 use Rattle.bi_base.specs.declared.fault.Fault.{Fault}
 use Rattle.bi_base.specs.Checks.{IsFirstFault}
 use Rattle.bi_base.specs.Limits.{Limits}
-use Rattle.bi_base.specs.Errors.{IsRefusal}
+use Rattle.bi_base.specs.Errors.{IsFaultOrNoMemory}
 use Rattle.bi_blob.specs.Tree.{Nodes, none, node, FileProperty, FileNode}
 use Rattle.bi_blob.specs.Lookups.{Sibling, siblings, root_node, node_named, property_named}
 use Rattle.bi_blob.specs.Blob.{IsBlob, IsWithin, IsBlobWithin, totalsize}
@@ -25,7 +25,7 @@ use Rattle.bi_fit.specs.Payloads.{HasPayload}
 use Rattle.bi_fit.specs.File.{FitMeans}
 use Rattle.bi_fit.specs.Faults.{FitPasses, fit_fault, image_checks, images_checks, InTree}
 use Rattle.bi_fit.specs.Content.{ImageModel, FitModel, tree_of, IsReadImage, IsHeld}
-use Rattle.bi_fit.specs.Reading.{IsReadFrom, IsFitReadError, IsOnlyFitFault}
+use Rattle.bi_fit.specs.Reading.{IsReadFit, IsFitReadError, IsOnlyFitFault}
 use Rattle.bi_fit.specs.Images.{HasDataInFile}
 use Rattle.bi_fit.proofs.Faults.{fit_has_no_fault}
 use Rattle.bi_fit.proofs.Meanings.{one_fit_meaning}
@@ -101,7 +101,7 @@ module _ (limits : Limits) (file : List ℕ) (blob : Blob) (accepts : IsBlobWith
         (inr (rw has refl, subst (λ nodes. IsFirstFault (FitPasses file) fit_fault (images_checks file nodes) fault) (sym has) first)))
 
     -- An error of reading the image nodes.
-    pub images_error : (error : Error) → IsRefusal (IsFirstFault (FitPasses file) fit_fault (image_checks file images)) error → IsFitReadError limits file error
+    pub images_error : (error : Error) → IsFaultOrNoMemory (IsFirstFault (FitPasses file) fit_fault (image_checks file images)) error → IsFitReadError limits file error
     images_error (Refused fault) refused = images_fault fault refused
     images_error OutOfMemory refused = out_of_memory
     images_error ReadFailed refused = refused
@@ -132,7 +132,7 @@ module _ (limits : Limits) (file : List ℕ) (blob : Blob) (accepts : IsBlobWith
       }
 
       -- It is read from the file.
-      pub is_read : blob.file ≡ file → IsHeld content → IsReadFrom limits file content
+      pub is_read : blob.file ≡ file → IsHeld content → IsReadFit limits file content
       is_read same held = record {
         is_file = same;
         held = held;

@@ -5,7 +5,7 @@ use Rattle.bi_base.specs.declared.fault.Fault.{Fault}
 use Rattle.bi_base.specs.Limits.{Limits}
 use Rattle.bi_blob.specs.BlobFaults.{HasNoFaultBeforeTree, IsFaultBeforeTree, IsBlobFault}
 use Rattle.bi_blob.proofs.Blobs.BeforeTree.{fault_before_tree_comes_first}
-use Rattle.bi_fdt.specs.ReadBlobs.{IsRefused}
+use Rattle.bi_fdt.specs.ReadBlobs.{IsBlobReadError}
 use Rattle.bi_fit.specs.Faults.{IsFitFault, InBlob}
 use Rattle.bi_fit.specs.Reading.{IsOnlyFitFault, IsFitReadError}
 use Rattle.bi_fit.proofs.Faults.{one_fit_fault, fit_has_no_fault}
@@ -21,7 +21,7 @@ only_fit_fault limits file fault is = record {
 }
 
 -- An error of reading the blob is one of reading the flattened image tree.
-pub blob_error : (limits : Limits) (file : List ℕ) (error : Error) → IsRefused limits file error → IsFitReadError limits file error
+pub blob_error : (limits : Limits) (file : List ℕ) (error : Error) → IsBlobReadError limits file error → IsFitReadError limits file error
 blob_error limits file (Refused fault) is = only_fit_fault limits file fault (InBlob is.is_fault)
 blob_error limits file OutOfMemory is = is
 blob_error limits file ReadFailed is = is

@@ -14,7 +14,7 @@ use Rattle.bi_fit.specs.Content.{FitModel, tree_of, IsHeld}
 
 -- The flattened image tree was read from this file: the file means it and nothing else within the
 -- limits, and has no fault under them.
-pub record IsReadFrom (limits : Limits) (file : List ℕ) (content : FitModel) : Type 0 where
+pub record IsReadFit (limits : Limits) (file : List ℕ) (content : FitModel) : Type 0 where
   pub is_file : content.blob.file ≡ file
   pub held : IsHeld content
   pub means : FitMeans limits file (tree_of content)
@@ -22,7 +22,7 @@ pub record IsReadFrom (limits : Limits) (file : List ℕ) (content : FitModel) :
   pub only : (other : ImageTree) → FitMeans limits file other → other ≡ tree_of content
   pub no_fault : (fault : Fault) → ¬ (IsFitFault limits file fault)
 
--- A file that has this fault, and no other, is no flattened image tree within the limits.
+-- The file has this fault and no other, and is no flattened image tree within the limits.
 pub record IsOnlyFitFault (limits : Limits) (file : List ℕ) (fault : Fault) : Type 0 where
   pub is_fault : IsFitFault limits file fault
   pub only : (other : Fault) → IsFitFault limits file other → other ≡ fault

@@ -45,7 +45,8 @@ impl<'a> Fit<'a> {
     /// the form External the payloads follow the blob. The document borrows names and values, and
     /// copies none.
     ///
-    /// Takes time n log n in the number n of nodes and properties.
+    /// Makes n log n comparisons of names, for n nodes and properties. A comparison takes time linear
+    /// in what the two names share.
     ///
     /// Errors: TooLarge at `limits.file()`, exactly if the normal text, with the payloads after the
     /// blob, is longer than that, unless memory runs out; OutOfMemory, which never comes if the

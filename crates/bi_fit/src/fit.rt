@@ -5,7 +5,7 @@ ghost use Rattle.std.specs.Option.{option_map, option_and_then};
 ghost use Rattle.bi_base.specs.declared.fault.Error.TheVariants.{OutOfMemory};
 ghost use Rattle.bi_fit.specs.Content.{index_of, place_or_absent, image_model};
 ghost use Rattle.bi_fit.specs.Content.{HasIndices, IsHeld};
-ghost use Rattle.bi_fit.specs.Reading.{IsReadFrom, IsFitReadError};
+ghost use Rattle.bi_fit.specs.Reading.{IsReadFit, IsFitReadError};
 
 use crate::image::{Image, Place};
 use crate::images::read_images;
@@ -49,7 +49,7 @@ impl<'a> Fit<'a> {
     /// OutOfMemory comes only if the header and the reservation block have no fault. ReadFailed and
     /// WriteFailed never come.
     pub fn read(alloc: Global, file: &'a [u8], limits: Limits) -> Result<Fit<'a>, Error>
-        ensures read { IfOk result (IsReadFrom limits file.entry.now) }
+        ensures read { IfOk result (IsReadFit limits file.entry.now) }
         ensures failed { IfErr result (IsFitReadError limits file.entry.now) }
     {
         let blob = Blob::read(alloc, file, limits)?;

@@ -4,7 +4,7 @@ ghost use Rattle.std.specs.Prelude.{◌≡◌, ◌+◌, ◌<◌, ◌≤◌, ◌^
 ghost use Rattle.std.specs.List.{AllByRecursion, AllZip};
 ghost use Rattle.std.specs.Option.{option_map};
 ghost use Rattle.bi_base.specs.Checks.{IsFirstFault};
-ghost use Rattle.bi_base.specs.Errors.{IsRefusal};
+ghost use Rattle.bi_base.specs.Errors.{IsFaultOrNoMemory};
 ghost use Rattle.bi_blob.specs.Blob.{totalsize};
 ghost use Rattle.bi_blob.specs.Layout.{longest_text};
 ghost use Rattle.bi_blob.specs.Lookups.{siblings};
@@ -47,7 +47,7 @@ pub(crate) fn read_images<'a>(
     ensures images { IfOk result (λ images. AllZip
         (IsReadImage file.entry.now)
         (siblings (node_of node.entry).children) (map read_image_of images.items)) }
-    ensures failed { IfErr result (IsRefusal
+    ensures failed { IfErr result (IsFaultOrNoMemory
         (IsFirstFault (FitPasses file.entry.now) fit_fault
         (image_checks file.entry.now (node_of node.entry).children))) }
 {

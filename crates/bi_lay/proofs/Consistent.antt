@@ -9,7 +9,7 @@ use Rattle.bi_lay.specs.declared.document.Doc.TheInside.{Inside as Fields}
 use Rattle.bi_lay.specs.declared.items.Item.{Item}
 use Rattle.bi_lay.specs.declared.items.Item.TheVariants.{Begin, Property, End}
 use Rattle.bi_lay.specs.declared.items.Property.{Property as PropertyItem}
-use Rattle.bi_lay.specs.Names.{with_name, as_usize}
+use Rattle.bi_lay.specs.Names.{with_name, saturated_usize}
 use Rattle.bi_lay.specs.Items.{event_of, events_of_items, HasOffset}
 use Rattle.bi_lay.specs.Values.{value_bytes}
 use Rattle.bi_blob.specs.Following.{stage_of_events, MayBegin, most_open_nodes, MayHaveNextProperty, MayEnd, MayFollowInText, AllFollow}
@@ -91,7 +91,7 @@ kept-ended old new kept may more less same = record {
 -- A node gets a property.
 pub kept-added : (old new : Fields) (property : PropertyItem) → IsConsistentDocument old →
     MayHaveNextProperty property.name.now (stage_of_fields old) → HasOneMore old new (Property property) → new.depth ≡ old.depth →
-    new.names ≡ with_name old.names property.name.now → property.name_offset ≡ as_usize (offset_in new.names property.name.now) →
+    new.names ≡ with_name old.names property.name.now → property.name_offset ≡ saturated_usize (offset_in new.names property.name.now) →
     IsConsistentDocument new
 kept-added old new property kept may more same names is_offset = record {
   follow = follow-more old new (Property property) more kept.follow may;

@@ -18,7 +18,7 @@ use Rattle.bi_lay.specs.declared.items.Item.{Item}
 use Rattle.bi_lay.specs.declared.items.Item.TheVariants.{Begin, Property, End}
 use Rattle.bi_blob.specs.TextLaws.{HasLengthOfEvents}
 use Rattle.bi_lay.specs.Contents.{text_of}
-use Rattle.bi_lay.specs.Names.{as_usize}
+use Rattle.bi_lay.specs.Names.{saturated_usize}
 use Rattle.bi_lay.specs.Items.{event_of, events_of_items, item_encoding, structure_of_items, reservations_of, HasOffset}
 use Rattle.bi_lay.specs.Values.{value_bytes}
 use Rattle.bi_lay.specs.Documents.{IsConsistentDocument, doc_model}
@@ -107,7 +107,7 @@ is_text_length doc kept =
 pub record AreMeasured (doc : Fields) (count : ℕ) (items : List Item) (strings : ℕ) : Type 0 where
   pub is_count : count ≡ vec_len doc.reservations
   pub are_items : items ≡ doc.items.items
-  pub is_strings : strings ≡ as_usize (length (strings_of doc.names))
+  pub is_strings : strings ≡ saturated_usize (length (strings_of doc.names))
 
 -- The length of the text before its padding, from what is measured.
 abbrev pub measured_length : ℕ → List Item → ℕ → ℕ

@@ -9,16 +9,16 @@ use Rattle.std.proofs.lemmas.Option.{none-some, same_Some}
 use Rattle.bi_blob.specs.Layout.{offset_in, strings_of, is_among}
 use Rattle.bi_blob.specs.NamesByLength.{by_length}
 use Rattle.bi_blob.proofs.NamesByLength.{is_eq-by_length}
-use Rattle.bi_lay.specs.Names.{offset_among, as_usize, with_name}
+use Rattle.bi_lay.specs.Names.{offset_among, saturated_usize, with_name}
 
 -- The offsets of names in the strings block, and what a look-up of a name finds.
 
 -- A look-up that finds a name gives its offset, and the name is among the names.
 pub look_up-some : (names : List (List ℕ)) (name : List ℕ) (value : ℕ) → offset_among names name ≡ Some value →
-    (value ≡ as_usize (offset_in names name)) × (is_among name names ≡ true)
+    (value ≡ saturated_usize (offset_in names name)) × (is_among name names ≡ true)
 look_up-some names name value found = by (is_among name names) refl
   where
-    by : (b : Bool) → is_among name names ≡ b → (value ≡ as_usize (offset_in names name)) × (is_among name names ≡ true)
+    by : (b : Bool) → is_among name names ≡ b → (value ≡ saturated_usize (offset_in names name)) × (is_among name names ≡ true)
     by true is = (sym (same_Some _ _ (rw is at found)), is)
     by false is = absurd (none-some value (rw is at found))
 
@@ -27,7 +27,7 @@ pub look_up-none : (names : List (List ℕ)) (name : List ℕ) → offset_among 
 look_up-none names name none = by (is_among name names) refl
   where
     by : (b : Bool) → is_among name names ≡ b → is_among name names ≡ false
-    by true is = absurd (none-some (as_usize (offset_in names name)) (sym (rw is at none)))
+    by true is = absurd (none-some (saturated_usize (offset_in names name)) (sym (rw is at none)))
     by false is = is
 
 -- The strings block with one more name.
@@ -59,7 +59,8 @@ offset_in-stays (first ∷ later) name other among = by (bytes_eq first name) re
 
 -- The offsets of names, when a name that was not among them comes behind.
 pub offset_among-push : (names : List (List ℕ)) (key name : List ℕ) → is_among key names ≡ false →
-    cond (bytes_eq key name) (Some (as_usize (length (strings_of names)))) (offset_among names name) ≡ offset_among (names ++ key ∷ []) name
+    cond (bytes_eq key name) (Some (saturated_usize (length (strings_of names)))) (offset_among names name)
+    ≡ offset_among (names ++ key ∷ []) name
 offset_among-push names key name new = by (bytes_eq key name) refl
   where
     among : is_among name (names ++ key ∷ []) ≡ (is_among name names || (bytes_eq key name || false))
@@ -69,15 +70,15 @@ offset_among-push names key name new = by (bytes_eq key name) refl
     other : (b : Bool) → is_among name names ≡ b → bytes_eq key name ≡ false → offset_among names name ≡ offset_among (names ++ key ∷ []) name
     other true is differs =
         let stays : is_among name (names ++ key ∷ []) ≡ true = among ∙ ap (λ b. b || (bytes_eq key name || false)) is in
-        rw (is, stays) (ap (λ n. Some (as_usize n)) (sym (offset_in-stays names name key is)))
+        rw (is, stays) (ap (λ n. Some (saturated_usize n)) (sym (offset_in-stays names name key is)))
     other false is differs =
         let lacks : is_among name (names ++ key ∷ []) ≡ false = among ∙ ap (λ b. b || (bytes_eq key name || false)) is ∙ ap (λ b. b || false) differs in
         rw (is, lacks) refl
 
-    by : (b : Bool) → bytes_eq key name ≡ b → cond b (Some (as_usize (length (strings_of names)))) (offset_among names name) ≡ offset_among (names ++ key ∷ []) name
+    by : (b : Bool) → bytes_eq key name ≡ b → cond b (Some (saturated_usize (length (strings_of names)))) (offset_among names name) ≡ offset_among (names ++ key ∷ []) name
     by true is =
-        subst (λ n. Some (as_usize (length (strings_of names))) ≡ offset_among (names ++ key ∷ []) n) ((bytes_eq-Decides key name).0 is)
-        (rw (has) (ap (λ n. Some (as_usize n)) (sym (offset_in-new names key new))))
+        subst (λ n. Some (saturated_usize (length (strings_of names))) ≡ offset_among (names ++ key ∷ []) n) ((bytes_eq-Decides key name).0 is)
+        (rw (has) (ap (λ n. Some (saturated_usize n)) (sym (offset_in-new names key new))))
       where
         has : is_among key (names ++ key ∷ []) ≡ true
         has =
@@ -88,12 +89,12 @@ offset_among-push names key name new = by (bytes_eq key name) refl
 -- The map of offsets, when a name that it lacks comes behind the others.
 pub placed-push : (old new : BTreeMap (ℕ × Bor (List ℕ)) ℕ) (names : List (List ℕ)) (key : Bor (List ℕ))
     → ((name : Bor (List ℕ)) → get by_length old (length name.now, name) ≡ offset_among names name.now)
-    → Updates by_length old new (length key.now, key) (Some (as_usize (length (strings_of names)))) → is_among key.now names ≡ false
+    → Updates by_length old new (length key.now, key) (Some (saturated_usize (length (strings_of names)))) → is_among key.now names ≡ false
     → (name : Bor (List ℕ)) → get by_length new (length name.now, name) ≡ offset_among (names ++ key.now ∷ []) name.now
 placed-push old new names key placed updates lacks name =
     updates.0 (length name.now, name)
-    ∙ ap (λ b. cond b (Some (as_usize (length (strings_of names)))) (get by_length old (length name.now, name))) (is_eq-by_length key name)
-    ∙ ap (cond (bytes_eq key.now name.now) (Some (as_usize (length (strings_of names))))) (placed name)
+    ∙ ap (λ b. cond b (Some (saturated_usize (length (strings_of names)))) (get by_length old (length name.now, name))) (is_eq-by_length key name)
+    ∙ ap (cond (bytes_eq key.now name.now) (Some (saturated_usize (length (strings_of names))))) (placed name)
     ∙ offset_among-push names key.now name.now lacks
 
 -- The names after one more use, by whether the name was there.

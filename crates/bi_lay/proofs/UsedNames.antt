@@ -8,7 +8,7 @@ use Rattle.bi_blob.proofs.Texts.FirstUse.{found_among, among_found, distinct_nam
 use Rattle.bi_blob.proofs.Texts.NamesOnce.{distinct_names-all, distinct_names-only}
 use Rattle.bi_lay.specs.declared.items.Item.{Item}
 use Rattle.bi_lay.specs.declared.items.Item.TheVariants.{Begin, Property as PropertyItem, End}
-use Rattle.bi_lay.specs.Names.{with_name, as_usize}
+use Rattle.bi_lay.specs.Names.{with_name, saturated_usize}
 use Rattle.bi_lay.specs.Items.{HasOffset}
 use Rattle.bi_lay.proofs.NameOffsets.{offset_in-stays}
 
@@ -56,7 +56,7 @@ HasOffset-with_name names name (PropertyItem property) has = by (is_among name n
     by false is =
         rw is (
           Contains-append_left names (name ∷ []) property.name.now has.0,
-          has.1 ∙ ap as_usize (sym (offset_in-stays names property.name.now name (found_among names property.name.now has.0))),
+          has.1 ∙ ap saturated_usize (sym (offset_in-stays names property.name.now name (found_among names property.name.now has.0))),
         )
 
 pub each-with_name : (names : List (List ℕ)) (name : List ℕ) (items : List Item) → AllByRecursion (HasOffset names) items →

@@ -6,7 +6,7 @@ use Rattle.bi_blob.specs.Layout.{offset_in, encoding}
 use Rattle.bi_lay.specs.declared.items.Item.{Item}
 use Rattle.bi_lay.specs.declared.items.Item.TheVariants.{Begin, Property, End}
 use Rattle.bi_lay.specs.Values.{value_bytes}
-use Rattle.bi_lay.specs.Names.{as_usize}
+use Rattle.bi_lay.specs.Names.{saturated_usize}
 
 -- The events that a document stores.
 
@@ -39,5 +39,5 @@ reservations_of pairs = map (λ pair. record { address = pair.0; size = pair.1 }
 abbrev pub HasOffset : List (List ℕ) → Item → Type 0
 HasOffset names (Property property) =
     Contains names property.name.now
-    × (property.name_offset ≡ as_usize (offset_in names property.name.now))
+    × (property.name_offset ≡ saturated_usize (offset_in names property.name.now))
 HasOffset names item = Unit {0}

@@ -15,13 +15,13 @@ abbrev pub with_name : List (List ℕ) → List ℕ → List (List ℕ)
 with_name names name = if is_among name names then names else names ++ name ∷ []
 
 -- A number, or the greatest that a `usize` can be.
-abbrev pub as_usize : ℕ → ℕ
-as_usize n = min n (2 ^ 64 - 1)
+abbrev pub saturated_usize : ℕ → ℕ
+saturated_usize n = min n (2 ^ 64 - 1)
 
 -- The offset of a name among these, if it is there.
 abbrev pub offset_among : List (List ℕ) → List ℕ → Option ℕ
 offset_among names name =
-    if is_among name names then Some (as_usize (offset_in names name)) else None
+    if is_among name names then Some (saturated_usize (offset_in names name)) else None
 
 -- The names that the fields hold.
 abbrev pub names_of : Inside → List (List ℕ)
@@ -32,4 +32,4 @@ names_of names = map (λ name. name.now) names.names.items
 pub record AreNames (names : Inside) : Type 0 where
   pub placed : (name : Bor (List ℕ)) → get by_length names.offsets (length name.now, name)
       ≡ offset_among (names_of names) name.now
-  pub is_length : names.length ≡ as_usize (length (strings_of (names_of names)))
+  pub is_length : names.length ≡ saturated_usize (length (strings_of (names_of names)))

@@ -33,7 +33,7 @@ impl<'a> Model for Names<'a> {
 }
 
 impl<'a> Names<'a> {
-    ghost use Rattle.bi_lay.specs.Names.{with_name, as_usize};
+    ghost use Rattle.bi_lay.specs.Names.{with_name, saturated_usize};
     ghost use Rattle.bi_base.specs.Slices.{bytes_of};
 
     /// No names. It allocates nothing yet.
@@ -50,7 +50,7 @@ impl<'a> Names<'a> {
     /// The length of the strings block in bytes, or the greatest `usize` if it is longer than
     /// that.
     pub(crate) fn length(&self) -> usize
-        ensures { result ≡ as_usize (length (strings_of self.now)) }
+        ensures { result ≡ saturated_usize (length (strings_of self.now)) }
     {
         self.length
     }
@@ -69,7 +69,7 @@ impl<'a> Names<'a> {
     /// The only error is `OutOfMemory`, and the names are unchanged then.
     pub(crate) fn add(&mut self, name: &'a [u8]) -> Result<usize, Error>
         ensures offset { IfOk result (λ offset.
-            offset ≡ as_usize (offset_in self.new name.entry.now)) }
+            offset ≡ saturated_usize (offset_in self.new name.entry.now)) }
         ensures names { OnOk result (self.new ≡ with_name self.old name.entry.now) }
         ensures failed { IfErr result (λ error. (error ≡ OutOfMemory) × (self.new ≡ self.old)) }
     {

@@ -2,7 +2,7 @@ use Rattle.std.proofs.Common.{◌≡◌, ℕ, List, [], ◌∷◌, ◌++◌, map
 use Rattle.bi_base.specs.Checks.{IsFirstFault, HasNoFault}
 use Rattle.bi_base.specs.Limits.{Limits}
 use Rattle.bi_base.specs.declared.fault.Fault.{Fault}
-use Rattle.bi_legacy.specs.Faults.{Passes, InPartTable, fault_of, legacy_checks, body_of, IsLegacyFault, HasNoLegacyFault}
+use Rattle.bi_legacy.specs.Faults.{Passes, InPartTable, fault_of, header_and_data_checks, body_of, IsLegacyFault, HasNoLegacyFault}
 use Rattle.bi_legacy.specs.PartTables.{TablePasses, table_fault, body_checks}
 use Rattle.bi_base.proofs.FirstFault.{IsFirstFault-after}
 
@@ -34,20 +34,21 @@ IsFirstFault-map P f g (check ∷ checks) fault (inr later) = inr (later.0, IsFi
 
 -- A file whose header and whose data pass.
 pub header_and_body_pass : (file : List ℕ) (limits : Limits) (image_type : ℕ) (body : List ℕ) → image_type ≡ slice_index file 30 →
-    body ≡ body_of file → HasNoFault (Passes limits file) legacy_checks → HasNoFault (TablePasses body) (body_checks image_type body) →
+    body ≡ body_of file → HasNoFault (Passes limits file) header_and_data_checks →
+    HasNoFault (TablePasses body) (body_checks image_type body) →
     HasNoLegacyFault limits file
 header_and_body_pass file limits image_type body type_is body_is none rest =
     let P : ℕ → Type 0 = λ n. HasNoFault (TablePasses body) (body_checks n body) in
     let Q : List ℕ → Type 0 = λ b. HasNoFault (TablePasses b) (body_checks (slice_index file 30) b) in
-    HasNoFault-append (Passes limits file) legacy_checks _ none
+    HasNoFault-append (Passes limits file) header_and_data_checks _ none
     (HasNoFault-map (Passes limits file) InPartTable _ (subst Q body_is (subst P type_is rest)))
 
 -- A file whose header passes and whose data does not.
 pub fault_in_body : (file : List ℕ) (limits : Limits) (image_type : ℕ) (body : List ℕ) (fault : Fault) → image_type ≡ slice_index file 30 →
-    body ≡ body_of file → HasNoFault (Passes limits file) legacy_checks →
+    body ≡ body_of file → HasNoFault (Passes limits file) header_and_data_checks →
     IsFirstFault (TablePasses body) table_fault (body_checks image_type body) fault → IsLegacyFault limits file fault
 fault_in_body file limits image_type body fault type_is body_is none first =
     let P : ℕ → Type 0 = λ n. IsFirstFault (TablePasses body) table_fault (body_checks n body) fault in
     let Q : List ℕ → Type 0 = λ b. IsFirstFault (TablePasses b) table_fault (body_checks (slice_index file 30) b) fault in
-    IsFirstFault-after (Passes limits file) (fault_of limits) legacy_checks _ fault none
+    IsFirstFault-after (Passes limits file) (fault_of limits) header_and_data_checks _ fault none
     (IsFirstFault-map (Passes limits file) (fault_of limits) InPartTable _ fault (subst Q body_is (subst P type_is first)))

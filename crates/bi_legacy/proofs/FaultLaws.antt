@@ -8,7 +8,8 @@ use Rattle.bi_base.specs.Limits.{Limits}
 use Rattle.bi_base.specs.declared.fault.Fault.{Fault}
 use Rattle.bi_base.proofs.FirstFault.{one_fault, not_both, fault_or_none}
 use Rattle.bi_legacy.specs.Faults.{Check, IsWithinLimit, HasMagicCell, HasMagic, HasHeader, HasHeaderChecksum, HasData, HasDataChecksum}
-use Rattle.bi_legacy.specs.Faults.{InPartTable, Passes, fault_of, checks, IsLegacyFault, HasNoLegacyFault, body_of, header_without_checksum}
+use Rattle.bi_legacy.specs.Faults.{InPartTable, Passes, fault_of, legacy_checks, IsLegacyFault, HasNoLegacyFault, body_of}
+use Rattle.bi_legacy.specs.Faults.{header_without_checksum}
 use Rattle.bi_legacy.specs.PartTables.{TableCheck, HasTableEnd, HasPart, TablePasses, cells_of}
 use Rattle.bi_legacy.specs.File.{LegacyMeans}
 use Rattle.bi_legacy.specs.Meaning.{LegacyImage}
@@ -51,16 +52,16 @@ check_decided file limits (InPartTable check) = table_decided (body_of file) che
 -- A file has no fault or some fault.
 pub fault_or_no_fault : (file : List ℕ) (limits : Limits) →
     HasNoLegacyFault limits file ⊎ ((fault : Fault) × IsLegacyFault limits file fault)
-fault_or_no_fault file limits = fault_or_none (Passes limits file) (fault_of limits) (check_decided file limits) (checks file)
+fault_or_no_fault file limits = fault_or_none (Passes limits file) (fault_of limits) (check_decided file limits) (legacy_checks file)
 
 -- A file has at most one fault.
 pub one_legacy_fault : (file : List ℕ) (limits : Limits) (a b : Fault) → IsLegacyFault limits file a → IsLegacyFault limits file b → a ≡ b
-one_legacy_fault file limits a b is_a is_b = one_fault (Passes limits file) (fault_of limits) (checks file) a b is_a is_b
+one_legacy_fault file limits a b is_a is_b = one_fault (Passes limits file) (fault_of limits) (legacy_checks file) a b is_a is_b
 
 -- A file without a fault has no fault.
 pub no_fault_no_fault : (file : List ℕ) (limits : Limits) (fault : Fault) → HasNoLegacyFault limits file → IsLegacyFault limits file fault →
     ⊥
-no_fault_no_fault file limits fault none is = not_both (Passes limits file) (fault_of limits) (checks file) fault none is
+no_fault_no_fault file limits fault none is = not_both (Passes limits file) (fault_of limits) (legacy_checks file) fault none is
 
 -- A file with a fault means no image within the limits.
 pub no_meaning_with_fault : (file : List ℕ) (image : LegacyImage) (limits : Limits) (fault : Fault) → IsLegacyFault limits file fault →

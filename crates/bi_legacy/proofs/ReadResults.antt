@@ -6,8 +6,8 @@ use Rattle.bi_base.specs.declared.fault.Fault.{Fault}
 use Rattle.bi_base.proofs.FirstFault.{one_fault, not_both}
 use Rattle.bi_legacy.specs.Meaning.{LegacyImage}
 use Rattle.bi_legacy.specs.File.{LegacyMeans}
-use Rattle.bi_legacy.specs.Faults.{IsLegacyFault, IsOnlyLegacyFault, HasNoLegacyFault, Passes, fault_of, checks}
-use Rattle.bi_legacy.specs.Reading.{LegacyModel, IsParsedImage}
+use Rattle.bi_legacy.specs.Faults.{IsLegacyFault, IsOnlyLegacyFault, HasNoLegacyFault, Passes, fault_of, legacy_checks}
+use Rattle.bi_legacy.specs.Reading.{LegacyModel, IsReadLegacy}
 use Rattle.bi_legacy.proofs.MeansNoFault.{means_no_fault}
 use Rattle.bi_legacy.proofs.NormalForms.{has_normal_form}
 use Rattle.bi_legacy.proofs.NoFaultMeans.{no_fault_means}
@@ -19,19 +19,10 @@ use Rattle.bi_legacy.proofs.PartsInFile.{parts_at_offsets, parts_end_in_file}
 
 -- The result of reading a file, where it is right by the checks.
 
--- It is Ok exactly where the file means an image.
-pub accepts_of : (file : List ℕ) (limits : Limits) (r : Result LegacyModel Fault) → AreBytes file → OnOk r (HasNoLegacyFault limits file) →
-    IfErr r (IsLegacyFault limits file) → IsOk r ↔ ((image : LegacyImage) × LegacyMeans limits file image)
-accepts_of file limits (Ok parsed) bytes none first = (λ _. (read_image file, no_fault_means file limits bytes none), λ _. refl)
-accepts_of file limits (Err fault) bytes none first = (
-  λ e. absurd cc,
-  λ meant. absurd (not_both (Passes limits file) (fault_of limits) (checks file) fault (means_no_fault file meant.0 limits meant.1) first),
-)
-
 -- The value is that of the file.
 pub parsed_of : (file : List ℕ) (limits : Limits) (r : Result LegacyModel Fault) → AreBytes file → OnOk r (HasNoLegacyFault limits file) →
     IfOk r (λ value. value.image ≡ read_image file) → IfOk r (λ value. value.unused ≡ length file - (64 + read_end file)) →
-    IfOk r (IsParsedImage limits file)
+    IfOk r (IsReadLegacy limits file)
 parsed_of file limits (Ok value) bytes none image unused =
     let read = no_fault_means file limits bytes none in
     let means : LegacyMeans limits file value.image =
@@ -54,5 +45,7 @@ pub only_fault_of : (file : List ℕ) (limits : Limits) (r : Result LegacyModel 
 only_fault_of file limits (Ok value) first = tt
 only_fault_of file limits (Err fault) first = record {
   is_fault = first;
-  only = λ other another. one_fault (Passes limits file) (fault_of limits) (checks file) other fault another first;
+  only = λ other another. one_fault (Passes limits file) (fault_of limits) (legacy_checks file) other fault another first;
+  means_nothing = λ image means.
+      not_both (Passes limits file) (fault_of limits) (legacy_checks file) fault (means_no_fault file image limits means) first;
 }

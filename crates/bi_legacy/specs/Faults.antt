@@ -6,7 +6,8 @@ use Rattle.bi_base.specs.Cells.{cell, slice, u32_at}
 use Rattle.bi_base.specs.Crc.{crc32}
 use Rattle.bi_base.specs.Limits.{Limits}
 use Rattle.bi_base.specs.Checks.{IsFirstFault, HasNoFault}
-use Rattle.bi_legacy.specs.File.{legacy_magic}
+use Rattle.bi_legacy.specs.File.{legacy_magic, LegacyMeans}
+use Rattle.bi_legacy.specs.Meaning.{LegacyImage}
 use Rattle.bi_legacy.specs.PartTables.{TableCheck, TablePasses, table_fault, body_checks}
 
 -- The checks of a legacy image, and the fault of a file that is none (profile of this project).
@@ -53,25 +54,27 @@ fault_of limits HasDataChecksum = record { cause = BadDataCrc; offset = 24 }
 fault_of limits (InPartTable check) = table_fault check
 
 -- The checks of header and data, in their order.
-abbrev pub legacy_checks : List Check
-legacy_checks =
+abbrev pub header_and_data_checks : List Check
+header_and_data_checks =
     IsWithinLimit ∷ HasMagicCell ∷ HasMagic ∷ HasHeader ∷ HasHeaderChecksum ∷ HasData
     ∷ HasDataChecksum ∷ []
 
 -- All checks of a legacy image, in their order. Byte 30 of the header is the type.
-abbrev pub checks : List ℕ → List Check
-checks file = legacy_checks ++ map InPartTable (body_checks (slice_index file 30) (body_of file))
+abbrev pub legacy_checks : List ℕ → List Check
+legacy_checks file =
+    header_and_data_checks ++ map InPartTable (body_checks (slice_index file 30) (body_of file))
 
 -- The fault of a file: that of its first failing check.
 abbrev pub IsLegacyFault : Limits → List ℕ → Fault → Type 0
 IsLegacyFault limits file fault =
-    IsFirstFault (Passes limits file) (fault_of limits) (checks file) fault
+    IsFirstFault (Passes limits file) (fault_of limits) (legacy_checks file) fault
 
--- The file has this fault and no other.
+-- The file has this fault and no other, and means no image within the limits.
 pub record IsOnlyLegacyFault (limits : Limits) (file : List ℕ) (fault : Fault) : Type 0 where
   pub is_fault : IsLegacyFault limits file fault
   pub only : (other : Fault) → IsLegacyFault limits file other → other ≡ fault
+  pub means_nothing : (image : LegacyImage) → ¬ (LegacyMeans limits file image)
 
 -- The file fails no check.
 abbrev pub HasNoLegacyFault : Limits → List ℕ → Type 0
-HasNoLegacyFault limits file = HasNoFault (Passes limits file) (checks file)
+HasNoLegacyFault limits file = HasNoFault (Passes limits file) (legacy_checks file)

@@ -22,7 +22,7 @@ part_places image = map (λ (part : PartModel). part.place) (placed_parts image)
 -- The file means this image and no other, each part is in it at its offset, and this many of its
 -- bytes follow the last part, or the part table if there are no parts. No check of the file fails,
 -- and the image has a normal form.
-pub record IsParsedImage (limits : Limits) (file : List ℕ) (value : LegacyModel) : Type 0 where
+pub record IsReadLegacy (limits : Limits) (file : List ℕ) (value : LegacyModel) : Type 0 where
   pub means : LegacyMeans limits file value.image
   pub only : (other : LegacyImage) → LegacyMeans limits file other → other ≡ value.image
   pub at_offsets : AreAtOffsets file (placed_parts value.image)

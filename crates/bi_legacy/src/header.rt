@@ -3,7 +3,8 @@
 ghost use Rattle.std.specs.Prelude.{◌≡◌, ◌≤◌, length, OnOk, IfErr};
 ghost use Rattle.bi_base.specs.Crc.{crc32 as crc32_of};
 ghost use Rattle.bi_base.specs.Checks.{IsFirstFault, HasNoFault};
-ghost use Rattle.bi_legacy.specs.Faults.{Passes, fault_of, legacy_checks, header_without_checksum};
+ghost use Rattle.bi_legacy.specs.Faults.{Passes, fault_of, header_and_data_checks};
+ghost use Rattle.bi_legacy.specs.Faults.{header_without_checksum};
 
 use crate::offsets::{IH_DCRC, IH_HCRC, IH_SIZE, IH_TIME};
 use bi_base::{Cause, Crc32, Fault, Limits, be32_at, cell_at, crc32, refuse};
@@ -19,9 +20,9 @@ pub(crate) const NAME_SIZE: usize = 32;
 
 /// Checks the header and the data checksum of a file.
 pub(crate) fn check_header(file: &[u8], limits: Limits) -> Result<(), Fault>
-    ensures ok { OnOk result (HasNoFault (Passes limits file.now) legacy_checks) }
+    ensures ok { OnOk result (HasNoFault (Passes limits file.now) header_and_data_checks) }
     ensures fault { IfErr result
-        (IsFirstFault (Passes limits file.now) (fault_of limits) legacy_checks) }
+        (IsFirstFault (Passes limits file.now) (fault_of limits) header_and_data_checks) }
 {
     if file.len() > limits.file() as usize {
         return refuse(Cause::TooLarge, limits.file());

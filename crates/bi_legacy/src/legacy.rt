@@ -1,17 +1,16 @@
 //! Reading a legacy image.
 
-ghost use Rattle.std.specs.Prelude.{◌≡◌, ◌+◌, ◌-◌, ◌≤◌, ◌↔◌, length, map, slice_get, IsOk, OnOk};
+ghost use Rattle.std.specs.Prelude.{◌≡◌, ◌+◌, ◌-◌, ◌≤◌, length, map, slice_get, OnOk};
 ghost use Rattle.std.specs.Prelude.{IfOk, IfErr, IfSome};
 ghost use Rattle.std.specs.Option.{option_map};
 ghost use Rattle.bi_base.specs.Cells.{u32_at};
 ghost use Rattle.bi_base.specs.Crc.{crc32};
-ghost use Rattle.bi_legacy.specs.Meaning.{LegacyImage, image_of};
-ghost use Rattle.bi_legacy.specs.File.{LegacyMeans};
+ghost use Rattle.bi_legacy.specs.Meaning.{image_of};
 ghost use Rattle.bi_legacy.specs.Faults.{IsLegacyFault, IsOnlyLegacyFault, HasNoLegacyFault};
 ghost use Rattle.bi_legacy.specs.Faults.{body_of};
 ghost use Rattle.bi_legacy.specs.PlacedParts.{placed_parts};
 ghost use Rattle.bi_legacy.specs.Text.{normal_body};
-ghost use Rattle.bi_legacy.specs.Reading.{LegacyModel, IsParsedImage, part_places};
+ghost use Rattle.bi_legacy.specs.Reading.{LegacyModel, IsReadLegacy, part_places};
 ghost use Rattle.bi_legacy.specs.ReadImage.{IsReaderState, parts_of_body, read_image, read_end};
 
 use crate::fields::{Fields, has_part_table};
@@ -62,9 +61,7 @@ impl<'a> Legacy<'a> {
     /// - BadPartTable at 64, for a multi or script image whose part table has no end;
     /// - BadPart at `64 + 4 * k`, for the first part k of such an image that ends after the data.
     pub fn read(file: &'a [u8], limits: Limits) -> Result<Legacy<'a>, Fault>
-        ensures accepts { let file = file.entry.now in
-            IsOk result ↔ ((image : LegacyImage) × LegacyMeans limits file image) }
-        ensures read { IfOk result (IsParsedImage limits file.entry.now) }
+        ensures read { IfOk result (IsReadLegacy limits file.entry.now) }
         ensures fault { IfErr result (IsOnlyLegacyFault limits file.entry.now) }
     {
         parse(file, limits)

@@ -7,20 +7,20 @@ use Rattle.bi_norm.specs.declared.image.BootImage.TheVariants.{Legacy, Fit}
 use Rattle.bi_norm.specs.Comparing.{MeansOnly, AreCompared, IsCompareError}
 use Rattle.bi_norm.specs.NormalForm.{IsOpenError}
 use Rattle.bi_norm.specs.OpenedMeaning.{meaning_of}
-use Rattle.bi_norm.specs.Opening.{IsBootImage}
+use Rattle.bi_norm.specs.Opening.{IsReadBootImage}
 use Rattle.bi_norm.proofs.NormalForms.{only_legacy, only_tree, needs_memory}
 
 -- Comparing files that were read.
 
 -- A file that was read means what was read, and nothing else.
-pub opened_means : (limits : Limits) (file : List ℕ) (image : BootImage) → IsBootImage limits file image →
+pub opened_means : (limits : Limits) (file : List ℕ) (image : BootImage) → IsReadBootImage limits file image →
     MeansOnly limits file (meaning_of image)
 opened_means limits file (Legacy parsed) opened = record { means = opened.means; only = only_legacy limits file parsed opened }
 opened_means limits file (Fit content) opened = record { means = opened.means; only = only_tree limits file content opened }
 
 -- Whether two files that were read mean the same.
-are_compared : (limits : Limits) (one other : List ℕ) (image other_image : BootImage) (same : Bool) → IsBootImage limits one image →
-    IsBootImage limits other other_image → IsTrue same ↔ (meaning_of image ≡ meaning_of other_image) → AreCompared limits one other same
+are_compared : (limits : Limits) (one other : List ℕ) (image other_image : BootImage) (same : Bool) → IsReadBootImage limits one image →
+    IsReadBootImage limits other other_image → IsTrue same ↔ (meaning_of image ≡ meaning_of other_image) → AreCompared limits one other same
 are_compared limits one other image other_image same opened other_opened is = record {
   meaning = meaning_of image;
   other_meaning = meaning_of other_image;
@@ -37,7 +37,7 @@ error_of_first limits one other OutOfMemory is = is
 error_of_first limits one other ReadFailed is = is
 error_of_first limits one other WriteFailed is = is
 
-pub error_of_second : (limits : Limits) (one other : List ℕ) (image : BootImage) (error : Error) → IsBootImage limits one image →
+pub error_of_second : (limits : Limits) (one other : List ℕ) (image : BootImage) (error : Error) → IsReadBootImage limits one image →
     IsOpenError limits other error → IsCompareError limits one other error
 error_of_second limits one other image (Refused fault) opened is =
     inr (record { meaning = meaning_of image; means = (opened_means limits one image opened).means; has_error = is })
@@ -47,12 +47,13 @@ error_of_second limits one other image WriteFailed opened is = is
 
 -- The same of the result of comparing two files that were read.
 pub result_compared : (limits : Limits) (one other : List ℕ) (image other_image : BootImage) (result : Result Bool Error) →
-    IsBootImage limits one image → IsBootImage limits other other_image →
+    IsReadBootImage limits one image → IsReadBootImage limits other other_image →
     IfOk result (λ same. IsTrue same ↔ (meaning_of image ≡ meaning_of other_image)) → IfOk result (AreCompared limits one other)
 result_compared limits one other image other_image (Ok same) opened other_opened is = are_compared limits one other image other_image same opened other_opened is
 result_compared limits one other image other_image (Err error) opened other_opened is = tt
 
-pub result_failed : (limits : Limits) (one other : List ℕ) (image : BootImage) (result : Result Bool Error) → IsBootImage limits one image →
+pub result_failed : (limits : Limits) (one other : List ℕ) (image : BootImage) (result : Result Bool Error) →
+    IsReadBootImage limits one image →
     IfErr result (λ error. error ≡ OutOfMemory) → IfErr result (IsCompareError limits one other)
 result_failed limits one other image (Ok same) opened is = tt
 result_failed limits one other image (Err error) opened is =

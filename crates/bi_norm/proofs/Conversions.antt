@@ -10,7 +10,7 @@ use Rattle.bi_fit.specs.ImageTree.{ImageTree}
 use Rattle.bi_fit.specs.Text.{fit_text}
 use Rattle.bi_legacy.specs.File.{LegacyMeans}
 use Rattle.bi_legacy.specs.Meaning.{LegacyImage}
-use Rattle.bi_legacy.specs.Reading.{LegacyModel, IsParsedImage}
+use Rattle.bi_legacy.specs.Reading.{LegacyModel, IsReadLegacy}
 use Rattle.bi_legacy.proofs.ImageOfFile.{image_of_file}
 use Rattle.bi_norm.specs.BuildCalls.{IsTextOfTree}
 use Rattle.bi_norm.specs.Converting.{converted_images, fit_of, CanBeConverted, IsConvertedFile, IsConvertError, TextTooLong, head_of_image}
@@ -31,7 +31,7 @@ tree_is image head images same are = ap (λ (images : List ImageSpecModel). buil
 
 -- The text of this tree is that of the converted file.
 pub is_converted : (limits : Limits) (file : List ℕ) (parsed : LegacyModel) (tree : ImageTree) (text : List ℕ) →
-    IsParsedImage limits file parsed → CanBeConverted parsed.image → limits.file ≤ longest_text → tree ≡ fit_of parsed.image →
+    IsReadLegacy limits file parsed → CanBeConverted parsed.image → limits.file ≤ longest_text → tree ≡ fit_of parsed.image →
     IsTextOfTree limits Embedded tree text → IsConvertedFile limits file text
 is_converted limits file parsed tree text opened can most same is =
     let image = parsed.image in
@@ -49,7 +49,7 @@ is_converted limits file parsed tree text opened can most same is =
 
 -- The error of appending this text is one of converting the file.
 pub is_convert_error : (limits : Limits) (file : List ℕ) (parsed : LegacyModel) (tree : ImageTree) (error : Error) →
-    IsParsedImage limits file parsed → CanBeConverted parsed.image → tree ≡ fit_of parsed.image →
+    IsReadLegacy limits file parsed → CanBeConverted parsed.image → tree ≡ fit_of parsed.image →
     IsDocumentError limits Embedded tree error → IsConvertError limits file error
 is_convert_error limits file parsed tree (Refused fault) opened can same is =
     TextTooLong parsed.image opened.means can (omega (arith, is.1, ap (λ tree. length (fit_text Embedded tree)) same)) is.0

@@ -11,7 +11,7 @@ use Rattle.bi_blob.specs.Layout.{longest_text, text_of_events, text_of_blocks}
 use Rattle.bi_blob.proofs.Blobs.BeforeTree.{fault_before_tree_comes_first}
 use Rattle.bi_legacy.specs.File.{legacy_magic, header}
 use Rattle.bi_legacy.specs.Meaning.{LegacyImage}
-use Rattle.bi_legacy.specs.Reading.{LegacyModel, IsParsedImage}
+use Rattle.bi_legacy.specs.Reading.{LegacyModel, IsReadLegacy}
 use Rattle.bi_legacy.specs.Text.{legacy_text}
 use Rattle.bi_fit.specs.declared.form.Form.{Form}
 use Rattle.bi_fit.specs.Content.{FitModel, tree_of}
@@ -20,7 +20,7 @@ use Rattle.bi_fit.specs.Faults.{InBlob}
 use Rattle.bi_fit.specs.File.{IsFitFile}
 use Rattle.bi_fit.specs.ImageTree.{ImageTree}
 use Rattle.bi_fit.specs.Judgement.{judgement, signature_count as signatures_of_tree}
-use Rattle.bi_fit.specs.Reading.{IsReadFrom}
+use Rattle.bi_fit.specs.Reading.{IsReadFit}
 use Rattle.bi_fit.specs.Text.{fit_text}
 use Rattle.bi_fit.proofs.Faults.{fit_has_no_fault}
 use Rattle.bi_fit.proofs.TextLaws.{file_means_image_tree, normal_fit_text_is_accepted, same_text_same_tree, text_keeps_judgement}
@@ -54,14 +54,14 @@ texts_differ form image tree same =
     omega (arith, legacy_text_begins image, tree_text_begins form tree, ap (λ text. u32_at text 0) same)
 
 -- A file that means a legacy image means nothing else.
-pub only_legacy : (limits : Limits) (file : List ℕ) (parsed : LegacyModel) → IsParsedImage limits file parsed → (other : Meaning) →
+pub only_legacy : (limits : Limits) (file : List ℕ) (parsed : LegacyModel) → IsReadLegacy limits file parsed → (other : Meaning) →
     Means limits file other → other ≡ OfLegacy parsed.image
 only_legacy limits file parsed opened (OfLegacy other) means = ap OfLegacy (opened.only other means)
 only_legacy limits file parsed opened (OfFit tree) means =
     absurd (means_tree limits file tree means (means_legacy limits file parsed.image opened.means))
 
 -- Files that mean something else have another normal text.
-distinguishes_legacy : (limits : Limits) (form : Form) (file : List ℕ) (parsed : LegacyModel) → IsParsedImage limits file parsed →
+distinguishes_legacy : (limits : Limits) (form : Form) (file : List ℕ) (parsed : LegacyModel) → IsReadLegacy limits file parsed →
     (other_file : List ℕ) (other : Meaning) → Means limits other_file other →
     (normal_text form other ≡ legacy_text parsed.image) ↔ (other ≡ OfLegacy parsed.image)
 distinguishes_legacy limits form file parsed opened other_file (OfLegacy other) means = (
@@ -74,7 +74,7 @@ distinguishes_legacy limits form file parsed opened other_file (OfFit tree) mean
 )
 
 -- The normal text of a legacy image that was read from a file is the normal form of the file.
-pub legacy_normal_form : (limits : Limits) (form : Form) (file : List ℕ) (parsed : LegacyModel) → IsParsedImage limits file parsed →
+pub legacy_normal_form : (limits : Limits) (form : Form) (file : List ℕ) (parsed : LegacyModel) → IsReadLegacy limits file parsed →
     IsNormalForm limits form file (legacy_text parsed.image)
 legacy_normal_form limits form file parsed opened = record {
   meaning = OfLegacy parsed.image;
@@ -87,13 +87,13 @@ legacy_normal_form limits form file parsed opened = record {
 }
 
 -- It has no signature nodes.
-pub legacy_normalised : (limits : Limits) (form : Form) (file : List ℕ) (parsed : LegacyModel) → IsParsedImage limits file parsed →
+pub legacy_normalised : (limits : Limits) (form : Form) (file : List ℕ) (parsed : LegacyModel) → IsReadLegacy limits file parsed →
     Normalised limits form 0 file (legacy_text parsed.image)
 unfolding legacy_normal_form
 legacy_normalised limits form file parsed opened = record { normal = legacy_normal_form limits form file parsed opened; signatures = refl }
 
 -- A file that means a flattened image tree means nothing else.
-pub only_tree : (limits : Limits) (file : List ℕ) (content : FitModel) → IsReadFrom limits file content → (other : Meaning) →
+pub only_tree : (limits : Limits) (file : List ℕ) (content : FitModel) → IsReadFit limits file content → (other : Meaning) →
     Means limits file other → other ≡ OfFit (tree_of content)
 only_tree limits file content opened (OfFit other) means = ap OfFit (opened.only other means)
 only_tree limits file content opened (OfLegacy image) means =
@@ -114,7 +114,7 @@ distinguishes_tree limits form file tree is short other_file (OfLegacy image) me
 )
 
 -- The normal text of a flattened image tree that was read from a file, if it is no longer than the limit, is the normal form of the file.
-pub tree_normal_form : (limits : Limits) (form : Form) (file : List ℕ) (content : FitModel) → IsReadFrom limits file content →
+pub tree_normal_form : (limits : Limits) (form : Form) (file : List ℕ) (content : FitModel) → IsReadFit limits file content →
     length (fit_text form (tree_of content)) ≤ limits.file → limits.file ≤ longest_text →
     IsNormalForm limits form file (fit_text form (tree_of content))
 tree_normal_form limits form file content opened fits most =
@@ -132,7 +132,7 @@ tree_normal_form limits form file content opened fits most =
     }
 
 -- It has as many signature nodes as the tree.
-pub tree_normalised : (limits : Limits) (form : Form) (file : List ℕ) (content : FitModel) (count : ℕ) → IsReadFrom limits file content →
+pub tree_normalised : (limits : Limits) (form : Form) (file : List ℕ) (content : FitModel) (count : ℕ) → IsReadFit limits file content →
     length (fit_text form (tree_of content)) ≤ limits.file → limits.file ≤ longest_text → count ≡ signatures_of_tree (tree_of content) →
     Normalised limits form count file (fit_text form (tree_of content))
 unfolding tree_normal_form
@@ -152,7 +152,7 @@ pub normal_form_needs_memory : (limits : Limits) (form : Form) (file text : List
 normal_form_needs_memory limits form file text normal = needs_memory limits file normal.meaning normal.means
 
 -- An error of making its document is one that normalising the file can have.
-pub document_error : (limits : Limits) (form : Form) (file : List ℕ) (content : FitModel) (error : Error) → IsReadFrom limits file content →
+pub document_error : (limits : Limits) (form : Form) (file : List ℕ) (content : FitModel) (error : Error) → IsReadFit limits file content →
     IsDocumentError limits form (tree_of content) error → IsNormaliseError limits form file error
 document_error limits form file content (Refused fault) opened is =
     inr (record { tree = tree_of content; means = opened.means; longer = is.1 }, is.0)
@@ -170,7 +170,7 @@ open_error limits form file WriteFailed is = is
 
 -- A legacy image whose normal text was not written: memory ran out, or the sink failed.
 pub legacy_not_written : {S : Type 0} {fails : S → List ℕ → S → Error → Type 0} (limits : Limits) (form : Form) (file : List ℕ)
-    (parsed : LegacyModel) (written : List ℕ) (old new : S) (error : Error) → IsParsedImage limits file parsed →
+    (parsed : LegacyModel) (written : List ℕ) (old new : S) (error : Error) → IsReadLegacy limits file parsed →
     written ≡ legacy_text parsed.image → AppendFailed fails (λ text. text ≡ written) (λ error. error ≡ OutOfMemory) old new error →
     AppendFailed fails (IsNormalForm limits form file) (IsNormaliseError limits form file) old new error
 legacy_not_written limits form file parsed written old new error opened is_written (WasRefused is same) =

@@ -113,8 +113,8 @@ too_long_means_nothing limits file longer (OfFit tree) means = omega (arith, lon
 
 -- A file that begins as a legacy image and means none means nothing.
 pub refused_means_nothing : (limits : Limits) (file : List ℕ) → BeginsAs file Legacy →
-    (((image : LegacyImage) × LegacyMeans limits file image) → false ≡ true) → MeansNothing limits file
-refused_means_nothing limits file begins refused (OfLegacy image) means = absurd (false≢true (refused (image, means)))
+    ((image : LegacyImage) → ¬ (LegacyMeans limits file image)) → MeansNothing limits file
+refused_means_nothing limits file begins refused (OfLegacy image) means = refused image means
 refused_means_nothing limits file begins refused (OfFit tree) means = means_tree limits file tree means begins
 
 -- An error of reading a flattened image tree is one of a file that begins as one.

@@ -69,8 +69,8 @@ NormalTextsDiffer =
     → length (normal_text form one) ≤ longest_text
     → (normal_text form one ≡ normal_text form other) ↔ (one ≡ other)
 
--- A file that is longer than the limit has the fault TooLarge at the limit and means nothing. Of a
--- conversion, that is the fault, too.
+-- A file that is longer than the limit has the fault TooLarge at the limit and means nothing. A
+-- conversion of the file has the same fault.
 pub record TooLongIsRefused : Type 0 where
   pub is_fault : (limits : Limits) (file : List ℕ) → limits.file < length file
       → IsFileFault limits file (too_large limits.file)

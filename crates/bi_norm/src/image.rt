@@ -2,7 +2,7 @@
 
 ghost use Rattle.std.specs.Prelude.{IfOk, IfErr};
 ghost use Rattle.bi_norm.specs.NormalForm.{IsOpenError};
-ghost use Rattle.bi_norm.specs.Opening.{IsBootImage};
+ghost use Rattle.bi_norm.specs.Opening.{IsReadBootImage};
 
 use crate::kind::{Kind, kind_of};
 use bi_base::{Cause, Error, Limits, refuse};
@@ -27,7 +27,7 @@ impl<'a> BootImage<'a> {
     /// comes only after the checks of a legacy image, or of the header and the reservation block of
     /// a blob.
     pub fn read(alloc: Global, file: &'a [u8], limits: Limits) -> Result<BootImage<'a>, Error>
-        ensures read { IfOk result (IsBootImage limits file.entry.now) }
+        ensures read { IfOk result (IsReadBootImage limits file.entry.now) }
         ensures failed { IfErr result (IsOpenError limits file.entry.now) }
     {
         if file.len() > limits.file() as usize {

@@ -10,7 +10,7 @@ ghost use Rattle.bi_blob.specs.Stages.{AfterRoot};
 ghost use Rattle.bi_lay.specs.Contents.{text_of};
 ghost use Rattle.bi_fit.specs.NormalNodes.{AreWithin, payloads_of};
 ghost use Rattle.bi_legacy.specs.Meaning.{with_new_time};
-ghost use Rattle.bi_legacy.specs.Reading.{IsParsedImage};
+ghost use Rattle.bi_legacy.specs.Reading.{IsReadLegacy};
 ghost use Rattle.bi_legacy.specs.Text.{legacy_text};
 ghost use Rattle.bi_norm.specs.Texts.{whole_text};
 
@@ -33,10 +33,10 @@ pub fn append_legacy<S: Sink>(
     limits: Limits,
     sink: &mut S,
 ) -> Result<(), Error>
-    ensures appended { (file : List ℕ) → IsParsedImage limits file image.now →
+    ensures appended { (file : List ℕ) → IsReadLegacy limits file image.now →
         let text = legacy_text (with_new_time time image.now.image) in
         OnOk result (S.appends sink.old text sink.new) }
-    ensures failed { (file : List ℕ) → IsParsedImage limits file image.now →
+    ensures failed { (file : List ℕ) → IsReadLegacy limits file image.now →
         let text = legacy_text (with_new_time time image.now.image) in
         IfErr result (AppendFailed S.fails (λ appended. appended ≡ text)
         (λ error. error ≡ OutOfMemory) sink.old sink.new) }
@@ -58,7 +58,8 @@ fn parts_of<'a>(alloc: Global, image: &Legacy<'a>) -> Result<Vec<&'a [u8]>, Allo
 }
 
 /// Appends the text of a document, and in the form External the payloads of these images after it.
-/// Fails as the sink does.
+/// The document is closed, and text and payloads have at most 0x7fffffff bytes each. Fails as the
+/// sink does.
 pub fn append_document<S: Sink>(
     document: &Doc<'_>,
     images: &[Image<'_>],

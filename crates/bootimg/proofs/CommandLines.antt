@@ -54,7 +54,8 @@ not_parsed Is (Some value) result same none = subst (λ r. IfErr r (IsBadValue I
 not_parsed Is None result same none = subst (λ r. IfErr r (IsBadValue Is)) (sym same) (refl, none)
 
 -- An argument that is neither `-` nor a number is no address.
-pub no_address : (argument : List ℕ) → (IsAddress argument None → ⊥) → ((number : ℕ) → IsNumber argument number → ⊥) → NoneIs (IsAddress argument)
+pub no_address : (argument : List ℕ) → (IsAddress argument None → ⊥) → ((number : ℕ) → IsNumber argument number → ⊥) →
+    NoneIs (IsAddress argument)
 no_address argument differs none None is = differs is
 no_address argument differs none (Some number) is = none number is
 
@@ -68,7 +69,8 @@ no_source argument no_name none (source.File name) is = no_name name.now is
 pub field_split : (argument : List ℕ) (result : Option (Bor (List ℕ) × Bor (List ℕ))) →
     MatchOption result (position_or_len (λ b. b == 58) argument ≡ length argument)
     (λ x. (x.0.now ≡ before_first (λ b. b == 58) argument) × (x.1.now ≡ after_first (λ b. b == 58) argument)
-    × (position_or_len (λ b. b == 58) argument < length argument)) → IfSome result (λ split. parts_of argument ≡ split.0.now ∷ parts_of split.1.now)
+    × (position_or_len (λ b. b == 58) argument < length argument)) →
+    IfSome result (λ split. parts_of argument ≡ split.0.now ∷ parts_of split.1.now)
 field_split argument None is = tt
 field_split argument (Some split) is = rw (is.0, is.1) (slice_split_first (λ b. b == 58) argument 0 is.2)
 
@@ -178,7 +180,8 @@ images_push (w ∷ arguments) (i ∷ images) (s ∷ payloads) argument image pay
 
 -- Each of arguments that are images is one.
 pub image_at : (arguments : List (List ℕ)) (images : List ImageSpec) (payloads : List PartSource) (index : ℕ) (argument : List ℕ) →
-    AreImages arguments images payloads → slice_get arguments index ≡ Some argument → (image : ImageSpec × PartSource) × IsImageText argument image
+    AreImages arguments images payloads → slice_get arguments index ≡ Some argument →
+    (image : ImageSpec × PartSource) × IsImageText argument image
 image_at [] images payloads index argument are is = absurd cc
 image_at (w ∷ arguments) [] payloads index argument are is = absurd are
 image_at (w ∷ arguments) (i ∷ images) [] index argument are is = absurd are
@@ -289,7 +292,8 @@ before_taken (argument ∷ arguments) (suc index) (suc other) text before is =
 
 -- The first argument that is no image.
 pub first_bad : (arguments : List (Bor (List ℕ))) (index : ℕ) (d : Bor (List ℕ)) (images : List ImageSpec) (payloads : List PartSource) →
-    index < length arguments → AreImages (texts_of (take index arguments)) images payloads → NoneIs (IsImageText (get_or arguments index d).now) →
+    index < length arguments → AreImages (texts_of (take index arguments)) images payloads →
+    NoneIs (IsImageText (get_or arguments index d).now) →
     IsFirstBad (texts_of arguments) index
 first_bad arguments index d images payloads within are none = record {
   argument = (get_or arguments index d).now;

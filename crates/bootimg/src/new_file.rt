@@ -3,14 +3,14 @@
 ghost use Rattle.std.specs.Prelude.{◌≡◌};
 ghost use Rattle.bi_base.specs.Traces.{WritesWell};
 
-use bi_base::{Outcome, TracedWrite};
+use bi_base::{CallOutcome, TracedWrite};
 use std::io::{self, Write};
 
 /// A new file, with its writer. It is closed when it is dropped.
 #[derive(Drop)]
 pub struct NewFile<W> {
     writer: W,
-    outcome: Outcome,
+    outcome: CallOutcome,
     stalled: bool,
     flushing: bool,
     stopped: bool,
@@ -25,7 +25,7 @@ impl<W: Write> NewFile<W> {
     {
         NewFile {
             writer,
-            outcome: Outcome::new(),
+            outcome: CallOutcome::new(),
             stalled: false,
             flushing: false,
             stopped: false,

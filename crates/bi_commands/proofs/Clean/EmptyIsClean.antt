@@ -11,7 +11,7 @@ use Rattle.bi_fit.specs.Judgement.{configuration_nodes, default_of, images_of}
 use Rattle.bi_fit.proofs.Meanings.{one_fit_meaning, same_in_some}
 use Rattle.bi_legacy.specs.Meaning.{LegacyImage}
 use Rattle.bi_legacy.specs.Parts.{parts_end}
-use Rattle.bi_legacy.specs.Reading.{LegacyModel, IsParsedImage}
+use Rattle.bi_legacy.specs.Reading.{LegacyModel, IsReadLegacy}
 use Rattle.bi_norm.proofs.Opening.{means_legacy, means_tree}
 use Rattle.bi_commands.specs.declared.check.Allowed.{Allowed}
 use Rattle.bi_commands.specs.Checking.{Concern, AreConcerns, OfLegacyImage, OfImageTree, concern_lines, configuration_concerns, content_end}
@@ -89,7 +89,7 @@ one_list_of_nodes limits file one other means also =
     same_in_some means.is_file.images also.is_file.images (sym means.is_file.has_images ∙ ap image_nodes same.same_root ∙ also.is_file.has_images)
 
 -- A legacy image has one number of bytes after it.
-one_unused : (limits : Limits) (file : List ℕ) (one other : LegacyModel) → IsParsedImage limits file one → IsParsedImage limits file other →
+one_unused : (limits : Limits) (file : List ℕ) (one other : LegacyModel) → IsReadLegacy limits file one → IsReadLegacy limits file other →
     one.unused ≡ other.unused
 one_unused limits file one other means also =
     let same : other.image ≡ one.image = means.only other.image also.means in

@@ -2,7 +2,7 @@
 
 ghost use Rattle.std.specs.Prelude.{◌≡◌, IfOk, IfErr, map, string_bytes};
 ghost use Rattle.bi_fit.specs.JudgementCalls.{checked_hash_of};
-ghost use Rattle.bi_fit.specs.Reading.{IsReadFrom};
+ghost use Rattle.bi_fit.specs.Reading.{IsReadFit};
 ghost use Rattle.bi_commands.specs.CheckedFiles.{IsChecked, IsCheckError};
 ghost use Rattle.bi_commands.specs.Checking.{concern_lines};
 ghost use Rattle.bi_commands.specs.ReadChecking.{read_concerns};
@@ -24,9 +24,9 @@ pub(super) fn check_fit(
     allowed: Allowed,
     limits: Limits,
 ) -> Result<String, Error>
-    ensures checked { IsReadFrom limits file.now fit.now →
+    ensures checked { IsReadFit limits file.now fit.now →
         IfOk result (λ text. IsChecked allowed limits file.now (string_bytes text)) }
-    ensures failed { IsReadFrom limits file.now fit.now →
+    ensures failed { IsReadFit limits file.now fit.now →
         IfErr result (IsCheckError limits file.now) }
 {
     check_payloads(fit.images(), limits.file())?;

@@ -5,7 +5,7 @@ ghost use Rattle.std.specs.Prelude.{string_bytes};
 ghost use Rattle.std.specs.List.{list_all};
 ghost use Rattle.bi_base.specs.Limits.{Limits};
 ghost use Rattle.bi_fit.specs.Content.{image_model};
-ghost use Rattle.bi_legacy.specs.Reading.{IsParsedImage};
+ghost use Rattle.bi_legacy.specs.Reading.{IsReadLegacy};
 ghost use Rattle.bi_commands.specs.CheckedFiles.{IsChecked, IsCheckError};
 ghost use Rattle.bi_commands.specs.Checking.{concern_lines, trailing_concerns};
 ghost use Rattle.bi_commands.specs.ReadChecking.{end_at, offset_of as offset_at};
@@ -26,9 +26,9 @@ pub(super) fn check_legacy(
     image: &Legacy,
     allowed: Allowed,
 ) -> Result<String, Error>
-    ensures checked { (limits : Limits) → IsParsedImage limits file.now image.now →
+    ensures checked { (limits : Limits) → IsReadLegacy limits file.now image.now →
         IfOk result (λ text. IsChecked allowed limits file.now (string_bytes text)) }
-    ensures failed { (limits : Limits) → IsParsedImage limits file.now image.now →
+    ensures failed { (limits : Limits) → IsReadLegacy limits file.now image.now →
         IfErr result (IsCheckError limits file.now) }
 {
     let text = legacy_lines(alloc, file, image.unused(), allowed)?;

@@ -15,7 +15,7 @@ use Rattle.bi_norm.proofs.converting.convert_into.Goals as goal
 pub returns-in_err-image-clause-failed : goal.returns-in_err-image-clause-failed
 returns-in_err-image-clause-failed g c =
     let p = err_from_is_err_and c.from_residual.result c.from_residual.ensures.1 in
-    rw (p.1, p.2) (WasRefused (NotLegacy c.in_err-image.ensures.fault.is_fault (λ image means. false≢true (c.in_err-image.ensures.accepts.1 (image, means)))) refl)
+    rw (p.1, p.2) (WasRefused (NotLegacy c.in_err-image.ensures.fault.is_fault c.in_err-image.ensures.fault.means_nothing) refl)
 
 pub returns-in_err-check-clause-failed : goal.returns-in_err-check-clause-failed
 returns-in_err-check-clause-failed g c =

@@ -1,7 +1,7 @@
 use Rattle.std.proofs.Common.{refl, subst}
 use Rattle.std.proofs.lemmas.Result.{err_from_is_err_and}
 use Rattle.bi_base.specs.Commands.{WasRefused}
-use Rattle.bi_norm.specs.Opening.{IsBootImage}
+use Rattle.bi_norm.specs.Opening.{IsReadBootImage}
 use Rattle.bi_norm.proofs.NormalForms.{open_error}
 use Rattle.bi_norm.proofs.normal_form.normalise_into.Goals as goal
 
@@ -12,8 +12,8 @@ returns-in_err-image-clause-failed g c =
 
 pub returns-in-Fit-clause-appended : goal.returns-in-Fit-clause-appended
 returns-in-Fit-clause-appended g c =
-    c.emit_fit.ensures.appended c.args.file.now (subst (IsBootImage c.args.limits c.args.file.now) c.in-Fit.is c.in_ok-image.ensures.read)
+    c.emit_fit.ensures.appended c.args.file.now (subst (IsReadBootImage c.args.limits c.args.file.now) c.in-Fit.is c.in_ok-image.ensures.read)
 
 pub returns-in-Fit-clause-failed : goal.returns-in-Fit-clause-failed
 returns-in-Fit-clause-failed g c =
-    c.emit_fit.ensures.failed c.args.file.now (subst (IsBootImage c.args.limits c.args.file.now) c.in-Fit.is c.in_ok-image.ensures.read)
+    c.emit_fit.ensures.failed c.args.file.now (subst (IsReadBootImage c.args.limits c.args.file.now) c.in-Fit.is c.in_ok-image.ensures.read)

@@ -1,6 +1,6 @@
 use Rattle.std.proofs.Common.{◌≡◌, subst, arith, rules}
 use Rattle.bi_base.specs.Cells.{AreBytes}
-use Rattle.bi_base.specs.Errors.{IsRefusal}
+use Rattle.bi_base.specs.Errors.{IsFaultOrNoMemory}
 use Rattle.bi_base.proofs.Refusals.{error_passed_on}
 use Rattle.bi_blob.specs.Blob.{tree_blocks}
 use Rattle.bi_blob.specs.BlobFaults.{IsStructureFault}
@@ -21,8 +21,8 @@ returns-in_err-entries-clause-failed c =
     error_passed_on _ _ _ c.from_residual-in_err-entries.ensures.1
     (refused_in_tree c.args.limits c.args.file.now c.in_ok-reservation_count.reservation_count c.in_err-entries.field-0.0
     c.in_ok-reservation_count.ensures.header c.in_ok-reservation_count.ensures.reservations
-    (subst (λ n. IsRefusal (IsStructureFault (tree_blocks c.args.file.now) n) c.in_err-entries.field-0.0) depth
-    (subst (λ b. IsRefusal (IsStructureFault b c.from.result) c.in_err-entries.field-0.0) c.tree_blocks-blocks.ensures c.in_err-entries.ensures.failed)))
+    (subst (λ n. IsFaultOrNoMemory (IsStructureFault (tree_blocks c.args.file.now) n) c.in_err-entries.field-0.0) depth
+    (subst (λ b. IsFaultOrNoMemory (IsStructureFault b c.from.result) c.in_err-entries.field-0.0) c.tree_blocks-blocks.ensures c.in_err-entries.ensures.failed)))
 
 pub invariant_of-result : goal.invariant_of-result
 invariant_of-result c =

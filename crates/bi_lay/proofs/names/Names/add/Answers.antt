@@ -3,7 +3,7 @@ use Rattle.std.specs.BTreeMap.{get, Updates}
 use Rattle.std.proofs.lemmas.List.{map-append}
 use Rattle.bi_blob.specs.Layout.{offset_in, strings_of, is_among}
 use Rattle.bi_blob.specs.NamesByLength.{by_length}
-use Rattle.bi_lay.specs.Names.{as_usize, offset_among}
+use Rattle.bi_lay.specs.Names.{saturated_usize, offset_among}
 use Rattle.bi_lay.proofs.NameOffsets.{look_up-none, placed-push, strings-push, offset_in-new}
 use Rattle.bi_lay.proofs.names.Names.add.Goals as goal
 
@@ -36,4 +36,4 @@ invariant_of-self-2 c = record {
 pub returns-clause-offset : goal.returns-clause-offset
 returns-clause-offset c =
     c.self.invariant.is_length
-    ∙ ap as_usize (sym (ap (λ l. offset_in l c.args.name.now) (is_appended c) ∙ offset_in-new (before c) c.args.name.now (was_new c)))
+    ∙ ap saturated_usize (sym (ap (λ l. offset_in l c.args.name.now) (is_appended c) ∙ offset_in-new (before c) c.args.name.now (was_new c)))

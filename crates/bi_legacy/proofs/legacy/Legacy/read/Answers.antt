@@ -1,11 +1,6 @@
 use Rattle.std.proofs.Common.{arith}
-use Rattle.bi_legacy.proofs.ReadResults.{accepts_of, parsed_of, only_fault_of}
+use Rattle.bi_legacy.proofs.ReadResults.{parsed_of, only_fault_of}
 use Rattle.bi_legacy.proofs.legacy.Legacy.read.Goals as goal
-
-pub returns-clause-accepts : goal.returns-clause-accepts
-returns-clause-accepts c =
-    accepts_of c.args.file.now c.args.limits c.parse.result (record { each = λ i. omega (arith, c.type_inv.file i) })
-    c.parse.ensures.no_fault c.parse.ensures.fault
 
 pub returns-clause-read : goal.returns-clause-read
 returns-clause-read c =

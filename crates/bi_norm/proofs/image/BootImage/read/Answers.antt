@@ -16,7 +16,7 @@ pub returns-in_err-read-in-Legacy-clause-failed : goal.returns-in_err-read-in-Le
 returns-in_err-read-in-Legacy-clause-failed c =
     let e = err_from_is_err_and c.from_residual-in_err-read-in-Legacy.result c.from_residual-in_err-read-in-Legacy.ensures.1 in
     let begins = subst (BeginsAs c.args.file.now) c.in-Legacy.is c.in_ok-kind_of.ensures.ok in
-    rw (e.1, e.2) (OfLegacyImage begins c.in_err-read-in-Legacy.ensures.fault.is_fault, refused_means_nothing c.args.limits c.args.file.now begins c.in_err-read-in-Legacy.ensures.accepts.1)
+    rw (e.1, e.2) (OfLegacyImage begins c.in_err-read-in-Legacy.ensures.fault.is_fault, refused_means_nothing c.args.limits c.args.file.now begins c.in_err-read-in-Legacy.ensures.fault.means_nothing)
 
 pub returns-in_err-read-in-Fit-clause-failed : goal.returns-in_err-read-in-Fit-clause-failed
 returns-in_err-read-in-Fit-clause-failed c =
