@@ -35,14 +35,14 @@ steps_in_turn old middle new first second one other = other ∙ ap (option_map (
 
 -- No name was tried.
 pub none_tried : (name : List ℕ) (now : Option (List FileStep)) → AreNamesTaken name 0 now now
-none_tried name now = record { taken = []; are_names = NoNumbers refl refl; steps = no_steps now }
+none_tried name now = record { taken = []; are_names = NoNumbers; steps = no_steps now }
 
 -- The next name is that of the file itself.
 pub own_name_tried : (name beside shown : List ℕ) (number : ℕ) (old new : Option (List FileStep)) → AreNamesTaken name number old new
     → IsBeside name number beside → shown ≡ beside → shown ≡ name → AreNamesTaken name (number + 1) old new
 own_name_tried name beside shown number old new are is shows same = record {
   taken = are.taken;
-  are_names = OwnName number refl are.are_names (subst (IsBeside name number) (sym shows ∙ same) is);
+  are_names = OwnName number are.taken are.are_names (subst (IsBeside name number) (sym shows ∙ same) is);
   steps = are.steps;
 }
 
@@ -52,7 +52,7 @@ pub taken_name_tried : (name beside shown : List ℕ) (number : ℕ) (old middle
     → TookSteps middle new (NameTaken shown ∷ []) → AreNamesTaken name (number + 1) old new
 taken_name_tried name beside shown number old middle new are is shows other took = record {
   taken = are.taken ++ beside ∷ [];
-  are_names = OneMoreName number are.taken beside refl are.are_names is (λ same. other (shows ∙ same)) refl;
+  are_names = OneMoreName number are.taken beside are.are_names is (λ same. other (shows ∙ same));
   steps = subst (TookSteps old new) (sym (map_push NameTaken are.taken beside))
       (steps_in_turn old middle new (map NameTaken are.taken) (NameTaken beside ∷ []) are.steps
       (subst (λ s. TookSteps middle new (NameTaken s ∷ [])) shows took));

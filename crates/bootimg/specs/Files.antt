@@ -100,13 +100,13 @@ pub record IsBeside (name : List ℕ) (number : ℕ) (beside : List ℕ) : Type 
 
 -- These are the names beside a file with the numbers below this one, in their order, without the
 -- file's own.
-pub data AreNamesBelow (name : List ℕ) (count : ℕ) (names : List (List ℕ)) : Type 0 where
-  NoNumbers : count ≡ 0 → names ≡ [] → AreNamesBelow name count names
-  OwnName : (below : ℕ) → count ≡ below + 1 → AreNamesBelow name below names
-      → IsBeside name below name → AreNamesBelow name count names
-  OneMoreName : (below : ℕ) (before : List (List ℕ)) (beside : List ℕ) → count ≡ below + 1
-      → AreNamesBelow name below before → IsBeside name below beside → beside ≢ name
-      → names ≡ before ++ beside ∷ [] → AreNamesBelow name count names
+pub data AreNamesBelow (name : List ℕ) : (count : ℕ) → (names : List (List ℕ)) → Type 0 where
+  NoNumbers : AreNamesBelow name 0 []
+  OwnName : (below : ℕ) (names : List (List ℕ)) → AreNamesBelow name below names
+      → IsBeside name below name → AreNamesBelow name (below + 1) names
+  OneMoreName : (below : ℕ) (names : List (List ℕ)) (beside : List ℕ)
+      → AreNamesBelow name below names → IsBeside name below beside → beside ≢ name
+      → AreNamesBelow name (below + 1) (names ++ beside ∷ [])
 
 -- No file was made of a name beside this file with a number below this one: something has each of
 -- these names, and no other was tried.
