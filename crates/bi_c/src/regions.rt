@@ -13,7 +13,7 @@ ghost use Rattle.bi_commands.specs.Extracting.{HasNoPayload, IsExtractError, IsR
 ghost use Rattle.bi_commands.specs.Extracting.{choice_by_configuration, choice_by_default};
 ghost use Rattle.bi_commands.specs.Extracting.{choice_by_name, choice_of_part, choice_of_payload};
 ghost use Rattle.bi_c.specs.Extracting.{ArePlaced, IsChosenAt, IsFound};
-ghost use Rattle.bi_c.specs.Extracting.{offset_of_place as offset_of_place};
+ghost use Rattle.bi_c.specs.Extracting.{offset_of_place};
 
 use bi_base::Limits;
 use bi_commands::extract::{ExtractError, Select};
@@ -31,8 +31,8 @@ pub(crate) struct Region {
     pub(crate) size: usize,
 }
 
-/// Returns where in the file of a boot image that was read the selected bytes are. The errors are those of
-/// `extract`.
+/// Reads a boot image, and returns where in its file the selected bytes are. The errors are those
+/// of `extract`.
 pub(crate) fn find(
     alloc: Global,
     file: &[u8],
@@ -97,7 +97,7 @@ fn find_payload(alloc: Global, fit: &Fit<'_>, select: Select) -> Result<Region, 
     }
 }
 
-/// Returns where the payload of the image of this name is.
+/// Returns where the payload of the image of this name is, in a flattened image tree that was read.
 fn find_by_name(fit: &Fit<'_>, name: &[u8]) -> Result<Region, ExtractError>
     requires held { IsHeld fit.now }
     requires placed { ArePlaced fit.now }
@@ -112,7 +112,8 @@ fn find_by_name(fit: &Fit<'_>, name: &[u8]) -> Result<Region, ExtractError>
     payload_at(fit, index).ok_or(ExtractError::NoPayload)
 }
 
-/// Returns where the payload of image `index` is. None exactly if it has no payload.
+/// Returns where the payload of image `index` of a flattened image tree that was read is. None
+/// exactly if there is no such image, or it has no payload.
 fn payload_at(fit: &Fit<'_>, index: usize) -> Option<Region>
     requires placed { ArePlaced fit.now }
     ensures { let payload = option_and_then (λ image. image.payload)
@@ -141,8 +142,8 @@ fn offset_of(place: Place) -> Option<u32>
     }
 }
 
-/// Returns where the payload is at this index of what the configuration of this name lists under
-/// a key.
+/// Returns where the payload is of the image at this index of those that the configuration of this
+/// name lists under a key, in a flattened image tree that was read.
 fn find_by_configuration(
     alloc: Global,
     fit: &Fit<'_>,
@@ -164,8 +165,8 @@ fn find_by_configuration(
     find_by_name(fit, named.name)
 }
 
-/// Returns where the payload is at this index of what the default configuration lists under a
-/// key.
+/// Returns where the payload is of the image at this index of those that the default configuration
+/// lists under a key, in a flattened image tree that was read.
 fn find_by_default(
     alloc: Global,
     fit: &Fit<'_>,
