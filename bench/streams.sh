@@ -7,8 +7,6 @@
 set -u
 
 root=$(cd "$(dirname "$0")/.." && pwd)
-. "$root/tests/checks"
-. "$root/tests/setup"
 . "$root/tests/kit"
 export SOURCE_DATE_EPOCH=1000000000 PYTHONDONTWRITEBYTECODE=1
 

@@ -4,8 +4,6 @@
 set -u
 
 root=$(cd "$(dirname "$0")/../.." && pwd)
-. "$root/tests/checks"
-. "$root/tests/setup"
 . "$root/tests/kit"
 
 work_in_new_directory

@@ -6,8 +6,6 @@
 set -u
 
 root=$(cd "$(dirname "$0")/../.." && pwd)
-. "$root/tests/checks"
-. "$root/tests/setup"
 . "$root/tests/kit"
 
 need gcc gcc

@@ -15,14 +15,12 @@ import os
 import re
 import sys
 
+sys.dont_write_bytecode = True
+from workspace import read
+
 PATH = re.compile(r"`((?:crates|tests|docs|bench|examples|contrib|man|python|include|\.ci)/[^`\s]*)`")
 OF_U_BOOT = {"include/image.h"}
 PLACEHOLDERS = {"NAME", "GROUP", "CRATE", "FILE", "MODULE", "FUNCTION", "T", "SCRIPT"}
-
-
-def read(path):
-    with open(path, encoding="utf-8") as file:
-        return file.read()
 
 
 def without_blocks(text):

@@ -19,6 +19,9 @@ import os
 import re
 import sys
 
+sys.dont_write_bytecode = True
+from workspace import crates_of, files_of, read
+
 FUNCTION = re.compile(r'^[ \t]*(?P<pub>pub(?:\(crate\))? )?(?P<export>extern "C" )?fn (?P<name>\w+)', re.M)
 BLOCK = re.compile(r"^(?:pub )?(?P<kind>impl|trait)\b(?P<head>[^{]*)\{.*?^\}", re.M | re.S)
 MEMBER = re.compile(r"^ +ghost \w+(?: =|:) \{", re.M)
@@ -28,20 +31,6 @@ DECLARATION = re.compile(r"^(?:(?:pattern|unfoldable|abbrev|pub|record|data) )+(
 WORD = re.compile(r"[\w◌-]+(?:-\w+)*")
 TABLE = "| Promise | Function: clause | Definition |"
 WRONG_TABLE = "| Wrong definition | Refused by |"
-
-
-def read(path):
-    with open(path, encoding="utf-8") as file:
-        return file.read()
-
-
-def files_below(directory, ending):
-    """The path of each file with this ending, and its module."""
-    for place, _, names in sorted(os.walk(directory)):
-        for name in sorted(names):
-            if name.endswith(ending):
-                path = os.path.join(place, name)
-                yield path, os.path.relpath(path, directory)[: -len(ending)].replace(os.sep, ".")
 
 
 def uses_of(text):
@@ -109,9 +98,9 @@ class Crate:
         self.exported = set()  # the keys of those functions that a library exports
         self.definitions = {}  # (module, name): (what names mean, text, comment)
         self.read_exports()
-        for path, module in files_below(os.path.join(self.directory, "src"), ".rt"):
+        for path, module in files_of(root, name, "src"):
             self.read_functions(path, module)
-        for path, module in files_below(os.path.join(self.directory, "specs"), ".antt"):
+        for path, module in files_of(root, name, "specs"):
             if module != "Lib":
                 self.read_definitions(path, module)
 
@@ -256,8 +245,7 @@ def check_reading_order(crates, text):
 
 def check(root):
     """Prints what is wrong with the tables, and returns how much."""
-    names = [line.split(":")[0].split()[0] for line in read(f"{root}/crates.txt").splitlines() if ":" in line and line[0] != "#"]
-    crates = {name: Crate(root, name) for name in names}
+    crates = {name: Crate(root, name) for name in crates_of(root)}
     text = read(f"{root}/docs/PROMISES.md")
     wrong, rows, named = [], 0, set()
     for number, crate, cells in rows_of(text, TABLE):
@@ -277,11 +265,9 @@ def check(root):
 
 
 def print_definitions(root):
-    for line in read(f"{root}/crates.txt").splitlines():
-        if ":" in line and line[0] != "#":
-            crate = Crate(root, line.split(":")[0].split()[0])
-            for (module, name), (_, _, comment) in crate.definitions.items():
-                print(f"{crate.name}/{module}.{name}: {comment}")
+    for crate in crates_of(root):
+        for (module, name), (_, _, comment) in Crate(root, crate).definitions.items():
+            print(f"{crate}/{module}.{name}: {comment}")
 
 
 if __name__ == "__main__":

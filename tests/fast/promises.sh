@@ -9,7 +9,6 @@
 set -u
 
 root=$(cd "$(dirname "$0")/../.." && pwd)
-. "$root/tests/checks"
 . "$root/tests/setup"
 
 need python3 python3
@@ -17,8 +16,7 @@ if [ "${1-}" = --definitions ]; then
     exec python3 "$root/tests/fast/promises.py" "$root" --definitions
 fi
 work_in_new_directory
-mkdir copy
-(cd "$root" && tar cf - crates.txt crates/*/src crates/*/specs docs/PROMISES.md) | (cd copy && tar xf -)
+copy_here crates.txt 'crates/*/src' 'crates/*/specs' docs/PROMISES.md
 
 check "the tables are those of the sources" python3 "$root/tests/fast/promises.py" copy
 [ "$failed" = 0 ] || finish

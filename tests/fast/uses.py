@@ -11,30 +11,16 @@ import os
 import re
 import sys
 
+sys.dont_write_bytecode = True
+from workspace import PARTS, crates_of, files_of, read
+
 USE = re.compile(r"\s*(?:pub )?(?:ghost )?use Rattle\.(?P<path>[^\s{;]+?)(?:\.?\{.*\}|\s+as \w+)?\s*;?\s*$")
 PROOF_OF_FUNCTION = {"Answers", "Invariants", "Proof"}
 
 
-def crates_of(root):
-    """The names of the crates, in the order of crates.txt."""
-    with open(os.path.join(root, "crates.txt"), encoding="utf-8") as file:
-        return [line.split(":")[0].split()[0] for line in file if ":" in line and not line.startswith("#")]
-
-
-def files_of(crate):
+def all_files(root, crate):
     """The module and the path of each source, definition and proof of a crate."""
-    for part, ending in (("src", ".rt"), ("specs", ".antt"), ("proofs", ".antt")):
-        for directory, _, names in sorted(os.walk(os.path.join(crate, part))):
-            for name in sorted(names):
-                if name.endswith(ending):
-                    path = os.path.join(directory, name)
-                    module = os.path.relpath(path, crate)[: -len(ending)].replace(os.sep, ".")
-                    yield module, path
-
-
-def read(path):
-    with open(path, encoding="utf-8") as file:
-        return file.read()
+    return [(f"{part}.{module}", path) for part in PARTS for path, module in files_of(root, crate, part)]
 
 
 def public_names(crate):
@@ -86,7 +72,7 @@ def modules_about_code(crate, files, uses, public):
 
 def main(root):
     crates = crates_of(root)
-    files = {crate: list(files_of(os.path.join(root, "crates", crate))) for crate in crates}
+    files = {crate: all_files(root, crate) for crate in crates}
     uses = {path: list(uses_of(path, crates)) for crate in crates for _, path in files[crate]}
     public = {crate: public_names(os.path.join(root, "crates", crate)) for crate in crates}
     code = {crate: modules_about_code(crate, files[crate], uses, public[crate]) for crate in crates}

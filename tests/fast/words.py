@@ -18,6 +18,9 @@ import re
 import sys
 from collections import defaultdict, namedtuple
 
+sys.dont_write_bytecode = True
+from workspace import crates_of, files_of, read
+
 Definition = namedtuple("Definition", "crate part module name public kind statement first last path")
 PROOF_OF_FUNCTION = {"Answers", "Invariants", "Proof"}
 HEAD = re.compile(r"^ *((?:(?:abbrev|unfoldable|opaque|pub) )*)(record |data )?([^\s:()]+)(?: (?=[({:])|$)(.*)$")
@@ -32,27 +35,6 @@ VERBS = {"cut", "put", "read", "set", "split"}
 SUCCESS = (("read", "read"), ("check", "ok"), ("check_.*", "ok"), ("add", "added"), ("add_.*", "added"), (".*_into", "appended"))
 WIDEST = 140
 COPY = 13
-
-
-def read(path):
-    with open(path, encoding="utf-8") as file:
-        return file.read()
-
-
-def crates_of(root):
-    """The names of the crates, in the order of crates.txt."""
-    lines = read(os.path.join(root, "crates.txt")).splitlines()
-    return [line.split(":")[0].split()[0] for line in lines if ":" in line and not line.startswith("#")]
-
-
-def files_of(root, crate, part, ending):
-    """The path and the module of each file of a part of a crate."""
-    top = os.path.join(root, "crates", crate, part)
-    for directory, _, names in sorted(os.walk(top)):
-        for name in sorted(names):
-            if name.endswith(ending):
-                path = os.path.join(directory, name)
-                yield path, os.path.relpath(path, top)[: -len(ending)].replace(os.sep, ".")
 
 
 def indent(line):
@@ -88,7 +70,7 @@ def definitions_of(crate, part, module, path):
 def all_definitions(root):
     for crate in crates_of(root):
         for part in ("specs", "proofs"):
-            for path, module in files_of(root, crate, part, ".antt"):
+            for path, module in files_of(root, crate, part):
                 if module.split(".")[-1] not in PROOF_OF_FUNCTION:
                     yield from definitions_of(crate, part, module, path)
 
@@ -120,7 +102,7 @@ def records_with_other_names(root, definitions):
     records = {definition.name for definition in definitions if definition.kind in ("record", "data")}
     shown = []
     for crate in crates_of(root):
-        for path, module in files_of(root, crate, "src", ".rt"):
+        for path, module in files_of(root, crate, "src"):
             pattern = r"impl(?:<[^>]*>)? Model for (\w+)[^{]*\{.*?ghost Value = \{ (?:List )?(\w+) \};"
             for name, record in re.findall(pattern, read(path), re.S):
                 shown.append((name, record, f"{crate}.src.{module}"))
@@ -148,7 +130,7 @@ def names_that_are_participles(root, definitions):
         if is_participle(definition.name) and not holds and (definition.public or definition.part == "specs"):
             yield "participle", definition.name, place_of(definition)
     for crate in crates_of(root):
-        for path, module in files_of(root, crate, "src", ".rt"):
+        for path, module in files_of(root, crate, "src"):
             for name in re.findall(r"\b(?:fn|struct|enum|trait) (\w+)", read(path)):
                 if is_participle(name) and name not in VERBS:
                     yield "participle", name, f"{crate}.src.{module}"
@@ -175,7 +157,7 @@ def functions_of(text):
 
 def labels_that_differ(root):
     for crate in crates_of(root):
-        for path, module in files_of(root, crate, "src", ".rt"):
+        for path, module in files_of(root, crate, "src"):
             for function, result, clauses in functions_of(read(path)):
                 clauses = [(label, re.sub(r"^(?:let .*? in )+", "", text)) for label, text in clauses]
                 errors = [label for label, text in clauses if re.match(r"IfErr\b", text)]
@@ -256,8 +238,8 @@ def statements_that_are_proved_twice(definitions):
 def copies(root):
     places = defaultdict(list)
     for crate in crates_of(root):
-        for part, ending in (("src", ".rt"), ("proofs", ".antt")):
-            for path, module in files_of(root, crate, part, ending):
+        for part in ("src", "proofs"):
+            for path, module in files_of(root, crate, part):
                 lines = [line.strip() for line in read(path).splitlines()]
                 lines = [line for line in lines if line and not re.match(r"(?:pub )?(?:ghost )?use |--|//", line)]
                 for at in range(len(lines) - COPY + 1):

@@ -6,13 +6,11 @@
 set -u
 
 root=$(cd "$(dirname "$0")/../.." && pwd)
-. "$root/tests/checks"
 . "$root/tests/setup"
 
 need python3 python3
 work_in_new_directory
-mkdir copy
-(cd "$root" && tar cf - crates.txt tests/fast/words.exceptions crates/*/src crates/*/specs crates/*/proofs) | (cd copy && tar xf -)
+copy_here crates.txt tests/fast/words.exceptions 'crates/*/src' 'crates/*/specs' 'crates/*/proofs'
 
 check "each name, label and statement follows the rules, or is explained" python3 "$root/tests/fast/words.py" copy
 [ "$failed" = 0 ] || finish

@@ -7,8 +7,6 @@
 set -u
 
 root=$(cd "$(dirname "$0")/../.." && pwd)
-. "$root/tests/checks"
-. "$root/tests/setup"
 . "$root/tests/kit"
 
 # check_boundary LOWER UPPER FUNCTION: checks the function of the upper crate over the copy of the lower one, which is in the current

@@ -12,8 +12,6 @@ set -u
 
 root=$(cd "$(dirname "$0")/../.." && pwd)
 here=$root/tests/prover
-. "$root/tests/checks"
-. "$root/tests/setup"
 . "$root/tests/kit"
 
 # The script calls itself, to have rattle check a copy of a crate in the current directory.

@@ -8,8 +8,6 @@
 set -u
 
 root=$(cd "$(dirname "$0")/../.." && pwd)
-. "$root/tests/checks"
-. "$root/tests/setup"
 . "$root/tests/kit"
 suite=$root/tests/conformance
 document=$root/docs/CONFORMANCE.md

@@ -7,7 +7,6 @@
 set -u
 
 root=$(cd "$(dirname "$0")/../.." && pwd)
-. "$root/tests/checks"
 . "$root/tests/setup"
 . "$root/tests/tools/sources"
 need u-boot-tools mkimage

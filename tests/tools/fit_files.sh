@@ -4,7 +4,6 @@
 set -u
 
 root=$(cd "$(dirname "$0")/../.." && pwd)
-. "$root/tests/checks"
 . "$root/tests/setup"
 
 need python3 python3

@@ -5,7 +5,6 @@
 set -u
 
 root=$(cd "$(dirname "$0")/../.." && pwd)
-. "$root/tests/checks"
 . "$root/tests/setup"
 need u-boot-tools mkimage
 need device-tree-compiler dtc fdtput fdtget

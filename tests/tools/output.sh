@@ -3,7 +3,6 @@
 set -u
 
 root=$(cd "$(dirname "$0")/../.." && pwd)
-. "$root/tests/checks"
 . "$root/tests/setup"
 need_program
 work_in_new_directory
