@@ -12,72 +12,30 @@ and nothing is measured. Nothing is judged.
 """
 import argparse
 import os
-import struct
 import subprocess
 import sys
 import tempfile
 import time
-import zlib
+
+ROOT = os.path.dirname(os.path.dirname(os.path.abspath(__file__)))
+sys.path.append(os.path.join(ROOT, "tests"))
+sys.dont_write_bytecode = True
+from blobs import END_NODE, NOP, begin_node, blob, blob_of, cells, legacy_image, node, node_around, property_at
 
 MIB = 1 << 20
-ROOT = os.path.dirname(os.path.dirname(os.path.abspath(__file__)))
 # In a command, FILE is the path of the file. The others read it from standard input.
 COMMANDS = ["list", "verify", "check", "describe", "normalise", "normalise --external", "compare FILE FILE"]
 
 
-def cells(*numbers):
-    return struct.pack(f">{len(numbers)}I", *numbers)
-
-
-def padded(data):
-    return data + bytes(-len(data) % 4)
-
-
-def begin(name):
-    return cells(1) + padded(name + b"\0")
-
-
-END_NODE, NOP, END = cells(2), cells(4), cells(9)
-
-
-def file_of(tree, strings, reservations=b""):
+def file_of(tokens, strings=b"", reservations=b""):
     """A blob with these tokens inside the root, and this strings block."""
-    tree = begin(b"") + tree + END_NODE + END
-    places = 40 + len(reservations) + 16
-    header = (places + len(tree), 40, 17, 16, 0, len(strings), len(tree))
-    total = places + len(tree) + len(strings)
-    return cells(0xD00DFEED, total, places, *header) + reservations + bytes(16) + tree + strings
-
-
-class Tree:
-    """Tokens, and the offsets of their names."""
-
-    def __init__(self):
-        self.tokens = []
-        self.strings = b""
-        self.offsets = {}
-
-    def add(self, *tokens):
-        self.tokens.extend(tokens)
-
-    def property(self, name, value):
-        if name not in self.offsets:
-            self.offsets[name] = len(self.strings)
-            self.strings += name + b"\0"
-        self.add(cells(3, len(value), self.offsets[name]), padded(value))
-
-    def file(self, reservations=b""):
-        return file_of(b"".join(self.tokens), self.strings, reservations)
+    return blob(node_around(b"", tokens), strings, reservations)
 
 
 def nodes_of_names(nodes, strings):
     """A blob with these image nodes, each a list of offsets of the names of its properties."""
-    tree = [begin(b"images")]
-    for index, offsets in enumerate(nodes):
-        tree.append(begin(b"n%07d" % index))
-        tree.extend(cells(3, 0, offset) for offset in offsets)
-        tree.append(END_NODE)
-    return file_of(b"".join(tree) + END_NODE, strings)
+    images = [node_around(b"n%07d" % index, b"".join(map(property_at, offsets))) for index, offsets in enumerate(nodes)]
+    return file_of(node_around(b"images", b"".join(images)), strings)
 
 
 def one_run(size, each):
@@ -138,76 +96,53 @@ def one_name(size):
 
 def shared_region(size):
     """Images whose payload is the same region, half of the file."""
-    tree = Tree()
-    tree.add(begin(b"images"))
-    for index in range(size // 2 // 64):
-        tree.add(begin(b"n%07d" % index))
-        tree.property(b"data-position", cells(0))
-        tree.property(b"data-size", cells(size // 2))
-        tree.add(END_NODE)
-    tree.add(END_NODE)
-    file = tree.file()
+    region = [(b"data-position", cells(0)), (b"data-size", cells(size // 2))]
+    images = [node(b"n%07d" % index, region) for index in range(size // 2 // 64)]
+    file = blob_of(node(b"", (), [node(b"images", (), images)]))
     return file + bytes(max(0, size - len(file)))
 
 
 def deep_chains(size):
     """Chains of nodes, as deep as a tree may be."""
-    chain = b"".join([begin(b"n")] * 61 + [END_NODE] * 61)
-    tree = [begin(b"images")]
-    for index in range(size // (len(chain) + 20)):
-        tree.append(begin(b"n%07d" % index) + chain + END_NODE)
-    return file_of(b"".join(tree) + END_NODE, b"")
+    chain = begin_node(b"n") * 61 + END_NODE * 61
+    chains = [node_around(b"n%07d" % index, chain) for index in range(size // (len(chain) + 20))]
+    return file_of(node_around(b"images", b"".join(chains)))
 
 
 def long_lists(size):
     """Configurations that list every image, in one key."""
-    tree = Tree()
-    tree.add(begin(b"images"))
     names = [b"n%07d" % index for index in range(1000)]
-    for name in names:
-        tree.add(begin(name))
-        tree.property(b"data", b"")
-        tree.add(END_NODE)
-    tree.add(END_NODE, begin(b"configurations"))
     value = b"\0".join(names) + b"\0"
-    for index in range(max(1, size // len(value))):
-        tree.add(begin(b"c%07d" % index))
-        tree.property(b"loadables", value)
-        tree.add(END_NODE)
-    tree.add(END_NODE)
-    return tree.file()
+    images = [node(name, [(b"data", b"")]) for name in names]
+    configurations = [node(b"c%07d" % index, [(b"loadables", value)]) for index in range(max(1, size // len(value)))]
+    return blob_of(node(b"", (), [node(b"images", (), images), node(b"configurations", (), configurations)]))
 
 
 def hash_nodes(size):
     """One image with many hash nodes, each of another algorithm than the last."""
-    tree = Tree()
-    tree.add(begin(b"images"), begin(b"image"))
-    tree.property(b"data", bytes(size // 2))
-    for index in range(size // 2 // 56):
-        tree.add(begin(b"hash%07d" % index))
-        tree.property(b"algo", [b"md5\0", b"sha1\0", b"sha256\0", b"sha512\0"][index % 4])
-        tree.property(b"value", b"")
-        tree.add(END_NODE)
-    tree.add(END_NODE, END_NODE)
-    return tree.file()
+    algorithms = [b"md5\0", b"sha1\0", b"sha256\0", b"sha512\0"]
+    hashes = [
+        node(b"hash%07d" % index, [(b"algo", algorithms[index % 4]), (b"value", b"")]) for index in range(size // 2 // 56)
+    ]
+    image = node(b"image", [(b"data", bytes(size // 2))], hashes)
+    return blob_of(node(b"", (), [node(b"images", (), [image])]))
 
 
 def nops(size):
     """Nothing but NOPs in one node."""
-    return file_of(begin(b"images") + NOP * (size // 4) + END_NODE, b"")
+    return file_of(node_around(b"images", NOP * (size // 4)))
 
 
 def reservations(size):
     """Memory reservations."""
-    return file_of(begin(b"images") + END_NODE, b"", cells(0, 1, 0, 1) * (size // 16))
+    return file_of(node_around(b"images", b""), reservations=cells(0, 1, 0, 1) * (size // 16))
 
 
 def many_properties(size):
     """In one node, properties of short names."""
     names = [b"p%06d" % index for index in range(size // 20)]
-    strings = b"\0".join(names) + b"\0"
-    tree = b"".join(cells(3, 0, 8 * index) for index in range(len(names)))
-    return file_of(begin(b"images") + begin(b"image") + tree + END_NODE + END_NODE, strings)
+    properties = b"".join(property_at(8 * index) for index in range(len(names)))
+    return file_of(node_around(b"images", node_around(b"image", properties)), b"\0".join(names) + b"\0")
 
 
 def many_nodes(size):
@@ -215,18 +150,10 @@ def many_nodes(size):
     return nodes_of_names([[]] * (size // 20), b"")
 
 
-def legacy(data, kind):
-    """A legacy image with these data."""
-    fields = cells(0, 0, len(data), 0, 0, zlib.crc32(data)) + bytes([5, 2, kind, 0]) + b"k".ljust(32, b"\0")
-    header = cells(0x27051956) + fields
-    checked = header[:4] + cells(zlib.crc32(header)) + header[8:]
-    return checked + data
-
-
 def many_parts(size):
     """A legacy image of parts of one byte."""
     count = size // 8
-    return legacy(cells(*[1] * count, 0) + b"a\0\0\0" * count, 4)
+    return legacy_image(cells(*[1] * count, 0) + b"a\0\0\0" * count, b"k", 4)
 
 
 SHAPES = {
@@ -240,7 +167,7 @@ SHAPES = {
     "many-runs": many_runs,
     "ladder": ladder,
     "one-name": one_name,
-    "zeros": lambda size: file_of(begin(b"images") + END_NODE, bytes(size)),
+    "zeros": lambda size: file_of(node_around(b"images", b""), bytes(size)),
     "shared-region": shared_region,
     "deep-chains": deep_chains,
     "long-lists": long_lists,

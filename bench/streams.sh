@@ -7,7 +7,7 @@
 set -u
 
 root=$(cd "$(dirname "$0")/.." && pwd)
-. "$root/tests/common"
+. "$root/tests/kit"
 export SOURCE_DATE_EPOCH=1000000000 PYTHONDONTWRITEBYTECODE=1
 
 need u-boot-tools mkimage

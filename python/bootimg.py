@@ -16,9 +16,10 @@ the one that ./install puts under the same prefix, and that of the system.
 import argparse
 import ctypes
 import ctypes.util
+import inspect
 import os
 import sys
-from typing import Callable, Iterable, NamedTuple
+from typing import Callable, Iterable, NamedTuple, ParamSpec
 
 LIMIT = 0x7FFFFFFF
 DEPTH = 64
@@ -38,6 +39,8 @@ REASONS = (
 
 _DONE, _REFUSED, _OUT_OF_MEMORY, _NO_ROOM, _WRONG_ARGUMENT, _NOT_FOUND = range(6)
 _MISSING = 7
+
+_Arguments = ParamSpec("_Arguments")
 
 
 class BootimgError(Exception):
@@ -192,27 +195,23 @@ def kind(file: bytes) -> str:
     return ("legacy", "fit")[_tell("kind", *_of(file)).value - 1]
 
 
-def normalise(file: bytes, external: bool = False, limit: int = LIMIT, depth: int = DEPTH) -> bytes:
-    """The normal form of a file. With `external`, that of a flattened image tree has its payloads after the blob."""
-    return normalise_and_count(file, external, limit, depth)[0]
+def _without_count(name: str, call: Callable[_Arguments, tuple[bytes, int]]) -> Callable[_Arguments, bytes]:
+    """A function of this name that returns what a call returns, but for the number of signature nodes."""
+
+    def alone(*arguments: _Arguments.args, **options: _Arguments.kwargs) -> bytes:
+        return call(*arguments, **options)[0]
+
+    alone.__name__ = alone.__qualname__ = name
+    alone.__doc__ = f"The file that {call.__name__} returns, without the number of its signature nodes."
+    alone.__signature__ = inspect.signature(call).replace(return_annotation=bytes)
+    return alone
 
 
 def normalise_and_count(file: bytes, external: bool = False, limit: int = LIMIT, depth: int = DEPTH) -> tuple[bytes, int]:
-    """The normal form of a file, and the number of its signature nodes, which are carried and not checked."""
+    """The normal form of a file, and the number of its signature nodes, which are carried and not checked. With `external`, that of a
+    flattened image tree has its payloads after the blob."""
     data = _of(file)
     return _fill("normalise", data[1] + 4096, *data, int(external), _number(limit), _number(depth))
-
-
-def update(
-    file: bytes,
-    time: int | None = None,
-    hashes: bool = False,
-    external: bool = False,
-    limit: int = LIMIT,
-    depth: int = DEPTH,
-) -> bytes:
-    """The normal form of a file with this time of creation, if one is given, and with digests computed again, if `hashes` is set."""
-    return update_and_count(file, time, hashes, external, limit, depth)[0]
 
 
 def update_and_count(
@@ -223,12 +222,17 @@ def update_and_count(
     limit: int = LIMIT,
     depth: int = DEPTH,
 ) -> tuple[bytes, int]:
-    """The same, and the number of its signature nodes, which are carried and not checked."""
+    """The normal form of a file with this time of creation, if one is given, and with digests computed again, if `hashes` is set; and
+    the number of its signature nodes, which are carried and not checked."""
     data = _of(file)
     if time is not None and not 0 <= time <= 0xFFFFFFFF:
         raise WrongArgument("wrong argument")
     changes = int(time is not None) + 2 * int(hashes)
     return _fill("update", data[1] + 4096, *data, changes, time or 0, int(external), _number(limit), _number(depth))
+
+
+normalise = _without_count("normalise", normalise_and_count)
+update = _without_count("update", update_and_count)
 
 
 def _region(file: bytes, name: str, *arguments: object) -> memoryview:

@@ -1,7 +1,9 @@
 """The commands of bootimg once more: written from the description of the formats, without the source of bootimg, and plainly.
 
-It is slow, and nothing of it is proved. No value in the vectors comes from the program that is tried: each was worked out from the
-formats, or by this program. `run --reference` compares what this program does with the vectors.
+It shares no code with tests/blobs.py or with another file outside of this directory: other projects copy the directory, and what it
+lays out is to be independent of what the other tests do. It is slow, and nothing of it is proved. No value in the vectors comes from
+the program that is tried: each was worked out from the formats, or by this program. `run --reference` compares what this program does
+with the vectors.
 """
 
 import hashlib

@@ -1,4 +1,7 @@
-"""Reads the vectors, which are in the files vectors/*.txt. docs/CONFORMANCE.md describes their format."""
+"""Reads the vectors, which are in the files vectors/*.txt. docs/CONFORMANCE.md describes their format.
+
+It has an encoder of its own, and shares none with the other tests of bootimg: other projects copy this directory.
+"""
 
 import base64
 import re

@@ -1,0 +1,16 @@
+#!/bin/sh
+# Runs the tests of the program, which are in tests/calls/program. They give `run` and `run_with_files` arguments, small images and files in
+# memory, and readers and writers that fail. `rt try` builds and runs them without a proof, in a crate with the modules of bootimg.
+set -u
+
+root=$(cd "$(dirname "$0")/../.." && pwd)
+. "$root/tests/kit"
+
+work_in_new_directory
+program_crate
+link_tests program tests tests/building tests/checking tests/explaining tests/extracting tests/files tests/parts tests/saving \
+    tests/streams tests/updating
+link_tests commands images
+test_modules tests images
+run_tests --seconds 300
+finish

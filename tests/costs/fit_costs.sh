@@ -1,0 +1,143 @@
+#!/bin/sh
+# Measures what the program takes on large flattened image trees: time beside sha256sum of the same file, and memory beside the
+# length of the file. It fails if memory is more than the file and 8 MiB for a large payload, if 10,000 images take more than ten
+# times what sha256sum takes, if ten times as many take more than twelve times as long, or if describe or check of a large payload takes
+# more than 1.15 times as long as verify, which computes the same digest. Each time is the least of ten rounds. How many times as long a
+# file or a command takes as another is the median of the rounds. The script needs python3 and coreutils.
+set -u
+
+root=$(cd "$(dirname "$0")/../.." && pwd)
+. "$root/tests/setup"
+
+need python3 python3
+need coreutils sha256sum
+need_program
+work_in_new_directory
+
+cat > costs.py << 'END'
+"""Makes large flattened image trees, runs commands on them, and prints and judges what they take."""
+import hashlib
+import os
+import statistics
+import subprocess
+import sys
+import time
+
+from blobs import blob_of, node
+
+PROGRAM = sys.argv[1]
+MIB = 1 << 20
+
+
+def image(name, payload):
+    digest = [(b"value", hashlib.sha256(payload).digest()), (b"algo", b"sha256\0")]
+    return node(name, [(b"description", b"an image\0"), (b"data", payload)], [node(b"hash-1", digest)])
+
+
+def make(path, payloads, configurations=0):
+    """Writes an image with these payloads, and with configurations that list one image each."""
+    images = [image(b"image-%d" % index, payload) for index, payload in enumerate(payloads)]
+    kernels = [b"image-%d\0" % (configurations - 1 - index) for index in range(configurations)]
+    listed = [node(b"conf-%d" % index, [(b"kernel", kernel)]) for index, kernel in enumerate(kernels)]
+    with open(path, "wb") as file:
+        file.write(blob_of(node(b"", (), [node(b"images", (), images), node(b"configurations", (), listed)])))
+
+
+def run(path, command, wanted=0):
+    """Returns the seconds and the bytes of memory of a command that reads this file and ends with this status. In the command, FILE
+    is the path of the file."""
+    command = [word.replace("FILE", path) for word in command]
+    with open(path, "rb") as source, open("output", "wb") as target:
+        begin = time.perf_counter()
+        process = subprocess.Popen(command, stdin=source, stdout=target)
+        _, status, usage = os.wait4(process.pid, 0)
+        seconds = time.perf_counter() - begin
+    process.returncode = os.waitstatus_to_exitcode(status)
+    if process.returncode != wanted:
+        sys.exit(f"{command}: status {process.returncode}")
+    return seconds, usage.ru_maxrss * 1024
+
+
+def measure(command, files, wanted=0):
+    """Returns for each file the seconds and the bytes of memory of ten runs of a command that reads it. The files are read in turn,
+    since a machine may be slow for some seconds."""
+    rounds = [[run(path, command, wanted) for path in files] for _ in range(10)]
+    return dict(zip(files, zip(*rounds)))
+
+
+def least(runs):
+    """Returns the least seconds and the least memory of these runs."""
+    return [min(measures) for measures in zip(*runs)]
+
+
+def ratio(runs, others):
+    """Returns how many times as long these runs take as the others, the median of the rounds."""
+    return statistics.median(seconds / other for (seconds, _), (other, _) in zip(runs, others))
+
+
+FILES = ["large", "many", "more", "configured"]
+COMMANDS = {
+    "list": ["list"],
+    "describe": ["describe"],
+    "verify": ["verify"],
+    # The images have no default configuration, and each hash is good.
+    "check": ["check", "--allow", "bad-default"],
+    "normalise": ["normalise"],
+    "normalise --external": ["normalise", "--external"],
+}
+# With the status of each: an image is compared with itself, and with one in which each payload has other bytes.
+COMPARISONS = {
+    "compare of the same image": (["compare", "-", "FILE"], 0),
+    "compare of images that differ": (["compare", "-", "FILE.other"], 1),
+}
+
+failures = 0
+
+
+def judge(name, good, text):
+    global failures
+    print(f"{'ok' if good else 'FAILED'}: {name}: {text}")
+    failures += not good
+
+
+if sys.argv[1] == "make":
+    make("large", [os.urandom(64 * MIB)])
+    make("many", [b"%d" % index for index in range(10_000)])
+    make("more", [b"%d" % index for index in range(100_000)])
+    make("many.other", [b"%d" % (index + 1) for index in range(10_000)])
+    make("more.other", [b"%d" % (index + 1) for index in range(100_000)])
+    make("configured", [b"%d" % index for index in range(10_000)], 10_000)
+    sys.exit()
+cat = measure(["cat"], FILES)
+sha256sum = measure(["sha256sum"], FILES)
+measured = {name: measure([PROGRAM, *arguments], FILES) for name, arguments in COMMANDS.items()}
+for path in FILES:
+    size = os.path.getsize(path)
+    base, _ = least(sha256sum[path])
+    print(f"{path}: {size} bytes, cat {least(cat[path])[0]:.3f} s, sha256sum {base:.3f} s")
+    for name in COMMANDS:
+        seconds, memory = least(measured[name][path])
+        text = f"{seconds:.3f} s, {seconds / base:.1f} times sha256sum, {(memory - size) / MIB:.1f} MiB more than the file"
+        if path == "large":
+            judge(f"{path}, {name}", memory <= size + 8 * MIB, text)
+        else:
+            judge(f"{path}, {name}", path == "more" or seconds <= 10 * base, text)
+for name, (arguments, status) in COMPARISONS.items():
+    measured[name] = measure([PROGRAM, *arguments], ["many", "more"], status)
+for name in measured:
+    seconds, _ = least(measured[name]["more"])
+    times = ratio(measured[name]["more"], measured[name]["many"])
+    judge(f"{name}, ten times as many images", times <= 12, f"{seconds:.3f} s, {times:.1f} times as long")
+for command in ("describe", "check"):
+    runs, verified = zip(*([run("large", [PROGRAM, each]) for each in (command, "verify")] for _ in range(10)))
+    times = ratio(runs, verified)
+    judge(f"large, {command} beside verify", times <= 1.15, f"{times:.2f} times as long")
+sys.exit(failures != 0)
+END
+# The trees are made by another process: what a process has used counts for the memory of those that it starts.
+program=$root/crates/bootimg/out/bootimg
+python_with_blobs costs.py make
+python_with_blobs costs.py "$program" | tee costs
+add_counts "$(grep -c '^ok: ' costs)" "$(grep -c '^FAILED: ' costs)"
+[ "$(grep -c '^ok: \|^FAILED: ' costs)" = 34 ] || add_counts 0 1
+finish

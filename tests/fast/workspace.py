@@ -1,0 +1,27 @@
+"""Reads the files of a workspace, for the other modules beside it."""
+
+import os
+
+# The parts of a crate, and how the names of their files end.
+PARTS = {"src": ".rt", "specs": ".antt", "proofs": ".antt"}
+
+
+def read(path):
+    with open(path, encoding="utf-8") as file:
+        return file.read()
+
+
+def crates_of(root):
+    """The names of the crates, in the order of crates.txt."""
+    lines = read(os.path.join(root, "crates.txt")).splitlines()
+    return [line.split(":")[0].split()[0] for line in lines if ":" in line and not line.startswith("#")]
+
+
+def files_of(root, crate, part):
+    """The path and the module of each file of a part of a crate."""
+    top, ending = os.path.join(root, "crates", crate, part), PARTS[part]
+    for directory, _, names in sorted(os.walk(top)):
+        for name in sorted(names):
+            if name.endswith(ending):
+                path = os.path.join(directory, name)
+                yield path, os.path.relpath(path, top)[: -len(ending)].replace(os.sep, ".")

@@ -1,0 +1,139 @@
+#!/bin/sh
+# Shows that the proofs of each crate use the contracts of the crates below it. In a copy of a crate, a clause of a public function
+# is replaced by one that does not state the same. The function is still proved then, but a function of a crate above is not: a goal
+# that needs the clause stays open. rattle takes the copy as source, and the other crates as they are built, so it checks the upper
+# function, and of the copy only the functions that it calls. As many boundaries are checked at a time as there are processors. The
+# script needs python3, and installs Debian's if it is missing and the script runs as root.
+set -u
+
+root=$(cd "$(dirname "$0")/../.." && pwd)
+. "$root/tests/kit"
+
+# check_boundary LOWER UPPER FUNCTION: checks the function of the upper crate over the copy of the lower one, which is in the current
+# directory. The script calls itself for this.
+check_boundary() {
+    lower=$1
+    upper=$2
+    copy=$PWD/$lower
+    below=$(sed -n "s/^$lower: *//p" "$root/crates.txt")
+    uses=
+    for crate in $(sed -n "s/^$upper: *//p" "$root/crates.txt") $below core; do
+        [ "$crate" = "$lower" ] || uses="$uses $crate"
+    done
+    uses=$(printf '%s\n' $uses | sort -u)
+    may_use=$(printf '%s\n' core std $below | sort -u | paste -sd ,)
+    file=src/lib.rt
+    [ -f "$root/crates/$upper/$file" ] || file=src/main.rt
+    cd "$root/crates/$upper" || exit
+    rattle check "$upper" "$file" "$uses" --lib "$lower:$may_use=$copy/src/lib.rt" --only "$3" > "$copy.log" 2>&1
+}
+
+if [ "${1-}" = check_boundary ]; then
+    shift
+    check_boundary "$@"
+    exit 0
+fi
+
+need python3 python3
+need_libraries
+work_in_new_directory
+
+# boundary LOWER EDITED UPPER FUNCTION GOAL: copies the lower crate, in which a clause of the function EDITED is to be replaced. The
+# goal of the function of the upper crate needs that clause.
+boundary() {
+    lower=$1
+    mkdir "$lower"
+    (cd "$root/crates/$lower" && tar cf - src specs proofs) | (cd "$lower" && tar xf -)
+    echo "$lower $3 $4" >> boundaries
+    echo "$@" > "$lower.case"
+}
+
+# replace FILE OLD NEW: writes NEW in place of OLD, which is in the file once.
+replace() {
+    python3 -c 'import sys
+path, old, new = sys.argv[1:]
+with open(path, encoding="utf-8") as file:
+    text = file.read()
+if text.count(old) != 1:
+    sys.exit(f"{path} has this {text.count(old)} times, and not once:\n{old}")
+with open(path, "w", encoding="utf-8") as file:
+    file.write(text.replace(old, new))' "$@"
+}
+
+# edit FILE OLD NEW: the same in a file of the lower crate.
+edit() {
+    check "$lower: $1 has the text" replace "$lower/$1" "$2" "$3"
+}
+
+# unprove FUNCTION [GOAL]: takes away the answer to a goal of a function of the lower crate, or all its answers if no goal is given.
+# They prove the clause that was taken away.
+unprove() {
+    answers=$lower/proofs/$1/Answers.antt
+    check "$lower: $1 has answers" test -f "$answers"
+    if [ ! -f "$answers" ]; then
+        return
+    elif [ $# = 1 ]; then
+        rm "$answers"
+    else
+        # An empty line ends an answer.
+        check "$lower: $1 answers $2" grep -q "^pub $2 :" "$answers"
+        sed -i "/^pub $2 :/,/^\$/d" "$answers"
+    fi
+}
+
+boundary bi_base checksum::crc32 bi_legacy header::check_header returns-clause-ok
+edit src/checksum.rt '{ result ≡ crc32_of bytes.now }' '{ result ≡ result }'
+
+boundary bi_blob names::is_child_name bi_lay document::Doc::may_begin returns-then-is_child_name
+edit src/names.rt '{ IsTrue result ↔ IsChildName name.now }' '{ IsTrue result ↔ IsTrue result }'
+
+boundary bi_hash payload_digests::PayloadDigests::verdict bi_fit hashes::check_hash returns-clause-same
+edit src/payload_digests.rt '            self.old }
+        ensures same { self.new ≡ self.old }' '            self.old }
+        ensures same { result ≡ result }'
+
+boundary bi_fdt node::NodeRef::property bi_fit hashes::check_hash returns-clause-checked
+edit src/node.rt '{ option_map (λ value. value.now) result
+            ≡ value_named (properties_of (node_of self.entry).own) name.now }' '{ result ≡ result }'
+unprove node/NodeRef/property
+
+boundary bi_lay document::Doc::size bi_fit document::check_size returns-in-Some-clause-fits
+edit src/document.rt '{ MatchOption result (longest_text < length (text_of self.now))
+            (λ size. (size ≡ length (text_of self.now)) × (size ≤ longest_text)) }' '{ result ≡ result }'
+unprove document/Doc/size
+
+boundary bi_legacy legacy::Legacy::read bi_norm image::BootImage::read returns-in_ok-read-in-Legacy-clause-read
+edit src/legacy.rt '{ IfOk result (IsReadLegacy limits file.entry.now) }' '{ result ≡ result }'
+unprove legacy/Legacy/read returns-clause-read
+
+boundary bi_fit fit::Fit::to_doc bi_norm normal_form::emit_fit append_document-requires-clause-closed
+edit src/document.rt '{ IfOk result (IsDocument limits form (tree_of self.now)) }' '{ result ≡ result }'
+
+boundary bi_norm converting::convert_into bi_commands convert::ConverterCommand::run returns-clause-appended
+edit src/converting.rt '{ OnOk result (Appended S.appends (IsConvertedFile limits file.now)
+        sink.old sink.new) }' '{ OnOk result (S.appends sink.old file.now sink.new
+        → S.appends sink.old file.now sink.new) }'
+unprove converting/convert_into returns-clause-converted
+
+# is_proved LOWER: the function whose clause was taken away is proved.
+is_proved() {
+    read -r lower edited rest < "$1.case"
+    grep "^fn $lower::$edited: proved" "$1.log" || { tail -n 30 "$1.log"; false; }
+}
+
+# is_refused LOWER: the goal of the upper function is open, and rattle did not stop at an error that needs no proof to be found.
+is_refused() {
+    read -r lower edited upper function goal < "$1.case"
+    grep "^fn $upper::$function: not\? pro" "$1.log" && grep "it is not proved that .*(\`$goal\`)" "$1.log" &&
+        ! grep -E '^(\./)?(src|specs)/.*: error: ' "$1.log" || { tail -n 30 "$1.log"; false; }
+}
+
+if [ "$failed" = 0 ]; then
+    # The highest crates take longest.
+    sort -r boundaries | xargs -n 3 -P "$(nproc)" "$root/tests/prover/layers.sh" check_boundary
+    while read -r lower upper function; do
+        check "$lower: the function is proved with less" is_proved "$lower"
+        check "$upper::$function is refused over less of $lower" is_refused "$lower"
+    done < boundaries
+fi
+finish

@@ -1,0 +1,77 @@
+#!/bin/sh
+# Tries wrong bodies of functions, which are in tests/prover/wrong_bodies: the prover has to refuse the function that each edit names.
+# The wrong bodies of a crate are tried together, in a copy of the crate over the other crates as they are built, so this takes much
+# less time than `rt must-fail`, which checks a crate once for each edit. The rounds are in tests/prover/wrong_bodies.py. As many crates
+# are tried at a time as there are processors. The arguments name the crates; without any, all are tried. The script needs python3, and
+# installs Debian's if it is missing and the script runs as root.
+#
+# With --beside LOG before the crates it runs beside `rt ci`, which prints to LOG: the crates are tried one after the other, each as soon as
+# `rt ci` has proved the libraries below it. LOG.ended is made when `rt ci` ends; a crate that is not begun by then is left out. LOG.tried
+# has the others. The script without arguments leaves out the crates in the file of the variable `tried_before`.
+set -u
+
+root=$(cd "$(dirname "$0")/../.." && pwd)
+here=$root/tests/prover
+. "$root/tests/kit"
+
+# The script calls itself, to have rattle check a copy of a crate in the current directory.
+if [ "${1-}" = check ]; then
+    crate=$2
+    shift 2
+    file=src/lib.rt
+    [ -f "$file" ] || file=src/main.rt
+    # rattle proves the exports of a static library alone.
+    ! is_static "$crate" || set -- --crate-type staticlib "$@"
+    rattle check "$crate" "$file" "$(sed -n "s/^$crate\( staticlib\)*: *//p" "$root/crates.txt")" "$@"
+    exit
+fi
+
+log_of_ci=
+if [ "${1-}" = --beside ]; then
+    log_of_ci=$2
+    shift 2
+fi
+
+need python3 python3
+[ -n "$log_of_ci" ] || need_libraries
+work_in_new_directory
+
+# wait_for_libraries CRATE: waits until `rt ci` has proved the libraries of the workspace below the crate. Fails if it has ended.
+wait_for_libraries() {
+    for library in $(sed -n "s/^$1\( staticlib\)*: *//p" "$root/crates.txt"); do
+        [ -d "$root/crates/$library" ] || continue
+        until grep -qx "rt: $library proved" "$log_of_ci"; do
+            [ ! -e "$log_of_ci.ended" ] || return 1
+            sleep 5
+        done
+    done
+    [ ! -e "$log_of_ci.ended" ]
+}
+
+# Tries the wrong bodies of the crate $2. What they give is in the file $2.log.
+try='
+    here=$1/tests/prover
+    python3 "$here/wrong_bodies.py" "$1/crates/$2" "$here/wrong_bodies/$2" "$here/wrong_bodies.sh" check "$2" > "$2.log" 2>&1'
+if [ -n "$log_of_ci" ]; then
+    for crate; do
+        wait_for_libraries "$crate" || break
+        echo "$crate" >> "$log_of_ci.tried"
+        sh -c "$try" sh "$root" "$crate"
+    done
+elif [ $# = 0 ]; then
+    # The crates that take longest are the first.
+    printf '%s\n' bootimg bi_commands bi_norm bi_fit bi_legacy bi_base $(ls "$here/wrong_bodies") | awk '!seen[$0]++' |
+        grep -vxFf "${tried_before:-/dev/null}" | xargs -n 1 -P "$(nproc)" sh -c "$try" sh "$root"
+else
+    printf '%s\n' "$@" | xargs -n 1 -P "$(nproc)" sh -c "$try" sh "$root"
+fi
+for log in *.log; do
+    [ -e "$log" ] || continue
+    crate=${log%.log}
+    for edit in "$here/wrong_bodies/$crate"/*.edit; do
+        name=$crate/$(basename "$edit" .edit)
+        check "$name is refused" grep -F "refused: $name: " "$log"
+    done
+    grep -v '^refused: ' "$log"
+done
+finish

@@ -1,0 +1,116 @@
+#!/bin/sh
+# Tries the library for C, built from crates/bi_c, and the module for Python over it. The header compiles as C and as C++ and declares
+# the functions that the library exports, with the parameters and the struct of the sources. tests/tools/c_library/calls.c makes each
+# call, as gcc and clang compile it with their sanitizers: on the examples and the vectors of tests/conformance, it and the module do what
+# the program does. The programs in docs/LIBRARY.md print what the document shows. The script needs gcc, g++, clang, nm, pkg-config and
+# python3, and installs Debian's if one is missing and it runs as root.
+set -u
+
+root=$(cd "$(dirname "$0")/../.." && pwd)
+. "$root/tests/kit"
+
+need gcc gcc
+need g++ g++
+need clang clang clang++
+need binutils nm
+need python3 python3
+need pkg-config pkg-config
+need_program
+need_c_library
+work_in_new_directory
+PYTHONDONTWRITEBYTECODE=1
+export PYTHONDONTWRITEBYTECODE
+program=$root/crates/bootimg/out/bootimg
+header=$root/include/bootimg.h
+
+# The header.
+printf '#include <bootimg.h>\n#include <bootimg.h>\nint main(void) { return 0; }\n' > header.c
+for compiler in "gcc -std=c99" "clang -std=c99" "g++ -x c++ -std=c++98 -Wno-long-long" "clang++ -x c++"; do
+    check "the header compiles: $compiler" $compiler -Wall -Wextra -pedantic -Werror -I"$root/include" -fsyntax-only header.c
+done
+# The header against the sources: names, parameters and their types, the layout of the struct, and the numbers of the statuses.
+check "the functions of the header are those of the sources" \
+    sh -c 'python3 "$1/tests/tools/c_library/declarations.py" "$1/crates/bi_c/src" "$1/include/bootimg.h" > declarations.c' sh "$root"
+for compiler in "gcc -std=c99" "clang -std=c99"; do
+    check "so are their types, the struct and the numbers: $compiler" \
+        $compiler -Wall -Wextra -pedantic -Werror -I"$root/include" -fsyntax-only declarations.c
+done
+# is_found OLD NEW: with this change of the header, a difference is found.
+is_found() {
+    mkdir -p changed
+    sed "s/$1/$2/" "$header" > changed/bootimg.h
+    ! cmp -s "$header" changed/bootimg.h || { echo "nothing changed"; return 1; }
+    ! { python3 "$root/tests/tools/c_library/declarations.py" "$root/crates/bi_c/src" changed/bootimg.h > changed/declarations.c 2> log &&
+        gcc -std=c99 -Ichanged -fsyntax-only changed/declarations.c 2> log; }
+}
+check "a field of another size is found" is_found "size_t value;" "uint32_t value;"
+check "exchanged fields are found" is_found "uint32_t cause;" "uint32_t later, cause;"
+check "a parameter of another type is found" is_found "bootimg_version(uint8_t \*buffer" "bootimg_version(const uint8_t *buffer"
+check "exchanged parameters are found" is_found "uint32_t key, uint32_t index" "uint32_t index, uint32_t key"
+check "another number of a status is found" is_found "BOOTIMG_NO_ROOM 3u" "BOOTIMG_NO_ROOM 4u"
+check "a missing function is found" is_found "^uint32_t bootimg_kind" "int32_t bootimg_kind"
+nm -g --defined-only "$library" 2> /dev/null | sed -n 's/.* T //p' | sort > exported
+sed -n 's/^uint32_t \(bootimg_[a-z_]*\)(.*/\1/p' "$header" | sort > declared
+check "the library exports what the header declares, and nothing else" diff exported declared
+check "there are declarations" test -s declared
+grep -o 'BOOTIMG_VERSION "[^"]*"' "$header" | cut -d '"' -f 2 > wanted
+
+# The shared library.
+check "the shared library is linked" gcc -shared -o libbootimg.so -Wl,--whole-archive "$library" -Wl,--no-whole-archive "$heap"
+BOOTIMG_LIBRARY=$work/libbootimg.so
+PYTHONPATH=$root/python
+export BOOTIMG_LIBRARY PYTHONPATH
+
+# same COMMAND [ARGUMENT..]: calls.c and the module do what the program does with these arguments: status, output and errors.
+same() {
+    "$program" "$@" > output 2> errors
+    status=$?
+    for tried in ./calls "python3 -m bootimg"; do
+        $tried "$@" > output2 2> errors2
+        [ $? = "$status" ] && cmp output output2 && cmp errors errors2 || { cat errors2; return 1; }
+    done
+}
+
+examples=$root/examples
+"$root/tests/conformance/run" --export runs > log || cat log
+for compiler in gcc clang; do
+    check "$compiler compiles the calls" $compiler -std=gnu99 -Wall -Wextra -Werror -g -fsanitize=address,undefined \
+        -I"$root/include" "$root/tests/tools/c_library/calls.c" "$library" "$heap" -lpthread -o calls
+    [ "$failed" = 0 ] || finish
+    for image in "$examples"/*.itb "$examples"/*.uimage "$examples"/boot.scr "$examples"/board.its; do
+        for command in normalise "normalise --external" list describe verify check convert "list --limit 100" \
+            "update --time 5" "update --time 0x65000000 --hashes" "update --hashes --external" "extract --part 0" "extract --part 1" \
+            "extract --image kernel-1" "extract --image none" "extract --config conf-1" "extract --config conf-1 --key fdt" \
+            "extract --config none" "extract --default" "extract --default --key ramdisk" "extract --default --index 1"; do
+            check "$compiler: $command $(basename "$image")" same $command "$image"
+        done
+        check "$compiler: the kind of $(basename "$image")" sh -c './calls kind "$1" > kind 2> errors
+            "$2" list "$1" 2> errors2 | head -n 1 | cmp - kind && cmp errors errors2' sh "$image" "$program"
+        for other in "$examples"/*.itb "$examples"/kernel*.uimage "$examples"/board.its; do
+            check "$compiler: compare $(basename "$image") $(basename "$other")" same compare "$image" "$other"
+        done
+        check "$compiler: numbers out of their ranges, $(basename "$image")" ./calls arguments "$image"
+        check "$compiler: four threads, $(basename "$image")" ./calls threads "$image"
+    done
+    ./calls version > output
+    echo >> output
+    check "$compiler: the version is that of the header" cmp output wanted
+    check "$compiler: the version is that of the program" sh -c '"$1" --version | cut -d " " -f 2 | cmp - output' sh "$program"
+    check "$compiler: the struct is as large as the library's" test "$(./calls sizes)" = "32 0 8 16 20 24 28"
+    passes python3 "$root/tests/tools/c_library/suite.py" runs "$program" calls libbootimg.so
+done
+
+# Each allocation of each call fails in turn.
+check "the calls without memory are compiled" gcc -O1 -std=c99 -Wall -Wextra -Werror -I"$root/include" \
+    -Wl,--wrap=malloc -Wl,--wrap=realloc "$root/tests/tools/c_library/memory.c" "$library" "$heap" -o memory
+for image in "$examples"/*.itb "$examples"/*.uimage "$examples"/boot.scr; do
+    check "each allocation fails in turn, $(basename "$image")" sh -c '[ "$(./memory "$1")" -gt 10 ]' sh "$image"
+done
+
+# The programs of docs/LIBRARY.md, over the library as ./install installs it: each ```c, ```python and ```rust block is run, and the ```text
+# block after it is what it prints. The one in Rattle is proved first.
+test_crate listed "bi_commands bi_base"
+check "the library is installed" "$root/install" --prefix "$work/installed"
+check "the programs of docs/LIBRARY.md" python3 "$root/tests/tools/c_library/document.py" "$root/docs/LIBRARY.md" "$work/installed" \
+    "$crate" "$examples/kernel.uimage"
+finish

@@ -1,0 +1,135 @@
+"""Compares the library with the program, on the runs that `tests/conformance/run --export` wrote.
+
+suite.py RUNS PROGRAM CALLS LIBRARY: for each run of a call of the library, whose image comes from standard input, CALLS (the program of
+calls.c) and `python3 -m bootimg` over the shared LIBRARY have to do what PROGRAM does. The runs have to have each cause that a call of the
+library can have, and each reason why nothing is extracted. The last line is `N passed, M failed`.
+"""
+
+import contextlib
+import io
+import json
+import os
+import re
+import subprocess
+import sys
+from concurrent.futures import ThreadPoolExecutor
+from pathlib import Path
+
+sys.dont_write_bytecode = True
+
+runs, program, calls, library = map(Path, sys.argv[1:])
+os.environ["BOOTIMG_LIBRARY"] = str(library.resolve())
+sys.path.insert(0, str(Path(__file__).resolve().parents[3] / "python"))
+import bootimg
+
+# The options of each command, beside --limit.
+COMMANDS = {
+    "normalise": {"--external"},
+    "update": {"--external", "--time", "--hashes"},
+    "extract": {"--part", "--image", "--config", "--default", "--key", "--index"},
+    "list": set(),
+    "describe": set(),
+    "verify": set(),
+    "check": {"--allow"},
+    "convert": set(),
+}
+FLAGS = {"--external", "--hashes", "--default"}
+SELECTIONS = {"--part", "--image", "--config", "--default"}
+
+
+def number_of(word, least=0, most=0xFFFFFFFF):
+    """The number of a word, in decimal, if it is one in this range, as the program reads numbers."""
+    if not re.fullmatch(r"[0-9]+|0x[0-9a-fA-F]+", word):
+        return None
+    number = int(word, 16 if word.startswith("0x") else 10)
+    return str(number) if least <= number <= most else None
+
+
+def value_for_calls(option, word):
+    """The option and the value for calls.c, or None if the value is not one of the option."""
+    if option in ("--limit", "--part", "--index", "--time"):
+        number = number_of(word, 64, bootimg.LIMIT) if option == "--limit" else number_of(word)
+        return [option, number] if number else None
+    if option == "--allow":
+        kinds = set(word.split(","))
+        allowed = kinds <= set(bootimg.CONCERNS)
+        return ["--kinds", str(sum(1 << bootimg.CONCERNS.index(kind) for kind in kinds))] if allowed else None
+    if option == "--key":
+        return [option, word] if word in bootimg.KEYS else None
+    return [option, word] if not word.startswith("-") else None
+
+
+def words_for_calls(words):
+    """The arguments for calls.c, or None if it is no run of one call with arguments that are in their ranges."""
+    command, *options = words
+    if command not in COMMANDS:
+        return None
+    result, seen = [command], set()
+    while options:
+        option = options.pop(0)
+        if option in seen or option not in COMMANDS[command] | {"--limit"}:
+            return None
+        seen.add(option)
+        if option in FLAGS:
+            result.append(option)
+            continue
+        value = value_for_calls(option, options.pop(0)) if options else None
+        if value is None:
+            return None
+        result += value
+    if command == "update" and not seen & {"--time", "--hashes"} or command == "extract" and len(seen & SELECTIONS) != 1:
+        return None
+    if "--part" in seen and "--index" in seen:
+        return None
+    return result
+
+
+def outcome(command, **streams):
+    done = subprocess.run(command, capture_output=True, check=False, **streams)
+    return done.returncode, done.stdout, done.stderr
+
+
+def by_module(words):
+    """What the module does, which is called in this process."""
+    output, errors = io.TextIOWrapper(io.BytesIO()), io.StringIO()
+    with contextlib.redirect_stdout(output), contextlib.redirect_stderr(errors):
+        status = bootimg.main(words)
+    return status, output.buffer.getvalue(), errors.getvalue().encode()
+
+
+def differences(entry):
+    """The names of what differs from the program, or None if the run is no call of the library."""
+    words = words_for_calls(entry["arguments"]) if entry["arguments"] else None
+    path = str(runs / entry["file"]) if entry["file"] else None
+    if not words or not path or not os.path.exists(path):
+        return None
+    wanted = outcome([program.resolve(), *entry["arguments"], path])
+    found = []
+    if outcome([calls.resolve(), *words, path]) != wanted:
+        found.append("calls.c")
+    return found, entry["arguments"] + [path], wanted
+
+
+with open(runs / "runs.json", encoding="utf-8") as file:
+    entries = json.load(file)
+passed = failed = 0
+with ThreadPoolExecutor() as pool:
+    results = [result for result in pool.map(differences, entries) if result]
+for found, words, wanted in results:
+    if by_module(words) != wanted:
+        found.append("bootimg.py")
+    for name in found:
+        print(f"FAILED: {name}: {' '.join(words)}")
+    failed += len(found)
+    passed += 2 - len(found)
+
+# Images that are built have the other two causes.
+refusals = {bootimg.cause_name(number) for number in range(1, 27)} - {"BadField", "Unsupported"} | set(bootimg.REASONS)
+seen = {re.sub(r"( at)? \d+$", "", wanted[2].decode(errors="replace").strip().rpartition(": ")[2]) for _, _, wanted in results}
+for refusal in sorted(refusals):
+    passed += refusal in seen
+    failed += refusal not in seen
+    if refusal not in seen:
+        print(f"FAILED: no run has {refusal}")
+print(f"{passed} passed, {failed} failed")
+sys.exit(failed != 0)

@@ -1,0 +1,221 @@
+#!/bin/sh
+# Tries the program on small flattened image trees that python3 lays out byte by byte: known normal forms, listings and payloads,
+# and files that are refused, each with the line that is printed. It needs python3.
+set -u
+
+root=$(cd "$(dirname "$0")/../.." && pwd)
+. "$root/tests/setup"
+
+need python3 python3
+need_program
+work_in_new_directory
+
+passes python_with_blobs - "$root/crates/bootimg/out/bootimg" << 'END'
+import subprocess
+import sys
+
+from blobs import BLOB_MAGIC, END, NOP, Strings, aligned, blob, blob_of, cells, node, tokens
+
+PROGRAM = sys.argv[1]
+passed = failed = 0
+
+
+def tree(root):
+    """The blob of a tree, up to a multiple of four bytes."""
+    return aligned(blob_of(root))
+
+
+def images(*nodes):
+    return node(b"", (), [node(b"images", (), nodes)])
+
+
+def changed(file, at, new):
+    return file[:at] + new + file[at + len(new):]
+
+
+def run(file, *arguments):
+    return subprocess.run([PROGRAM, *arguments], input=file, capture_output=True)
+
+
+def judge(name, good):
+    global passed, failed
+    passed += bool(good)
+    failed += not good
+    if not good:
+        print("FAILED:", name)
+
+
+def gives(name, file, wanted, *arguments, status=0):
+    result = run(file, *arguments)
+    judge(name, result.stdout == wanted and result.returncode == status and not result.stderr)
+
+
+def refused(name, file, line, *arguments):
+    result = run(file, *arguments)
+    judge(name, result.stderr == f"bootimg: {line}\n".encode() and result.returncode == 2 and not result.stdout)
+
+
+def refused_by_all(name, file, line):
+    for arguments in ["normalise"], ["normalise", "--external"], ["list"], ["verify"], ["extract", "--image", "a"]:
+        refused(f"{name}, {arguments[0]}", file, line, *arguments)
+
+
+smallest = tree(images())
+judge("the smallest tree has 88 bytes", len(smallest) == 88)
+for form in ["normalise"], ["normalise", "--external"]:
+    gives("the smallest tree is its own normal form", smallest, smallest, *form)
+
+# Properties in another order, FDT_NOP before each token, and free space.
+unordered = node(b"", [(b"name", b"\2"), (b"filename", b"\1")], [node(b"images")])
+spread = b"".join(NOP + token for token in tokens(unordered, Strings([b"filename"], {b"name": 4}))) + NOP
+loose = blob(spread, b"filename\0")
+loose = changed(loose, 4, cells(176)) + b"\xff" * (176 - len(loose))
+tight = tree(node(b"", [(b"filename", b"\1"), (b"name", b"\2")], [node(b"images")]))
+judge("a tree with two properties has 136 bytes", len(tight) == 136)
+for form in ["normalise"], ["normalise", "--external"]:
+    gives("order, FDT_NOP, shared names and free space are left out", loose, tight, *form)
+
+# The same with the strings before the structure.
+structure = spread + END
+judge("the structure has 92 bytes", len(structure) == 92)
+header = cells(BLOB_MAGIC, 176, 68, 56, 40, 17, 16, 0, 9, 92)
+strings_first = header + bytes(16) + b"filename\0\0\0\0" + structure + b"\xff" * 16
+judge("the file has 176 bytes", len(strings_first) == 176)
+for form in ["normalise"], ["normalise", "--external"]:
+    gives("strings before the structure", strings_first, tight, *form)
+
+# Children stay in their order.
+order = tree(images(node(b"b"), node(b"a")))
+gives("children are not sorted", order, order, "normalise")
+
+# `data-offset` is counted from the first multiple of four after the blob.
+offset = blob_of(images(node(b"a", [(b"data-offset", cells(0)), (b"data-size", cells(3))])))
+judge("the blob has 154 bytes", len(offset) == 154)
+offset = changed(offset, 4, cells(157)) + b"\xee" * 3 + b"\x11\x22\x33" + b"abc"
+judge("the file has 163 bytes", len(offset) == 163)
+embedded = tree(images(node(b"a", [(b"data", b"abc")])))
+external = tree(images(node(b"a", [(b"data-offset", cells(0)), (b"data-size", cells(3))]))) + b"abc"
+judge("the normal forms have 124 and 159 bytes", (len(embedded), len(external)) == (124, 159))
+gives("a region after free space, embedded", offset, embedded, "normalise")
+gives("a region after free space, external", offset, external, "normalise", "--external")
+gives("its listing", offset, b"kind fit\nboot-cpu 0\ntotal-size 157\nimage a size 3 data-offset at 160\n", "list")
+gives("its payload", offset, b"abc", "extract", "--image", "a")
+
+# `data-position` comes before `data`.
+both = [(b"data", b"old"), (b"data-position", cells(180)), (b"data-size", cells(3))]
+position = tree(images(node(b"a", both)))
+judge("the blob has 180 bytes", len(position) == 180)
+new = tree(images(node(b"a", [(b"data", b"new")])))
+gives("data-position is read before data", position + b"new", new, "normalise")
+gives("its listing", position + b"new", b"kind fit\nboot-cpu 0\ntotal-size 180\nimage a size 3 data-position at 180\n", "list")
+
+# So does `data-offset`, which comes after `data-position`.
+both = [(b"data", b"old"), (b"data-offset", cells(0)), (b"data-size", cells(3))]
+offset_first = tree(images(node(b"a", both)))
+judge("the blob has 176 bytes", len(offset_first) == 176)
+new_external = tree(images(node(b"a", [(b"data-offset", cells(0)), (b"data-size", cells(3))]))) + b"new"
+gives("data-offset is read before data", offset_first + b"new", new, "normalise")
+gives("and in the external form", offset_first + b"new", new_external, "normalise", "--external")
+gives("its listing", offset_first + b"new", b"kind fit\nboot-cpu 0\ntotal-size 176\nimage a size 3 data-offset at 176\n", "list")
+gives("its payload", offset_first + b"new", b"new", "extract", "--image", "a")
+refused_by_all("and data does not help where it ends after the file", offset_first + b"ne", "OutsideFile at 100")
+all_four = [(b"data", b"old"), (b"data-offset", cells(0)), (b"data-position", cells(215)), (b"data-size", cells(3))]
+all_four = tree(images(node(b"a", all_four)))
+judge("the blob has 208 bytes", len(all_four) == 208)
+gives("data-position is read before both", all_four + b"was, ..new", new, "normalise")
+refused_by_all("and data-offset does not help either", all_four + b"was, ..ne", "OutsideFile at 116")
+
+# No payload, and an empty one.
+none, empty = tree(images(node(b"a"))), tree(images(node(b"a", [(b"data", b"")])))
+judge("no payload: 100 bytes; an empty one: 120", (len(none), len(empty)) == (100, 120))
+for file in none, empty:
+    gives("no payload and an empty payload differ", file, file, "normalise")
+refused("an image without a payload", none, "no payload", "extract", "--image", "a")
+gives("an empty payload", empty, b"", "extract", "--image", "a")
+
+# Two images, the second one empty.
+two = tree(images(node(b"a", [(b"data", b"hello")]), node(b"b", [(b"data", b"")])))
+result = run(two, "normalise", "--external").stdout
+judge("zeros before an empty payload", len(result) == 208 and result[4:8] == cells(200) and result[200:] == b"hello\0\0\0")
+
+# Three images that share a region.
+shared = [node(name, [(b"data-offset", cells(0)), (b"data-size", cells(1000))]) for name in (b"a", b"b", b"c")]
+shared = tree(images(*shared)) + bytes(range(250)) * 4
+judge("the file has 1244 bytes", len(shared) == 1244)
+for form, size in (["normalise"], 3168), (["normalise", "--external"], 3244):
+    judge(f"{form}: {size} bytes", len(run(shared, *form, "--limit", str(size)).stdout) == size)
+    refused(f"{form}: one byte less", shared, f"TooLarge at {size - 1}", *form, "--limit", str(size - 1))
+refused("the limit holds the file alone", shared, "TooLarge at 1244", "normalise", "--limit", "1244")
+long = changed(shared, 84 + 12 + 4 + 12, cells(1001))
+refused_by_all("a region that ends after the file", long, "OutsideFile at 84")
+
+
+def positioned(start):
+    """The blob of three images whose payloads are 1,000 bytes from this offset on."""
+    properties = [(b"data-position", cells(start)), (b"data-size", cells(1000))]
+    return tree(images(*[node(name, properties) for name in (b"a", b"b", b"c")]))
+
+
+same = positioned(len(positioned(0))) + bytes(range(250)) * 4
+for form in ["normalise"], ["normalise", "--external"]:
+    judge("the same regions by position", run(same, *form).stdout == run(shared, *form).stdout != b"")
+
+# Three payloads, external, cut.
+three = [node(n, [(b"data", d)]) for n, d in ((b"a", b"hello"), (b"b", b""), (b"c", b"x"))]
+three = tree(images(*three))
+judge("three payloads: 180 bytes", len(three) == 180)
+outside = run(three, "normalise", "--external").stdout
+judge("three payloads, external: 253 bytes", len(outside) == 253)
+gives("the external form is its own", outside, outside, "normalise", "--external")
+gives("and has the embedded one", outside, three, "normalise")
+gives("the listing of the external form", outside, b"kind fit\nboot-cpu 0\ntotal-size 244\n"
+      b"image a size 5 data-offset at 244\nimage b size 0 data-offset at 252\nimage c size 1 data-offset at 252\n", "list")
+for size in range(244, 253):
+    at = 84 if size < 249 else 128 if size < 252 else 172
+    refused_by_all(f"cut to {size} bytes", outside[:size], f"OutsideFile at {at}")
+
+# 64 nodes may be open: the root, `images`, an image and 61 nodes in it.
+def nested(count):
+    """The tokens of this many nodes `n`, one in the other."""
+    return node(b"n", (), [nested(count - 1)] if count > 1 else [])
+
+
+deepest = tree(images(nested(62)))
+for form in ["normalise"], ["normalise", "--external"]:
+    gives("64 open nodes are accepted", deepest, deepest, *form)
+gives("their listing", deepest, b"kind fit\nboot-cpu 0\ntotal-size %d\nimage n none\n" % len(deepest), "list")
+refused_by_all("65 open nodes", tree(images(nested(63))), "TooDeep at 572")
+refused_by_all("64 open nodes without images", tree(node(b"", (), [nested(63)])), "NoImages at 56")
+refused_by_all("65 open nodes without images", tree(node(b"", (), [nested(64)])), "TooDeep at 568")
+
+# Damaged files.
+for size in range(0, 88):
+    refused(f"the smallest tree cut to {size}", smallest[:size], f"Truncated at {0 if size < 40 else 4}", "list")
+refused_by_all("no child images", tree(node(b"")), "NoImages at 56")
+for name, at, bytes_, line in [
+    ("a name offset after the strings", 92, cells(22), "BadNameOffset at 84"),
+    ("an empty name", 92, cells(21), "BadName at 84"),
+    ("the same name again", 108, cells(0), "DuplicateProperty at 100"),
+    ("no data-size", 108, cells(17), "NoSize at 84"),
+    ("a value of three bytes", 88, cells(3), "BadCell at 84"),
+    ("a size of two bytes", 104, cells(2), "BadCell at 100"),
+    ("a long value", 88, cells(0xFFFFFFF0), "Truncated at 84"),
+    ("an offset after the file", 96, cells(0xFFFFFFFF), "OutsideFile at 84"),
+    ("FDT_END inside", 84, cells(9), "BadToken at 84"),
+    ("FDT_END_NODE inside", 84, cells(2), "BadToken at 92"),
+]:
+    refused_by_all(name, changed(offset, at, bytes_), line)
+refused_by_all("a slash in a name", changed(smallest, 70, b"/"), "BadName at 64")
+refused_by_all("a short structure block", changed(smallest, 36, cells(18)), "Truncated at 64")
+refused_by_all("reservations that end after the blob", changed(smallest, 16, cells(80)), "Truncated at 80")
+refused_by_all("unaligned reservations", changed(smallest, 16, cells(84)), "BadOffset at 16")
+refused_by_all("a structure block after the blob", changed(smallest, 8, cells(0xFFFFFFFC)), "BadOffset at 8")
+refused_by_all("a version of 15", changed(smallest, 20, cells(15)), "BadVersion at 20")
+refused_by_all("more than the file", changed(smallest, 4, cells(89)), "Truncated at 4")
+overlap = changed(changed(smallest, 12, cells(56)), 32, cells(32))
+gives("blocks may overlap", overlap, smallest, "normalise")
+old = changed(changed(smallest, 20, cells(16)), 36, b"\xff" * 4)
+gives("version 16", old, smallest, "normalise")
+print(f"{passed} passed, {failed} failed")
+END
+finish

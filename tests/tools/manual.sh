@@ -1,0 +1,187 @@
+#!/bin/sh
+# Compares the manual page and the completion for bash with the program: each command, each option and each value of an option is in
+# both, and nothing else; each cause of a refusal and each other line of a failure is in the page. The completion has files for the
+# commands that take one. The script needs Debian's mandoc, and installs it if it is missing and it runs as root.
+set -u
+
+root=$(cd "$(dirname "$0")/../.." && pwd)
+. "$root/tests/setup"
+need mandoc mandoc
+need bash bash
+need_program
+work_in_new_directory
+page=$root/man/bootimg.1
+completion=$root/contrib/bootimg.bash
+
+# same WANTED GOT: both files have the same lines, in any order.
+same() {
+    [ -s "$1" ] && sort -u "$1" > wanted.sorted && sort -u "$2" > got.sorted && diff wanted.sorted got.sorted
+}
+
+# A word for each option in the help of a command, which is standard input.
+options() {
+    sed -n '/^Options:/,/^$/p' | grep -oE '^ *(-[a-zA-Z], )?--[a-z-]+' | grep -oE -e '--?[a-zA-Z-]+'
+}
+
+# The arguments that are no options in the help of a command, which is standard input, each as [x], <x> or [x]...
+arguments() {
+    sed -n '/^Arguments:/,/^$/p' | awk '/^  [[<]/ { print $1 }' | sed 's/[A-Z]\{1,\}/x/'
+}
+
+# complete WORD..: prints what the completion offers for the last word.
+complete() {
+    bash --norc -c '. "$0"; COMP_WORDS=("$@"); COMP_CWORD=$(($# - 1)); _bootimg; printf "%s\n" "${COMPREPLY[@]}"' \
+        "$completion" "$@"
+}
+
+# The page is well-formed.
+lint() {
+    mandoc -Tlint "$page" > lint 2>&1
+    [ ! -s lint ] || { cat lint; false; }
+}
+check "mandoc finds nothing wrong in the page" lint
+mandoc -Tascii "$page" | sed 's/.\x08//g' > text
+
+# The version is that of the page, of the newest changes, of the header for C, and of its package. The kit is the one that builds.
+"$root/bootimg" --version > version
+version=$(cut -d ' ' -f 2 version)
+kit=$(cut -d ' ' -f 1 "$(dirname "$(rt doc)")/KIT-ID")
+check "the program has the version of the page" grep -Fqx "This page is that of version $version." "$page"
+check "and of the newest changes" sh -c 'grep -m 1 "^## \[" "$0" | grep -Fq "## [$1] "' "$root/CHANGELOG.md" "$version"
+check "and of the header for C" grep -Fqx "#define BOOTIMG_VERSION \"$version\"" "$root/include/bootimg.h"
+check "and of its package" grep -Fqx "Version: $version" "$root/bootimg.pc.in"
+check "the program names the kit that builds it" test "$(cat version)" = "bootimg $version ($kit)"
+
+# Commands.
+"$root/bootimg" --help > help
+sed -n '/^Commands:/,/^$/p' help | awk '/^  [a-z]/ { print $1 }' > commands
+awk '/^\.Ss Commands/ { on = 1 } /^\.Ss Options/ { on = 0 } on && /^\.It Cm/ { print $3 }' "$page" > page.commands
+check "the page has the commands of the program" same commands page.commands
+awk '/^\.Sh SYNOPSIS/ { on = 1 } /^\.Sh DESCRIPTION/ { on = 0 } on && /^\.Cm/ { print $2 }' "$page" > synopsis.commands
+check "the synopsis has them" same commands synopsis.commands
+complete bootimg "" | grep -v '^-' > completed
+check "the completion has them" same commands completed
+complete bootimg "" | grep '^-' > completed
+options < help > wanted
+check "the completion has the options of the program" same wanted completed
+complete bootimg help "" > completed
+check "help is completed by them" same commands completed
+
+# Options and arguments. The synopsis has a clause for each command; the help option and short options are not repeated there.
+cp wanted all.options
+awk '/^\.Sh SYNOPSIS/ { on = 1 } /^\.Sh DESCRIPTION/ { on = 0 } on' "$page" > clauses
+awk '/^\.Cm/ { command = $2 } { while (match($0, /Fl -[a-z-]+/)) {
+    print command, "-" substr($0, RSTART + 3, RLENGTH - 3); $0 = substr($0, RSTART + RLENGTH) } }' clauses > synopsis
+# A name after < or > is that of a stream.
+awk '/^\.Cm/ { command = $2 } /^\.Op Ar/ { print command, "[x]" $4 } /^\.Ar/ && before !~ /^[<>]/ { print command, "<x>" }
+    { before = $0 }' clauses > synopsis.arguments
+mkdir -p "a directory"
+: > kernel.itb
+while read -r command; do
+    [ "$command" != help ] || continue
+    "$root/bootimg" "$command" --help > help
+    options < help > wanted
+    cat wanted >> all.options
+    complete bootimg "$command" - > completed
+    check "the completion has the options of $command" same wanted completed
+    grep -v -e '^-.$' -e '^--help$' wanted > wanted.synopsis
+    sed -n "s/^$command //p" synopsis > got
+    check "the synopsis has the options of $command" same wanted.synopsis got
+    arguments < help > wanted
+    sed -n "s/^$command //p" synopsis.arguments > got
+    check "the synopsis has the arguments of $command" same wanted got
+    files=
+    grep -Fqx '[x]...' wanted || [ "$command" = explain ] || files="kernel.itb a directory"
+    check "the completion has the files that $command reads" \
+        test "$(complete bootimg "$command" k) $(complete bootimg "$command" "a ")" = "${files:- }"
+done < commands
+awk '/^\.Ss Options/ { on = 1 } /^\.Ss Values/ { on = 0 } on && /^\.It Fl/' "$page" | grep -oE 'Fl -?[a-zA-Z-]+' |
+    sed 's/^Fl /-/' > page.options
+check "the page has the options of all commands" same all.options page.options
+
+# Values. docs/FORMATS.md has a table of the codes; the help of extract names the keys.
+codes() {
+    sed -n '/^### Codes with names/,/^### Checks/p' "$root/docs/FORMATS.md" | sed -n "s/^| $1 | \(.*\) |\$/\1/p" |
+        tr ',' '\n' | awk '{ print $2 }'
+}
+codes "operating system" > os
+codes architecture > arch
+codes "image type" > type
+codes compression > compression
+"$root/bootimg" extract --help | sed -n 's/.*--key.* one of \(.*\) \[.*/\1/p' | tr -s ', ' '\n\n' > key
+"$root/bootimg" check --help | awk '/its kind:$/ { on = 1 } /^A legacy/ { on = 0 } on && /^  [a-z]/ { print $1 }' > allow
+for option in os arch type compression key allow; do
+    command=build-legacy
+    value=$option
+    case $option in
+    key) command=extract ;;
+    allow) command=check value=kind ;;
+    esac
+    complete bootimg "$command" "--$option" "" > completed
+    check "the completion has the values of --$option" same "$option" completed
+    complete bootimg "$command" "--$option" = "" > completed
+    check "and after a sign (--$option)" same "$option" completed
+    awk -v value="$value" '/^\.Ss Values/ { on = 1 } /^\.Sh/ { on = 0 }
+        on && /^\.It/ { mine = $3 == value } on && mine && /^\.Cm/' "$page" |
+        sed 's/^\.Cm//; s/ , /\n/g' | tr -d ' ' > got
+    check "the page has the values of --$option" same "$option" got
+done
+awk '/^\.It Cm check/ { on = 1 } /^\.It Cm extract/ { on = 0 } on && /^\.It Li/ { print $3 }' "$page" > got
+check "the page says what each kind of line of check is" same allow got
+complete bootimg check --allow missing,un > completed
+check "a kind is completed after a comma" test "$(cat completed)" = missing,unhashed
+complete bootimg check --allow = missing,trailing, | sed 's/^missing,trailing,//' > completed
+check "and after two of them and a sign" same allow completed
+complete bootimg check --allow '$(touch made),' > completed
+check "nothing that is typed is run" test ! -e made
+check "a word that is begun is completed" test "$(complete bootimg build-legacy --os l)" = linux
+check "an option that is begun is completed" test "$(complete bootimg extract --conf)" = --config
+check "an option that takes any value has none" test -z "$(complete bootimg extract --part "")"
+check "a file is completed as the output" test "$(complete bootimg build-fit -o kern)$(complete bootimg list --output kern)" = \
+    kernel.itbkernel.itb
+check "a file is completed after the value of an option" test "$(complete bootimg extract --part 1 kern)" = kernel.itb
+check "the file of a part is completed" test "$(complete bootimg build-legacy @ kern)$(complete bootimg build-legacy 5 @kern)" = \
+    kernel.itbkernel.itb
+check "the file of a payload is completed" test "$(complete bootimg build-fit a:2:2:5:0:-:-:@kern)" = kernel.itb
+check "a length is not" test -z "$(complete bootimg build-legacy kern)"
+check "the program takes the values" sh -c '
+    for os in $(cat os); do "$0" build-legacy --os "$os" --arch 2 --type 5 < "$0" > image || exit; done
+    for arch in $(cat arch); do "$0" build-legacy --os 5 --arch "$arch" --type 5 < "$0" > image || exit; done
+    for type in $(cat type); do "$0" build-legacy --os 5 --arch 2 --type "$type" < "$0" > image || exit; done
+    for compression in $(cat compression); do
+        "$0" build-legacy --os 5 --arch 2 --type 5 --compression "$compression" < "$0" > image || exit
+    done
+    for kind in $(cat allow); do "$0" check --allow "$kind" image || exit; done' "$root/bootimg"
+
+# Failures.
+sed -n 's/^            Cause::.* => "\(.*\)",$/\1/p' "$root/crates/bi_base/src/fault.rt" > causes
+check "there are causes in the code" test "$(wc -l < causes)" -ge 26
+awk '/^\.Sh DIAGNOSTICS/ { on = 1 } /^These lines have no offset/ { on = 0 } on && /^\.It Li/ { print $3 }' "$page" > got
+check "the page has the causes of the code" same causes got
+# A wide page has each sentence in one line.
+mandoc -Tascii -Owidth=1000 "$page" | sed 's/.\x08//g' | sed -n '/^DIAGNOSTICS/,/^     These lines have no offset/p' |
+    awk '/^     [A-Z][A-Za-z]*$/ { name = $1; next }
+        /^     [A-Z][A-Za-z]*  [^ ]/ { name = $1; sub(/^ *[A-Za-z]* */, ""); print name ": " $0; name = ""; next }
+        /^             / && name { sub(/^ */, ""); print name ": " $0; name = "" }' |
+    sed "s/\`/'/g; s/  */ /g" > sentences
+"$root/bootimg" explain > explained
+check "explain prints the sentences of the page, in their order" diff sentences explained
+check "explain prints each sentence alone" sh -c '
+    while read -r cause; do "$0" explain "$cause" | sed "s/^/$cause: /"; done < causes | diff sentences -' "$root/bootimg"
+complete bootimg explain "" > completed
+check "the completion has the causes" sh -c 'grep -v "^-" completed | sort > got && sort causes | diff - got'
+awk '/^These lines have no offset/ { on = 1 } /^\.Sh SEE/ { on = 0 } on && /^\.It Li/' "$page" |
+    sed 's/^\.It Li //; /^usage/!s/ , /\n/g' > got
+sed -n '/for Failure {/,$p' "$root/crates/bootimg/src/failure.rt" | grep -oE '(write_str\(|write!\(f, )"[^"]*"' |
+    sed 's/.*"\(.*\)"/\1/; /^{name}/d; s/{index}/N/' > lines
+check "the page has the other lines of failures, of the code" same lines got
+for status in 0 1 2; do
+    check "the page has the exit status $status" grep -Fqx ".It $status" "$page"
+done
+
+# Examples: each command in them is one that the program reads.
+sed -n '/^EXAMPLES/,/^DIAGNOSTICS/p' text | grep -oE 'bootimg [a-z]+(-[a-z]+)?' | awk '{ print $2 }' | sort -u > examples
+sort -u commands > sorted.commands
+check "the examples name commands of the program" test -z "$(comm -23 examples sorted.commands)"
+
+finish

@@ -1,0 +1,131 @@
+#!/bin/sh
+# Runs the program with -o in a directory. The output file is written as a whole or is as it was, and no other file is left.
+set -u
+
+root=$(cd "$(dirname "$0")/../.." && pwd)
+. "$root/tests/setup"
+need_program
+work_in_new_directory
+bootimg=$root/bootimg
+kernel=$root/examples/kernel.uimage
+padded=$root/examples/kernel-padded.uimage
+"$bootimg" list "$kernel" > listing
+mkdir here
+cd here || exit
+
+# ends STATUS LINE ARGUMENT..: the program ends with this status, writes this line, or nothing, to standard error, and nothing to
+# standard output.
+ends() {
+    status=$1
+    line=$2
+    shift 2
+    "$bootimg" "$@" > ../output 2> ../errors
+    [ $? = "$status" ] && [ ! -s ../output ] && [ "$(cat ../errors)" = "$line" ]
+}
+
+# holds FILE NAME..: the first of these names has the same bytes as FILE, and nothing else but these names is in the directory.
+holds() {
+    file=$1
+    shift
+    cmp "$file" "$1" && [ "$(ls -A | LC_ALL=C sort | tr '\n' ' ')" = "$* " ]
+}
+
+check "a new file is written" ends 0 "" list -o out "$kernel"
+check "it has the output" holds ../listing out
+echo old > out
+check "a file is replaced" ends 0 "" list "$kernel" --output out
+check "it has the output then" holds ../listing out
+cp "$padded" out
+check "the image itself is replaced" ends 0 "" normalise out -o out
+check "by its normal form" holds "$kernel" out
+echo old > ../old
+cp ../old out
+check "a refusal comes first" ends 2 "bootimg: ../old: BadMagic at 0" list -o out ../old
+check "the file is as it was" holds ../old out
+check "a directory that is not there" ends 2 "bootimg: none/out: write failed" list -o none/out "$kernel"
+check "an empty name" ends 2 "bootimg: -: write failed" list -o "" "$kernel"
+check "a device" ends 2 "bootimg: /dev/null: write failed" list -o /dev/null "$kernel"
+mkdir ../directory
+check "a directory" ends 2 "bootimg: ../directory: write failed" list -o ../directory "$kernel"
+check "with a slash after it" ends 2 "bootimg: ../directory/: write failed" list -o ../directory/ "$kernel"
+check "nothing is left in it" rmdir ../directory
+ln -s ../here/out ../link
+check "a link" ends 2 "bootimg: ../link: write failed" list -o ../link "$kernel"
+mkfifo ../pipe
+check "a pipe" ends 2 "bootimg: ../pipe: write failed" list -o ../pipe "$kernel"
+check "all is as it was" holds ../old out
+echo mine > .bootimg-0
+check "a name that is taken" ends 0 "" list -o out "$kernel"
+check "is left" sh -c 'cmp ../listing out && [ "$(cat .bootimg-0)" = mine ] && [ "$(ls -A | wc -l)" = 2 ]'
+rm .bootimg-0
+rm out
+check "an output with a name of new files" ends 0 "" list -o .bootimg-0 "$kernel"
+check "is the only file" holds ../listing .bootimg-0
+rm .bootimg-0
+# A file of more than one block is over the limit. The shell ignores the signal, so that the write fails.
+cp ../old out
+check "a write that fails" sh -c 'trap "" XFSZ; ulimit -f 0; "$1" list -o out "$2" > ../output 2> ../errors; [ $? = 2 ]' sh \
+    "$bootimg" "$kernel"
+check "leaves the file as it was" holds ../old out
+
+# A Makefile builds, checks, compares and installs an image. Neither a refusal nor a full disk changes a file.
+need make make
+mkdir ../made ../made/boot
+cd ../made || exit
+"$bootimg" extract --part 0 "$kernel" > kernel
+noise 1 5000 > ramdisk
+cat > Makefile << 'END'
+image.itb: kernel ramdisk
+	$(BOOTIMG) build-fit kernel-1:kernel:arm64:linux:none:0x80080000:0x80080000:@kernel ramdisk-1:ramdisk:arm64:linux:none:-:-:@ramdisk -o $@
+check: image.itb
+	$(BOOTIMG) check image.itb
+compare: image.itb
+	$(BOOTIMG) compare --quiet release.itb image.itb
+install: check
+	$(BOOTIMG) normalise --external image.itb -o boot/image.itb
+END
+
+# makes TARGET..: make succeeds with these targets.
+makes() {
+    make BOOTIMG="$bootimg" "$@"
+}
+
+# fails LINE TARGET..: make fails with these targets, and what it runs prints this line.
+fails() {
+    line=$1
+    shift
+    ! make BOOTIMG="$bootimg" "$@" > output 2>&1 && grep -Fqx "$line" output
+}
+
+# fails_on_full_disk LINE TARGET..: the same where no file can grow.
+fails_on_full_disk() {
+    line=$1
+    shift
+    ! lines=$(trap "" XFSZ && ulimit -f 0 && make BOOTIMG="$bootimg" "$@" 2>&1) && echo "$lines" | grep -Fqx "$line"
+}
+
+# is_installed FILE: what is installed has these bytes, and no other file is beside it.
+is_installed() {
+    cmp "$1" boot/image.itb && [ "$(ls -A boot)" = image.itb ]
+}
+
+check "an image is made" makes image.itb
+cp image.itb release.itb
+check "it is checked, compared and installed" makes check compare install
+"$bootimg" normalise --external release.itb > external
+check "its normal form is installed" is_installed external
+noise 2 4000 > ramdisk
+check "an image that differs stops a comparison" fails "make: *** [Makefile:6: compare] Error 1" compare
+cp image.itb other.itb
+printf damaged > image.itb
+check "a refusal stops an installation" fails "bootimg: image.itb: BadMagic at 0" install
+check "what is installed is as it was" is_installed external
+cp other.itb image.itb
+check "so does a full disk" fails_on_full_disk "bootimg: boot/image.itb: write failed" install
+check "what is installed is as it was then" is_installed external
+check "an image is not made on a full disk" fails_on_full_disk "bootimg: image.itb: write failed" -B image.itb
+check "the one that was made is as it was" cmp other.itb image.itb
+check "the other image is installed" makes install
+"$bootimg" normalise --external other.itb > external
+check "its normal form is installed then" is_installed external
+finish

@@ -1,0 +1,69 @@
+#!/bin/sh
+# Runs every command in a ```console block of README.md, of examples/README.md and of the pages in docs/ but CONFORMANCE.md, whose
+# commands conformance.sh runs, from the top of the checkout, and compares what it prints with what the block shows. The commands
+# of a file share one shell. At the end nothing is untracked in the checkout that was not so before. It needs python3 and, for the
+# examples, Debian's u-boot-tools and device-tree-compiler, and installs them if one is missing and it runs as root.
+set -u
+
+root=$(cd "$(dirname "$0")/../.." && pwd)
+. "$root/tests/setup"
+
+need u-boot-tools mkimage
+need device-tree-compiler fdtget fdtput
+need python3 python3
+need_program
+work_in_new_directory
+export TMPDIR="$work"
+
+pages=$(cd "$root" && ls docs/*.md | grep -v /CONFORMANCE)
+# shellcheck disable=SC2086
+passes python3 - "$root" README.md examples/README.md $pages << 'END'
+import re
+import subprocess
+import sys
+
+MARK = "-- end of command --"
+
+
+def commands(text):
+    """Returns each command of the console blocks with the output that is shown."""
+    found = []
+    for block in re.findall(r"^```console\n(.*?)^```$", text, re.M | re.S):
+        for line in block.splitlines():
+            if line.startswith("$ "):
+                found.append([line[2:], ""])
+            else:
+                found[-1][1] += line + "\n"
+    return found
+
+
+def untracked(root):
+    """Returns the files that git does not know, or nothing if there is no git."""
+    git = ["git", "-C", root, "status", "--porcelain", "--untracked-files=all"]
+    return subprocess.run(git, capture_output=True, text=True).stdout
+
+
+root, files = sys.argv[1], sys.argv[2:]
+before = untracked(root)
+passed = failed = 0
+for file in files:
+    with open(f"{root}/{file}") as opened:
+        shown = commands(opened.read())
+    script = "".join(f"{command}\necho '{MARK}'\n" for command, _ in shown)
+    how = {"stdin": subprocess.DEVNULL, "stdout": subprocess.PIPE, "stderr": subprocess.STDOUT, "text": True}
+    outputs = subprocess.run(["sh", "-c", script], cwd=root, **how).stdout.split(MARK + "\n")
+    outputs += ["(not run)\n"] * (len(shown) + 1 - len(outputs))
+    for (command, wanted), output in zip(shown, outputs):
+        if output == wanted:
+            passed += 1
+        else:
+            failed += 1
+            print(f"FAILED: {file}: {command}\nshown:\n{wanted}printed:\n{output}", end="")
+if untracked(root) == before:
+    passed += 1
+else:
+    failed += 1
+    print(f"FAILED: the recipes leave something in the checkout:\n{untracked(root)}")
+print(f"{passed} passed, {failed} failed")
+END
+finish
