@@ -2,11 +2,14 @@ use Rattle.std.proofs.Common.{◌≡◌, ◌⊎◌, ℕ, List, Result, Ok, Err, 
 use Rattle.bi_base.specs.declared.fault.Error.TheVariants as error
 use Rattle.bi_base.specs.Limits.{Limits}
 use Rattle.bi_fit.specs.declared.configurations.ConfigError.TheVariants as list
+use Rattle.bi_fit.specs.Content.{FitModel}
+use Rattle.bi_fit.specs.Reading.{IsReadFit}
 use Rattle.bi_norm.specs.Meaning.{Meaning, Means}
 use Rattle.bi_norm.specs.NormalForm.{NeedsMemory}
 use Rattle.bi_commands.specs.declared.extract.ExtractError.{ExtractError}
 use Rattle.bi_commands.specs.declared.extract.ExtractError.TheVariants.{Failed, WrongKind, NoPart, NoImage, Config, NoIndex, NoPayload}
 use Rattle.bi_commands.specs.declared.extract.Select.{Select}
+use Rattle.bi_commands.specs.declared.extract.Select.TheVariants.{Part, Image, Config, Default}
 use Rattle.bi_commands.specs.Extracting.{Choice, OfOtherKind, NoSuchPart, NoSuchImage, NoSuchConfiguration, NoSuchKey, HasBadList}
 use Rattle.bi_commands.specs.Extracting.{HasMissingImage, NoSuchEntry, HasNoPayload, MeansSuch, IsReason, choice_of, IsExtractError}
 use Rattle.bi_c.specs.declared.answer.Answer.{Answer}
@@ -14,7 +17,7 @@ use Rattle.bi_c.specs.declared.failure.Failure.{Failure}
 use Rattle.bi_c.specs.declared.failure.Failure.TheVariants.{WrongArgument, Refused, OutOfMemory, NotFound}
 use Rattle.bi_c.specs.declared.regions.Region.{Region}
 use Rattle.bi_c.specs.Answers.{Answers, Returned, Failed as HasFailed}
-use Rattle.bi_c.specs.Extracting.{IsChosenAt, IsFound, IsReasonNumber, IsSelectFailure, IsExtracted, IsExtractCallFailure}
+use Rattle.bi_c.specs.Extracting.{IsChosenAt, IsFound, IsOffset, IsPayloadOffset, IsReasonNumber, IsSelectFailure, IsExtracted, IsExtractCallFailure}
 use Rattle.bi_c.specs.Extracting.{failure_of_extraction}
 
 -- What calls from C that extract return.
@@ -22,10 +25,24 @@ use Rattle.bi_c.specs.Extracting.{failure_of_extraction}
 -- What is found of the meaning of a file is found in the file.
 pub found_in_file : (select : Select) (limits : Limits) (file : List ℕ) (meaning : Meaning) (result : Result Region ExtractError) →
     Means limits file meaning
-    → IfOk result (λ region. IsChosenAt file (choice_of select meaning) region.size region.offset) →
+    → IfOk result (λ region. IsChosenAt file (choice_of select meaning) region.size region.offset)
+    → IfOk result (λ region. IsOffset limits select file region.offset) →
     IfOk result (λ region. IsFound limits select file region.size region.offset)
-found_in_file select limits file meaning (Ok region) means is = record { meaning = meaning; means = means; holds = is }
-found_in_file select limits file meaning (Err error) means is = tt
+found_in_file select limits file meaning (Ok region) means is at = record {
+  is_chosen = record { meaning = meaning; means = means; holds = is };
+  is_offset = at;
+}
+found_in_file select limits file meaning (Err error) means is at = tt
+
+-- A flattened image tree that was read has no part, so what is selected of it is at the offset of a payload.
+pub payload_offset_in_file : (select : Select) (limits : Limits) (file : List ℕ) (content : FitModel) (result : Result Region ExtractError) →
+    IsReadFit limits file content → IfOk result (λ region. IsPayloadOffset select content region.offset)
+    → IfOk result (λ region. IsOffset limits select file region.offset)
+payload_offset_in_file (Part index) limits file content (Ok region) read is = absurd is
+payload_offset_in_file (Image name) limits file content (Ok region) read is = (content, read, is)
+payload_offset_in_file (Config name key index) limits file content (Ok region) read is = (content, read, is)
+payload_offset_in_file (Default key index) limits file content (Ok region) read is = (content, read, is)
+payload_offset_in_file select limits file content (Err error) read is = tt
 
 -- The numbers of the reason for which nothing is found.
 numbered : (select : Select) (limits : Limits) (file : List ℕ) (choice : Choice) (reason index : ℕ) →

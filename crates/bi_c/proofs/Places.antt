@@ -1,5 +1,5 @@
 use Rattle.std.proofs.Common.{◌≡◌, ◌≤◌, ◌+◌, ◌*◌, ℕ, zero, suc, Bool, true, false, List, [], ◌∷◌, length, map, slice_get, Option, Some}
-use Rattle.std.proofs.Common.{None, Bor, IfOk, IfErr, IfSome, refl, sym, ap, subst, ◌∙◌, arith, if◌then◌else◌, MatchOption}
+use Rattle.std.proofs.Common.{None, Bor, Result, Ok, Err, IfOk, IfErr, IfSome, refl, sym, ap, subst, ◌∙◌, arith, if◌then◌else◌, MatchOption}
 use Rattle.std.specs.Option.{option_map, option_and_then, ok_or}
 use Rattle.std.specs.List.{AllZip, AllByRecursion, flat_map}
 use Rattle.std.proofs.lemmas.List.{length-append}
@@ -26,7 +26,7 @@ use Rattle.bi_commands.specs.declared.extract.ExtractError.TheVariants.{NoPart, 
 use Rattle.bi_commands.specs.Extracting.{Choice, HasNoPayload, IsReason, choice_of_part, choice_of_payload, choice_by_name}
 use Rattle.bi_commands.proofs.Choices.{choice_at, chosen_by_name}
 use Rattle.bi_c.specs.declared.regions.Region.{Region}
-use Rattle.bi_c.specs.Extracting.{IsChosenAt, ArePlaced, offset_of_place}
+use Rattle.bi_c.specs.Extracting.{IsChosenAt, IsNamedOffset, ArePlaced, offset_of_place}
 
 -- Where the parts and payloads of images that were read are.
 
@@ -162,3 +162,29 @@ pub part_found : (file : List ℕ) (parts : List (List ℕ)) (index : ℕ) (resu
     → IfOk (ok_or result NoPart) (λ region. IsChosenAt file (choice_of_part (slice_get parts index)) region.size region.offset)
 part_found file parts index None is = tt
 part_found file parts index (Some region) is = is
+
+-- What holds of something that is found holds of the result that it is turned to.
+pub in_ok_or : {V E : Type 0} {P : V → Type 0} (found : Option V) (error : E) → IfSome found P → IfOk (ok_or found error) P
+in_ok_or None error is = tt
+in_ok_or (Some value) error is = is
+
+-- The offset of what is found at an index is that of the image of the name.
+pub named_offset : (content : FitModel) (name : List ℕ) (index : ℕ) (found : Option Region) → Some index ≡ index_of name content.images
+    → IfSome found (λ region. offset_of_place (place_or_absent (slice_get content.images index)) ≡ Some region.offset)
+    → IfSome found (λ region. IsNamedOffset content name region.offset)
+named_offset content name index None is_named is = tt
+named_offset content name index (Some region) is_named is = record { index = index; is_named = sym is_named; is_offset = is }
+
+-- The image of some name is one of a name that is listed.
+pub listed_offset : {E : Type 0} (content : FitModel) (name : List ℕ) (result : Result Region E)
+    → IfOk result (λ region. IsNamedOffset content name region.offset)
+    → IfOk result (λ region. (listed : List ℕ) × IsNamedOffset content listed region.offset)
+listed_offset content name (Ok region) is = (name, is)
+listed_offset content name (Err error) is = tt
+
+-- The offset of a part of an image that was read is that of the part in the file.
+pub part_offset : (limits : Limits) (file : List ℕ) (image : LegacyModel) (index : ℕ) (found : Option Region) → IsReadLegacy limits file image
+    → IfSome found (λ region. slice_get (part_places image.image) index ≡ Some region.offset)
+    → IfSome found (λ region. (read : LegacyModel) × IsReadLegacy limits file read × (slice_get (part_places read.image) index ≡ Some region.offset))
+part_offset limits file image index None read is = tt
+part_offset limits file image index (Some region) read is = (image, read, is)

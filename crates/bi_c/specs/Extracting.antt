@@ -1,8 +1,10 @@
-use Rattle.std.specs.Prelude.{ℕ, ◌≡◌, List, length, Option, None, Some}
+use Rattle.std.specs.Prelude.{ℕ, ◌≡◌, List, length, slice_get, Option, None, Some}
 use Rattle.std.specs.List.{AllByRecursion}
 use Rattle.bi_base.specs.declared.fault.Error.TheVariants as error
 use Rattle.bi_base.specs.Limits.{Limits}
-use Rattle.bi_fit.specs.Content.{FitModel, ImageModel}
+use Rattle.bi_fit.specs.Content.{FitModel, ImageModel, index_of, place_or_absent}
+use Rattle.bi_fit.specs.Reading.{IsReadFit}
+use Rattle.bi_legacy.specs.Reading.{LegacyModel, IsReadLegacy, part_places}
 use Rattle.bi_fit.specs.Payloads.{IsAt, IsAtPlace}
 use Rattle.bi_fit.specs.declared.configurations.ConfigError.TheVariants as list
 use Rattle.bi_fit.specs.declared.image.Place.{Place}
@@ -11,6 +13,7 @@ use Rattle.bi_norm.specs.NormalForm.{IsOpenError}
 use Rattle.bi_commands.specs.declared.extract.ExtractError.{ExtractError}
 use Rattle.bi_commands.specs.declared.extract.ExtractError.TheVariants as extract
 use Rattle.bi_commands.specs.declared.extract.Select.{Select}
+use Rattle.bi_commands.specs.declared.extract.Select.TheVariants.{Part, Image, Config, Default}
 use Rattle.bi_commands.specs.Extracting.{Choice, OfOtherKind, NoSuchPart, NoSuchImage}
 use Rattle.bi_commands.specs.Extracting.{NoSuchConfiguration, NoSuchKey, HasBadList}
 use Rattle.bi_commands.specs.Extracting.{HasMissingImage, NoSuchEntry, HasNoPayload, Chosen}
@@ -23,6 +26,37 @@ use Rattle.bi_c.specs.declared.failure.Failure.TheVariants.{NotFound}
 -- What calls from C that extract return: where in the caller's file the bytes are (profile of this
 -- project).
 
+-- The offset of a place, if there is a payload.
+abbrev pub offset_of_place : Place → Option ℕ
+offset_of_place Absent = None
+offset_of_place (Data offset) = Some offset
+offset_of_place (DataOffset offset) = Some offset
+offset_of_place (DataPosition offset) = Some offset
+
+-- The offset is that of the payload of the image of this name.
+pub record IsNamedOffset (content : FitModel) (name : List ℕ) (offset : ℕ) : Type 0 where
+  pub index : ℕ
+  pub is_named : index_of name content.images ≡ Some index
+  pub is_offset : offset_of_place (place_or_absent (slice_get content.images index)) ≡ Some offset
+
+-- The offset is that of the payload of an image: of the one that is selected by its name, or of the
+-- one of some name that is listed.
+abbrev pub IsPayloadOffset : Select → FitModel → (offset : ℕ) → Type 0
+IsPayloadOffset (Part index) content offset = ⊥
+IsPayloadOffset (Image name) content offset = IsNamedOffset content name.now offset
+IsPayloadOffset (Config name key index) content offset =
+    (listed : List ℕ) × IsNamedOffset content listed offset
+IsPayloadOffset (Default key index) content offset =
+    (listed : List ℕ) × IsNamedOffset content listed offset
+
+-- The offset is that of what is selected in the file: of the part of this index, or of a payload.
+abbrev pub IsOffset : Limits → Select → List ℕ → (offset : ℕ) → Type 0
+IsOffset limits (Part index) file offset =
+    (image : LegacyModel) × IsReadLegacy limits file image
+    × (slice_get (part_places image.image) index ≡ Some offset)
+IsOffset limits select file offset =
+    (content : FitModel) × IsReadFit limits file content × IsPayloadOffset select content offset
+
 -- The choice is bytes that the file has from this offset on: this many.
 pub record IsChosenAt (file : List ℕ) (choice : Choice) (size offset : ℕ) : Type 0 where
   pub bytes : List ℕ
@@ -31,10 +65,13 @@ pub record IsChosenAt (file : List ℕ) (choice : Choice) (size offset : ℕ) : 
   -- They end within the file, and they are the file's bytes there.
   pub is_there : IsAt file offset bytes
 
--- The file means something of which the selection chooses the bytes from this offset on.
-abbrev pub IsFound : Limits → Select → List ℕ → (size offset : ℕ) → Type 0
-IsFound limits select file size offset =
-    MeansSuch limits file (λ meaning. IsChosenAt file (choice_of select meaning) size offset)
+-- The file means something of which the selection chooses the bytes from this offset on, which is
+-- the offset of what is selected.
+pub record IsFound (limits : Limits) (select : Select) (file : List ℕ) (size offset : ℕ) : Type 0
+  where
+    pub is_chosen : MeansSuch limits file
+        (λ meaning. IsChosenAt file (choice_of select meaning) size offset)
+    pub is_offset : IsOffset limits select file offset
 
 -- The numbers of the reason why a choice is no bytes: the reason, and the index of the first name
 -- that no image has, where the reason names one.
@@ -86,13 +123,6 @@ failure_of_extraction (extract.Config (list.Missing index)) = NotFound 7 index
 failure_of_extraction (extract.Config list.OutOfMemory) = OutOfMemory
 failure_of_extraction extract.NoIndex = NotFound 8 0
 failure_of_extraction extract.NoPayload = NotFound 9 0
-
--- The offset of a place, if there is a payload.
-abbrev pub offset_of_place : Place → Option ℕ
-offset_of_place Absent = None
-offset_of_place (Data offset) = Some offset
-offset_of_place (DataOffset offset) = Some offset
-offset_of_place (DataPosition offset) = Some offset
 
 -- The payload of each image is in the file at its place.
 abbrev pub ArePlaced : FitModel → Type 0

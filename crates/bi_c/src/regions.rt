@@ -1,19 +1,19 @@
 //! Where the bytes are that a selection chooses of a boot image.
 
-ghost use Rattle.std.specs.Prelude.{◌≡◌, ◌⊎◌, ℕ, List, None, slice_get, IfOk, IfErr, IfSome};
+ghost use Rattle.std.specs.Prelude.{◌≡◌, ◌⊎◌, ℕ, List, None, Some, slice_get, IfOk, IfErr, IfSome};
 ghost use Rattle.std.specs.Prelude.{IfNone, MatchOption};
 ghost use Rattle.std.specs.Option.{option_and_then};
 ghost use Rattle.bi_base.specs.declared.fault.Error.TheVariants.{OutOfMemory};
 ghost use Rattle.bi_base.specs.Limits.{Limits};
-ghost use Rattle.bi_fit.specs.Content.{IsHeld, tree_of};
-ghost use Rattle.bi_legacy.specs.Reading.{IsReadLegacy};
+ghost use Rattle.bi_fit.specs.Content.{IsHeld, place_or_absent, tree_of};
+ghost use Rattle.bi_legacy.specs.Reading.{IsReadLegacy, part_places};
 ghost use Rattle.bi_norm.specs.Meaning.{OfLegacy, OfFit};
 ghost use Rattle.bi_commands.specs.declared.extract.ExtractError.TheVariants.{Failed};
 ghost use Rattle.bi_commands.specs.Extracting.{HasNoPayload, IsExtractError, IsReason, choice_of};
 ghost use Rattle.bi_commands.specs.Extracting.{choice_by_configuration, choice_by_default};
 ghost use Rattle.bi_commands.specs.Extracting.{choice_by_name, choice_of_part, choice_of_payload};
-ghost use Rattle.bi_c.specs.Extracting.{ArePlaced, IsChosenAt, IsFound};
-ghost use Rattle.bi_c.specs.Extracting.{offset_of_place};
+ghost use Rattle.bi_c.specs.Extracting.{ArePlaced, IsChosenAt, IsFound, IsNamedOffset, IsOffset};
+ghost use Rattle.bi_c.specs.Extracting.{IsPayloadOffset, offset_of_place};
 
 use bi_base::Limits;
 use bi_commands::extract::{ExtractError, Select};
@@ -54,6 +54,8 @@ fn find_part(image: &Legacy<'_>, select: Select) -> Result<Region, ExtractError>
     ensures found { (limits : Limits) (file : List ℕ) → IsReadLegacy limits file image.now →
         IfOk result (λ region. IsChosenAt file (choice_of select.entry (OfLegacy image.now.image))
         region.size region.offset) }
+    ensures offset { (limits : Limits) (file : List ℕ) → IsReadLegacy limits file image.now →
+        IfOk result (λ region. IsOffset limits select.entry file region.offset) }
     ensures failed { IfErr result (λ error. IsReason error
         (choice_of select.entry (OfLegacy image.now.image))) }
 {
@@ -69,6 +71,8 @@ fn part_at(image: &Legacy<'_>, index: usize) -> Option<Region>
     ensures found { (limits : Limits) (file : List ℕ) → IsReadLegacy limits file image.now →
         IfSome result (λ region. IsChosenAt file
         (choice_of_part (slice_get image.now.image.parts index)) region.size region.offset) }
+    ensures offset { IfSome result (λ region.
+        slice_get (part_places image.now.image) index ≡ Some region.offset) }
     ensures none { IfNone result (slice_get image.now.image.parts index ≡ None) }
 {
     let part = image.part(index)?;
@@ -85,6 +89,8 @@ fn find_payload(alloc: Global, fit: &Fit<'_>, select: Select) -> Result<Region, 
     requires placed { ArePlaced fit.now }
     ensures found { IfOk result (λ region. IsChosenAt fit.now.blob.file
         (choice_of select.entry (OfFit (tree_of fit.now))) region.size region.offset) }
+    ensures offset { IfOk result (λ region.
+        IsPayloadOffset select.entry fit.now region.offset) }
     ensures failed { IfErr result (λ error.
         IsReason error (choice_of select.entry (OfFit (tree_of fit.now)))
         ⊎ (error ≡ Failed OutOfMemory)) }
@@ -103,6 +109,7 @@ fn find_by_name(fit: &Fit<'_>, name: &[u8]) -> Result<Region, ExtractError>
     requires placed { ArePlaced fit.now }
     ensures found { IfOk result (λ region. IsChosenAt fit.now.blob.file
         (choice_by_name (tree_of fit.now) name.now) region.size region.offset) }
+    ensures offset { IfOk result (λ region. IsNamedOffset fit.now name.now region.offset) }
     ensures failed { IfErr result (λ error. IsReason error
         (choice_by_name (tree_of fit.now) name.now)) }
 {
@@ -116,11 +123,14 @@ fn find_by_name(fit: &Fit<'_>, name: &[u8]) -> Result<Region, ExtractError>
 /// exactly if there is no such image, or it has no payload.
 fn payload_at(fit: &Fit<'_>, index: usize) -> Option<Region>
     requires placed { ArePlaced fit.now }
-    ensures { let payload = option_and_then (λ image. image.payload)
+    ensures found { let payload = option_and_then (λ image. image.payload)
         (slice_get fit.now.images index) in
         MatchOption result (choice_of_payload payload ≡ HasNoPayload)
         (λ region. IsChosenAt fit.now.blob.file (choice_of_payload payload) region.size
         region.offset) }
+    ensures offset { IfSome result (λ region.
+        offset_of_place (place_or_absent (slice_get fit.now.images index))
+        ≡ Some region.offset) }
 {
     let payload = fit.payload(index)?;
     let offset = offset_of(fit.place(index))?;
@@ -156,6 +166,8 @@ fn find_by_configuration(
     ensures found { IfOk result (λ region. IsChosenAt fit.now.blob.file
         (choice_by_configuration (tree_of fit.now) name.now key index) region.size
         region.offset) }
+    ensures offset { IfOk result (λ region.
+        (listed : List ℕ) × IsNamedOffset fit.now listed region.offset) }
     ensures failed { IfErr result (λ error.
         IsReason error (choice_by_configuration (tree_of fit.now) name.now key index)
         ⊎ (error ≡ Failed OutOfMemory)) }
@@ -177,6 +189,8 @@ fn find_by_default(
     requires placed { ArePlaced fit.now }
     ensures found { IfOk result (λ region. IsChosenAt fit.now.blob.file
         (choice_by_default (tree_of fit.now) key index) region.size region.offset) }
+    ensures offset { IfOk result (λ region.
+        (listed : List ℕ) × IsNamedOffset fit.now listed region.offset) }
     ensures failed { IfErr result (λ error.
         IsReason error (choice_by_default (tree_of fit.now) key index)
         ⊎ (error ≡ Failed OutOfMemory)) }

@@ -18,7 +18,7 @@ returns-in_default-form_of c =
     c.fail-in_default-form_of.ensures.answer c.fail-in_default-form_of.ensures.status
 
 pub normalise_legacy-requires : goal.normalise_legacy-requires
-normalise_legacy-requires c = subst (IsReadBootImage c.in-Some.limits c.args.file.now) c.in-Ok-Legacy.field-0-is c.in-Ok-Legacy.ensures.opened
+normalise_legacy-requires c = subst (IsReadBootImage c.in-Some.limits c.args.file.now) c.in-Ok-Legacy.field-0-is c.in-Ok-Legacy.ensures.read
 
 pub returns-in-Ok-Legacy : goal.returns-in-Ok-Legacy
 returns-in-Ok-Legacy c =
@@ -32,7 +32,7 @@ returns-in-Ok-Legacy c =
 pub returns-in-Ok-Fit : goal.returns-in-Ok-Fit
 returns-in-Ok-Fit c =
     let file = c.args.file.now in
-    let opened = subst (IsReadBootImage c.in-Some.limits file) c.in-Ok-Fit.field-0-is c.in-Ok-Fit.ensures.opened in
+    let opened = subst (IsReadBootImage c.in-Some.limits file) c.in-Ok-Fit.field-0-is c.in-Ok-Fit.ensures.read in
     let valid : HasForm c.args.limit c.args.depth c.args.form = record { limits = is_so _ c.in-Some.ensures.in_range; is_form = is_so _ c.in-Some-form_of.ensures.in_range } in
     fills_as _ _ _ _ _ _ _ _
     (normalised_as c.args.limit c.args.depth c.args.form c.in-Some.limits c.in-Some-form_of.kind file valid c.in-Some.ensures.value c.in-Some-form_of.ensures.value)
