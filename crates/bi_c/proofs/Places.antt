@@ -183,7 +183,8 @@ listed_offset content name (Ok region) is = (name, is)
 listed_offset content name (Err error) is = tt
 
 -- The offset of a part of an image that was read is that of the part in the file.
-pub part_offset : (limits : Limits) (file : List ℕ) (image : LegacyModel) (index : ℕ) (found : Option Region) → IsReadLegacy limits file image
+pub part_offset : (limits : Limits) (file : List ℕ) (image : LegacyModel) (index : ℕ) (found : Option Region) →
+    IsReadLegacy limits file image
     → IfSome found (λ region. slice_get (part_places image.image) index ≡ Some region.offset)
     → IfSome found (λ region. (read : LegacyModel) × IsReadLegacy limits file read
     × (slice_get (part_places read.image) index ≡ Some region.offset))
