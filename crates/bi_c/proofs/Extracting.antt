@@ -36,7 +36,8 @@ found_in_file select limits file meaning (Err error) means is at = tt
 
 -- A flattened image tree that was read has no part, so what is selected of it is at the offset of a payload.
 pub payload_offset_in_file : (select : Select) (limits : Limits) (file : List ℕ) (content : FitModel)
-    (result : Result Region ExtractError) → IsReadFit limits file content → IfOk result (λ region. IsPayloadOffset select content region.offset)
+    (result : Result Region ExtractError) → IsReadFit limits file content
+    → IfOk result (λ region. IsPayloadOffset select content region.offset)
     → IfOk result (λ region. IsOffset limits select file region.offset)
 payload_offset_in_file (Part index) limits file content (Ok region) read is = absurd is
 payload_offset_in_file (Image name) limits file content (Ok region) read is = (content, read, is)
