@@ -8,7 +8,7 @@ use Rattle.bootimg.specs.declared.failure.Failure.{Failure}
 use Rattle.bootimg.specs.declared.failure.Failure.TheVariants.{NotWritten}
 use Rattle.std.proofs.lemmas.List.{append_assoc, append-nil, map_push}
 use Rattle.bootimg.specs.Files.{AreNamesTaken, NoNumbers, OwnName, OneMoreName, Closed, ClosingFailed, FilePromise, FileStep, IsBeside, IsNotWrittenFile}
-use Rattle.bootimg.specs.Files.{IsNotMade}
+use Rattle.bootimg.specs.Files.{IsMadeBeside, IsNotMade}
 use Rattle.bootimg.specs.Files.{IsNotPutInPlace, IsNotSaved, MakingFailed, NameTaken, NewFileFailed, NotClosed, NotMade}
 use Rattle.bootimg.specs.Files.{NotRemoved, Removed, SavesNothing, TookSteps, WritingStopped, no_files}
 

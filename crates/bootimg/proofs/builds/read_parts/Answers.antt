@@ -4,8 +4,8 @@ use Rattle.bootimg.specs.declared.command_line.part.PartSource.TheVariants.{Inpu
 use Rattle.bootimg.proofs.BuildRuns.{not_read, read_next}
 use Rattle.bootimg.proofs.builds.read_parts.Goals as goal
 
-pub returns-in_err-part-clause-job_failed : goal.returns-in_err-part-clause-job_failed
-returns-in_err-part-clause-job_failed g c =
+pub returns-in_err-part-clause-failed : goal.returns-in_err-part-clause-failed
+returns-in_err-part-clause-failed g c =
     let p = err_from_is_err_and c.from_residual-in_err-part.result c.from_residual-in_err-part.ensures.1 in
     rw (p.1, p.2)
     (inl (not_read (g.F.FileSystem.promise c.args.files.now) c.args.limits c.args.sources.now c.loop-source.source-index (Input 0) c.loop-source.read.items

@@ -6,8 +6,8 @@ returns-in-Standard-clause-read g c =
     input_read (λ image. image.items) (g.F.FileSystem.promise c.args.files.now) c.args.limits _ _ c.args.source c.read_input.result
     c.in-Standard.is c.read_input.ensures.read
 
-pub returns-in-Standard-clause-job_failed : goal.returns-in-Standard-clause-job_failed
-returns-in-Standard-clause-job_failed g c =
+pub returns-in-Standard-clause-failed : goal.returns-in-Standard-clause-failed
+returns-in-Standard-clause-failed g c =
     input_not_read (g.F.FileSystem.promise c.args.files.now) c.args.limits _ _ c.args.source c.read_input.result c.in-Standard.is
     c.read_input.ensures.failed
 
@@ -16,7 +16,7 @@ returns-in-File-clause-read g c =
     file_read (λ image. image.items) (g.F.FileSystem.promise c.args.files.now) c.args.limits _ c.args.source c.in-File.name
     c.read_file.result c.in-File.is c.read_file.ensures.read
 
-pub returns-in-File-clause-job_failed : goal.returns-in-File-clause-job_failed
-returns-in-File-clause-job_failed g c =
+pub returns-in-File-clause-failed : goal.returns-in-File-clause-failed
+returns-in-File-clause-failed g c =
     file_not_read (g.F.FileSystem.promise c.args.files.now) c.args.limits _ c.args.source c.in-File.name c.read_file.result c.in-File.is
     c.read_file.ensures.failed

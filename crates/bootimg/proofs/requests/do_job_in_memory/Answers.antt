@@ -11,8 +11,8 @@ returns-in-Ok-clause-done g c =
     (c.new-memory.ensures.contents ∙ ap (λ items. Some items) c.new-bytes.ensures.items) c.new-memory.ensures.well (search rules)
     c.do_job.ensures
 
-pub returns-clause-job_failed : goal.returns-clause-job_failed
-returns-clause-job_failed g c =
+pub returns-clause-failed : goal.returns-clause-failed
+returns-clause-failed g c =
     held_failure _ _ _ _ _ _ _ c.do_job.result c.in-Err.problem _ c.in-Err.is
     (c.new-memory.ensures.contents ∙ ap (λ items. Some items) c.new-bytes.ensures.items) c.new-memory.ensures.well c.do_job.ensures
     refl c.in_memory.ensures

@@ -25,5 +25,5 @@ returns g c =
     OutputNotSaved c.in_ok-done.done c.in_ok-done.bytes.items c.in_ok-done.ensures.done failure
     (subst
     (λ bytes. IsNotSaved files c.args.name.now bytes failure (g.F.FileSystem.steps c.args.files.now) (g.F.FileSystem.steps c.save.new.files))
-    c.deref.ensures.value c.in-Err.ensures.not_saved)
+    c.deref.ensures.value c.in-Err.ensures.failed)
     refl

@@ -12,7 +12,7 @@ loop-number-init g c = none_tried _ _
 pub returns-in_err-beside-clause-failed : goal.returns-in_err-beside-clause-failed
 returns-in_err-beside-clause-failed g c =
     let p = err_from_is_err_and c.from_residual.result c.from_residual.ensures.1 in
-    rw (p.1, p.2) (NoMemoryForName _ (omega arith) c.loop-number.invariant refl)
+    rw (p.1, p.2) (NoMemoryForName c.loop-number.number (omega arith) c.loop-number.invariant refl)
 
 pub loop-number-preserved-then-eq : goal.loop-number-preserved-then-eq
 loop-number-preserved-then-eq g c =

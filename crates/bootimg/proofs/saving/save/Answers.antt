@@ -7,7 +7,7 @@ use Rattle.bootimg.proofs.saving.save.Goals as goal
 pub returns-in_err-beside-clause-failed : goal.returns-in_err-beside-clause-failed
 returns-in_err-beside-clause-failed g c =
     let p = err_from_is_err_and c.from_residual.result c.from_residual.ensures.1 in
-    rw (p.1, p.2) (NoNewFile (c.if-not-can_replace.ensures.can refl) c.in_err-beside.ensures.not_made)
+    rw (p.1, p.2) (NoNewFile (c.if-not-can_replace.ensures.can refl) c.in_err-beside.ensures.failed)
 
 pub returns-clause-failed : goal.returns-clause-failed
 returns-clause-failed g c =

@@ -13,8 +13,8 @@ use Rattle.bootimg.proofs.Selected.{same_chosen, same_failure}
 use Rattle.bootimg.proofs.TaskFailures.{call_failed, extract_failed}
 use Rattle.bootimg.proofs.tasks.TaskCommand.run.Goals as goal
 
-pub returns-in_err-signatures-in-Normalise-clause-job_failed : goal.returns-in_err-signatures-in-Normalise-clause-job_failed
-returns-in_err-signatures-in-Normalise-clause-job_failed g c =
+pub returns-in_err-signatures-in-Normalise-clause-failed : goal.returns-in_err-signatures-in-Normalise-clause-failed
+returns-in_err-signatures-in-Normalise-clause-failed g c =
     let limits = c.args.limits in
     let input = c.args.input.now in
     let p = err_from_is_err_and c.from_residual.result c.from_residual.ensures.1 in
@@ -22,8 +22,8 @@ returns-in_err-signatures-in-Normalise-clause-job_failed g c =
     (call_failed g.S.Sink.fails (IsNormalForm limits c.in-Normalise.form input) (IsNormaliseError limits c.in-Normalise.form input) c.args.sink.now c.run.new.sink c.in_err-signatures-in-Normalise.field-0.0 p.0 p.2
     c.in_err-signatures-in-Normalise.ensures.failed)
 
-pub returns-in_err-run-in-List-clause-job_failed : goal.returns-in_err-run-in-List-clause-job_failed
-returns-in_err-run-in-List-clause-job_failed g c =
+pub returns-in_err-run-in-List-clause-failed : goal.returns-in_err-run-in-List-clause-failed
+returns-in_err-run-in-List-clause-failed g c =
     let limits = c.args.limits in
     let input = c.args.input.now in
     let p = err_from_is_err_and c.from_residual-in_err-run-in-List.result c.from_residual-in_err-run-in-List.ensures.1 in
@@ -31,8 +31,8 @@ returns-in_err-run-in-List-clause-job_failed g c =
     (call_failed g.S.Sink.fails (IsListing limits input) (IsOpenError limits input) c.args.sink.now c.run-in-List.new.sink c.in_err-run-in-List.field-0.0 p.0 p.2
     c.in_err-run-in-List.ensures.failed)
 
-pub returns-in_err-run-in-Describe-clause-job_failed : goal.returns-in_err-run-in-Describe-clause-job_failed
-returns-in_err-run-in-Describe-clause-job_failed g c =
+pub returns-in_err-run-in-Describe-clause-failed : goal.returns-in_err-run-in-Describe-clause-failed
+returns-in_err-run-in-Describe-clause-failed g c =
     let limits = c.args.limits in
     let input = c.args.input.now in
     let p = err_from_is_err_and c.from_residual-in_err-run-in-Describe.result c.from_residual-in_err-run-in-Describe.ensures.1 in
@@ -40,8 +40,8 @@ returns-in_err-run-in-Describe-clause-job_failed g c =
     (call_failed g.S.Sink.fails (IsDescription limits input) (IsDescribeError limits input) c.args.sink.now c.run-in-Describe.new.sink c.in_err-run-in-Describe.field-0.0 p.0 p.2
     c.in_err-run-in-Describe.ensures.failed)
 
-pub returns-in_err-good-in-Verify-clause-job_failed : goal.returns-in_err-good-in-Verify-clause-job_failed
-returns-in_err-good-in-Verify-clause-job_failed g c =
+pub returns-in_err-good-in-Verify-clause-failed : goal.returns-in_err-good-in-Verify-clause-failed
+returns-in_err-good-in-Verify-clause-failed g c =
     let limits = c.args.limits in
     let input = c.args.input.now in
     let p = err_from_is_err_and c.from_residual-in_err-good-in-Verify.result c.from_residual-in_err-good-in-Verify.ensures.1 in
@@ -49,8 +49,8 @@ returns-in_err-good-in-Verify-clause-job_failed g c =
     (call_failed g.S.Sink.fails (IsReport limits input) (IsOpenError limits input) c.args.sink.now c.run-in-Verify.new.sink c.in_err-good-in-Verify.field-0.0 p.0 p.2
     c.in_err-good-in-Verify.ensures.failed)
 
-pub returns-in_err-clean-in-Check-clause-job_failed : goal.returns-in_err-clean-in-Check-clause-job_failed
-returns-in_err-clean-in-Check-clause-job_failed g c =
+pub returns-in_err-clean-in-Check-clause-failed : goal.returns-in_err-clean-in-Check-clause-failed
+returns-in_err-clean-in-Check-clause-failed g c =
     let limits = c.args.limits in
     let input = c.args.input.now in
     let p = err_from_is_err_and c.from_residual-in_err-clean-in-Check.result c.from_residual-in_err-clean-in-Check.ensures.1 in
@@ -58,8 +58,8 @@ returns-in_err-clean-in-Check-clause-job_failed g c =
     (call_failed g.S.Sink.fails (IsChecked c.in-Check.allowed limits input) (IsCheckError limits input) c.args.sink.now c.run-in-Check.new.sink c.in_err-clean-in-Check.field-0.0 p.0 p.2
     c.in_err-clean-in-Check.ensures.failed)
 
-pub returns-in_err-signatures-in-Update-clause-job_failed : goal.returns-in_err-signatures-in-Update-clause-job_failed
-returns-in_err-signatures-in-Update-clause-job_failed g c =
+pub returns-in_err-signatures-in-Update-clause-failed : goal.returns-in_err-signatures-in-Update-clause-failed
+returns-in_err-signatures-in-Update-clause-failed g c =
     let limits = c.args.limits in
     let input = c.args.input.now in
     let changes = c.in-Update.changes in
@@ -69,8 +69,8 @@ returns-in_err-signatures-in-Update-clause-job_failed g c =
     (call_failed g.S.Sink.fails (IsUpdated changes limits form input) (IsUpdateError changes limits form input) c.args.sink.now c.run-in-Update.new.sink
     c.in_err-signatures-in-Update.field-0.0 p.0 p.2 c.in_err-signatures-in-Update.ensures.failed)
 
-pub returns-in_err-run-in-Extract-clause-job_failed : goal.returns-in_err-run-in-Extract-clause-job_failed
-returns-in_err-run-in-Extract-clause-job_failed g c =
+pub returns-in_err-run-in-Extract-clause-failed : goal.returns-in_err-run-in-Extract-clause-failed
+returns-in_err-run-in-Extract-clause-failed g c =
     let limits = c.args.limits in
     let input = c.args.input.now in
     let one = c.select-select.result in
@@ -82,8 +82,8 @@ returns-in_err-run-in-Extract-clause-job_failed g c =
     (same_failure g.S.Sink.fails one other same limits input c.args.sink.now c.run-in-Extract.new.sink c.in_err-run-in-Extract.field-0.0
     c.in_err-run-in-Extract.ensures.failed))
 
-pub returns-in_err-run-in-Convert-clause-job_failed : goal.returns-in_err-run-in-Convert-clause-job_failed
-returns-in_err-run-in-Convert-clause-job_failed g c =
+pub returns-in_err-run-in-Convert-clause-failed : goal.returns-in_err-run-in-Convert-clause-failed
+returns-in_err-run-in-Convert-clause-failed g c =
     let limits = c.args.limits in
     let input = c.args.input.now in
     let p = err_from_is_err_and c.from_residual-in_err-run-in-Convert.result c.from_residual-in_err-run-in-Convert.ensures.1 in
