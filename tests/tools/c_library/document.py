@@ -1,8 +1,8 @@
 """Runs the programs of a document, and compares what each prints with the text after it.
 
-document.py DOCUMENT PREFIX CRATE INPUT: each block ```c, ```python or ```rust is a program, and the block ```text after it is what it
+document.py DOCUMENT PREFIX INPUT BUILD..: each block ```c, ```python or ```rust is a program, and the block ```text after it is what it
 prints, if INPUT is its standard input. The library is installed under PREFIX, with the module for Python. A program in C is compiled
-by what pkg-config prints, and one in Rattle is proved and built in CRATE.
+by what pkg-config prints. One in Rattle is proved and built by the command BUILD with its file and its name.
 """
 
 import os
@@ -11,7 +11,8 @@ import subprocess
 import sys
 from pathlib import Path
 
-document, prefix, crate, path = map(Path, sys.argv[1:])
+document, prefix, path = map(Path, sys.argv[1:4])
+build = sys.argv[4:]
 KINDS = ("c", "python", "rust")
 os.environ["PKG_CONFIG_PATH"] = str(prefix / "lib/pkgconfig")
 os.environ["LD_LIBRARY_PATH"] = str(prefix / "lib")
@@ -20,9 +21,9 @@ os.environ["PYTHONDONTWRITEBYTECODE"] = "1"
 os.environ.pop("BOOTIMG_LIBRARY", None)
 
 
-def output(command, **where):
+def output(command):
     with open(path, "rb") as source:
-        done = subprocess.run(command, stdin=source, capture_output=True, check=False, **where)
+        done = subprocess.run(command, stdin=source, capture_output=True, check=False)
     return done.stdout.decode() if done.returncode == 0 else (done.stdout + done.stderr).decode() + f"status {done.returncode}\n"
 
 
@@ -31,8 +32,9 @@ def printed(kind, code):
     if kind == "python":
         return output(["python3", "-c", code])
     if kind == "rust":
-        (crate / "src/main.rt").write_text(code, encoding="utf-8")
-        return output(["rt", "run"], cwd=crate)
+        Path("listed.rt").write_text(code, encoding="utf-8")
+        built = subprocess.run([*build, "listed.rt", "listed"], capture_output=True, text=True, check=False)
+        return output(["./listed"]) if built.returncode == 0 else built.stdout + built.stderr
     Path("program.c").write_text(code, encoding="utf-8")
     flags = subprocess.run(["pkg-config", "--cflags", "--libs", "bootimg"], capture_output=True, text=True, check=True).stdout.split()
     warnings = ["-std=c99", "-Wall", "-Wextra", "-pedantic", "-Werror"]
