@@ -1,16 +1,17 @@
 """Boot images of U-Boot: legacy images and flattened image trees (FIT).
 
 Each function takes the bytes of a file, and returns bytes or text. It calls the shared library of bootimg, which is proved: two accepted
-images of one kind have the same normal form exactly if they mean the same. Functions may be called from several threads.
+images of one kind have the same normal form exactly if they mean the same. This module itself is tested and not proved. Functions may be
+called from several threads.
 
-`limit` is the most bytes of a file, and of an image, payload or description that is made: 64 to LIMIT. `depth` is the most nodes of a
-flattened image tree that may be open at once: 1 to DEPTH. A file that is refused raises Refused, a number out of its range
-WrongArgument, a selection of which there is nothing to extract NotFound, and a failed allocation OutOfMemory.
+`limit` is the greatest number of bytes of a file, and of an image, payload or description that is made: 64 to LIMIT. `depth` is the
+greatest depth of a flattened image tree, with the root counted: 1 to DEPTH. A call raises Refused if a file is refused, WrongArgument if
+a number is out of its range, NotFound if there is nothing to extract, and OutOfMemory if an allocation fails.
 
-`python3 -m bootimg COMMAND ..` prints what `bootimg COMMAND ..` prints.
+`python3 -m bootimg COMMAND ..` prints what `bootimg COMMAND ..` prints, for the commands that read images.
 
-The library is the first that is there of: the file that the environment variable BOOTIMG_LIBRARY names, libbootimg.so beside this file,
-the one that ./install puts under the same prefix, and that of the system.
+The module loads the first library that exists: the file that the environment variable BOOTIMG_LIBRARY names, libbootimg.so beside this
+file, the one that ./install writes under the same prefix, and that of the system.
 """
 
 import argparse
@@ -45,7 +46,7 @@ class BootimgError(Exception):
 
 
 class Refused(BootimgError):
-    """A file is refused: the name of the cause and its number, the offset in the file, and which file it is, from 1."""
+    """A file is refused: the name of the cause, its number, the offset in the file, and the index of the file in the call, from 1."""
 
     def __init__(self, cause: str, number: int, offset: int, file: int) -> None:
         super().__init__(f"{cause} at {offset}")
@@ -64,7 +65,8 @@ class WrongArgument(BootimgError, ValueError):
 
 
 class NotFound(BootimgError, LookupError):
-    """There is nothing to extract: the reason, of REASONS, and for "missing image" the index of the first name that no image has."""
+    """There is nothing to extract. It has the reason, one of REASONS, and for "missing image" the index of the first name that no image
+    has."""
 
     def __init__(self, reason: str, index: int | None) -> None:
         super().__init__(reason if index is None else f"{reason} {index}")
@@ -73,7 +75,7 @@ class NotFound(BootimgError, LookupError):
 
 
 class Report(NamedTuple):
-    """The report on the checksums and digests of a file, and whether no verdict is other than good."""
+    """The report on the checksums and digests of a file, and whether each verdict in it is good, also if there is none."""
 
     text: str
     all_good: bool
@@ -136,7 +138,7 @@ _library = _load()
 
 
 def _number(number: int) -> int:
-    """A number that C can take. Any other one is out of its range."""
+    """Returns the number if it has at most 32 bits, and otherwise 0xFFFFFFFF."""
     return number if 0 <= number <= 0xFFFFFFFF else 0xFFFFFFFF
 
 
@@ -152,7 +154,7 @@ def _raise(status: int, answer: _Answer) -> None:
 
 
 def _tell(name: str, *arguments: object) -> _Answer:
-    """Calls a function without a buffer, and returns what it leaves in the struct."""
+    """Calls a function without a buffer, and returns the struct that it sets."""
     answer = _Answer()
     status = getattr(_library, "bootimg_" + name)(*arguments, ctypes.byref(answer))
     _raise(status, answer)
@@ -160,7 +162,7 @@ def _tell(name: str, *arguments: object) -> _Answer:
 
 
 def _fill(name: str, room: int, *arguments: object) -> tuple[bytes, int]:
-    """Calls a function with a buffer of this size, or of the right size if that is larger, and returns the output and the number."""
+    """Calls a function with a buffer of this size, or of the size of the output if that is larger. Returns the output and `value`."""
     answer = _Answer()
     while True:
         buffer = ctypes.create_string_buffer(room)
@@ -178,27 +180,27 @@ def _of(file: bytes) -> tuple[bytes, int]:
 
 
 def version() -> str:
-    """The version of the library."""
+    """Returns the version of the library."""
     return _fill("version", 64)[0].decode("ascii")
 
 
 def cause_name(number: int) -> str:
-    """The name of the cause of this number, 1 to 26."""
+    """Returns the name of the cause of this number, from 1 to 26."""
     return _fill("cause_name", 64, _number(number))[0].decode("ascii")
 
 
 def kind(file: bytes) -> str:
-    """The kind of a file by its first four bytes: "legacy" or "fit"."""
+    """Returns the kind of a file by its first four bytes: "legacy" or "fit"."""
     return ("legacy", "fit")[_tell("kind", *_of(file)).value - 1]
 
 
 def normalise(file: bytes, external: bool = False, limit: int = LIMIT, depth: int = DEPTH) -> bytes:
-    """The normal form of a file. With `external`, that of a flattened image tree has its payloads after the blob."""
+    """Returns the normal form of a file. With `external`, the payloads of a flattened image tree are after the blob."""
     return normalise_and_count(file, external, limit, depth)[0]
 
 
 def normalise_and_count(file: bytes, external: bool = False, limit: int = LIMIT, depth: int = DEPTH) -> tuple[bytes, int]:
-    """The normal form of a file, and the number of its signature nodes, which are carried and not checked."""
+    """Returns the normal form of a file, and the number of its signature nodes, which are kept and not checked."""
     data = _of(file)
     return _fill("normalise", data[1] + 4096, *data, int(external), _number(limit), _number(depth))
 
@@ -211,7 +213,7 @@ def update(
     limit: int = LIMIT,
     depth: int = DEPTH,
 ) -> bytes:
-    """The normal form of a file with this time of creation, if one is given, and with digests computed again, if `hashes` is set."""
+    """Returns the normal form of a file with this time of creation, if it is given, and with new digests, if `hashes` is set."""
     return update_and_count(file, time, hashes, external, limit, depth)[0]
 
 
@@ -223,7 +225,7 @@ def update_and_count(
     limit: int = LIMIT,
     depth: int = DEPTH,
 ) -> tuple[bytes, int]:
-    """The same, and the number of its signature nodes, which are carried and not checked."""
+    """Returns what `update` returns, and the number of signature nodes, which are kept and not checked."""
     data = _of(file)
     if time is not None and not 0 <= time <= 0xFFFFFFFF:
         raise WrongArgument("wrong argument")
@@ -237,12 +239,12 @@ def _region(file: bytes, name: str, *arguments: object) -> memoryview:
 
 
 def extract_part(file: bytes, index: int = 0, limit: int = LIMIT, depth: int = DEPTH) -> memoryview:
-    """The part of this index of a legacy image: a view of the file, of which nothing is copied."""
+    """Returns the part of this index, counted from 0, of a legacy image, as a view of the file."""
     return _region(file, "extract_part", *_of(file), _number(index), _number(limit), _number(depth))
 
 
 def extract_image(file: bytes, name: bytes | str, limit: int = LIMIT, depth: int = DEPTH) -> memoryview:
-    """The payload of the image of this name of a flattened image tree: a view of the file."""
+    """Returns the payload of the image of this name in a flattened image tree, as a view of the file."""
     return _region(file, "extract_image", *_of(file), *_name_of(name), _number(limit), _number(depth))
 
 
@@ -254,8 +256,8 @@ def extract_config(
     limit: int = LIMIT,
     depth: int = DEPTH,
 ) -> memoryview:
-    """The payload at this index of what a configuration lists under a key, of KEYS: a view of the file. Without a name it is the
-    default configuration."""
+    """Returns a payload that the configuration of this name lists under a key, one of KEYS, as a view of the file. `index` is
+    its index in the list, counted from 0. Without a name it is the default configuration. A key that is not in KEYS raises ValueError."""
     numbers = (KEYS.index(key), _number(index), _number(limit), _number(depth))
     if name is None:
         return _region(file, "extract_default", *_of(file), *numbers)
@@ -272,40 +274,41 @@ def _text(name: str, file: bytes, limit: int, depth: int) -> tuple[str, int]:
 
 
 def listing(file: bytes, limit: int = LIMIT, depth: int = DEPTH) -> str:
-    """The listing of a file: what the image holds, and where each part or payload is."""
+    """Returns the listing of a file: what the image holds, and the size and offset of each part or payload."""
     return _text("list", file, limit, depth)[0]
 
 
 def describe(file: bytes, limit: int = LIMIT, depth: int = DEPTH) -> str:
-    """The description of what a file means. It does not depend on the layout of the file."""
+    """Returns the description of what a file means. It does not depend on the layout of the file."""
     return _text("describe", file, limit, depth)[0]
 
 
 def verify(file: bytes, limit: int = LIMIT, depth: int = DEPTH) -> Report:
-    """The report on the checksums and digests of a file."""
+    """Returns the report on the checksums and digests of a file."""
     text, value = _text("verify", file, limit, depth)
     return Report(text, value == 1)
 
 
 def check(file: bytes, allow: Iterable[str] = (), limit: int = LIMIT, depth: int = DEPTH) -> str:
-    """A line for each concern about a file, so no text if it is clean. The kinds in `allow`, of CONCERNS, are left out."""
+    """Returns a line for each concern about a file: each thing in it that is not protected. The text is empty if there is none. The lines
+    of the kinds in `allow`, of CONCERNS, are left out."""
     kinds = sum(1 << CONCERNS.index(kind) for kind in set(allow))
     return _fill("check", 16384, *_of(file), kinds, _number(limit), _number(depth))[0].decode("ascii")
 
 
 def convert(file: bytes, limit: int = LIMIT, depth: int = DEPTH) -> bytes:
-    """The flattened image tree that a legacy image is converted to."""
+    """Returns the flattened image tree that a legacy image is converted to."""
     data = _of(file)
     return _fill("convert", data[1] + 4096, *data, _number(limit), _number(depth))[0]
 
 
 def same_meaning(one: bytes, other: bytes, limit: int = LIMIT, depth: int = DEPTH) -> bool:
-    """Whether two files mean the same."""
+    """Returns whether two files mean the same."""
     return _tell("same_meaning", *_of(one), *_of(other), _number(limit), _number(depth)).value == 1
 
 
 def compare(one: bytes, other: bytes, limit: int = LIMIT, depth: int = DEPTH) -> Comparison:
-    """Whether two files mean the same, and what differs between what they mean: no text if they do."""
+    """Returns whether two files mean the same, and the differences between what they mean. There are none if they mean the same."""
     text, value = _fill("compare", 16384, *_of(one), *_of(other), _number(limit), _number(depth))
     return Comparison(value == 1, text.decode("ascii"))
 
@@ -370,7 +373,7 @@ def _extracted(options: argparse.Namespace, file: bytes) -> memoryview:
 
 
 def _run(options: argparse.Namespace, files: list[bytes]) -> tuple[bytes, int]:
-    """The output of a command and the exit status."""
+    """Returns the output of a command and the exit status."""
     limit = options.limit
     if options.command in ("normalise", "update"):
         if options.command == "normalise":
