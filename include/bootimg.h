@@ -1,29 +1,33 @@
 /*
  * Boot images of U-Boot: legacy images and flattened image trees (FIT).
  *
- * Each call reads a file in memory. It keeps nothing, and hands out nothing that was allocated, so there is nothing to free. Calls
- * from several threads at the same time do not disturb each other, if none writes to memory that another one uses.
+ * A file here is an image in memory; no call opens a file of the system. A call keeps nothing between calls, and returns nothing that
+ * was allocated, so there is nothing to free. Several threads may make calls at the same time, if no call writes to memory that
+ * another call uses.
  *
- * A pointer and the length after it are the first byte of some memory and its size in bytes. A pointer is never null, not even if the
- * length is 0. A buffer and a struct that a call writes to overlap neither each other nor the files of the call.
+ * A pointer and the length after it are the first byte of some memory and its size in bytes. A pointer must not be null, not even if
+ * the length is 0. The buffer and the struct that a call writes to must not overlap each other, nor the files of the call.
  *
- * `limit` is the most bytes of a file, and of an image, payload or description that is made: 64 to BOOTIMG_LIMIT. `depth` is the most
- * nodes of a flattened image tree that may be open at once: 1 to BOOTIMG_DEPTH. The program takes the greatest of both.
+ * `limit` is the greatest number of bytes of a file, and of an image, payload or description that is made: 64 to BOOTIMG_LIMIT.
+ * `depth` is the greatest depth of a flattened image tree, with the root counted: 1 to BOOTIMG_DEPTH. The program `bootimg` uses
+ * BOOTIMG_DEPTH, and BOOTIMG_LIMIT by default.
  *
  * A call returns its status, and sets each number of the struct `answer`:
  *
- *   BOOTIMG_DONE            The call did what it is for. `size` is the size of the output, and `value` the number that the call returns.
- *   BOOTIMG_REFUSED         A file is refused. `cause` is the number of the cause (see bootimg_cause_name), and `offset` is where, in
- *                           bytes from the beginning of the file; for TooLarge it is the limit. `file` is which file, from 1.
+ *   BOOTIMG_DONE            The call succeeded. `size` is the size of the output, and `value` the number that the comment of the call
+ *                           names.
+ *   BOOTIMG_REFUSED         A file is refused. `cause` is the number of the cause (see bootimg_cause_name), and `offset` is its offset
+ *                           in the file, in bytes; for TooLarge it is the limit. `file` is 1 for the first file of the call, and 2 for
+ *                           the second.
  *   BOOTIMG_OUT_OF_MEMORY   An allocation failed.
  *   BOOTIMG_NO_ROOM         The output is larger than the buffer. `size` and `value` are those of BOOTIMG_DONE.
  *   BOOTIMG_WRONG_ARGUMENT  A number is not one that the argument may be.
- *   BOOTIMG_NOT_FOUND       There is nothing to extract. `reason` says why: one of BOOTIMG_NO_* and the like. `value` is the index of the
- *                           name that no image has for BOOTIMG_MISSING, and else 0.
+ *   BOOTIMG_NOT_FOUND       There is nothing to extract. `reason` is one of BOOTIMG_WRONG_KIND to BOOTIMG_NO_PAYLOAD. For
+ *                           BOOTIMG_MISSING, `value` is the index of the name that no image has, and otherwise 0.
  *
- * A number that has no meaning for the status or the call is 0. A buffer has the output at its beginning if the status is BOOTIMG_DONE,
- * and the bytes after the output stay as they were; after any other status the whole buffer is as it was. No call ends an output by a
- * zero byte. A buffer of length 0 is enough to learn the size.
+ * A number that has no meaning for the status or the call is 0. If the status is BOOTIMG_DONE, the output is at the beginning of the
+ * buffer, and the bytes after it are unchanged. After any other status the whole buffer is unchanged. No output is NUL-terminated. A
+ * buffer of length 0 is enough to learn the size.
  */
 #ifndef BOOTIMG_H
 #define BOOTIMG_H
@@ -46,23 +50,23 @@ extern "C" {
 #define BOOTIMG_WRONG_ARGUMENT 4u
 #define BOOTIMG_NOT_FOUND 5u
 
-/* The greatest limits. */
+/* The greatest `limit` and the greatest `depth`. */
 #define BOOTIMG_LIMIT 0x7fffffffu
 #define BOOTIMG_DEPTH 64u
 
-/* The kinds of boot images. */
+/* The kinds of boot images: `value` of bootimg_kind. */
 #define BOOTIMG_LEGACY 1u
 #define BOOTIMG_FIT 2u
 
-/* Where the normal form of a flattened image tree has its payloads: inside the blob, or after it. */
+/* `form`: the payloads of a normal form of a flattened image tree are inside the blob, or after it. */
 #define BOOTIMG_EMBEDDED 0u
 #define BOOTIMG_EXTERNAL 1u
 
-/* What bootimg_update changes. */
+/* `changes` of bootimg_update. */
 #define BOOTIMG_CHANGE_TIME 1u
 #define BOOTIMG_CHANGE_HASHES 2u
 
-/* The properties of a configuration that list images. */
+/* `key`: the properties of a configuration that list images. */
 #define BOOTIMG_KERNEL 0u
 #define BOOTIMG_FDT 1u
 #define BOOTIMG_RAMDISK 2u
@@ -70,7 +74,7 @@ extern "C" {
 #define BOOTIMG_LOADABLES 4u
 #define BOOTIMG_SCRIPT 5u
 
-/* The reasons why nothing is extracted. */
+/* `reason`: why nothing is extracted. */
 #define BOOTIMG_WRONG_KIND 1u
 #define BOOTIMG_NO_PART 2u
 #define BOOTIMG_NO_IMAGE 3u
@@ -81,7 +85,7 @@ extern "C" {
 #define BOOTIMG_NO_INDEX 8u
 #define BOOTIMG_NO_PAYLOAD 9u
 
-/* The kinds of concerns of bootimg_check. */
+/* `kinds` of bootimg_check: the lines that are left out. */
 #define BOOTIMG_ALLOW_BAD_HASH 1u
 #define BOOTIMG_ALLOW_UNHASHED 2u
 #define BOOTIMG_ALLOW_WEAK_HASH 4u
@@ -90,7 +94,7 @@ extern "C" {
 #define BOOTIMG_ALLOW_BAD_DEFAULT 32u
 #define BOOTIMG_ALLOW_TRAILING 64u
 
-/* What a call returns beside its status. */
+/* What a call returns in addition to its status. */
 typedef struct bootimg_answer {
     size_t size;
     size_t value;
@@ -100,59 +104,61 @@ typedef struct bootimg_answer {
     uint32_t reason;
 } bootimg_answer;
 
-/* The kind of a file by its first four bytes, in `value`: BOOTIMG_LEGACY or BOOTIMG_FIT. The rest of the file is not looked at. Refused:
- * Truncated at 0 below four bytes, or BadMagic at 0. */
+/* Returns in `value` the kind of a file by its first four bytes: BOOTIMG_LEGACY or BOOTIMG_FIT. The other bytes are not examined. A file
+ * of fewer than four bytes is refused with Truncated at 0, and one without a magic number with BadMagic at 0. */
 uint32_t bootimg_kind(const uint8_t *file, size_t file_size, bootimg_answer *answer);
 
 /* Writes the normal form of a file. `form` is BOOTIMG_EMBEDDED or BOOTIMG_EXTERNAL, and has no effect on a legacy image. `value` is the
- * number of signature nodes, which are carried and not checked. */
+ * number of signature nodes, which are kept and not checked. */
 uint32_t bootimg_normalise(const uint8_t *file, size_t file_size, uint32_t form, uint32_t limit, uint32_t depth,
                            uint8_t *buffer, size_t buffer_size, bootimg_answer *answer);
 
-/* Writes the normal form of a file with changes. `changes` is a sum of BOOTIMG_CHANGE_*, or 0: BOOTIMG_CHANGE_TIME sets the time of
- * creation to `time`, in seconds since 1970, and BOOTIMG_CHANGE_HASHES computes the digests of a flattened image tree again. Without
- * BOOTIMG_CHANGE_TIME, `time` has no effect. A legacy image has no such digests, and its checksums are always computed. `form` and
- * `value` are those of bootimg_normalise. With BOOTIMG_CHANGE_HASHES, `limit` bounds the payloads together, too. */
+/* Writes the normal form of a file with changes. `changes` is a sum of BOOTIMG_CHANGE_*, or 0. BOOTIMG_CHANGE_TIME sets the time of
+ * creation to `time`, in seconds since 1970. BOOTIMG_CHANGE_HASHES computes the digests in the hash nodes of a flattened image tree
+ * again. Without BOOTIMG_CHANGE_TIME, `time` has no effect. A legacy image has no hash nodes, and its checksums are always computed.
+ * `form` and `value` are those of bootimg_normalise. With BOOTIMG_CHANGE_HASHES, the payloads together may not be longer than `limit`,
+ * or the file is refused with TooLarge. */
 uint32_t bootimg_update(const uint8_t *file, size_t file_size, uint32_t changes, uint32_t time, uint32_t form, uint32_t limit,
                         uint32_t depth, uint8_t *buffer, size_t buffer_size, bootimg_answer *answer);
 
-/* The calls that extract copy nothing: `value` is the offset in the file of the first byte that is selected, and `size` how many there
- * are. They all are inside the file. No hash of them is checked: bootimg_verify does that. If there are none, the status is
- * BOOTIMG_NOT_FOUND, and the reason is the first that applies:
+/* The calls that extract copy nothing. `value` is the offset in the file of the first byte that is selected, and `size` is the number of
+ * these bytes. All of them are inside the file. No hash node is checked: bootimg_verify does that. If nothing is selected, the status
+ * is BOOTIMG_NOT_FOUND, and `reason` is the first of these that applies:
  *
- *   BOOTIMG_WRONG_KIND   A part is selected of a flattened image tree, or anything else of a legacy image.
+ *   BOOTIMG_WRONG_KIND   The call selects a part and the file is a flattened image tree, or the call selects a payload and the file is
+ *                        a legacy image.
  *   BOOTIMG_NO_PART      The legacy image has no part of this index.
  *   BOOTIMG_NO_IMAGE     No image has this name.
  *   BOOTIMG_NO_CONFIG    No configuration has this name, or no default is named.
- *   BOOTIMG_NO_KEY       The configuration has no such key.
- *   BOOTIMG_BAD_LIST     The value of the key is no list of names.
+ *   BOOTIMG_NO_KEY       The configuration does not have the key.
+ *   BOOTIMG_BAD_LIST     The value of the key is not a list of names.
  *   BOOTIMG_MISSING      The list names an image that is not there. `value` is the index of the first such name, from 0.
  *   BOOTIMG_NO_INDEX     The list has no entry of this index.
  *   BOOTIMG_NO_PAYLOAD   The image has no payload, not even an empty one.
  */
 
-/* Where the part of this index, from 0, of a legacy image is. An image that is neither multi nor script has one part. */
+/* Selects the part of this index, counted from 0, of a legacy image. An image of a type other than multi and script has one part. */
 uint32_t bootimg_extract_part(const uint8_t *file, size_t file_size, uint32_t index, uint32_t limit, uint32_t depth,
                               bootimg_answer *answer);
 
-/* Where the payload is of the image of this name of a flattened image tree. No zero byte ends the name. */
+/* Selects the payload of the image of this name in a flattened image tree. The name is not NUL-terminated. */
 uint32_t bootimg_extract_image(const uint8_t *file, size_t file_size, const uint8_t *name, size_t name_size, uint32_t limit,
                                uint32_t depth, bootimg_answer *answer);
 
-/* Where a payload is that the configuration of this name lists under a key, one of BOOTIMG_KERNEL to BOOTIMG_SCRIPT, at this index, from
- * 0. No zero byte ends the name. */
+/* Selects a payload that the configuration of this name lists under a key, one of BOOTIMG_KERNEL to BOOTIMG_SCRIPT. `index` is its index
+ * in the list, counted from 0. The name is not NUL-terminated. */
 uint32_t bootimg_extract_config(const uint8_t *file, size_t file_size, const uint8_t *name, size_t name_size, uint32_t key,
                                 uint32_t index, uint32_t limit, uint32_t depth, bootimg_answer *answer);
 
-/* The same of the default configuration. */
+/* Selects a payload that the default configuration lists, as bootimg_extract_config does. */
 uint32_t bootimg_extract_default(const uint8_t *file, size_t file_size, uint32_t key, uint32_t index, uint32_t limit, uint32_t depth,
                                  bootimg_answer *answer);
 
-/* Whether two files mean the same, in `value`: 1 if they do, else 0. */
+/* Returns in `value` whether two files mean the same: 1 if they do, otherwise 0. */
 uint32_t bootimg_same_meaning(const uint8_t *one, size_t one_size, const uint8_t *other, size_t other_size,
                               uint32_t limit, uint32_t depth, bootimg_answer *answer);
 
-/* Writes the listing of a file. */
+/* Writes the listing of a file, as `bootimg list` prints it. */
 uint32_t bootimg_list(const uint8_t *file, size_t file_size, uint32_t limit, uint32_t depth,
                       uint8_t *buffer, size_t buffer_size, bootimg_answer *answer);
 
@@ -160,16 +166,17 @@ uint32_t bootimg_list(const uint8_t *file, size_t file_size, uint32_t limit, uin
 uint32_t bootimg_describe(const uint8_t *file, size_t file_size, uint32_t limit, uint32_t depth,
                           uint8_t *buffer, size_t buffer_size, bootimg_answer *answer);
 
-/* Writes the report on the checksums and digests of a file. `value` is 1 if no verdict is other than good, else 0. */
+/* Writes the report on the checksums and digests of a file. `value` is 1 if each verdict in it is good, also if
+ * there is no verdict, and otherwise 0. */
 uint32_t bootimg_verify(const uint8_t *file, size_t file_size, uint32_t limit, uint32_t depth,
                         uint8_t *buffer, size_t buffer_size, bootimg_answer *answer);
 
-/* Writes a line for each concern about a file. `kinds` has the kinds whose lines are left out: a sum of BOOTIMG_ALLOW_*, or 0. `value`
- * is 1 if there is no line, else 0. */
+/* Writes a line for each concern about a file: each thing in it that is not protected. `kinds` is a sum of BOOTIMG_ALLOW_*, or 0: the
+ * kinds whose lines are left out. `value` is 1 if there is no line, otherwise 0. */
 uint32_t bootimg_check(const uint8_t *file, size_t file_size, uint32_t kinds, uint32_t limit, uint32_t depth,
                        uint8_t *buffer, size_t buffer_size, bootimg_answer *answer);
 
-/* Writes what differs between what two files mean. `value` is 1 if they mean the same, else 0. Nothing is written if they do. */
+/* Writes the differences between what two files mean. `value` is 1 if they mean the same, and nothing is then written; otherwise 0. */
 uint32_t bootimg_compare(const uint8_t *one, size_t one_size, const uint8_t *other, size_t other_size,
                          uint32_t limit, uint32_t depth, uint8_t *buffer, size_t buffer_size, bootimg_answer *answer);
 
@@ -177,7 +184,7 @@ uint32_t bootimg_compare(const uint8_t *one, size_t one_size, const uint8_t *oth
 uint32_t bootimg_convert(const uint8_t *file, size_t file_size, uint32_t limit, uint32_t depth,
                          uint8_t *buffer, size_t buffer_size, bootimg_answer *answer);
 
-/* Writes the name of the cause of this number, 1 to 26. */
+/* Writes the name of the cause of this number, from 1 to 26, for example `Truncated`. */
 uint32_t bootimg_cause_name(uint32_t number, uint8_t *buffer, size_t buffer_size, bootimg_answer *answer);
 
 /* Writes the version of the library. */

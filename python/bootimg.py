@@ -1,25 +1,26 @@
 """Boot images of U-Boot: legacy images and flattened image trees (FIT).
 
 Each function takes the bytes of a file, and returns bytes or text. It calls the shared library of bootimg, which is proved: two accepted
-images of one kind have the same normal form exactly if they mean the same. Functions may be called from several threads.
+images of one kind have the same normal form exactly if they mean the same. This module itself is tested and not proved. Functions may be
+called from several threads.
 
-`limit` is the most bytes of a file, and of an image, payload or description that is made: 64 to LIMIT. `depth` is the most nodes of a
-flattened image tree that may be open at once: 1 to DEPTH. A file that is refused raises Refused, a number out of its range
-WrongArgument, a selection of which there is nothing to extract NotFound, and a failed allocation OutOfMemory.
+`limit` is the greatest number of bytes of a file, and of an image, payload or description that is made: 64 to LIMIT. `depth` is the
+greatest depth of a flattened image tree, with the root counted: 1 to DEPTH. A call raises Refused if a file is refused, WrongArgument if
+a number is out of its range or a key or kind is unknown, NotFound if there is nothing to extract, and OutOfMemory if an allocation fails.
 
-`python3 -m bootimg COMMAND ..` prints what `bootimg COMMAND ..` prints.
+`python3 -m bootimg COMMAND ..` writes what `bootimg COMMAND ..` writes, and ends with the same status, for the commands that read images.
+It has no `-o` and no `--escaped`, and its message about wrong arguments is another.
 
-The library is the first that is there of: the file that the environment variable BOOTIMG_LIBRARY names, libbootimg.so beside this file,
-the one that ./install puts under the same prefix, and that of the system.
+The module loads the library that the environment variable BOOTIMG_LIBRARY names, if it is set, or else the first that exists of
+libbootimg.so beside this file, the one that ./install writes under the same prefix, and that of the system.
 """
 
 import argparse
 import ctypes
 import ctypes.util
-import inspect
 import os
 import sys
-from typing import Callable, Iterable, NamedTuple, ParamSpec
+from typing import Callable, Iterable, NamedTuple
 
 LIMIT = 0x7FFFFFFF
 DEPTH = 64
@@ -40,15 +41,17 @@ REASONS = (
 _DONE, _REFUSED, _OUT_OF_MEMORY, _NO_ROOM, _WRONG_ARGUMENT, _NOT_FOUND = range(6)
 _MISSING = 7
 
-_Arguments = ParamSpec("_Arguments")
-
 
 class BootimgError(Exception):
     """Why a call failed."""
 
 
+class _Unread(BootimgError):
+    """A file cannot be read."""
+
+
 class Refused(BootimgError):
-    """A file is refused: the name of the cause and its number, the offset in the file, and which file it is, from 1."""
+    """A file is refused: the name of the cause, its number, the offset in the file, and the index of the file in the call, from 1."""
 
     def __init__(self, cause: str, number: int, offset: int, file: int) -> None:
         super().__init__(f"{cause} at {offset}")
@@ -67,7 +70,8 @@ class WrongArgument(BootimgError, ValueError):
 
 
 class NotFound(BootimgError, LookupError):
-    """There is nothing to extract: the reason, of REASONS, and for "missing image" the index of the first name that no image has."""
+    """There is nothing to extract. It has the reason, one of REASONS, and for "missing image" the index of the first name that no image
+    has."""
 
     def __init__(self, reason: str, index: int | None) -> None:
         super().__init__(reason if index is None else f"{reason} {index}")
@@ -76,7 +80,7 @@ class NotFound(BootimgError, LookupError):
 
 
 class Report(NamedTuple):
-    """The report on the checksums and digests of a file, and whether no verdict is other than good."""
+    """The report on the checksums and digests of a file, and whether each verdict in it is good, also if there is none."""
 
     text: str
     all_good: bool
@@ -139,8 +143,17 @@ _library = _load()
 
 
 def _number(number: int) -> int:
-    """A number that C can take. Any other one is out of its range."""
-    return number if 0 <= number <= 0xFFFFFFFF else 0xFFFFFFFF
+    """Returns a number that C can take. Any other one is out of its range."""
+    if not 0 <= number <= 0xFFFFFFFF:
+        raise WrongArgument("wrong argument")
+    return number
+
+
+def _index_of(name: str, names: tuple[str, ...]) -> int:
+    """Returns the number of a name that C passes as a number."""
+    if name not in names:
+        raise WrongArgument("wrong argument")
+    return names.index(name)
 
 
 def _raise(status: int, answer: _Answer) -> None:
@@ -155,7 +168,7 @@ def _raise(status: int, answer: _Answer) -> None:
 
 
 def _tell(name: str, *arguments: object) -> _Answer:
-    """Calls a function without a buffer, and returns what it leaves in the struct."""
+    """Calls a function without a buffer, and returns the struct that it sets."""
     answer = _Answer()
     status = getattr(_library, "bootimg_" + name)(*arguments, ctypes.byref(answer))
     _raise(status, answer)
@@ -163,7 +176,7 @@ def _tell(name: str, *arguments: object) -> _Answer:
 
 
 def _fill(name: str, room: int, *arguments: object) -> tuple[bytes, int]:
-    """Calls a function with a buffer of this size, or of the right size if that is larger, and returns the output and the number."""
+    """Calls a function with a buffer of this size, or of the size of the output if that is larger. Returns the output and `value`."""
     answer = _Answer()
     while True:
         buffer = ctypes.create_string_buffer(room)
@@ -181,37 +194,41 @@ def _of(file: bytes) -> tuple[bytes, int]:
 
 
 def version() -> str:
-    """The version of the library."""
+    """Returns the version of the library."""
     return _fill("version", 64)[0].decode("ascii")
 
 
 def cause_name(number: int) -> str:
-    """The name of the cause of this number, 1 to 26."""
+    """Returns the name of the cause of this number, from 1 to 26."""
     return _fill("cause_name", 64, _number(number))[0].decode("ascii")
 
 
 def kind(file: bytes) -> str:
-    """The kind of a file by its first four bytes: "legacy" or "fit"."""
+    """Returns the kind of a file by its first four bytes: "legacy" or "fit"."""
     return ("legacy", "fit")[_tell("kind", *_of(file)).value - 1]
 
 
-def _without_count(name: str, call: Callable[_Arguments, tuple[bytes, int]]) -> Callable[_Arguments, bytes]:
-    """A function of this name that returns what a call returns, but for the number of signature nodes."""
-
-    def alone(*arguments: _Arguments.args, **options: _Arguments.kwargs) -> bytes:
-        return call(*arguments, **options)[0]
-
-    alone.__name__ = alone.__qualname__ = name
-    alone.__doc__ = f"The file that {call.__name__} returns, without the number of its signature nodes."
-    alone.__signature__ = inspect.signature(call).replace(return_annotation=bytes)
-    return alone
+def normalise(file: bytes, external: bool = False, limit: int = LIMIT, depth: int = DEPTH) -> bytes:
+    """Returns the normal form of a file. With `external`, the payloads of a flattened image tree are after the blob."""
+    return normalise_and_count(file, external, limit, depth)[0]
 
 
 def normalise_and_count(file: bytes, external: bool = False, limit: int = LIMIT, depth: int = DEPTH) -> tuple[bytes, int]:
-    """The normal form of a file, and the number of its signature nodes, which are carried and not checked. With `external`, that of a
-    flattened image tree has its payloads after the blob."""
+    """Returns the normal form of a file, and the number of its signature nodes, which are kept and not checked."""
     data = _of(file)
     return _fill("normalise", data[1] + 4096, *data, int(external), _number(limit), _number(depth))
+
+
+def update(
+    file: bytes,
+    time: int | None = None,
+    hashes: bool = False,
+    external: bool = False,
+    limit: int = LIMIT,
+    depth: int = DEPTH,
+) -> bytes:
+    """Returns the normal form of a file with this time of creation, if it is given, and with new digests, if `hashes` is set."""
+    return update_and_count(file, time, hashes, external, limit, depth)[0]
 
 
 def update_and_count(
@@ -222,17 +239,10 @@ def update_and_count(
     limit: int = LIMIT,
     depth: int = DEPTH,
 ) -> tuple[bytes, int]:
-    """The normal form of a file with this time of creation, if one is given, and with digests computed again, if `hashes` is set; and
-    the number of its signature nodes, which are carried and not checked."""
+    """Returns what `update` returns, and the number of signature nodes, which are kept and not checked."""
     data = _of(file)
-    if time is not None and not 0 <= time <= 0xFFFFFFFF:
-        raise WrongArgument("wrong argument")
     changes = int(time is not None) + 2 * int(hashes)
-    return _fill("update", data[1] + 4096, *data, changes, time or 0, int(external), _number(limit), _number(depth))
-
-
-normalise = _without_count("normalise", normalise_and_count)
-update = _without_count("update", update_and_count)
+    return _fill("update", data[1] + 4096, *data, changes, _number(time or 0), int(external), _number(limit), _number(depth))
 
 
 def _region(file: bytes, name: str, *arguments: object) -> memoryview:
@@ -241,12 +251,12 @@ def _region(file: bytes, name: str, *arguments: object) -> memoryview:
 
 
 def extract_part(file: bytes, index: int = 0, limit: int = LIMIT, depth: int = DEPTH) -> memoryview:
-    """The part of this index of a legacy image: a view of the file, of which nothing is copied."""
+    """Returns the part of this index, counted from 0, of a legacy image, as a view of the file."""
     return _region(file, "extract_part", *_of(file), _number(index), _number(limit), _number(depth))
 
 
 def extract_image(file: bytes, name: bytes | str, limit: int = LIMIT, depth: int = DEPTH) -> memoryview:
-    """The payload of the image of this name of a flattened image tree: a view of the file."""
+    """Returns the payload of the image of this name in a flattened image tree, as a view of the file."""
     return _region(file, "extract_image", *_of(file), *_name_of(name), _number(limit), _number(depth))
 
 
@@ -258,9 +268,9 @@ def extract_config(
     limit: int = LIMIT,
     depth: int = DEPTH,
 ) -> memoryview:
-    """The payload at this index of what a configuration lists under a key, of KEYS: a view of the file. Without a name it is the
-    default configuration."""
-    numbers = (KEYS.index(key), _number(index), _number(limit), _number(depth))
+    """Returns a payload that the configuration of this name lists under a key, one of KEYS, as a view of the file. `index` is
+    its index in the list, counted from 0. Without a name it is the default configuration."""
+    numbers = (_index_of(key, KEYS), _number(index), _number(limit), _number(depth))
     if name is None:
         return _region(file, "extract_default", *_of(file), *numbers)
     return _region(file, "extract_config", *_of(file), *_name_of(name), *numbers)
@@ -276,46 +286,47 @@ def _text(name: str, file: bytes, limit: int, depth: int) -> tuple[str, int]:
 
 
 def listing(file: bytes, limit: int = LIMIT, depth: int = DEPTH) -> str:
-    """The listing of a file: what the image holds, and where each part or payload is."""
+    """Returns the listing of a file: what the image holds, and the size and offset of each part or payload."""
     return _text("list", file, limit, depth)[0]
 
 
 def describe(file: bytes, limit: int = LIMIT, depth: int = DEPTH) -> str:
-    """The description of what a file means. It does not depend on the layout of the file."""
+    """Returns the description of what a file means. It does not depend on the layout of the file."""
     return _text("describe", file, limit, depth)[0]
 
 
 def verify(file: bytes, limit: int = LIMIT, depth: int = DEPTH) -> Report:
-    """The report on the checksums and digests of a file."""
+    """Returns the report on the checksums and digests of a file."""
     text, value = _text("verify", file, limit, depth)
     return Report(text, value == 1)
 
 
 def check(file: bytes, allow: Iterable[str] = (), limit: int = LIMIT, depth: int = DEPTH) -> str:
-    """A line for each concern about a file, so no text if it is clean. The kinds in `allow`, of CONCERNS, are left out."""
-    kinds = sum(1 << CONCERNS.index(kind) for kind in set(allow))
+    """Returns a line for each concern about a file: each thing in it that is not protected. The text is empty if there is none. The lines
+    of the kinds in `allow`, of CONCERNS, are left out."""
+    kinds = sum(1 << _index_of(kind, CONCERNS) for kind in set(allow))
     return _fill("check", 16384, *_of(file), kinds, _number(limit), _number(depth))[0].decode("ascii")
 
 
 def convert(file: bytes, limit: int = LIMIT, depth: int = DEPTH) -> bytes:
-    """The flattened image tree that a legacy image is converted to."""
+    """Returns the flattened image tree that a legacy image is converted to."""
     data = _of(file)
     return _fill("convert", data[1] + 4096, *data, _number(limit), _number(depth))[0]
 
 
 def same_meaning(one: bytes, other: bytes, limit: int = LIMIT, depth: int = DEPTH) -> bool:
-    """Whether two files mean the same."""
+    """Returns whether two files mean the same."""
     return _tell("same_meaning", *_of(one), *_of(other), _number(limit), _number(depth)).value == 1
 
 
 def compare(one: bytes, other: bytes, limit: int = LIMIT, depth: int = DEPTH) -> Comparison:
-    """Whether two files mean the same, and what differs between what they mean: no text if they do."""
+    """Returns whether two files mean the same, and the differences between what they mean. There are none if they mean the same."""
     text, value = _fill("compare", 16384, *_of(one), *_of(other), _number(limit), _number(depth))
     return Comparison(value == 1, text.decode("ascii"))
 
 
-def _whole_number(word: str) -> int:
-    return int(word, 16) if word.startswith("0x") else int(word)
+def _whole_number(text: str) -> int:
+    return int(text, 16) if text.startswith("0x") else int(text)
 
 
 def _parser() -> argparse.ArgumentParser:
@@ -348,7 +359,7 @@ def _parser() -> argparse.ArgumentParser:
             command.add_argument("--key", choices=KEYS, default=KEYS[0])
             command.add_argument("--index", type=_whole_number, default=0, metavar="N")
         if name == "check":
-            command.add_argument("--allow", type=lambda words: words.split(","), default=[], metavar="KINDS")
+            command.add_argument("--allow", type=lambda kinds: kinds.split(","), default=[], metavar="KINDS")
         if name == "compare":
             command.add_argument("--quiet", action="store_true")
             command.add_argument("files", nargs=2, metavar="IMAGE")
@@ -358,10 +369,21 @@ def _parser() -> argparse.ArgumentParser:
 
 
 def _read(path: str) -> bytes:
+    """Reads a file, or standard input. Raises _Unread if that fails."""
     if path == "-":
-        return sys.stdin.buffer.read()
-    with open(path, "rb") as file:
-        return file.read()
+        try:
+            return sys.stdin.buffer.read()
+        except OSError:
+            raise _Unread("read failed") from None
+    try:
+        file = open(path, "rb")
+    except OSError:
+        raise _Unread(f"{path}: cannot be opened") from None
+    with file:
+        try:
+            return file.read()
+        except OSError:
+            raise _Unread(f"{path}: read failed") from None
 
 
 def _extracted(options: argparse.Namespace, file: bytes) -> memoryview:
@@ -374,7 +396,7 @@ def _extracted(options: argparse.Namespace, file: bytes) -> memoryview:
 
 
 def _run(options: argparse.Namespace, files: list[bytes]) -> tuple[bytes, int]:
-    """The output of a command and the exit status."""
+    """Returns the output of a command and the exit status."""
     limit = options.limit
     if options.command in ("normalise", "update"):
         if options.command == "normalise":
@@ -403,32 +425,35 @@ def _run(options: argparse.Namespace, files: list[bytes]) -> tuple[bytes, int]:
     return write(files[0], limit).encode("ascii"), 0
 
 
-def main(words: list[str] | None = None) -> int:
+def main(arguments: list[str] | None = None) -> int:
     """Does what the program does with these arguments, and returns its exit status."""
-    options = _parser().parse_args(words)
+    options = _parser().parse_args(arguments)
     if options.command == "update" and options.time is None and not options.hashes:
-        print("bootimg: usage: give --time or --hashes", file=sys.stderr)
-        return 2
+        return _fail("usage: give --time or --hashes")
     paths = options.files if isinstance(options.files, list) else [options.files]
-    files = []
-    for path in paths:
-        try:
-            files.append(_read(path))
-        except OSError:
-            print(f"bootimg: {path}: cannot be opened", file=sys.stderr)
-            return 2
+    if paths == ["-", "-"]:
+        return _fail("usage: bad value")
     try:
-        output, status = _run(options, files)
+        output, status = _run(options, [_read(path) for path in paths])
     except (Refused, NotFound) as reason:
         path = paths[reason.file - 1 if isinstance(reason, Refused) else 0]
-        print(f"bootimg: {path + ': ' if path != '-' else ''}{reason}", file=sys.stderr)
-        return 2
+        return _fail(f"{path + ': ' if path != '-' else ''}{reason}")
+    except WrongArgument:
+        return _fail("usage: bad value")
     except BootimgError as error:
-        print(f"bootimg: {error}", file=sys.stderr)
-        return 2
-    sys.stdout.buffer.write(output)
-    sys.stdout.buffer.flush()
+        return _fail(str(error))
+    try:
+        sys.stdout.buffer.write(output)
+        sys.stdout.buffer.flush()
+    except OSError:
+        return _fail("write failed")
     return status
+
+
+def _fail(text: str) -> int:
+    """Prints the line of a failure, and returns the exit status."""
+    print(f"bootimg: {text}", file=sys.stderr)
+    return 2
 
 
 if __name__ == "__main__":

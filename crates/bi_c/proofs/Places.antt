@@ -164,9 +164,9 @@ part_found file parts index None is = tt
 part_found file parts index (Some region) is = is
 
 -- What holds of something that is found holds of the result that it is turned to.
-pub in_ok_or : {V E : Type 0} {P : V → Type 0} (found : Option V) (error : E) → IfSome found P → IfOk (ok_or found error) P
-in_ok_or None error is = tt
-in_ok_or (Some value) error is = is
+pub in_ok_or : {V E : Type 0} (P : V → Type 0) (found : Option V) (error : E) → IfSome found P → IfOk (ok_or found error) P
+in_ok_or P None error is = tt
+in_ok_or P (Some value) error is = is
 
 -- The offset of what is found at an index is that of the image of the name.
 pub named_offset : (content : FitModel) (name : List ℕ) (index : ℕ) (found : Option Region) → Some index ≡ index_of name content.images

@@ -18,4 +18,4 @@ returns-clause-failed c =
 
 pub returns-clause-offset : goal.returns-clause-offset
 returns-clause-offset c =
-    rw (c.ok_or.ensures.value) (in_ok_or c.payload_at.result NoPayload (named_offset c.args.fit.now c.args.name.now c.in-Some.index c.payload_at.result c.in-Some.ensures c.payload_at.ensures.offset))
+    rw (c.ok_or.ensures.value) (in_ok_or _ c.payload_at.result NoPayload (named_offset c.args.fit.now c.args.name.now c.in-Some.index c.payload_at.result c.in-Some.ensures c.payload_at.ensures.offset))
