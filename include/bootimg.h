@@ -162,7 +162,8 @@ uint32_t bootimg_same_meaning(const uint8_t *one, size_t one_size, const uint8_t
 uint32_t bootimg_list(const uint8_t *file, size_t file_size, uint32_t limit, uint32_t depth,
                       uint8_t *buffer, size_t buffer_size, bootimg_answer *answer);
 
-/* Writes the description of what a file means. It does not depend on the layout of the file. */
+/* Writes the description of what a file means. It does not depend on the layout of the file. The payloads together may not be longer
+ * than `limit`, or the file is refused with TooLarge. */
 uint32_t bootimg_describe(const uint8_t *file, size_t file_size, uint32_t limit, uint32_t depth,
                           uint8_t *buffer, size_t buffer_size, bootimg_answer *answer);
 
@@ -172,15 +173,17 @@ uint32_t bootimg_verify(const uint8_t *file, size_t file_size, uint32_t limit, u
                         uint8_t *buffer, size_t buffer_size, bootimg_answer *answer);
 
 /* Writes a line for each concern about a file: each thing in it that is not protected. `kinds` is a sum of BOOTIMG_ALLOW_*, or 0: the
- * kinds whose lines are left out. `value` is 1 if there is no line, otherwise 0. */
+ * kinds whose lines are left out. `value` is 1 if there is no line, otherwise 0. The payloads together may not be longer than `limit`,
+ * or the file is refused with TooLarge. */
 uint32_t bootimg_check(const uint8_t *file, size_t file_size, uint32_t kinds, uint32_t limit, uint32_t depth,
                        uint8_t *buffer, size_t buffer_size, bootimg_answer *answer);
 
-/* Writes the differences between what two files mean. `value` is 1 if they mean the same, and nothing is then written; otherwise 0. */
+/* Writes the differences between what two files mean. `value` is 1 if they mean the same, and nothing is then written; otherwise 0. Of
+ * files that differ, the payloads of each together may not be longer than `limit`, or it is refused with TooLarge. */
 uint32_t bootimg_compare(const uint8_t *one, size_t one_size, const uint8_t *other, size_t other_size,
                          uint32_t limit, uint32_t depth, uint8_t *buffer, size_t buffer_size, bootimg_answer *answer);
 
-/* Writes the flattened image tree that a legacy image is converted to. */
+/* Writes the flattened image tree that a legacy image is converted to. A flattened image tree is refused with BadMagic. */
 uint32_t bootimg_convert(const uint8_t *file, size_t file_size, uint32_t limit, uint32_t depth,
                          uint8_t *buffer, size_t buffer_size, bootimg_answer *answer);
 
