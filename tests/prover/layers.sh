@@ -113,7 +113,7 @@ boundary bi_norm converting::convert_into bi_commands convert::ConverterCommand:
 edit src/converting.rt '{ OnOk result (Appended S.appends (IsConvertedFile limits file.now)
         sink.old sink.new) }' '{ OnOk result (S.appends sink.old file.now sink.new
         → S.appends sink.old file.now sink.new) }'
-unprove converting/convert_into returns-clause-converted
+unprove converting/convert_into returns-clause-appended
 
 # is_proved LOWER: the function whose clause was taken away is proved.
 is_proved() {
