@@ -97,7 +97,7 @@ edit src/node.rt '{ option_map (λ value. value.now) result
             ≡ value_named (properties_of (node_of self.entry).own) name.now }' '{ result ≡ result }'
 unprove node/NodeRef/property
 
-boundary bi_lay document::Doc::size bi_fit document::check_size returns-in-Some-clause-fits
+boundary bi_lay document::Doc::size bi_fit document::check_size returns-in-Some-clause-ok
 edit src/document.rt '{ MatchOption result (longest_text < length (text_of self.now))
             (λ size. (size ≡ length (text_of self.now)) × (size ≤ longest_text)) }' '{ result ≡ result }'
 unprove document/Doc/size
