@@ -1,5 +1,5 @@
 use Rattle.std.proofs.Common.{◌≡◌, ℕ, suc, ◌+◌, ◌*◌, ◌^◌, ◌<◌, ◌≤◌, List, [], ◌∷◌, ◌++◌, length, map, flat_map, refl, sym, ap, ◌∙◌, arith}
-use Rattle.std.proofs.Common.{append-nil, length-append, vec_len, Option, Some, None, IsSome, MatchOption}
+use Rattle.std.proofs.Common.{append-nil, length-append, vec_len, Option, Some, None, MatchOption}
 use Rattle.std.specs.List.{AllByRecursion, sum_by}
 use Rattle.std.proofs.lemmas.List.Concat.{flat_map-append}
 use Rattle.std.proofs.lemmas.List.Sums.{sum_by-cons}
@@ -17,7 +17,9 @@ use Rattle.bi_lay.specs.declared.document.Doc.TheInside.{Inside as Fields}
 use Rattle.bi_lay.specs.declared.items.Item.{Item}
 use Rattle.bi_lay.specs.declared.items.Item.TheVariants.{Begin, Property, End}
 use Rattle.bi_blob.specs.TextLaws.{HasLengthOfEvents}
-use Rattle.bi_lay.specs.Contents.{text_of}
+use Rattle.bi_lay.specs.declared.sizes.BlockSizes.{BlockSizes}
+use Rattle.bi_lay.specs.Contents.{Doc, text_of}
+use Rattle.bi_lay.specs.Sizes.{AreBlockSizes}
 use Rattle.bi_lay.specs.Names.{saturated_usize}
 use Rattle.bi_lay.specs.Items.{event_of, events_of_items, item_encoding, structure_of_items, reservations_of, HasOffset}
 use Rattle.bi_lay.specs.Values.{value_bytes}
@@ -42,9 +44,15 @@ length-items (item ∷ later) =
     ∙ omega (arith, length-item item, length-items later, sum_by-cons event_width (event_of item) (events_of_items later))
 
 -- The structure block of items is as long as that of their events.
-pub length-structure : (items : List Item) → length (structure_of_items items) ≡ sum_by event_width (events_of_items items) + 4
+length-structure : (items : List Item) → length (structure_of_items items) ≡ sum_by event_width (events_of_items items) + 4
 length-structure items =
     length-append (flat_map item_encoding items) (encoding EndToken) ∙ omega (arith, length-items items, length-encoding EndToken, length-cell 9)
+
+-- The structure block of the items is as long as that of the document's text, whatever its offsets are.
+pub length-structure_block : (doc : Fields) → length (structure_block (doc_model doc).events) ≡ length (structure_of_items doc.items.items)
+length-structure_block doc =
+    (text_of_events_has_length doc.boot_cpu (doc_model doc).reservations (doc_model doc).events).structure
+    ∙ sym (length-structure doc.items.items)
 
 -- The token of an item is that of its event, where its offset is right and the strings block is not too long.
 same_item : (names : List (List ℕ)) (item : Item) → HasOffset names item → length (strings_of names) < 2 ^ 32 →
@@ -63,7 +71,7 @@ same_items names [] each short = refl
 same_items names (item ∷ later) each short = λ j. same_item names item each.0 short j ++ same_items names later each.1 short j
 
 -- The structure block of items is that of their events.
-pub same_structure : (doc : Fields) → IsConsistentDocument doc → length (strings_of doc.names) < 2 ^ 32 →
+same_structure : (doc : Fields) → IsConsistentDocument doc → length (strings_of doc.names) < 2 ^ 32 →
     structure_of_items doc.items.items ≡ structure_block (events_of_items doc.items.items)
 same_structure doc kept short =
     ap (λ l. l ++ encoding EndToken) (same_items doc.names doc.items.items kept.offsets short ∙ ap (λ names. flat_map encoding (map (token_of names) events)) kept.names)
@@ -85,7 +93,7 @@ is_text_length : (doc : Fields) → IsConsistentDocument doc →
     (length (strings_of doc.names)))
 is_text_length doc kept =
     law.is_length
-    ∙ (λ j. up4 (length_before_padding (same_reserved j) (same_length j) (length (strings_of (sym kept.names j)))))
+    ∙ (λ j. up4 (length_before_padding (same_reserved j) (length-structure_block doc j) (length (strings_of (sym kept.names j)))))
   where
     events : List Event
     events = events_of_items doc.items.items
@@ -99,9 +107,6 @@ is_text_length doc kept =
     same_reserved : length (reservation_block pairs) ≡ 16 * length doc.reservations.items + 16
     same_reserved = law.reserved ∙ ap (λ n. 16 * n + 16) (length-reservations doc.reservations.items)
 
-    same_length : length (structure_block events) ≡ length (structure_of_items doc.items.items)
-    same_length = law.structure ∙ sym (length-structure doc.items.items)
-
 -- What the sizes of the blocks are measured from: the number of the reservations, the items, and the length of the strings
 -- block as far as it is counted.
 pub record AreMeasured (doc : Fields) (count : ℕ) (items : List Item) (strings : ℕ) : Type 0 where
@@ -110,27 +115,21 @@ pub record AreMeasured (doc : Fields) (count : ℕ) (items : List Item) (strings
   pub is_strings : strings ≡ saturated_usize (length (strings_of doc.names))
 
 -- The length of the text before its padding, from what is measured.
-abbrev pub measured_length : ℕ → List Item → ℕ → ℕ
+abbrev measured_length : ℕ → List Item → ℕ → ℕ
 measured_length count items strings = up4 (length_before_padding (16 * count + 16) (length (structure_of_items items)) strings)
 
 -- Where what is measured is not too long, the strings block is counted to its end.
-pub strings-exact : (doc : Fields) (count : ℕ) (items : List Item) (strings : ℕ) → AreMeasured doc count items strings →
+strings-exact : (doc : Fields) (count : ℕ) (items : List Item) (strings : ℕ) → AreMeasured doc count items strings →
     measured_length count items strings ≤ longest_text → strings ≡ length (strings_of doc.names)
 strings-exact doc count items strings are short = omega (arith, are.is_strings)
 
--- The text is as long as what is measured, if that is not too long.
-pub measured_length-exact : (doc : Fields) (count : ℕ) (items : List Item) (strings : ℕ) → IsConsistentDocument doc →
-    AreMeasured doc count items strings → measured_length count items strings ≤ longest_text →
-    length (text_of (doc_model doc)) ≡ measured_length count items strings
-measured_length-exact doc count items strings kept are short =
-    is_text_length doc kept
-    ∙ (λ j. up4 (length_before_padding (16 * same_count j + 16) (length (structure_of_items (sym are.are_items j))) (sym (strings-exact doc count items strings are short) j)))
-  where
-    same_count : length doc.reservations.items ≡ count
-    same_count = omega (arith, are.is_count, doc.reservations.ok.0)
+-- These sizes are what was measured.
+abbrev HasMeasured : ℕ → List Item → ℕ → BlockSizes → Type 0
+HasMeasured count items strings sizes =
+    (sizes.reservations ≡ 16 * count + 16) × (sizes.structure ≡ length (structure_of_items items)) × (sizes.strings ≡ strings)
 
 -- The text is too long if what is measured is.
-pub measured_length-long : (doc : Fields) (count : ℕ) (items : List Item) (strings : ℕ) → IsConsistentDocument doc →
+measured_length-long : (doc : Fields) (count : ℕ) (items : List Item) (strings : ℕ) → IsConsistentDocument doc →
     AreMeasured doc count items strings → longest_text < measured_length count items strings →
     longest_text < length (text_of (doc_model doc))
 measured_length-long doc count items strings kept are long =
@@ -148,12 +147,31 @@ same_text doc pairs items names kept are_pairs are_items are_names short =
     fits : length (strings_of doc.names) < 2 ^ 32
     fits = omega (arith, short, is_text_length doc kept)
 
--- Something is measured where the text is not too long.
-pub some_measured : {X : Type 0} (found : Option X) (Long : Type 0) (Is : X → Type 0) → MatchOption found Long Is → ¬ Long → IsSome found
-some_measured None Long Is cases short = absurd (short cases)
-some_measured (Some x) Long Is cases short = refl
-
 -- The reservation block has sixteen bytes for each pair and for the end pair.
-pub length-block : (pairs : List (ℕ × ℕ)) (count : ℕ) → count ≡ length pairs →
+length-block : (pairs : List (ℕ × ℕ)) (count : ℕ) → count ≡ length pairs →
     length (reservation_block (reservations_of pairs)) ≡ 16 * count + 16
 length-block pairs count is_count = length-reservation_block (reservations_of pairs) ∙ omega (arith, is_count, length-reservations pairs)
+
+-- The sizes that were measured are those of the blocks.
+are_sizes : (doc : Fields) (count : ℕ) (items : List Item) (strings : ℕ) (sizes : BlockSizes) → IsConsistentDocument doc →
+    AreMeasured doc count items strings → HasMeasured count items strings sizes → AreBlockSizes (doc_model doc) sizes
+are_sizes doc count items strings sizes kept are has = record {
+  reservations = has.0 ∙ sym (length-block doc.reservations.items count (omega (arith, are.is_count, doc.reservations.ok.0)));
+  structure = has.1 ∙ ap (λ items. length (structure_of_items items)) are.are_items ∙ sym (length-structure_block doc);
+  strings = has.2 ∙ strings-exact doc count items strings are (omega (arith, has.0, has.1, has.2, sizes.fits)) ∙ ap (λ names. length (strings_of names)) kept.names;
+}
+
+-- What measuring finds are the sizes of the blocks, or nothing where the text is too long.
+pub found_sizes : (doc : Fields) (count : ℕ) (items : List Item) (strings : ℕ) (found : Option BlockSizes) → IsConsistentDocument doc →
+    AreMeasured doc count items strings →
+    MatchOption found (longest_text < measured_length count items strings) (HasMeasured count items strings) →
+    MatchOption found (longest_text < length (text_of (doc_model doc))) (AreBlockSizes (doc_model doc))
+found_sizes doc count items strings None kept are long = measured_length-long doc count items strings kept are long
+found_sizes doc count items strings (Some sizes) kept are has = are_sizes doc count items strings sizes kept are has
+
+-- The length of a text follows from the sizes of its blocks.
+pub length-of_sizes : (content : Doc) (sizes : BlockSizes) → AreBlockSizes content sizes →
+    length (text_of content) ≡ up4 (length_before_padding sizes.reservations sizes.structure sizes.strings)
+length-of_sizes content sizes are =
+    (text_of_events_has_length content.boot_cpu content.reservations content.events).is_length
+    ∙ (λ j. up4 (length_before_padding (sym are.reservations j) (sym are.structure j) (sym are.strings j)))

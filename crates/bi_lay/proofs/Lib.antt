@@ -7,6 +7,6 @@ pub mod SinkChains
 pub mod TokenBytes
 pub mod BlockBytes
 pub mod DocTexts
-pub mod Closed
+pub mod ClosedEvents
 pub mod Building
 pub mod SameContents

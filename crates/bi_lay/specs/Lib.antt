@@ -3,5 +3,7 @@ pub mod Names
 pub mod Values
 pub mod Items
 pub mod Documents
+pub mod Sizes
+pub mod ClosedDocuments
 pub mod Siblings
 pub mod Laws

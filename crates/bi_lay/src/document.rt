@@ -23,9 +23,9 @@ const MAX_DEPTH: usize = 64;
 /// a tree, which come in the order of the structure block (Devicetree Specification, 5.4.2). Names
 /// and values are borrowed and not copied.
 ///
-/// Each call but `may_begin`, `property`, `has_same_content`, `size` and `emit` takes time linear
-/// in the length of its name, if it has one, apart from allocations. `property` looks its name up
-/// among the n names so far, which takes log n comparisons; only names of the same length are read.
+/// Each call but `may_begin`, `property`, `has_same_content` and `close` takes time linear in the
+/// length of its name, if it has one, apart from allocations. `property` looks its name up among
+/// the n names so far, which takes log n comparisons; only names of the same length are read.
 #[derive(Drop)]
 pub struct Doc<'a> {
     boot_cpu: u32,
@@ -55,6 +55,7 @@ impl<'a> Doc<'a> {
     ghost use Rattle.bi_blob.specs.Layout.{longest_text};
     ghost use Rattle.bi_blob.specs.TextLaws.{HasOneNormalTree};
     ghost use Rattle.bi_lay.specs.Contents.{empty_content, text_of, with_reservation, with_event};
+    ghost use Rattle.bi_lay.specs.Sizes.{AreBlockSizes};
     ghost use Rattle.bi_lay.specs.Values.{value_bytes};
 
     /// A document for this boot processor, without reservations, in which no node was begun. The
@@ -190,37 +191,30 @@ impl<'a> Doc<'a> {
             && have_same_events(&self.items, &other.items)
     }
 
-    /// Returns the length of the document's text in bytes, or None if it has more than 0x7fffffff
-    /// bytes. It may only be called if `is_closed` is true. It takes time linear in the number of
-    /// events.
-    pub fn size(&self) -> Option<u32>
-        requires { stage_of_events self.now.events ≡ AfterRoot }
+    /// Returns the sizes of the blocks of the document's text, or None if the text has more than
+    /// 0x7fffffff bytes. It takes time linear in the number of events.
+    pub(crate) fn block_sizes(&self) -> Option<BlockSizes>
         ensures { MatchOption result (longest_text < length (text_of self.now))
-            (λ size. (size ≡ length (text_of self.now)) × (size ≤ longest_text)) }
+            (λ sizes. AreBlockSizes self.now sizes) }
     {
-        let count = self.reservations.len();
-        let sizes = BlockSizes::measure(count, &self.items, self.names.length())?;
-        Some(sizes.total())
+        BlockSizes::measure(self.reservations.len(), &self.items, self.names.length())
     }
 
-    /// Appends the document's text: the header, the reservation block, the structure block, the
-    /// strings block, and zeros up to a multiple of four. It may only be called if `is_closed` is
-    /// true and `size` is not None. Fails as the sink does.
+    /// Appends the document's text, whose blocks have these sizes: the header, the reservation
+    /// block, the structure block, the strings block, and zeros up to a multiple of four. Fails as
+    /// the sink does.
     ///
     /// It takes time linear in the length of the text, and allocates nothing itself.
-    pub fn emit<S: Sink>(&self, sink: &mut S) -> Result<(), Error>
-        requires closed { stage_of_events self.now.events ≡ AfterRoot }
-        requires small { length (text_of self.now) ≤ longest_text }
+    pub(crate) fn put<S: Sink>(&self, sizes: BlockSizes, sink: &mut S) -> Result<(), Error>
+        requires { AreBlockSizes self.now sizes }
         ensures { Wrote S.appends S.fails sink.old (text_of self.now) result sink.new }
     {
-        let count = self.reservations.len();
-        let sizes = BlockSizes::measure(count, &self.items, self.names.length());
         let parts = Parts {
             boot_cpu: self.boot_cpu,
             reservations: &self.reservations,
             items: &self.items,
             names: self.names.as_slice(),
         };
-        put_text(parts, sizes.unwrap(), sink)
+        put_text(parts, sizes, sink)
     }
 }

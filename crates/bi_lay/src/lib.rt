@@ -2,6 +2,7 @@
 //! written to a sink.
 #![tactic(auto)]
 
+mod closed;
 mod comparing;
 mod document;
 mod items;
@@ -12,5 +13,6 @@ mod sizes;
 mod structure;
 mod text;
 
+pub use closed::ClosedDoc;
 pub use document::Doc;
 pub use items::Value;

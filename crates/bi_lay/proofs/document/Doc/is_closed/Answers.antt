@@ -1,6 +1,6 @@
 use Rattle.std.proofs.Common.{ℕ, zero, suc, ◌<◌, ◌==◌, not, IsTrue, vec_len, sym, subst, arith, true≢false}
 use Rattle.bi_blob.specs.TextLaws.{HasOneNormalTree}
-use Rattle.bi_lay.proofs.Closed.{closed_has_tree}
+use Rattle.bi_lay.proofs.ClosedEvents.{closed_has_tree}
 use Rattle.bi_lay.proofs.document.Doc.is_closed.Goals as goal
 
 -- A number that is not equal to zero by test.

@@ -1,0 +1,12 @@
+use Rattle.std.proofs.Common.{◌<◌, length, subst, MatchOption}
+use Rattle.bi_blob.specs.Layout.{longest_text}
+use Rattle.bi_lay.specs.Contents.{text_of}
+use Rattle.bi_lay.specs.Sizes.{AreBlockSizes}
+use Rattle.bi_lay.proofs.DocTexts.{found_sizes}
+use Rattle.bi_lay.proofs.document.Doc.block_sizes.Goals as goal
+
+pub returns : goal.returns
+returns c =
+    subst (λ content. MatchOption c.measure.result (longest_text < length (text_of content)) (AreBlockSizes content)) c.self.view_is
+    (found_sizes c.self.inside c.len.result c.deref.result.now c.length.result c.measure.result c.self.invariant
+    (record { is_count = c.len.ensures; are_items = c.deref.ensures.value; is_strings = c.length.ensures }) c.measure.ensures)

@@ -1,0 +1,67 @@
+//! A closed document: one whose text can be written.
+
+ghost use Rattle.std.specs.Prelude.{◌≡◌, ◌<◌, ◌≤◌, length, MatchOption};
+ghost use Rattle.bi_base.specs.Sinks.{Wrote};
+ghost use Rattle.bi_blob.specs.Stages.{AfterRoot};
+ghost use Rattle.bi_blob.specs.Following.{stage_of_events};
+ghost use Rattle.bi_blob.specs.Layout.{longest_text};
+ghost use Rattle.bi_lay.specs.Contents.{text_of};
+
+use crate::document::Doc;
+use crate::sizes::BlockSizes;
+use bi_base::{Error, Sink};
+use std::marker::Model;
+
+/// A document whose root has ended and whose text has at most 0x7fffffff bytes, with the sizes of
+/// its blocks. Nothing can be added to it.
+#[derive(Drop)]
+pub struct ClosedDoc<'a> {
+    doc: Doc<'a>,
+    sizes: BlockSizes,
+}
+
+impl<'a> Model for ClosedDoc<'a> {
+    ghost use Rattle.bi_lay.specs.Contents.{Doc};
+
+    ghost Value = { Doc };
+
+    ghost use Rattle.bi_lay.specs.ClosedDocuments.{closed_doc_model, IsClosedDocument};
+
+    ghost view = { closed_doc_model };
+
+    ghost invariant = { IsClosedDocument };
+}
+
+impl<'a> Doc<'a> {
+    /// Measures the blocks of the document's text. Returns the closed document, or None if its text
+    /// has more than 0x7fffffff bytes. It may only be called if `is_closed` is true. It takes time
+    /// linear in the number of events.
+    pub fn close(self) -> Option<ClosedDoc<'a>>
+        requires { stage_of_events self.events ≡ AfterRoot }
+        ensures { MatchOption result (longest_text < length (text_of self.entry))
+            (λ closed. closed ≡ self.entry) }
+    {
+        let sizes = self.block_sizes()?;
+        Some(ClosedDoc { doc: self, sizes })
+    }
+}
+
+impl<'a> ClosedDoc<'a> {
+    /// The length of the text in bytes, which is at most 0x7fffffff.
+    pub fn size(&self) -> u32
+        ensures size { result ≡ length (text_of self.now) }
+        ensures small { result ≤ longest_text }
+    {
+        self.sizes.total()
+    }
+
+    /// Appends the document's text: the header, the reservation block, the structure block, the
+    /// strings block, and zeros up to a multiple of four. Fails as the sink does.
+    ///
+    /// It takes time linear in the length of the text, and allocates nothing itself.
+    pub fn emit<S: Sink>(&self, sink: &mut S) -> Result<(), Error>
+        ensures { Wrote S.appends S.fails sink.old (text_of self.now) result sink.new }
+    {
+        self.doc.put(self.sizes, sink)
+    }
+}
