@@ -102,7 +102,7 @@ edit src/document.rt '{ MatchOption result (longest_text < length (text_of self.
             (λ size. (size ≡ length (text_of self.now)) × (size ≤ longest_text)) }' '{ result ≡ result }'
 unprove document/Doc/size
 
-boundary bi_legacy legacy::Legacy::read bi_norm image::BootImage::read returns-in_ok-read-in-Legacy-clause-read
+boundary bi_legacy legacy::Legacy::read bi_norm image::BootImage::read returns-then-eq-clause-read
 edit src/legacy.rt '{ IfOk result (IsReadLegacy limits file.entry.now) }' '{ result ≡ result }'
 unprove legacy/Legacy/read returns-clause-read
 

@@ -78,7 +78,7 @@ abbrev pub with_images : List ListedImage → ListResult → ListResult
 with_images [] listed = listed
 with_images (image ∷ later) listed = with_image image (with_images later listed)
 
--- A value begins with this name, a zero and these bytes.
+-- The first name that a value lists is this one. These bytes list the later ones, and are fewer.
 pub record BeginsWithName (value name later : List ℕ) : Type 0 where
   pub listed : listed_names value ≡ name ∷ listed_names later
   pub shorter : length later < length value

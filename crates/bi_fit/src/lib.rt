@@ -28,3 +28,4 @@ pub use form::Form;
 pub use hashes::Checked;
 pub use image::{Image, Place};
 pub use key::Key;
+pub use lists::split_name;

@@ -59,9 +59,10 @@ fn find_images<'a>(
     Ok(listed)
 }
 
-/// The first name that a value lists, and the bytes after the zero that ends it. None exactly if
-/// there is no zero.
-fn split_name(value: &[u8]) -> Option<(&[u8], &[u8])>
+/// Returns the first name that the value of a key lists, and the bytes after the zero that ends the
+/// name: they list the later names, and are fewer than those of the value. None exactly if the value
+/// has no zero, so that it lists no name.
+pub fn split_name(value: &[u8]) -> Option<(&[u8], &[u8])>
     ensures { MatchOption result
         (listed_names value.now ≡ [])
         (λ split. BeginsWithName value.now split.0.now split.1.now) }

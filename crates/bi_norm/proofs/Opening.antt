@@ -1,5 +1,7 @@
-use Rattle.std.proofs.Common.{◌≡◌, ◌≢◌, ◌⊎◌, ℕ, ◌<◌, ◌≤◌, List, length, eqb, true, false, inl, inr, arith, refl}
-use Rattle.std.proofs.lemmas.Bool.{cases_lt, false≢true}
+use Rattle.std.proofs.Common.{◌≡◌, ◌≢◌, ◌⊎◌, ℕ, ◌<◌, ◌≤◌, List, length, eqb, Bool, true, false, inl, inr, arith, refl, ◌∙◌, Result, Ok, Err}
+use Rattle.std.proofs.Common.{IfOk}
+use Rattle.std.proofs.lemmas.Bool.{cases_lt}
+use Rattle.std.specs.Result.{result_eq}
 use Rattle.std.proofs.lemmas.Bool.Decides.{eqb_tells}
 use Rattle.bi_base.specs.Reading.{too_large}
 use Rattle.bi_legacy.specs.File.{legacy_magic}
@@ -10,8 +12,6 @@ use Rattle.bi_base.specs.declared.fault.Error.TheVariants.{Refused, OutOfMemory,
 use Rattle.bi_base.specs.declared.fault.Fault.{Fault}
 use Rattle.bi_base.specs.Limits.{Limits}
 use Rattle.bi_base.specs.Cells.{u32_at}
-use Rattle.std.specs.Prelude.{Bool, if◌then◌else◌}
-use Rattle.bi_blob.specs.Blob.{lacks_structure_size}
 use Rattle.bi_blob.specs.BlobFaults.{InHeader}
 use Rattle.bi_fit.specs.ImageTree.{ImageTree}
 use Rattle.bi_fit.specs.File.{FitMeans}
@@ -21,8 +21,9 @@ use Rattle.bi_fit.proofs.Meanings.{begins_with_magic}
 use Rattle.bi_legacy.specs.Meaning.{LegacyImage}
 use Rattle.bi_legacy.specs.File.{LegacyMeans}
 use Rattle.bi_legacy.proofs.Magic.{file_begins}
+use Rattle.bi_norm.specs.declared.kind.Kind.{Kind}
 use Rattle.bi_norm.specs.declared.kind.Kind.TheVariants.{Legacy, Fit}
-use Rattle.bi_norm.specs.Kinds.{BeginsAs, IsKindFault, TooShort, OfNoKind}
+use Rattle.bi_norm.specs.Kinds.{BeginsAs}
 use Rattle.bi_norm.specs.Meaning.{OfLegacy, OfFit, MeansNothing}
 use Rattle.bi_norm.specs.NormalForm.{IsOpenError, ForTree}
 
@@ -46,51 +47,23 @@ legacy_or_not file = by (nat_le_decided 4 (length file)) (eqb_tells (u32_at file
   by (inl whole) (inl magic) = inl (record { whole = whole; magic = magic.1 })
   by (inl whole) (inr other) = inr (λ begins. other.1 begins.magic)
 
+-- A file begins as a legacy image if its kind compares as equal to that of one.
+pub equal_kind : (same_kind : Kind → Kind → Bool) (same_fault : Fault → Fault → Bool) (found : Result Kind Fault) (file : List ℕ) →
+    same_kind Fit Legacy ≡ false → IfOk found (BeginsAs file) → true ≡ result_eq same_kind same_fault found (Ok Legacy) →
+    BeginsAs file Legacy
+equal_kind same_kind same_fault (Ok Legacy) file other begins equal = begins
+equal_kind same_kind same_fault (Ok Fit) file other begins equal = absurd (let e : true ≡ false = equal ∙ other in cc)
+equal_kind same_kind same_fault (Err fault) file other begins equal = absurd cc
+
 -- A file that means a legacy image begins with its magic number.
 pub means_legacy : (limits : Limits) (file : List ℕ) (image : LegacyImage) → LegacyMeans limits file image → BeginsAs file Legacy
 means_legacy limits file image means =
     let begins = file_begins file image means.is_file in record { whole = begins.whole; magic = begins.magic }
 
--- A header has at least four bytes.
-least_header : (lacks : Bool) → 4 ≤ (if lacks then 36 else 40)
-least_header true = omega arith
-least_header false = omega arith
-
--- A file that means a flattened image tree begins as one.
-begins_as_tree : (limits : Limits) (file : List ℕ) (tree : ImageTree) → FitMeans limits file tree → BeginsAs file Fit
-begins_as_tree limits file tree means =
-    let header = means.is_file.blob.header in
-    record { whole = omega (arith, least_header (lacks_structure_size file), header.whole); magic = begins_with_magic file tree means.is_file }
-
 -- A file that means a flattened image tree does not begin as a legacy image.
 pub means_tree : (limits : Limits) (file : List ℕ) (tree : ImageTree) → FitMeans limits file tree → ¬ (BeginsAs file Legacy)
 means_tree limits file tree means begins =
     omega (arith, begins.magic, begins_with_magic file tree means.is_file)
-
--- A file that begins as a flattened image tree does not begin as a legacy image.
-pub begins_as_one : (file : List ℕ) → BeginsAs file Fit → ¬ (BeginsAs file Legacy)
-begins_as_one file begins legacy = omega (arith, begins.magic, legacy.magic)
-
--- The fault of a file of no kind that is not too long is the fault of the file.
-pub kind_fault_is_file_fault : (limits : Limits) (file : List ℕ) (fault : Fault) → length file ≤ limits.file → IsKindFault file fault →
-    IsFileFault limits file fault
-kind_fault_is_file_fault limits file fault short (TooShort few is) =
-    OfTree (λ begins. omega (arith, few, begins.whole))
-    (InBlob (InHeader (inr (short, inl (λ enough. omega (arith, few, enough), is)))))
-kind_fault_is_file_fault limits file fault short (OfNoKind whole unknown is) =
-    OfTree (unknown Legacy)
-    (InBlob (InHeader (inr (short, inr (whole, inl (λ magic. unknown Fit (record { whole = whole; magic = magic }), is))))))
-
--- A file of no kind means nothing.
-pub kind_fault_means_nothing : (limits : Limits) (file : List ℕ) (fault : Fault) → IsKindFault file fault → MeansNothing limits file
-kind_fault_means_nothing limits file fault (TooShort short is) (OfLegacy image) means =
-    omega (arith, short, (means_legacy limits file image means).whole)
-kind_fault_means_nothing limits file fault (OfNoKind whole unknown is) (OfLegacy image) means =
-    unknown Legacy (means_legacy limits file image means)
-kind_fault_means_nothing limits file fault (TooShort short is) (OfFit tree) means =
-    omega (arith, short, (begins_as_tree limits file tree means).whole)
-kind_fault_means_nothing limits file fault (OfNoKind whole unknown is) (OfFit tree) means =
-    unknown Fit (begins_as_tree limits file tree means)
 
 -- The fault of a file that is too long.
 pub too_long_is_file_fault : (limits : Limits) (file : List ℕ) → limits.file < length file → IsFileFault limits file (too_large limits.file)
@@ -117,15 +90,14 @@ pub refused_means_nothing : (limits : Limits) (file : List ℕ) → BeginsAs fil
 refused_means_nothing limits file begins refused (OfLegacy image) means = refused image means
 refused_means_nothing limits file begins refused (OfFit tree) means = means_tree limits file tree means begins
 
--- An error of reading a flattened image tree is one of a file that begins as one.
-pub tree_error : (limits : Limits) (file : List ℕ) (error : Error) → BeginsAs file Fit → IsFitReadError limits file error →
+-- An error of reading a flattened image tree is one of a file that does not begin as a legacy image.
+pub tree_error : (limits : Limits) (file : List ℕ) (error : Error) → ¬ (BeginsAs file Legacy) → IsFitReadError limits file error →
     IsOpenError limits file error
-tree_error limits file (Refused fault) begins is =
-    (OfTree (begins_as_one file begins) is.is_fault, means_nothing)
+tree_error limits file (Refused fault) other is = (OfTree other is.is_fault, means_nothing)
   where
     means_nothing : MeansNothing limits file
-    means_nothing (OfLegacy image) means = begins_as_one file begins (means_legacy limits file image means)
+    means_nothing (OfLegacy image) means = other (means_legacy limits file image means)
     means_nothing (OfFit tree) means = is.means_nothing tree means
-tree_error limits file OutOfMemory begins is = ForTree (begins_as_one file begins) is
-tree_error limits file ReadFailed begins is = is
-tree_error limits file WriteFailed begins is = is
+tree_error limits file OutOfMemory other is = ForTree other is
+tree_error limits file ReadFailed other is = is
+tree_error limits file WriteFailed other is = is

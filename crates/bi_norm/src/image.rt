@@ -5,7 +5,7 @@ ghost use Rattle.bi_norm.specs.NormalForm.{IsOpenError};
 ghost use Rattle.bi_norm.specs.Opening.{IsReadBootImage};
 
 use crate::kind::{Kind, kind_of};
-use bi_base::{Cause, Error, Limits, refuse};
+use bi_base::{Error, Limits};
 use bi_fit::Fit;
 use bi_legacy::Legacy;
 use std::alloc::Global;
@@ -30,12 +30,10 @@ impl<'a> BootImage<'a> {
         ensures read { IfOk result (IsReadBootImage limits file.entry.now) }
         ensures failed { IfErr result (IsOpenError limits file.entry.now) }
     {
-        if file.len() > limits.file() as usize {
-            return refuse(Cause::TooLarge, limits.file()).map_err(Error::from);
+        if kind_of(file) == Ok(Kind::Legacy) {
+            return Ok(BootImage::Legacy(Legacy::read(file, limits)?));
         }
-        match kind_of(file)? {
-            Kind::Legacy => Ok(BootImage::Legacy(Legacy::read(file, limits)?)),
-            Kind::Fit => Ok(BootImage::Fit(Fit::read(alloc, file, limits)?)),
-        }
+        // The fault of a file of no kind is that of a blob without a magic number.
+        Ok(BootImage::Fit(Fit::read(alloc, file, limits)?))
     }
 }

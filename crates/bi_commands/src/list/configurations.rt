@@ -15,11 +15,11 @@ ghost use Rattle.bi_commands.specs.ReadListing.{key_lines};
 ghost use Rattle.bi_commands.specs.Shown.{line, shown_text};
 
 use super::fit::{KEYS, key_word};
-use super::names::{first_missing, split_name};
+use super::names::first_missing;
 use crate::describe::{Word, put_later_word, put_line, put_words};
 use bi_base::{Error, Sink};
 use bi_fdt::NodeRef;
-use bi_fit::{Fit, Key};
+use bi_fit::{Fit, Key, split_name};
 
 /// Appends the lines of each configuration. Fails as the sink does.
 pub(super) fn put_configurations<S: Sink>(fit: &Fit, sink: &mut S) -> Result<(), Error>

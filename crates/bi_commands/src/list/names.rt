@@ -1,12 +1,10 @@
 //! The names that the value of a key lists.
 
-ghost use Rattle.std.specs.Prelude.{◌≡◌, [], MatchOption};
+ghost use Rattle.std.specs.Prelude.{◌≡◌};
 ghost use Rattle.bi_fit.specs.Judgement.{listed_names};
-ghost use Rattle.bi_fit.specs.HashNodes.{BeginsWithName};
 ghost use Rattle.bi_commands.specs.ReadListing.{first_missing as first_missing_of};
 
-use bi_base::text_before_nul;
-use bi_fit::Fit;
+use bi_fit::{Fit, split_name};
 
 /// Returns the index of the first name that a value lists and that no image has. None exactly if
 /// there is no such name.
@@ -23,15 +21,4 @@ pub(super) fn first_missing(fit: &Fit, value: &[u8]) -> Option<usize>
         rest = later;
     }
     None
-}
-
-/// The first name that a value lists, and the bytes after the zero that ends it. None exactly if
-/// there is no zero.
-pub(super) fn split_name(value: &[u8]) -> Option<(&[u8], &[u8])>
-    ensures { MatchOption result
-        (listed_names value.now ≡ [])
-        (λ split. BeginsWithName value.now split.0.now split.1.now) }
-{
-    let name = text_before_nul(value)?;
-    Some((name, &value[name.len() + 1..]))
 }
