@@ -1,20 +1,20 @@
 #!/bin/sh
 # Shows that the proofs of each crate use the contracts of the crates below it. In a copy of a crate, a clause of a public function
 # is replaced by one that does not state the same. The function is still proved then, but a function of a crate above is not: a goal
-# that needs the clause stays open. rattle takes the copy as source, and the other crates as they are built, so it checks the upper
-# function, and of the copy only the functions that it calls. As many boundaries are checked at a time as there are processors. The
-# script needs python3, and installs Debian's if it is missing and the script runs as root.
+# that needs the clause stays open, or its answer does not prove it any more. rattle takes the copy as source, and the other crates as
+# they are built, so it checks the upper function, and of the copy only the functions that it calls. As many boundaries are checked at
+# a time as there are processors. The script needs python3, and installs Debian's if it is missing and the script runs as root.
 set -u
 
 root=$(cd "$(dirname "$0")/../.." && pwd)
 . "$root/tests/kit"
 
-# check_boundary LOWER UPPER FUNCTION: checks the function of the upper crate over the copy of the lower one, which is in the current
-# directory. The script calls itself for this.
+# check_boundary COPY UPPER FUNCTION: checks the function of the upper crate over the copy of the lower one, which is NUMBER/LOWER in
+# the current directory. The script calls itself for this.
 check_boundary() {
-    lower=$1
+    lower=${1#*/}
     upper=$2
-    copy=$PWD/$lower
+    copy=$PWD/$1
     below=$(sed -n "s/^$lower: *//p" "$root/crates.txt")
     uses=
     for crate in $(sed -n "s/^$upper: *//p" "$root/crates.txt") $below core; do
@@ -40,12 +40,14 @@ work_in_new_directory
 
 # boundary LOWER EDITED UPPER FUNCTION GOAL: copies the lower crate, in which a clause of the function EDITED is to be replaced. The
 # goal of the function of the upper crate needs that clause.
+number=0
 boundary() {
-    lower=$1
-    mkdir "$lower"
-    (cd "$root/crates/$lower" && tar cf - src specs proofs) | (cd "$lower" && tar xf -)
-    echo "$lower $3 $4" >> boundaries
-    echo "$@" > "$lower.case"
+    number=$((number + 1))
+    copy=$number/$1
+    mkdir -p "$copy"
+    (cd "$root/crates/$1" && tar cf - src specs proofs) | (cd "$copy" && tar xf -)
+    echo "$copy $3 $4" >> boundaries
+    echo "$@" > "$copy.case"
 }
 
 # replace FILE OLD NEW: writes NEW in place of OLD, which is in the file once.
@@ -62,21 +64,21 @@ with open(path, "w", encoding="utf-8") as file:
 
 # edit FILE OLD NEW: the same in a file of the lower crate.
 edit() {
-    check "$lower: $1 has the text" replace "$lower/$1" "$2" "$3"
+    check "$copy: $1 has the text" replace "$copy/$1" "$2" "$3"
 }
 
 # unprove FUNCTION [GOAL]: takes away the answer to a goal of a function of the lower crate, or all its answers if no goal is given.
 # They prove the clause that was taken away.
 unprove() {
-    answers=$lower/proofs/$1/Answers.antt
-    check "$lower: $1 has answers" test -f "$answers"
+    answers=$copy/proofs/$1/Answers.antt
+    check "$copy: $1 has answers" test -f "$answers"
     if [ ! -f "$answers" ]; then
         return
     elif [ $# = 1 ]; then
         rm "$answers"
     else
         # An empty line ends an answer.
-        check "$lower: $1 answers $2" grep -q "^pub $2 :" "$answers"
+        check "$copy: $1 answers $2" grep -q "^pub $2 :" "$answers"
         sed -i "/^pub $2 :/,/^\$/d" "$answers"
     fi
 }
@@ -97,17 +99,28 @@ edit src/node.rt '{ option_map (λ value. value.now) result
             ≡ value_named (properties_of (node_of self.entry).own) name.now }' '{ result ≡ result }'
 unprove node/NodeRef/property
 
-boundary bi_lay document::Doc::size bi_fit document::check_size returns-in-Some-clause-ok
-edit src/document.rt '{ MatchOption result (longest_text < length (text_of self.now))
-            (λ size. (size ≡ length (text_of self.now)) × (size ≤ longest_text)) }' '{ result ≡ result }'
-unprove document/Doc/size
+boundary bi_lay document::Doc::close bi_fit text::FitText::new returns-in_default-clause-fault
+edit src/closed.rt '{ MatchOption result (longest_text < length (text_of self.entry))
+            (λ closed. closed ≡ self.entry) }' '{ result ≡ result }'
+
+boundary bi_lay closed::ClosedDoc::size bi_fit text::FitText::new returns-then-size-limit-clause-fault
+edit src/closed.rt '{ result ≡ length (text_of self.now) }' '{ result ≡ result }'
+unprove closed/ClosedDoc/size
 
 boundary bi_legacy legacy::Legacy::read bi_norm image::BootImage::read returns-then-eq-clause-read
 edit src/legacy.rt '{ IfOk result (IsReadLegacy limits file.entry.now) }' '{ result ≡ result }'
 unprove legacy/Legacy/read returns-clause-read
 
-boundary bi_fit fit::Fit::to_doc bi_norm normal_form::emit_fit append_document-requires-clause-closed
-edit src/document.rt '{ IfOk result (IsDocument limits form (tree_of self.now)) }' '{ result ≡ result }'
+boundary bi_fit fit::Fit::text bi_norm normal_form::emit_fit returns-clause-appended
+edit src/document.rt 'Prelude.{◌≡◌, OnOk, IfOk, IfErr}' 'Prelude.{◌≡◌, ◌≤◌, length, OnOk, IfOk, IfErr}'
+edit src/document.rt '{ IfOk result (IsTextOfTree limits form (tree_of self.now)) }' '{ IfOk result
+            (λ text. record { is_text : text ≡ text; short : length text ≤ limits.file }) }'
+
+boundary bi_fit building::append_built bi_norm fit_building::build_fit_into returns-clause-appended
+edit src/building.rt 'OnOk result (Appended S.appends (IsTextOfTree limits form tree) sink.old sink.new) }' \
+    'OnOk result (S.appends sink.old head.entry.description.now sink.new
+        → S.appends sink.old head.entry.description.now sink.new) }'
+unprove building/append_built returns-clause-appended
 
 boundary bi_norm converting::convert_into bi_commands convert::ConverterCommand::run returns-clause-appended
 edit src/converting.rt '{ OnOk result (Appended S.appends (IsConvertedFile limits file.now)
@@ -115,25 +128,29 @@ edit src/converting.rt '{ OnOk result (Appended S.appends (IsConvertedFile limit
         → S.appends sink.old file.now sink.new) }'
 unprove converting/convert_into returns-clause-appended
 
-# is_proved LOWER: the function whose clause was taken away is proved.
+# is_proved COPY: the function whose clause was taken away is proved.
 is_proved() {
     read -r lower edited rest < "$1.case"
     grep "^fn $lower::$edited: proved" "$1.log" || { tail -n 30 "$1.log"; false; }
 }
 
-# is_refused LOWER: the goal of the upper function is open, and rattle did not stop at an error that needs no proof to be found.
+# is_refused COPY: the goal of the upper function is open, or its answer is wrong, and rattle did not stop at an error that needs no
+# proof to be found. It is not enough that the answer names a part that the clause does not have.
 is_refused() {
     read -r lower edited upper function goal < "$1.case"
-    grep "^fn $upper::$function: not\? pro" "$1.log" && grep "it is not proved that .*(\`$goal\`)" "$1.log" &&
+    answers=proofs/$(echo "$function" | sed 's|::|/|g')/Answers\.antt
+    grep "^fn $upper::$function: not\? pro" "$1.log" &&
+        grep -e "it is not proved that .*(\`$goal\`)" -e "^\./$answers:[0-9:]* error: \`$goal\`: " "$1.log" |
+        grep -v -e ' has no ' -e 'projects from a record' &&
         ! grep -E '^(\./)?(src|specs)/.*: error: ' "$1.log" || { tail -n 30 "$1.log"; false; }
 }
 
 if [ "$failed" = 0 ]; then
-    # The highest crates take longest.
-    sort -r boundaries | xargs -n 3 -P "$(nproc)" "$root/tests/prover/layers.sh" check_boundary
-    while read -r lower upper function; do
-        check "$lower: the function is proved with less" is_proved "$lower"
-        check "$upper::$function is refused over less of $lower" is_refused "$lower"
+    # The highest crates take longest, and are the last.
+    sort -rn boundaries | xargs -n 3 -P "$(nproc)" "$root/tests/prover/layers.sh" check_boundary
+    while read -r copy upper function; do
+        check "$copy: the function is proved with less" is_proved "$copy"
+        check "$upper::$function is refused over less of $copy" is_refused "$copy"
     done < boundaries
 fi
 finish

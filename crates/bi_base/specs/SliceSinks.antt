@@ -9,7 +9,8 @@ use Rattle.bi_base.specs.declared.fault.Error.{Error}
 use Rattle.bi_base.specs.declared.fault.Error.TheVariants.{WriteFailed}
 use Rattle.bi_base.specs.declared.slice_sink.SliceSink.{SliceSink}
 use Rattle.bi_base.specs.SinkLaws.{prefix_after, prefix_more}
-use Rattle.bi_base.specs.Sinks.{AppendsNothing, AppendsInTurn, AppendsPrefix, FailsAfter, FailsBefore}
+use Rattle.bi_base.specs.Sinks.{AppendsNothing, AppendsInTurn, AppendsPrefix}
+use Rattle.bi_base.specs.Sinks.{FailsAfter, FailsBefore}
 
 -- A sink that writes to a slice, as contracts see it (profile of this project).
 

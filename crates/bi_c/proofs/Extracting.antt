@@ -1,17 +1,16 @@
-use Rattle.std.proofs.Common.{◌≡◌, ◌⊎◌, ℕ, List, Result, Ok, Err, IfOk, IfErr, inl, inr, refl, sym, subst}
+use Rattle.std.proofs.Common.{◌≡◌, ℕ, List, Result, Ok, Err, IfOk, refl, sym, subst}
 use Rattle.bi_base.specs.declared.fault.Error.TheVariants as error
 use Rattle.bi_base.specs.Limits.{Limits}
 use Rattle.bi_fit.specs.declared.configurations.ConfigError.TheVariants as list
 use Rattle.bi_fit.specs.Content.{FitModel}
 use Rattle.bi_fit.specs.Reading.{IsReadFit}
 use Rattle.bi_norm.specs.Meaning.{Meaning, Means}
-use Rattle.bi_norm.specs.NormalForm.{NeedsMemory}
 use Rattle.bi_commands.specs.declared.extract.ExtractError.{ExtractError}
 use Rattle.bi_commands.specs.declared.extract.ExtractError.TheVariants.{Failed, WrongKind, NoPart, NoImage, Config, NoIndex, NoPayload}
 use Rattle.bi_commands.specs.declared.extract.Select.{Select}
 use Rattle.bi_commands.specs.declared.extract.Select.TheVariants.{Part, Image, Config, Default}
 use Rattle.bi_commands.specs.Extracting.{Choice, OfOtherKind, NoSuchPart, NoSuchImage, NoSuchConfiguration, NoSuchKey, HasBadList}
-use Rattle.bi_commands.specs.Extracting.{HasMissingImage, NoSuchEntry, HasNoPayload, MeansSuch, IsReason, choice_of, IsExtractError}
+use Rattle.bi_commands.specs.Extracting.{HasMissingImage, NoSuchEntry, HasNoPayload, MeansSuch, choice_of, IsExtractError}
 use Rattle.bi_c.specs.declared.answer.Answer.{Answer}
 use Rattle.bi_c.specs.declared.failure.Failure.{Failure}
 use Rattle.bi_c.specs.declared.failure.Failure.TheVariants.{WrongArgument, Refused, OutOfMemory, NotFound}

@@ -1,9 +1,7 @@
-use Rattle.std.proofs.Common.{◌≡◌, List, ℕ, subst, inl}
+use Rattle.std.proofs.Common.{◌≡◌, List, ℕ, subst}
 use Rattle.bi_base.specs.Limits.{Limits}
-use Rattle.bi_base.specs.declared.fault.Error.{Error}
-use Rattle.bi_base.specs.declared.fault.Error.TheVariants.{Refused, OutOfMemory, ReadFailed, WriteFailed}
 use Rattle.bi_fit.specs.declared.form.Form.{Form}
-use Rattle.bi_norm.specs.NormalForm.{Normalised, IsNormaliseError, IsOpenError}
+use Rattle.bi_norm.specs.NormalForm.{Normalised, IsNormaliseError}
 use Rattle.bi_c.specs.declared.failure.Failure.{Failure}
 use Rattle.bi_c.specs.Answers.{IsFailureBy}
 use Rattle.bi_c.specs.Arguments.{bounds, form_of, HasForm}

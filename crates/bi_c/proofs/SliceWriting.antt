@@ -1,13 +1,8 @@
-use Rattle.std.proofs.Common.{◌≡◌, ◌≤◌, ◌-◌, ℕ, List, [], ◌++◌, Result, Ok, Err, length, take, drop, refl, sym, ap, subst, ◌∙◌, arith}
-use Rattle.std.proofs.lemmas.List.{length-take, take-append-drop}
-use Rattle.bi_base.specs.declared.fault.Error.{Error}
+use Rattle.std.proofs.Common.{◌≡◌, ◌≤◌, ◌-◌, ℕ, List, ◌++◌, length, drop, refl, sym, ap, subst, ◌∙◌, arith}
 use Rattle.bi_base.specs.SliceSinks.{slice_of, filled_of, SliceGrows}
 use Rattle.bi_base.specs.declared.slice_sink.SliceSink.{SliceSink}
 use Rattle.bi_base.proofs.SliceSinkLaws.{slice_has_text}
-use Rattle.bi_base.specs.CountSinks.{Counts}
-use Rattle.bi_base.specs.Sinks.{Wrote}
 use Rattle.bi_base.specs.Limits.{Limits}
-use Rattle.bi_blob.specs.Layout.{longest_text}
 use Rattle.bi_legacy.specs.Reading.{LegacyModel, IsReadLegacy}
 use Rattle.bi_legacy.specs.Text.{legacy_text}
 use Rattle.bi_legacy.proofs.NormalLength.{length-legacy_text}
@@ -39,12 +34,6 @@ fills_nothing IsOutput HasFailed failure old new before after name answer status
     FilledNothing failure is
     (is_after (sym (ap (λ (sink : SliceSink). (slice_of sink).ghost_name) same ∙ is_name)) ∙ ap (λ (sink : SliceSink). (slice_of sink).now) same ∙ is_before)
     told is_status
-
--- The bytes of a text were counted.
-pub counts_text : {V : Type 0} (old new : ℕ) (text : List ℕ) (result : Result V Error) → old ≡ 0 → length text ≤ longest_text →
-    Wrote Counts (λ a bytes b error. ⊥) old text result new → new ≡ length text
-counts_text old new text (Ok value) none short wrote = omega (arith, none, short, wrote (omega (arith, none)))
-counts_text old new text (Err error) none short wrote = absurd wrote
 
 -- What a call that fills a buffer promises implies more.
 pub fills_as : (IsOutput IsOther : List ℕ → ℕ → Type 0) (HasFailed HasOther : Failure → Type 0) (before after : List ℕ) (answer : Answer)

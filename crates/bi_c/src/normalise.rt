@@ -11,7 +11,7 @@ ghost use Rattle.bi_c.specs.Calls.{IsNormalised, IsNormaliseFailure};
 use crate::answer::{Answer, fail};
 use crate::arguments::{form_of, limits_of};
 use crate::failure::{Failure, failure_of};
-use crate::writing::{write_document, write_legacy};
+use crate::writing::{write_legacy, write_tree};
 use bi_base::Limits;
 use bi_fit::{Fit, Form};
 use bi_legacy::Legacy;
@@ -79,11 +79,8 @@ fn normalise_fit(
         Fills (λ text value. Normalised limits form value file text)
         (IsFailureBy (IsNormaliseError limits form file)) buffer.old buffer.new answer.new result }
 {
-    match fit.to_doc(alloc, form, limits) {
-        Ok(document) => {
-            let signatures = fit.signature_count();
-            write_document(&document, fit.images(), form, signatures, buffer, answer)
-        }
+    match fit.text(alloc, form, limits) {
+        Ok(text) => write_tree(&text, fit.signature_count(), buffer, answer),
         Err(error) => fail(failure_of(error), answer),
     }
 }

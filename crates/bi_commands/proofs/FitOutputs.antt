@@ -6,9 +6,9 @@ use Rattle.bi_base.specs.Limits.{Limits}
 use Rattle.bi_base.specs.declared.fault.Error.{Error}
 use Rattle.bi_base.specs.declared.fault.Error.TheVariants.{Refused, OutOfMemory, ReadFailed, WriteFailed}
 use Rattle.bi_fit.specs.declared.form.Form.{Form}
-use Rattle.bi_norm.specs.declared.building.Head.{Head}
-use Rattle.bi_norm.specs.declared.building.ImageSpec.{ImageSpec}
-use Rattle.bi_norm.specs.BuildCalls.{IsBuilt, IsBuildError}
+use Rattle.bi_fit.specs.declared.building.Head.{Head}
+use Rattle.bi_norm.specs.declared.fit_building.ImageSpec.{ImageSpec}
+use Rattle.bi_norm.specs.FitBuilding.{IsBuilt, IsBuildError}
 use Rattle.bi_norm.specs.Cutting.{IsCut, IsCutError}
 use Rattle.bi_base.specs.Commands.{Appended, AppendFailed, WasRefused, SinkFailed}
 use Rattle.bi_commands.specs.Parts.{IsFilled, lengths_of, pieces_among}

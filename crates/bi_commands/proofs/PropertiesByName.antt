@@ -1,6 +1,5 @@
 use Rattle.std.proofs.Common.{◌≡◌, ℕ, ◌+◌, ◌<◌, length, drop, Some, arith, Bool, true, false, cond, not, T, List, [], ◌∷◌, filter, Ordering}
 use Rattle.std.proofs.Common.{Less, Equal, Greater, is_lt, None, refl, sym, ap, subst, ◌∙◌, nat_cmp}
-use Rattle.std.specs.Prelude.{◌&&◌}
 use Rattle.std.specs.Borrow.{Bor}
 use Rattle.std.specs.Cmp.Lexicographic.{slice_cmp}
 use Rattle.std.specs.Ordering.{match_ordering}

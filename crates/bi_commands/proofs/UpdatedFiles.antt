@@ -7,7 +7,7 @@ use Rattle.bi_blob.specs.Layout.{longest_text}
 use Rattle.bi_fit.specs.declared.changes.Changes.{Changes}
 use Rattle.bi_fit.specs.declared.form.Form.{Form}
 use Rattle.bi_fit.specs.Content.{FitModel, tree_of}
-use Rattle.bi_fit.specs.Documents.{IsDocumentError}
+use Rattle.bi_fit.specs.Documents.{IsTextError}
 use Rattle.bi_fit.specs.ImageTree.{ImageTree}
 use Rattle.bi_fit.specs.Judgement.{signature_count as signatures_of_tree}
 use Rattle.bi_fit.specs.Reading.{IsReadFit}
@@ -102,12 +102,12 @@ module _ (changes : Changes) (limits : Limits) (form : Form) (file : List ℕ) (
     signatures = is_count ∙ sym (signatures-updated changes (tree_of content));
   }
 
-  -- The document was not made.
-  pub document_not_made : (error : Error) → IsDocumentError limits form updated_tree error → IsUpdateError changes limits form file error
-  document_not_made (Refused fault) is = inr (record { meaning = OfFit (tree_of content); means = opened.means; is_too_long = inr is.1 }, is.0)
-  document_not_made OutOfMemory is = needs_memory limits file (OfFit (tree_of content)) opened.means
-  document_not_made ReadFailed is = is
-  document_not_made WriteFailed is = is
+  -- The text was not laid out.
+  pub text_not_made : (error : Error) → IsTextError limits form updated_tree error → IsUpdateError changes limits form file error
+  text_not_made (Refused fault) is = inr (record { meaning = OfFit (tree_of content); means = opened.means; is_too_long = inr is.1 }, is.0)
+  text_not_made OutOfMemory is = needs_memory limits file (OfFit (tree_of content)) opened.means
+  text_not_made ReadFailed is = is
+  text_not_made WriteFailed is = is
 
   -- The digests were not made.
   pub digests_not_made : (error : Error) → IsDigestsError changes limits (tree_of content) error →

@@ -10,9 +10,9 @@ use Rattle.bi_fit.specs.declared.form.Form.{Form}
 use Rattle.bi_legacy.specs.declared.fields.Fields.{Fields}
 use Rattle.bi_legacy.specs.Emitting.{IsEmitFault}
 use Rattle.bi_legacy.specs.Meaning.{image_of}
-use Rattle.bi_norm.specs.declared.building.Head.{Head}
-use Rattle.bi_norm.specs.declared.building.ImageSpec.{ImageSpec}
-use Rattle.bi_norm.specs.BuildCalls.{IsBuilt, IsBuildFault}
+use Rattle.bi_fit.specs.declared.building.Head.{Head}
+use Rattle.bi_norm.specs.declared.fit_building.ImageSpec.{ImageSpec}
+use Rattle.bi_norm.specs.FitBuilding.{IsBuilt, IsBuildFault}
 use Rattle.bi_norm.specs.Converting.{IsConvertedFile, IsConvertError}
 use Rattle.bi_norm.specs.Cutting.{IsCutFault}
 use Rattle.bi_norm.specs.LegacyBuilding.{IsBuiltLegacy}

@@ -1,8 +1,7 @@
-use Rattle.std.specs.Prelude.{ℕ, ◌≡◌, ◌↔◌, ◌⊎◌, Bool, IsTrue, List, []}
+use Rattle.std.specs.Prelude.{ℕ, ◌≡◌, ◌↔◌, Bool, IsTrue, List, []}
 use Rattle.bi_base.specs.Commands.{CommandPromise, PromiseLaws}
 use Rattle.bi_base.specs.declared.fault.Error.{Error}
 use Rattle.bi_base.specs.Limits.{Limits}
-use Rattle.bi_base.specs.Reading.{too_large}
 use Rattle.bi_norm.specs.Comparing.{MeansOnly}
 use Rattle.bi_norm.specs.Meaning.{Meaning, Means}
 use Rattle.bi_norm.specs.NormalForm.{IsOpenErrorOrTooLarge}

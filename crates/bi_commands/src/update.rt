@@ -15,7 +15,7 @@ use bi_base::{Command, Error, Limits, Sink, VecSink, pipe_to};
 pub use bi_fit::Changes;
 use bi_fit::{Fit, Form};
 use bi_legacy::Legacy;
-use bi_norm::{BootImage, append_document, append_legacy};
+use bi_norm::{BootImage, append_legacy};
 use std::alloc::Global;
 use std::io::{Read, Write};
 
@@ -160,8 +160,8 @@ fn update_fit<S: Sink>(
         (IsUpdateError changes limits form file) sink.old sink.new) }
 {
     let digests = new_digests(alloc, fit, changes, limits)?;
-    let document = fit.to_updated_doc(alloc, changes, &digests, form, limits)?;
-    append_document(&document, fit.images(), form, sink)?;
+    let text = fit.updated_text(alloc, changes, &digests, form, limits)?;
+    text.emit(sink)?;
     Ok(fit.signature_count())
 }
 

@@ -1,6 +1,7 @@
 use Rattle.std.proofs.Common.{◌≡◌, ℕ, suc, ◌+◌, ◌≤◌, Bool, true, false, cond, ◌==◌, List, [], ◌∷◌, ◌++◌, length, drop, map, Option, Some}
 use Rattle.std.proofs.Common.{None, option_and_then, slice_get, bytes_eq, nat_eq, refl, sym, ap, ap₂, subst, ◌∙◌, arith, one-add}
 use Rattle.std.proofs.Common.{if◌then◌else◌, take, ◌-◌}
+use Rattle.std.proofs.lemmas.Bool.{eqb-true}
 use Rattle.std.proofs.lemmas.List.{length-drop, take_rest}
 use Rattle.std.specs.Prelude.{Result, Ok, Err, IfErr}
 use Rattle.std.specs.Result.{IsErrAnd}
@@ -15,11 +16,11 @@ use Rattle.bi_fit.specs.Names.{key_name}
 use Rattle.bi_fit.specs.Content.{FitModel, ImageModel, IsReadImage, IsHeld, tree_of, index_from, index_of}
 use Rattle.bi_fit.specs.Judgement.{Image, images_with, images_of, image_named, ListedImage, ListResult, NoConfig, NoKey, BadList, Missing}
 use Rattle.bi_fit.specs.Judgement.{ListedImages, with_byte, with_image, listed_names, listed_from, list_images, listed_at, listed_under}
-use Rattle.bi_fit.specs.Judgement.{listed_of, configuration_nodes}
+use Rattle.bi_fit.specs.Judgement.{listed_of, configuration_nodes, BeginsWithName}
 use Rattle.bi_fit.specs.declared.configurations.ConfigError.{ConfigError}
 use Rattle.bi_fit.specs.declared.configurations.ConfigError.TheVariants.{OutOfMemory}
 use Rattle.bi_fit.specs.JudgementCalls.{ListNeedsMemory, IsListError}
-use Rattle.bi_fit.specs.HashNodes.{file_images, file_configurations, payload_named, listed_payload, file_list, BeginsWithName}
+use Rattle.bi_fit.specs.HashNodes.{file_images, file_configurations, payload_named, listed_payload, file_list}
 use Rattle.bi_fit.specs.HashNodes.{file_listed_at, file_listed, with_images}
 use Rattle.bi_fit.proofs.FileNodes.{bare_image, sibling_by_name, get-by_name, named-by_name, image_siblings, configuration_nodes_are}
 
@@ -59,6 +60,28 @@ shorter (byte ∷ later) some = where_first (is_zero byte) refl some (λ some. s
         let few : length (before_first is_zero later) + 1 ≤ length later = rest (rw is at some) in
         rw (is, one-add) (omega arith)
 
+-- It is that name, the zero, and what follows it.
+name_and_rest : (value : List ℕ) → list_any is_zero value ≡ true →
+    value ≡ before_first is_zero value ++ 0 ∷ drop (suc (length (before_first is_zero value))) value
+name_and_rest [] some = absurd cc
+name_and_rest (byte ∷ later) some = where_first (is_zero byte) refl some (λ some. name_and_rest later some)
+  where
+    where_first : (b : Bool) → is_zero byte ≡ b → list_any is_zero (byte ∷ later) ≡ true →
+        (list_any is_zero later ≡ true → later ≡ before_first is_zero later ++ 0 ∷ drop (suc (length (before_first is_zero later))) later) →
+        byte ∷ later ≡ before_first is_zero (byte ∷ later) ++ 0 ∷ drop (suc (length (before_first is_zero (byte ∷ later)))) (byte ∷ later)
+    where_first true is some rest = rw is (ap (λ (n : ℕ). n ∷ later) (eqb-true byte 0 is))
+    where_first false is some rest = rw (is, one-add) (ap (λ (l : List ℕ). byte ∷ l) (rest (rw is at some)))
+
+pub name_then_rest : (value name : List ℕ) → text_before_nul value ≡ Some name → value ≡ name ++ 0 ∷ drop (length name + 1) value
+unfolding text_before_nul
+name_then_rest value name is =
+    let there = cond_some (list_any is_zero value) (before_first is_zero value) name is in
+    subst (λ (text : List ℕ). value ≡ text ++ 0 ∷ drop (length text + 1) value) there.1
+    (name_and_rest value there.0 ∙ ap (λ n. before_first is_zero value ++ 0 ∷ drop n value) (one (length (before_first is_zero value))))
+  where
+    one : (n : ℕ) → suc n ≡ n + 1
+    one n = omega arith
+
 pub next_name : (value name : List ℕ) → text_before_nul value ≡ Some name →
     listed_names value ≡ name ∷ listed_names (drop (length name + 1) value)
 unfolding text_before_nul
@@ -89,7 +112,7 @@ pub begins_with_name : (value name : List ℕ) → text_before_nul value ≡ Som
     BeginsWithName value name (take (length value - (length name + 1)) (drop (length name + 1) value))
 begins_with_name value name is =
     let few : length name + 1 ≤ length value = name_is_shorter value name is in
-    rw take_rest (record { listed = next_name value name is; shorter = simp length-drop (omega arith) })
+    rw take_rest (record { is = name_then_rest value name is; listed = next_name value name is; shorter = simp length-drop (omega arith) })
 
 -- The payload at an index of images that were read.
 abbrev payload_at : List ImageModel → ℕ → Option (List ℕ)

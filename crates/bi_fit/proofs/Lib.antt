@@ -12,7 +12,7 @@ pub mod TextLaws
 pub mod PayloadPlaces
 pub mod FilePayloads
 pub mod BuiltTrees
-pub mod Building
+pub mod BuiltVerdicts
 pub mod TestedTrees
 pub mod FileFacts
 pub mod FaultFacts
@@ -43,3 +43,10 @@ pub mod NormalTrees
 pub mod NormalDocuments
 pub mod SameMeanings
 pub mod UpdatedVerdicts
+pub mod Appending
+pub mod WholeTexts
+pub mod AppendedPayloads
+pub mod ListedNames
+pub mod BuiltPayloads
+pub mod BuiltProperties
+pub mod BuiltDocuments

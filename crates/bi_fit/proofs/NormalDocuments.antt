@@ -1,31 +1,22 @@
-use Rattle.std.proofs.Common.{◌≡◌, ℕ, ◌+◌, ◌<◌, List, map, length, Option, Result, sym, ap, subst, ◌∙◌, arith}
-use Rattle.std.specs.Result.{IfErr, IsErrAnd}
-use Rattle.bi_base.specs.declared.fault.Error.{Error}
-use Rattle.bi_base.specs.declared.fault.Error.TheVariants.{Refused}
-use Rattle.bi_base.specs.declared.fault.Fault.{Fault}
-use Rattle.bi_base.specs.Limits.{Limits}
-use Rattle.bi_base.specs.Reading.{too_large}
-use Rattle.bi_base.proofs.Refusals.{error_passed_on}
+use Rattle.std.proofs.Common.{◌≡◌, ℕ, List, map, sym, ap, subst, ◌∙◌}
 use Rattle.bi_blob.specs.Tree.{FileNode, EachOwn}
 use Rattle.bi_blob.specs.Lookups.{Sibling, root_node}
 use Rattle.bi_blob.specs.Events.{Event, events, events_of}
 use Rattle.bi_blob.specs.Stages.{AfterRoot}
 use Rattle.bi_blob.specs.Following.{stage_of_events}
 use Rattle.bi_fdt.specs.Content.{Blob, root_of}
-use Rattle.bi_lay.specs.Contents.{Doc, empty_content, text_of}
+use Rattle.bi_lay.specs.Contents.{Doc, empty_content}
 use Rattle.bi_fit.specs.declared.changes.Changes.{Changes}
 use Rattle.bi_fit.specs.declared.form.Form.{Form}
-use Rattle.bi_fit.specs.declared.form.Form.TheVariants.{External}
 use Rattle.bi_fit.specs.declared.image.Image.{Image}
-use Rattle.bi_fit.specs.ImageTree.{ImageTree}
-use Rattle.bi_fit.specs.Text.{normal_tree, payloads_end, blob_of, fit_text}
+use Rattle.bi_fit.specs.Text.{normal_tree}
 use Rattle.bi_fit.specs.Content.{FitModel, image_model, tree_of, IsHeld}
 use Rattle.bi_fit.specs.Updating.{with_changes}
 use Rattle.bi_fit.specs.NewDigests.{new_digests}
-use Rattle.bi_fit.specs.Documents.{document_of, length_after_blob, IsDocumentError}
+use Rattle.bi_fit.specs.Documents.{document_of}
 use Rattle.bi_fit.specs.NormalNodes.{MayAdd, with_events, with_reservations, HasDistinctNames, HaveImageNodes, AreImageNodes, alone}
 use Rattle.bi_fit.specs.NormalNodes.{payloads_of, sorted_root}
-use Rattle.bi_fit.proofs.NormalTrees.{held_distinct, held_images, held_events, held_closed, length-fit_text}
+use Rattle.bi_fit.proofs.NormalTrees.{held_distinct, held_images, held_events, held_closed}
 
 -- The document of a normal text, as it is built of a blob, its root and its images.
 
@@ -84,27 +75,3 @@ pub document_closed : (content : FitModel) → IsHeld content → (changes : Cha
     stage_of_events filled.events ≡ AfterRoot
 document_closed content held changes form digests is_digests filled is =
     subst (λ document. stage_of_events document.events ≡ AfterRoot) (sym is) (held_closed content held changes digests is_digests form).closed
-
--- Its text and the payloads after it are the normal text.
-pub length-document : (form : Form) (tree : ImageTree) (filled : Doc) (after : ℕ) → filled ≡ document_of form tree →
-    after ≡ length_after_blob form tree.payloads → length (text_of filled) + after ≡ length (fit_text form tree)
-length-document form tree filled after is is_after =
-    ap (λ document. length (text_of document) + after) is
-    ∙ ap (λ n. length (text_of (document_of form tree)) + n) is_after
-    ∙ sym (length-fit_text form tree)
-
--- A normal text is too long where the payloads after its blob are.
-pub payloads_too_long : (form : Form) (tree : ImageTree) (payloads : List (Option (List ℕ))) (limit : ℕ) → form ≡ External →
-    payloads ≡ tree.payloads → limit < payloads_end 0 payloads → limit < length (fit_text form tree)
-payloads_too_long form tree payloads limit is_form same late =
-    let is_length : length (fit_text External tree) ≡ length (blob_of External tree) + payloads_end 0 tree.payloads = length-fit_text External tree in
-    let late_there : limit < payloads_end 0 tree.payloads = subst (λ payloads. limit < payloads_end 0 payloads) same late in
-    subst (λ form. limit < length (fit_text form tree)) (sym is_form) (omega arith)
-
--- The fault of a normal text that is too long is passed on.
-pub normal_text_too_long : {A : Type 0} (r : Result A Error) (limits : Limits) (form : Form) (tree : ImageTree) (limit : ℕ)
-    (fault : Fault) → limit ≡ limits.file → IsErrAnd r (λ error. error ≡ Refused fault) → fault ≡ too_large limit →
-    limit < length (fit_text form tree) → IfErr r (IsDocumentError limits form tree)
-normal_text_too_long r limits form tree limit fault is_limit is is_fault late =
-    error_passed_on r (Refused fault) (IsDocumentError limits form tree) is
-    (is_fault ∙ ap too_large is_limit, subst (λ n. n < length (fit_text form tree)) is_limit late)

@@ -1,6 +1,5 @@
 use Rattle.std.proofs.Common.{◌≡◌, ◌≢◌, ℕ, Bool, true, false, cond, not, T, List, [], ◌∷◌, map, filter, bytes_eq, Ordering, Less, Equal}
 use Rattle.std.proofs.Common.{Greater, is_lt, Some, None, refl, sym, ap, subst, ◌∙◌, nat_cmp}
-use Rattle.std.specs.Prelude.{◌&&◌}
 use Rattle.std.specs.Borrow.{Bor}
 use Rattle.std.specs.Cmp.Lexicographic.{slice_cmp}
 use Rattle.std.specs.Ordering.{match_ordering}

@@ -1,18 +1,18 @@
-use Rattle.std.specs.Prelude.{ℕ, ◌≡◌, ◌<◌, ◌≤◌, List, Option, length}
+use Rattle.std.specs.Prelude.{ℕ, ◌≡◌, ◌<◌, ◌≤◌, List, [], ◌++◌, Option, length}
 use Rattle.bi_base.specs.Errors.{FailsWith}
 use Rattle.bi_base.specs.declared.fault.Error.{Error}
+use Rattle.bi_base.specs.declared.fault.Fault.{Fault}
 use Rattle.bi_base.specs.Limits.{Limits}
 use Rattle.bi_base.specs.Reading.{too_large}
 use Rattle.bi_blob.specs.Events.{events_of}
-use Rattle.bi_blob.specs.Following.{stage_of_events}
-use Rattle.bi_blob.specs.Stages.{AfterRoot}
-use Rattle.bi_lay.specs.Contents.{Doc}
+use Rattle.bi_lay.specs.Contents.{Doc, text_of}
 use Rattle.bi_fit.specs.declared.form.Form.{Form}
 use Rattle.bi_fit.specs.declared.form.Form.TheVariants.{Embedded, External}
 use Rattle.bi_fit.specs.ImageTree.{ImageTree}
-use Rattle.bi_fit.specs.Text.{normal_tree, payloads_end, fit_text}
+use Rattle.bi_fit.specs.Text.{normal_tree, payload_area, payloads_end, fit_text}
 
--- The document of an image tree in a form: its text is the blob of the normal text.
+-- The document of an image tree in a form: its text is the blob of the normal text. The whole text
+-- has the payloads after it (profile of this project).
 
 -- What the document holds.
 abbrev pub document_of : Form → ImageTree → Doc
@@ -22,23 +22,33 @@ document_of form tree = record {
   events = events_of (normal_tree form tree);
 }
 
--- It is the document of an image tree whose normal text, with the payloads after the blob, is no
--- longer than the limit.
-pub record IsDocument (limits : Limits) (form : Form) (tree : ImageTree) (document : Doc)
-    : Type 0 where
-  pub is : document ≡ document_of form tree
-  pub is_closed : stage_of_events document.events ≡ AfterRoot
-  pub fits : length (fit_text form tree) ≤ limits.file
-
 -- How many bytes follow the blob in a form: external payloads, of which these are all.
 abbrev pub length_after_blob : Form → List (Option (List ℕ)) → ℕ
 length_after_blob Embedded payloads = 0
 length_after_blob External payloads = payloads_end 0 payloads
 
--- The error of making the document: TooLarge at the limit, exactly if the normal text is longer, or
--- memory ran out. It never runs out where what follows the blob is longer than the limit by itself.
-abbrev pub IsDocumentError : Limits → Form → ImageTree → Error → Type 0
-IsDocumentError limits form tree =
-    FailsWith (λ fault.
-    (fault ≡ too_large limits.file) × (limits.file < length (fit_text form tree)))
-    (length_after_blob form tree.payloads ≤ limits.file)
+-- What follows the blob of a text in a form, by the payloads of its images.
+abbrev pub payloads_after : Form → List (Option (List ℕ)) → List ℕ
+payloads_after Embedded payloads = []
+payloads_after External payloads = payload_area 0 payloads
+
+-- The text of a document and what follows its blob.
+abbrev pub whole_text : Form → Doc → List (Option (List ℕ)) → List ℕ
+whole_text form document payloads = text_of document ++ payloads_after form payloads
+
+-- The text is that of the tree, and is no longer than the limit.
+pub record IsTextOfTree (limits : Limits) (form : Form) (tree : ImageTree) (text : List ℕ) : Type 0
+  where
+    pub is_text : text ≡ fit_text form tree
+    pub short : length text ≤ limits.file
+
+-- The fault of a tree whose text is longer than the limit.
+abbrev pub IsTextFault : Limits → Form → ImageTree → Fault → Type 0
+IsTextFault limits form tree fault =
+    (fault ≡ too_large limits.file) × (limits.file < length (fit_text form tree))
+
+-- The error of laying out the text of a tree: it is too long, or memory ran out. Memory never runs
+-- out where what follows the blob is longer than the limit by itself.
+abbrev pub IsTextError : Limits → Form → ImageTree → Error → Type 0
+IsTextError limits form tree =
+    FailsWith (IsTextFault limits form tree) (length_after_blob form tree.payloads ≤ limits.file)

@@ -1,4 +1,4 @@
-use Rattle.std.specs.Prelude.{◌≡◌, ℕ, ◌+◌, ◌<◌, length, List, [], ◌∷◌, ◌++◌, map, filter}
+use Rattle.std.specs.Prelude.{◌≡◌, ℕ, ◌+◌, List, [], ◌∷◌, ◌++◌, map, filter}
 use Rattle.std.specs.Prelude.{Option, Some, None, option_map, option_and_then, bytes_eq, nat_eq}
 use Rattle.std.specs.Prelude.{if◌then◌else◌}
 use Rattle.std.specs.List.{ends_with, find}
@@ -77,11 +77,6 @@ file_list images index (name ∷ later) =
 abbrev pub with_images : List ListedImage → ListResult → ListResult
 with_images [] listed = listed
 with_images (image ∷ later) listed = with_image image (with_images later listed)
-
--- The first name that a value lists is this one. These bytes list the later ones, and are fewer.
-pub record BeginsWithName (value name later : List ℕ) : Type 0 where
-  pub listed : listed_names value ≡ name ∷ listed_names later
-  pub shorter : length later < length value
 
 -- The node is a configuration, and the first of its name.
 pub record IsConfiguration (content : FitModel) (entry : Sibling FileNode) : Type 0 where

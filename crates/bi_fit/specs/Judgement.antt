@@ -1,3 +1,4 @@
+use Rattle.std.specs.Prelude.{◌≡◌, ◌<◌, ◌++◌}
 use Rattle.std.specs.Prelude.{ℕ, ◌+◌, List, [], ◌∷◌, map, flat_map, Option, Some, None}
 use Rattle.std.specs.Prelude.{option_and_then, length, filter, bytes_eq, nat_eq, ◌==◌}
 use Rattle.std.specs.Prelude.{if◌then◌else◌}
@@ -88,6 +89,13 @@ abbrev pub listed_names : List ℕ → List (List ℕ)
 listed_names [] = []
 listed_names (byte ∷ later) =
     if byte == 0 then [] ∷ listed_names later else with_byte byte (listed_names later)
+
+-- The first name that a value lists is this one, and these bytes, which follow its zero, list the
+-- later names.
+pub record BeginsWithName (value name later : List ℕ) : Type 0 where
+  pub is : value ≡ name ++ 0 ∷ later
+  pub listed : listed_names value ≡ name ∷ listed_names later
+  pub shorter : length later < length value
 
 -- A name that a configuration lists, and the payload of its image, if it has one.
 pub record ListedImage : Type 0 where

@@ -9,6 +9,7 @@ pub mod Updating
 pub mod NewDigests
 pub mod UpdateLaws
 pub mod Building
+pub mod NamedImages
 pub mod Content
 pub mod Fields
 pub mod Images
@@ -19,6 +20,8 @@ pub mod JudgementCalls
 pub mod Siblings
 pub mod TakenDigests
 pub mod NormalNodes
+pub mod BuiltNodes
+pub mod FitTexts
 pub mod PropertyMaps
 pub mod Laws
 pub mod KnownFiles

@@ -1,92 +1,87 @@
-//! The document of a flattened image tree's normal text.
+//! The normal text of a flattened image tree, and its document.
 
-ghost use Rattle.std.specs.Prelude.{◌≡◌, ◌+◌, ◌<◌, ◌≤◌, length, OnOk, IfOk, IfErr};
+ghost use Rattle.std.specs.Prelude.{◌≡◌, OnOk, IfOk, IfErr};
 ghost use Rattle.std.specs.List.{AllByRecursion};
 ghost use Rattle.bi_base.specs.declared.fault.Error.TheVariants.{OutOfMemory};
-ghost use Rattle.bi_base.specs.Reading.{too_large};
 ghost use Rattle.bi_blob.specs.Blob.{IsReservation};
 ghost use Rattle.bi_blob.specs.Stages.{AfterRoot};
 ghost use Rattle.bi_blob.specs.Following.{stage_of_events};
-ghost use Rattle.bi_blob.specs.Layout.{longest_text};
-ghost use Rattle.bi_lay.specs.Contents.{text_of};
 ghost use Rattle.bi_fit.specs.Content.{tree_of};
 ghost use Rattle.bi_fit.specs.Updating.{with_changes};
 ghost use Rattle.bi_fit.specs.NewDigests.{new_digests};
-ghost use Rattle.bi_fit.specs.Documents.{document_of, IsDocument, IsDocumentError};
+ghost use Rattle.bi_fit.specs.Documents.{document_of, IsTextOfTree, IsTextError};
 ghost use Rattle.bi_fit.specs.NormalNodes.{with_reservations, AreWithin};
 
 mod image_nodes;
 mod nodes;
-mod payload_area;
 mod property_map;
 mod tree;
 
 use crate::changes::Changes;
-pub use crate::document::nodes::begin_with;
-pub use crate::document::payload_area::end_after;
-use crate::document::payload_area::payloads_end;
-pub use crate::document::property_map::PropertyMap;
+pub(crate) use crate::document::nodes::begin_with;
+pub(crate) use crate::document::property_map::PropertyMap;
 use crate::document::tree::add_tree;
 use crate::fit::Fit;
 use crate::form::Form;
 use crate::image::Image;
-use bi_base::{Cause, Error, Fault, Limits, refuse};
+use crate::payload_area::length_after_blob;
+use crate::text::FitText;
+use bi_base::{Error, Limits};
 use bi_fdt::Blob;
 use bi_lay::Doc;
 use std::alloc::Global;
 
 impl<'a> Fit<'a> {
-    /// Returns the document of the normal text in a form. Its text is the blob of the normal text:
-    /// the boot processor, the memory reservations and the nodes are those of the file in their
-    /// order, and the properties of each node are in byte order of their names.
+    /// Lays out the normal text in a form. The boot processor, the memory reservations and the
+    /// nodes are those of the file in their order, and the properties of each node are in byte
+    /// order of their names.
     ///
     /// Image nodes with a payload have the properties of the form in place of `data`,
     /// `data-offset`, `data-position` and `data-size`, and those without have none of the four. In
-    /// the form External the payloads follow the blob. The document borrows names and values, and
-    /// copies none.
+    /// the form External the payloads follow the blob. The text borrows names, values and payloads,
+    /// and copies none.
     ///
-    /// Makes n log n comparisons of names, for n nodes and properties. A comparison takes time linear
-    /// in what the two names share.
+    /// Makes n log n comparisons of names, for n nodes and properties. A comparison takes time
+    /// linear in what the two names share.
     ///
-    /// Errors: TooLarge at `limits.file()`, exactly if the normal text, with the payloads after the
-    /// blob, is longer than that, unless memory runs out; OutOfMemory, which never comes if the
-    /// payloads after the blob are longer than that by themselves. ReadFailed and WriteFailed never
-    /// come.
-    pub fn to_doc(&self, alloc: Global, form: Form, limits: Limits) -> Result<Doc<'a>, Error>
-        ensures document { IfOk result (IsDocument limits form (tree_of self.now)) }
-        ensures failed { IfErr result (IsDocumentError limits form (tree_of self.now)) }
+    /// Errors: TooLarge at `limits.file()`, exactly if the text is longer than that, unless memory
+    /// runs out; OutOfMemory, which never comes if the payloads after the blob are longer than that
+    /// by themselves. ReadFailed and WriteFailed never come.
+    pub fn text<'b>(
+        &'b self,
+        alloc: Global,
+        form: Form,
+        limits: Limits,
+    ) -> Result<FitText<'b>, Error>
+        ensures text { IfOk result (IsTextOfTree limits form (tree_of self.now)) }
+        ensures failed { IfErr result (IsTextError limits form (tree_of self.now)) }
     {
-        self.to_updated_doc(alloc, Changes::default(), b"", form, limits)
+        self.updated_text(alloc, Changes::default(), b"", form, limits)
     }
 
-    /// Returns the document of the normal text in a form, as `to_doc` does, but of the tree after
-    /// an update. `digests` are those that `new_digests` returns. The document borrows them.
+    /// Lays out the normal text in a form, as `text` does, but of the tree after an update.
+    /// `digests` are those that `new_digests` returns. The text borrows them.
     ///
-    /// The errors are those of `to_doc`, by the normal text of the updated tree.
-    pub fn to_updated_doc<'b>(
-        &self,
+    /// The errors are those of `text`, by the normal text of the updated tree.
+    pub fn updated_text<'b>(
+        &'b self,
         alloc: Global,
         changes: Changes,
         digests: &'b [u8],
         form: Form,
         limits: Limits,
-    ) -> Result<Doc<'b>, Error>
-    where
-        'a: 'b,
+    ) -> Result<FitText<'b>, Error>
         requires { digests.now ≡ new_digests changes (tree_of self.now) }
-        ensures document { IfOk result
-            (IsDocument limits form (with_changes changes (tree_of self.now))) }
+        ensures text { IfOk result
+            (IsTextOfTree limits form (with_changes changes (tree_of self.now))) }
         ensures failed { IfErr result
-            (IsDocumentError limits form (with_changes changes (tree_of self.now))) }
+            (IsTextError limits form (with_changes changes (tree_of self.now))) }
     {
         let limit = limits.file();
-        let end = match form {
-            Form::Embedded => 0,
-            Form::External => payloads_end(self.images(), limit)?,
-        };
-        let doc = self.build_updated_doc(alloc, changes, digests, form)?;
-        check_size(&doc, end, limit)?;
-        Ok(doc)
+        let images: &'b [Image<'b>] = self.images();
+        let after = length_after_blob(images, form, limit)?;
+        let document = self.build_updated_doc(alloc, changes, digests, form)?;
+        Ok(FitText::new(document, form, images, after, limit)?)
     }
 
     /// Builds the document of the normal text in a form, however long the text is.
@@ -139,21 +134,4 @@ fn add_reservations(doc: &mut Doc<'_>, blob: &Blob<'_>) -> Result<(), Error>
         doc.reserve(address, size)?;
     }
     Ok(())
-}
-
-/// Checks that the text of a closed document and `after` bytes after it are no longer than a limit.
-///
-/// Error: TooLarge at the limit, exactly if they are longer.
-pub fn check_size(doc: &Doc<'_>, after: u32, limit: u32) -> Result<(), Fault>
-    requires closed { stage_of_events doc.now.events ≡ AfterRoot }
-    requires within { after ≤ limit }
-    requires small { limit ≤ longest_text }
-    ensures ok { OnOk result (length (text_of doc.now) + after ≤ limit) }
-    ensures fault { IfErr result (λ fault. (fault ≡ too_large limit)
-        × (limit < length (text_of doc.now) + after)) }
-{
-    match doc.size() {
-        Some(size) if size + after <= limit => Ok(()),
-        _ => refuse(Cause::TooLarge, limit),
-    }
 }

@@ -1,6 +1,7 @@
 //! The properties of a configuration that list images.
 
 ghost use Rattle.std.specs.Prelude.{◌≡◌};
+ghost use Rattle.bi_fit.specs.Building.{type_name as type_name_of};
 ghost use Rattle.bi_fit.specs.Names.{key_name};
 
 /// A property of a configuration node that lists images by their names.
@@ -31,6 +32,21 @@ impl Key {
             Key::Ramdisk => "ramdisk",
             Key::Firmware => "firmware",
             Key::Loadables => "loadables",
+            Key::Script => "script",
+        }
+    }
+
+    /// The name of the type of the images that are listed under this key (U-Boot, boot/image.c:
+    /// `uimage_type`).
+    pub fn type_name(self) -> &'static str
+        ensures { result.now ≡ type_name_of self }
+    {
+        match self {
+            Key::Kernel => "kernel",
+            Key::Fdt => "flat_dt",
+            Key::Ramdisk => "ramdisk",
+            Key::Firmware => "firmware",
+            Key::Loadables => "standalone",
             Key::Script => "script",
         }
     }

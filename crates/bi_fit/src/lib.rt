@@ -1,7 +1,8 @@
 //! Flattened image trees (U-Boot's FIT images): reading one, its images with their payloads and
-//! hashes, its configurations, and the document of its normal text.
+//! hashes, its configurations, its normal text, and building one.
 #![tactic(auto)]
 
+mod building;
 mod changes;
 mod comparing;
 mod configurations;
@@ -17,15 +18,18 @@ pub mod laws;
 mod lists;
 mod new_digests;
 mod nodes;
+mod payload_area;
 mod signatures;
+mod text;
 pub mod update_laws;
 
+pub use building::{Head, NamedImage, append_built};
 pub use changes::Changes;
 pub use configurations::{ConfigError, Configuration, Configurations, Named};
-pub use document::{PropertyMap, begin_with, check_size, end_after};
 pub use fit::Fit;
 pub use form::Form;
 pub use hashes::Checked;
 pub use image::{Image, Place};
 pub use key::Key;
 pub use lists::split_name;
+pub use text::FitText;

@@ -2,9 +2,9 @@
 
 ghost use Rattle.std.specs.Prelude.{◌≡◌, [], map, IfOk, IfErr, MatchOption};
 ghost use Rattle.bi_fdt.specs.Views.{node_of};
-ghost use Rattle.bi_fit.specs.Judgement.{listed_names, ListedImages};
+ghost use Rattle.bi_fit.specs.Judgement.{listed_names, ListedImages, BeginsWithName};
 ghost use Rattle.bi_fit.specs.JudgementCalls.{listed_image, IsListError};
-ghost use Rattle.bi_fit.specs.HashNodes.{file_list, file_listed, BeginsWithName};
+ghost use Rattle.bi_fit.specs.HashNodes.{file_list, file_listed};
 
 use crate::configurations::{ConfigError, Named};
 use crate::fit::Fit;
@@ -60,8 +60,8 @@ fn find_images<'a>(
 }
 
 /// Returns the first name that the value of a key lists, and the bytes after the zero that ends the
-/// name: they list the later names, and are fewer than those of the value. None exactly if the value
-/// has no zero, so that it lists no name.
+/// name: they list the later names, and are fewer than those of the value. None exactly if the
+/// value has no zero, so that it lists no name.
 pub fn split_name(value: &[u8]) -> Option<(&[u8], &[u8])>
     ensures { MatchOption result
         (listed_names value.now ≡ [])

@@ -49,8 +49,8 @@ length-structure items =
     length-append (flat_map item_encoding items) (encoding EndToken) ∙ omega (arith, length-items items, length-encoding EndToken, length-cell 9)
 
 -- The structure block of the items is as long as that of the document's text, whatever its offsets are.
-pub length-structure_block : (doc : Fields) → length (structure_block (doc_model doc).events) ≡ length (structure_of_items doc.items.items)
-length-structure_block doc =
+pub length-items_structure : (doc : Fields) → length (structure_block (doc_model doc).events) ≡ length (structure_of_items doc.items.items)
+length-items_structure doc =
     (text_of_events_has_length doc.boot_cpu (doc_model doc).reservations (doc_model doc).events).structure
     ∙ sym (length-structure doc.items.items)
 
@@ -93,7 +93,7 @@ is_text_length : (doc : Fields) → IsConsistentDocument doc →
     (length (strings_of doc.names)))
 is_text_length doc kept =
     law.is_length
-    ∙ (λ j. up4 (length_before_padding (same_reserved j) (length-structure_block doc j) (length (strings_of (sym kept.names j)))))
+    ∙ (λ j. up4 (length_before_padding (same_reserved j) (length-items_structure doc j) (length (strings_of (sym kept.names j)))))
   where
     events : List Event
     events = events_of_items doc.items.items
@@ -114,7 +114,7 @@ pub record AreMeasured (doc : Fields) (count : ℕ) (items : List Item) (strings
   pub are_items : items ≡ doc.items.items
   pub is_strings : strings ≡ saturated_usize (length (strings_of doc.names))
 
--- The length of the text before its padding, from what is measured.
+-- The length of the text, from what is measured.
 abbrev measured_length : ℕ → List Item → ℕ → ℕ
 measured_length count items strings = up4 (length_before_padding (16 * count + 16) (length (structure_of_items items)) strings)
 
@@ -157,7 +157,7 @@ are_sizes : (doc : Fields) (count : ℕ) (items : List Item) (strings : ℕ) (si
     AreMeasured doc count items strings → HasMeasured count items strings sizes → AreBlockSizes (doc_model doc) sizes
 are_sizes doc count items strings sizes kept are has = record {
   reservations = has.0 ∙ sym (length-block doc.reservations.items count (omega (arith, are.is_count, doc.reservations.ok.0)));
-  structure = has.1 ∙ ap (λ items. length (structure_of_items items)) are.are_items ∙ sym (length-structure_block doc);
+  structure = has.1 ∙ ap (λ items. length (structure_of_items items)) are.are_items ∙ sym (length-items_structure doc);
   strings = has.2 ∙ strings-exact doc count items strings are (omega (arith, has.0, has.1, has.2, sizes.fits)) ∙ ap (λ names. length (strings_of names)) kept.names;
 }
 

@@ -11,10 +11,10 @@ use Rattle.bi_fit.specs.declared.form.Form.{Form}
 use Rattle.bi_fit.specs.declared.form.Form.TheVariants.{Embedded}
 use Rattle.bi_fit.specs.Text.{fit_text}
 use Rattle.bi_legacy.specs.Codes.{os_names, arch_names, type_names, compression_names, name_of_code}
-use Rattle.bi_norm.specs.declared.building.Head.{Head}
-use Rattle.bi_norm.specs.declared.building.ImageSpec.{ImageSpec}
-use Rattle.bi_norm.specs.BuildCalls.{BuildCheck, HasFewImages, HasTextDescription, HasFields, HasCodeNames, HasNewName, FitsLimit, HasNames}
-use Rattle.bi_norm.specs.BuildCalls.{BuildPasses, build_fault, build_checks, IsBuildFault, tree_of_images}
+use Rattle.bi_fit.specs.declared.building.Head.{Head}
+use Rattle.bi_norm.specs.declared.fit_building.ImageSpec.{ImageSpec}
+use Rattle.bi_norm.specs.FitBuilding.{BuildCheck, HasFewImages, HasTextDescription, HasFields, HasCodeNames, HasNewName, FitsLimit, HasNames}
+use Rattle.bi_norm.specs.FitBuilding.{BuildPasses, build_fault, build_checks, IsBuildFault, tree_of_images}
 use Rattle.bi_norm.specs.KnownBuildFaults.{head_like, kernel_like, narrow_limits, description_with_zero, BuildFaultsAreKnown}
 
 -- The faults of small trees that are to be built.

@@ -8,10 +8,10 @@ use Rattle.bi_blob.specs.Tree.{HasNoZero, IsNew, AreDistinct}
 use Rattle.bi_legacy.specs.Codes.{os_names, arch_names, compression_names}
 use Rattle.bi_fit.specs.declared.form.Form.{Form}
 use Rattle.bi_fit.specs.Building.{ImageSpecModel, IsText, IsImageSpec, CanBeBuilt}
-use Rattle.bi_norm.specs.declared.building.Head.{Head}
-use Rattle.bi_norm.specs.declared.building.ImageSpec.{ImageSpec}
-use Rattle.bi_norm.specs.BuildCalls.{head_model, spec_models, spec_checks, BuildPasses, build_fault, FitsLimit, IsBuildError}
-use Rattle.bi_norm.specs.BuildCalls.{HasBuildableType}
+use Rattle.bi_fit.specs.declared.building.Head.{Head}
+use Rattle.bi_norm.specs.declared.fit_building.ImageSpec.{ImageSpec}
+use Rattle.bi_fit.specs.NamedImages.{head_model}
+use Rattle.bi_norm.specs.FitBuilding.{spec_models, spec_checks, BuildPasses, build_fault, FitsLimit, IsBuildError}
 use Rattle.bi_norm.specs.BuildChecks.{IsImagesError, HasBytes}
 use Rattle.bi_norm.proofs.ConvertedImages.{code_text, os_texts, arch_texts, compression_texts}
 use Rattle.bi_norm.proofs.ImageChecks.{names_of_specs}
@@ -67,13 +67,6 @@ module _ (limits : Limits) (form : Form) (head : Head) (all : List ImageSpec) wh
     },
     each_can (index + 1) (earlier ++ image.name.now ∷ []) images pass.1.1.1 bytes.1,
   )
-
-  -- and has a type that can be built.
-  pub each_buildable : (index : ℕ) (earlier : List (List ℕ)) (images : List ImageSpec) → Pass index earlier images →
-      AllByRecursion HasBuildableType images
-  each_buildable index earlier [] pass = tt
-  each_buildable index earlier (image ∷ images) pass =
-      (record { names = pass.1.0; single = pass.0.1 }, each_buildable (index + 1) (earlier ++ image.name.now ∷ []) images pass.1.1.1)
 
   -- What passes can be built.
   pub can_be_built : (images : List ImageSpec) → IsText head.description.now → Pass 0 [] images → AllByRecursion HasBytes images →

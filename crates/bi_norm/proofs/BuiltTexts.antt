@@ -7,17 +7,19 @@ use Rattle.bi_base.proofs.ListMembers.{each-append}
 use Rattle.bi_blob.specs.Layout.{longest_text}
 use Rattle.bi_fit.specs.declared.form.Form.{Form}
 use Rattle.bi_fit.specs.Building.{CanBeBuilt}
-use Rattle.bi_fit.specs.Documents.{IsDocumentError}
 use Rattle.bi_fit.specs.Laws.{IsAcceptedAs}
 use Rattle.bi_fit.specs.Text.{fit_text}
-use Rattle.bi_fit.proofs.Building.{built_is_accepted, built_has_good_payloads}
+use Rattle.bi_fit.proofs.BuiltVerdicts.{built_is_accepted, built_has_good_payloads}
 use Rattle.bi_fit.proofs.BuiltConfigurations.{built_has_configuration}
-use Rattle.bi_norm.specs.declared.building.Head.{Head}
-use Rattle.bi_norm.specs.declared.building.ImageSpec.{ImageSpec}
-use Rattle.bi_norm.specs.BuildCalls.{head_model, spec_models, tree_of_images, BuildPasses, build_fault, FitsLimit, spec_checks, IsBuilt}
-use Rattle.bi_norm.specs.BuildCalls.{IsBuildError, IsTextOfTree, BuildCheck, first_image_checks}
+use Rattle.bi_fit.specs.declared.building.Head.{Head}
+use Rattle.bi_norm.specs.declared.fit_building.ImageSpec.{ImageSpec}
+use Rattle.bi_fit.specs.NamedImages.{head_model}
+use Rattle.bi_norm.specs.FitBuilding.{spec_models, tree_of_images, BuildPasses, build_fault, FitsLimit, spec_checks, IsBuilt}
+use Rattle.bi_base.specs.Errors.{IsFaultOrNoMemory}
+use Rattle.bi_fit.specs.Documents.{IsTextOfTree, IsTextFault}
+use Rattle.bi_norm.specs.FitBuilding.{IsBuildError, BuildCheck, first_image_checks}
 use Rattle.bi_norm.specs.BuildChecks.{early_checks}
-use Rattle.bi_base.specs.Commands.{Appended, AppendFailed, WasRefused, SinkFailed}
+use Rattle.bi_base.specs.Commands.{AppendFailed, WasRefused, SinkFailed}
 use Rattle.bi_base.proofs.FirstFault.{IsFirstFault-after}
 
 -- The texts of trees to be built.
@@ -51,26 +53,16 @@ module _ (limits : Limits) (form : Form) (head : Head) (images : List ImageSpec)
         configuration = built_has_configuration (head_model head) (spec_models images) can;
       }
 
-  -- An error of making the document is one of building.
-  document_error : (error : Error) → IsDocumentError limits form (tree_of_images head images) error →
+  -- An error of laying out the text is one of building.
+  pub text_build_error : (error : Error) → IsFaultOrNoMemory (IsTextFault limits form (tree_of_images head images)) error →
       IsBuildError limits form head images error
-  document_error (Refused fault) is =
+  text_build_error (Refused fault) is =
       IsFirstFault-after (BuildPasses limits form head images) (build_fault limits) (early_checks images) (FitsLimit ∷ []) fault fine
       (inl ((λ fits. omega (arith, fits, is.1)), is.0))
-  document_error OutOfMemory is =
+  text_build_error OutOfMemory is =
       (fine.0, (fine.1.0, first_of_images limits form head images images fine.1.1))
-  document_error ReadFailed is = is
-  document_error WriteFailed is = is
-
-  module _ {S : Type 0} (appends : S → List ℕ → S → Type 0) (fails : S → List ℕ → S → Error → Type 0) (old new : S) where
-    -- The text that was appended is what is built,
-    pub built_appended : Appended appends (IsTextOfTree limits form (tree_of_images head images)) old new → Appended appends (IsBuilt limits form head images) old new
-    built_appended done = record { text = done.text; is_text = text_is_built done.text done.is_text; appended = done.appended }
-
-    -- and a failure to append it is one to append that.
-    pub build_failed : (error : Error) → AppendFailed fails (IsTextOfTree limits form (tree_of_images head images)) (IsDocumentError limits form (tree_of_images head images)) old new error → AppendFailed fails (IsBuilt limits form head images) (IsBuildError limits form head images) old new error
-    build_failed error (WasRefused is same) = WasRefused (document_error error is) same
-    build_failed error (SinkFailed text cause is failed same) = SinkFailed text cause (text_is_built text is) failed same
+  text_build_error ReadFailed is = is
+  text_build_error WriteFailed is = is
 
 -- An error of building into memory is one of building.
 pub memory_build_error : {S : Type 0} (fails : S → List ℕ → S → Error → Type 0) (limits : Limits) (form : Form) (head : Head)

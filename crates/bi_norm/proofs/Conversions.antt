@@ -5,14 +5,14 @@ use Rattle.bi_base.specs.Limits.{Limits}
 use Rattle.bi_blob.specs.Layout.{longest_text}
 use Rattle.bi_fit.specs.declared.form.Form.TheVariants.{Embedded}
 use Rattle.bi_fit.specs.Building.{HeadModel, ImageSpecModel, CanBeBuilt, built_tree}
-use Rattle.bi_fit.specs.Documents.{IsDocumentError}
 use Rattle.bi_fit.specs.ImageTree.{ImageTree}
 use Rattle.bi_fit.specs.Text.{fit_text}
 use Rattle.bi_legacy.specs.File.{LegacyMeans}
 use Rattle.bi_legacy.specs.Meaning.{LegacyImage}
 use Rattle.bi_legacy.specs.Reading.{LegacyModel, IsReadLegacy}
 use Rattle.bi_legacy.proofs.ImageOfFile.{image_of_file}
-use Rattle.bi_norm.specs.BuildCalls.{IsTextOfTree}
+use Rattle.bi_base.specs.Errors.{IsFaultOrNoMemory}
+use Rattle.bi_fit.specs.Documents.{IsTextOfTree, IsTextFault}
 use Rattle.bi_norm.specs.Converting.{converted_images, fit_of, CanBeConverted, IsConvertedFile, IsConvertError, TextTooLong, head_of_image}
 use Rattle.bi_norm.proofs.ConvertedImages.{converted_can_be_built, converted_is_accepted}
 
@@ -50,7 +50,7 @@ is_converted limits file parsed tree text opened can most same is =
 -- The error of appending this text is one of converting the file.
 pub is_convert_error : (limits : Limits) (file : List ℕ) (parsed : LegacyModel) (tree : ImageTree) (error : Error) →
     IsReadLegacy limits file parsed → CanBeConverted parsed.image → tree ≡ fit_of parsed.image →
-    IsDocumentError limits Embedded tree error → IsConvertError limits file error
+    IsFaultOrNoMemory (IsTextFault limits Embedded tree) error → IsConvertError limits file error
 is_convert_error limits file parsed tree (Refused fault) opened can same is =
     TextTooLong parsed.image opened.means can (omega (arith, is.1, ap (λ tree. length (fit_text Embedded tree)) same)) is.0
 is_convert_error limits file parsed tree OutOfMemory opened can same is = record { image = parsed.image; means = opened.means; can = can }

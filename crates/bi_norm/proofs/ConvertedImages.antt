@@ -11,7 +11,7 @@ use Rattle.bi_fit.specs.declared.key.Key.TheVariants.{Kernel, Fdt, Ramdisk, Firm
 use Rattle.bi_fit.specs.Building.{ImageSpecModel, IsText, IsImageSpec, CanBeBuilt}
 use Rattle.bi_fit.specs.Judgement.{CheckedHash}
 use Rattle.bi_fit.specs.Laws.{good_hash}
-use Rattle.bi_fit.proofs.Building.{built_is_accepted, built_has_good_payloads}
+use Rattle.bi_fit.proofs.BuiltVerdicts.{built_is_accepted, built_has_good_payloads}
 use Rattle.bi_fit.proofs.BuiltConfigurations.{built_has_configuration}
 use Rattle.bi_fit.proofs.BuiltTrees.{tested_child}
 use Rattle.bi_fit.proofs.TreeContents.{tested_name}

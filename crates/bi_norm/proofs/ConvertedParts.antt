@@ -5,10 +5,8 @@ use Rattle.std.proofs.lemmas.List.{map-append, length-map, length-append}
 use Rattle.bi_legacy.specs.PlacedParts.{PartModel}
 use Rattle.bi_fit.specs.declared.key.Key.{Key}
 use Rattle.bi_legacy.specs.Meaning.{LegacyImage}
-use Rattle.bi_norm.specs.declared.building.ImageSpec.{ImageSpec}
-use Rattle.bi_norm.specs.BuildCalls.{spec_model, spec_models, HasBuildableType}
-use Rattle.std.specs.List.{AllByRecursion}
-use Rattle.bi_base.proofs.ListMembers.{each-append}
+use Rattle.bi_fit.specs.declared.building.NamedImage.{NamedImage}
+use Rattle.bi_fit.specs.NamedImages.{named_model, named_models}
 use Rattle.bi_norm.specs.Converting.{first_image, later_image, later_images, images_of_parts, converted_images, keys_of_type}
 
 -- The images of a legacy image, as they are made part by part.
@@ -24,10 +22,10 @@ not_empty zero test = absurd cc
 not_empty (suc count) test = omega arith
 
 -- The payload of an image, and the parts that images were made of.
-abbrev pub part_of : ImageSpec → List ℕ
+abbrev pub part_of : NamedImage → List ℕ
 part_of image = image.payload.now
 
-abbrev pub payloads_of_images : List ImageSpec → List (List ℕ)
+abbrev pub payloads_of_images : List NamedImage → List (List ℕ)
 payloads_of_images images = map part_of images
 
 -- The image of one later part.
@@ -61,26 +59,26 @@ images_more image (key ∷ keys) first parts part d room =
     ap (λ l. first_image image key first ∷ l) (later_more image keys parts part d (omega arith))
 
 -- The specifications of images, and of one more.
-abbrev more : List ImageSpec → ImageSpec → List ImageSpec
+abbrev more : List NamedImage → NamedImage → List NamedImage
 more images next = images ++ (next ∷ [])
 
-converted_first : (image : LegacyImage) (keys : List Key) (images : List ImageSpec) (next : ImageSpec) (d : Key) → length images ≡ 0 →
-    0 < length keys → spec_model next ≡ first_image image (get_or keys (length images) d) (part_of next) →
-    spec_models (more images next) ≡ images_of_parts image keys (payloads_of_images (more images next))
+converted_first : (image : LegacyImage) (keys : List Key) (images : List NamedImage) (next : NamedImage) (d : Key) → length images ≡ 0 →
+    0 < length keys → named_model next ≡ first_image image (get_or keys (length images) d) (part_of next) →
+    named_models (more images next) ≡ images_of_parts image keys (payloads_of_images (more images next))
 converted_first image keys [] next d none room is = ap (λ s. s ∷ []) is ∙ sym (first_more image keys (part_of next) d room)
 converted_first image keys (first ∷ images) next d none room is = absurd (omega arith)
 
-converted_later : (image : LegacyImage) (keys : List Key) (images : List ImageSpec) (next : ImageSpec) (d : Key) → 0 < length images →
-    length images < length keys → spec_models images ≡ images_of_parts image keys (payloads_of_images images) →
-    spec_model next ≡ later_image image (get_or keys (length images) d) (part_of next) →
-    spec_models (more images next) ≡ images_of_parts image keys (payloads_of_images (more images next))
+converted_later : (image : LegacyImage) (keys : List Key) (images : List NamedImage) (next : NamedImage) (d : Key) → 0 < length images →
+    length images < length keys → named_models images ≡ images_of_parts image keys (payloads_of_images images) →
+    named_model next ≡ later_image image (get_or keys (length images) d) (part_of next) →
+    named_models (more images next) ≡ images_of_parts image keys (payloads_of_images (more images next))
 converted_later image keys [] next d some room same is = absurd (omega arith)
 converted_later image keys (first ∷ images) next d some room same is =
     let part = part_of first in
     let parts = payloads_of_images images in
     let count : length (part ∷ parts) ≡ length (first ∷ images) = length-map (first ∷ images) part_of in
-    map-append spec_model (first ∷ images) (next ∷ [])
-    ∙ ap (λ l. l ++ (spec_model next ∷ [])) same
+    map-append named_model (first ∷ images) (next ∷ [])
+    ∙ ap (λ l. l ++ (named_model next ∷ [])) same
     ∙ ap (λ s. images_of_parts image keys (part ∷ parts) ++ (s ∷ [])) is
     ∙ ap (λ n. images_of_parts image keys (part ∷ parts) ++ (later_image image (get_or keys n d) (part_of next) ∷ [])) (sym count)
     ∙ sym (images_more image keys part parts (part_of next) d (subst (λ n. n < length keys) (sym count) room))
@@ -91,13 +89,13 @@ abbrev pub bytes_of_part : PartModel → List ℕ
 bytes_of_part placed = placed.bytes
 
 -- There are keys for the part that follows these.
-has_key : (images : List ImageSpec) (placed : PartModel) (later : List PartModel) (parts : List (List ℕ)) (most : ℕ) →
+has_key : (images : List NamedImage) (placed : PartModel) (later : List PartModel) (parts : List (List ℕ)) (most : ℕ) →
     payloads_of_images images ++ map bytes_of_part (placed ∷ later) ≡ parts → length parts ≤ most → length images < most
 has_key images placed later parts most same few =
     omega (arith, ap length same, length-append (payloads_of_images images) (map bytes_of_part (placed ∷ later)), length-map images part_of)
 
 -- The parts of images and one more, and those that are left, are all.
-all_parts : (images : List ImageSpec) (next : ImageSpec) (placed : PartModel) (later : List PartModel) (parts : List (List ℕ)) →
+all_parts : (images : List NamedImage) (next : NamedImage) (placed : PartModel) (later : List PartModel) (parts : List (List ℕ)) →
     part_of next ≡ placed.bytes → payloads_of_images images ++ map bytes_of_part (placed ∷ later) ≡ parts →
     payloads_of_images (more images next) ++ map bytes_of_part later ≡ parts
 all_parts images next placed later parts is same =
@@ -112,45 +110,42 @@ no_images image [] = refl
 no_images image (key ∷ keys) = refl
 
 -- Images were made of the first parts, and these parts are left.
-pub record IsPartWay (image : LegacyImage) (keys : List Key) (images : List ImageSpec) (left : List PartModel) : Type 0 where
+pub record IsPartWay (image : LegacyImage) (keys : List Key) (images : List NamedImage) (left : List PartModel) : Type 0 where
   pub are_all : payloads_of_images images ++ map bytes_of_part left ≡ image.parts
-  pub are_images : spec_models images ≡ images_of_parts image keys (payloads_of_images images)
-  pub are_buildable : AllByRecursion HasBuildableType images
+  pub are_images : named_models images ≡ images_of_parts image keys (payloads_of_images images)
 
 -- At the beginning.
 pub begins : (image : LegacyImage) (keys : List Key) (left : List PartModel) → map bytes_of_part left ≡ image.parts →
     IsPartWay image keys [] left
-begins image keys left all = record { are_all = all; are_images = no_images image keys; are_buildable = tt }
+begins image keys left all = record { are_all = all; are_images = no_images image keys }
 
 -- There is a key for the next part.
-pub key_of_next : (image : LegacyImage) (keys : List Key) (images : List ImageSpec) (placed : PartModel) (left : List PartModel) →
+pub key_of_next : (image : LegacyImage) (keys : List Key) (images : List NamedImage) (placed : PartModel) (left : List PartModel) →
     IsPartWay image keys images (placed ∷ left) → length image.parts ≤ length keys → length images < length keys
 key_of_next image keys images placed left way few = has_key images placed left image.parts (length keys) way.are_all few
 
 -- After the image of the first part, and of a later one.
-pub after_first : (image : LegacyImage) (keys : List Key) (images : List ImageSpec) (placed : PartModel) (left : List PartModel)
-    (next : ImageSpec) (d : Key) → IsPartWay image keys images (placed ∷ left) → length image.parts ≤ length keys → length images ≡ 0 →
-    spec_model next ≡ first_image image (get_or keys (length images) d) placed.bytes → part_of next ≡ placed.bytes → HasBuildableType next →
+pub after_first : (image : LegacyImage) (keys : List Key) (images : List NamedImage) (placed : PartModel) (left : List PartModel)
+    (next : NamedImage) (d : Key) → IsPartWay image keys images (placed ∷ left) → length image.parts ≤ length keys → length images ≡ 0 →
+    named_model next ≡ first_image image (get_or keys (length images) d) placed.bytes → part_of next ≡ placed.bytes →
     IsPartWay image keys (more images next) left
-after_first image keys images placed left next d way few none is part buildable = record {
+after_first image keys images placed left next d way few none is part = record {
   are_all = all_parts images next placed left image.parts part way.are_all;
   are_images = converted_first image keys images next d none (omega (arith, key_of_next image keys images placed left way few)) (is ∙ ap (first_image image (get_or keys (length images) d)) (sym part));
-  are_buildable = each-append HasBuildableType images (next ∷ []) way.are_buildable (buildable, tt);
 }
 
-pub after_later : (image : LegacyImage) (keys : List Key) (images : List ImageSpec) (placed : PartModel) (left : List PartModel)
-    (next : ImageSpec) (d : Key) → IsPartWay image keys images (placed ∷ left) → length image.parts ≤ length keys → 0 < length images →
-    spec_model next ≡ later_image image (get_or keys (length images) d) placed.bytes → part_of next ≡ placed.bytes → HasBuildableType next →
+pub after_later : (image : LegacyImage) (keys : List Key) (images : List NamedImage) (placed : PartModel) (left : List PartModel)
+    (next : NamedImage) (d : Key) → IsPartWay image keys images (placed ∷ left) → length image.parts ≤ length keys → 0 < length images →
+    named_model next ≡ later_image image (get_or keys (length images) d) placed.bytes → part_of next ≡ placed.bytes →
     IsPartWay image keys (more images next) left
-after_later image keys images placed left next d way few some is part buildable = record {
+after_later image keys images placed left next d way few some is part = record {
   are_all = all_parts images next placed left image.parts part way.are_all;
   are_images = converted_later image keys images next d some (key_of_next image keys images placed left way few) way.are_images (is ∙ ap (later_image image (get_or keys (length images) d)) (sym part));
-  are_buildable = each-append HasBuildableType images (next ∷ []) way.are_buildable (buildable, tt);
 }
 
 -- At the end.
-pub ends : (image : LegacyImage) (keys : List Key) (images : List ImageSpec) → keys ≡ keys_of_type image.image_type →
-    IsPartWay image keys images [] → spec_models images ≡ converted_images image
+pub ends : (image : LegacyImage) (keys : List Key) (images : List NamedImage) → keys ≡ keys_of_type image.image_type →
+    IsPartWay image keys images [] → named_models images ≡ converted_images image
 ends image keys images same way =
     way.are_images
     ∙ ap (λ parts. images_of_parts image keys parts) (sym (append-nil (payloads_of_images images)) ∙ way.are_all)

@@ -6,8 +6,11 @@ use Rattle.std.specs.List.{AllByRecursion}
 use Rattle.bi_base.specs.declared.fault.Fault.{Fault}
 use Rattle.bi_base.specs.declared.fault.Cause.TheVariants.{DuplicateNode}
 use Rattle.bi_blob.specs.Tree.{IsNew}
-use Rattle.bi_norm.specs.declared.building.ImageSpec.{ImageSpec}
-use Rattle.bi_norm.specs.BuildCalls.{BuildCheck, HasFields, HasCodeNames, HasNewName, spec_checks, first_image_checks}
+use Rattle.bi_fit.specs.declared.building.NamedImage.{NamedImage}
+use Rattle.bi_fit.specs.Building.{ImageSpecModel}
+use Rattle.bi_fit.specs.NamedImages.{named_model, named_models}
+use Rattle.bi_norm.specs.declared.fit_building.ImageSpec.{ImageSpec}
+use Rattle.bi_norm.specs.FitBuilding.{spec_model, spec_models, BuildCheck, HasFields, HasCodeNames, HasNewName, spec_checks, first_image_checks}
 use Rattle.bi_norm.specs.BuildChecks.{AllPass, IsFirstFailure, at_index, fields_and_names, HasBytes}
 
 -- The checks of images, made one image after the other.
@@ -122,3 +125,14 @@ module _ (images : List ImageSpec) (index : ℕ) (d : ImageSpec) (within : index
 pub passed_all : (images : List ImageSpec) (index : ℕ) → length images ≤ index → AllPass (checks_from images index)
 passed_all images index past =
     subst (λ left. AllPass (spec_checks index (names_of_specs (take index images)) left)) (sym (drop_all index images past)) (λ limits form head all. tt)
+
+-- The images with the names of their codes, and one more.
+pub named_more : (images : List ImageSpec) (index : ℕ) (d : ImageSpec) → index < length images →
+    (named : List NamedImage) (next : NamedImage) →
+    named_models named ≡ spec_models (take index images) → named_model next ≡ spec_model (get_or images index d) →
+    named_models (named ++ next ∷ []) ≡ spec_models (take (index + 1) images)
+named_more images index d within named next same is =
+    map-append named_model named (next ∷ [])
+    ∙ ap (λ (l : List ImageSpecModel). l ++ (named_model next ∷ [])) same
+    ∙ ap (λ (model : ImageSpecModel). spec_models (take index images) ++ (model ∷ [])) is
+    ∙ sym (ap spec_models (take_more images index d within) ∙ map-append spec_model (take index images) (get_or images index d ∷ []))

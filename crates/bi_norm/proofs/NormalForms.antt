@@ -15,7 +15,7 @@ use Rattle.bi_legacy.specs.Reading.{LegacyModel, IsReadLegacy}
 use Rattle.bi_legacy.specs.Text.{legacy_text}
 use Rattle.bi_fit.specs.declared.form.Form.{Form}
 use Rattle.bi_fit.specs.Content.{FitModel, tree_of}
-use Rattle.bi_fit.specs.Documents.{IsDocumentError}
+use Rattle.bi_fit.specs.Documents.{IsTextError}
 use Rattle.bi_fit.specs.Faults.{InBlob}
 use Rattle.bi_fit.specs.File.{IsFitFile}
 use Rattle.bi_fit.specs.ImageTree.{ImageTree}
@@ -151,14 +151,14 @@ pub normal_form_needs_memory : (limits : Limits) (form : Form) (file text : List
     NeedsMemory limits file
 normal_form_needs_memory limits form file text normal = needs_memory limits file normal.meaning normal.means
 
--- An error of making its document is one that normalising the file can have.
-pub document_error : (limits : Limits) (form : Form) (file : List ℕ) (content : FitModel) (error : Error) → IsReadFit limits file content →
-    IsDocumentError limits form (tree_of content) error → IsNormaliseError limits form file error
-document_error limits form file content (Refused fault) opened is =
+-- An error of laying out its text is one that normalising the file can have.
+pub text_error : (limits : Limits) (form : Form) (file : List ℕ) (content : FitModel) (error : Error) → IsReadFit limits file content →
+    IsTextError limits form (tree_of content) error → IsNormaliseError limits form file error
+text_error limits form file content (Refused fault) opened is =
     inr (record { tree = tree_of content; means = opened.means; longer = is.1 }, is.0)
-document_error limits form file content OutOfMemory opened is = needs_memory limits file (OfFit (tree_of content)) opened.means
-document_error limits form file content ReadFailed opened is = is
-document_error limits form file content WriteFailed opened is = is
+text_error limits form file content OutOfMemory opened is = needs_memory limits file (OfFit (tree_of content)) opened.means
+text_error limits form file content ReadFailed opened is = is
+text_error limits form file content WriteFailed opened is = is
 
 -- An error of reading a file is one of normalising it.
 pub open_error : (limits : Limits) (form : Form) (file : List ℕ) (error : Error) → IsOpenError limits file error →

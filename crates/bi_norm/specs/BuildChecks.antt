@@ -6,11 +6,11 @@ use Rattle.bi_base.specs.Cells.{AreBytes}
 use Rattle.bi_base.specs.Checks.{IsFirstFault, HasNoFault}
 use Rattle.bi_base.specs.Limits.{Limits}
 use Rattle.bi_fit.specs.declared.form.Form.{Form}
-use Rattle.bi_norm.specs.declared.building.Head.{Head}
-use Rattle.bi_norm.specs.declared.building.ImageSpec.{ImageSpec}
-use Rattle.bi_norm.specs.BuildCalls.{BuildCheck, HasFewImages, HasTextDescription, HasFields}
-use Rattle.bi_norm.specs.BuildCalls.{HasCodeNames, BuildPasses, build_fault, spec_checks}
-use Rattle.bi_norm.specs.BuildCalls.{IndexedImage, first_image_checks}
+use Rattle.bi_fit.specs.declared.building.Head.{Head}
+use Rattle.bi_norm.specs.declared.fit_building.ImageSpec.{ImageSpec}
+use Rattle.bi_norm.specs.FitBuilding.{BuildCheck, HasFewImages, HasTextDescription, HasFields}
+use Rattle.bi_norm.specs.FitBuilding.{HasCodeNames, BuildPasses, build_fault, spec_checks}
+use Rattle.bi_norm.specs.FitBuilding.{IndexedImage, first_image_checks}
 
 -- The checks of what is to be built, one after the other.
 

@@ -7,9 +7,9 @@ use Rattle.bi_base.specs.declared.fault.Error.TheVariants.{OutOfMemory}
 use Rattle.bi_base.specs.Limits.{Limits}
 use Rattle.bi_fit.specs.declared.form.Form.{Form}
 use Rattle.bi_fit.specs.declared.form.Form.TheVariants.{Embedded}
-use Rattle.bi_norm.specs.declared.building.Head.{Head}
-use Rattle.bi_norm.specs.declared.building.ImageSpec.{ImageSpec}
-use Rattle.bi_norm.specs.BuildCalls.{IsBuildFault, IsBuildError}
+use Rattle.bi_fit.specs.declared.building.Head.{Head}
+use Rattle.bi_norm.specs.declared.fit_building.ImageSpec.{ImageSpec}
+use Rattle.bi_norm.specs.FitBuilding.{IsBuildFault, IsBuildError}
 
 -- Small trees that cannot be built, each with its fault, by which a reader can judge the
 -- definitions (profile of this project). Where the slices of the arguments are makes no difference:

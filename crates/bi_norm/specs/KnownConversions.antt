@@ -8,7 +8,7 @@ use Rattle.bi_fit.specs.Building.{built_tree, type_name}
 use Rattle.bi_fit.specs.KnownBuilds.{known_head, known_kernel, known_ramdisk}
 use Rattle.bi_legacy.specs.Codes.{type_names}
 use Rattle.bi_legacy.specs.Meaning.{LegacyImage}
-use Rattle.bi_norm.specs.BuildCalls.{first_key, multi}
+use Rattle.bi_norm.specs.FitBuilding.{first_key, multi}
 use Rattle.bi_norm.specs.Converting.{converted_images, fit_of, keys_of_type, IsConvertFault}
 
 -- Small legacy images with the images that they are converted to, or with the fault why they cannot

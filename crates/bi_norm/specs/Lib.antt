@@ -4,13 +4,12 @@ pub mod OpenedMeaning
 pub mod Meaning
 pub mod Faults
 pub mod NormalForm
-pub mod Texts
 pub mod Converting
+pub mod CodeNames
 pub mod Cutting
 pub mod LegacyBuilding
-pub mod BuildCalls
+pub mod FitBuilding
 pub mod BuildChecks
-pub mod BuiltNodes
 pub mod Comparing
 pub mod KnownConversions
 pub mod KnownPieces

@@ -3,16 +3,17 @@
 ghost use Rattle.std.specs.Prelude.{OnOk, IfOk, IfErr};
 ghost use Rattle.bi_norm.specs.Converting.{IsConvertedFile, IsConvertError, CanBeConverted};
 ghost use Rattle.bi_norm.specs.Converting.{IsConvertFault};
+ghost use Rattle.bi_norm.specs.CodeNames.{AreCodeNames};
 ghost use Rattle.bi_base.specs.Commands.{Appended, AppendFailed};
 
 mod images;
 
-use crate::building::{Head, append_tree};
+use crate::keys::keys_of_type;
 use bi_base::{Cause, Error, Fault, Limits, Sink, VecSink, refuse};
-use bi_fit::Form;
+use bi_fit::{Form, Head, append_built};
 use bi_legacy::Legacy;
 use bi_legacy::codes::{arch_name, compression_name, os_name, type_name};
-use images::{images_of, keys_of_type};
+use images::{CodeNames, images_of};
 use std::alloc::Global;
 
 /// Returns the flattened image tree of a legacy image, with its payloads embedded.
@@ -49,40 +50,46 @@ pub fn convert_into<S: Sink>(
         (IsConvertError limits file.now) sink.old sink.new) }
 {
     let image = Legacy::read(file, limits)?;
-    check(&image)?;
-    let images = images_of(alloc, &image)?;
+    let names = check(&image)?;
+    let images = images_of(alloc, &image, names)?;
     let fields = image.fields();
     let head = Head {
         description: fields.name,
         time: fields.time,
     };
-    append_tree(alloc, head, &images, Form::Embedded, limits, sink)
+    append_built(alloc, head, &images, Form::Embedded, limits, sink)
 }
 
-/// Checks that a legacy image can be converted. Fails with NoCodeName at the first code without a
-/// name, EmptyPart at 64 if there are no parts, or TooManyParts at 64.
-fn check(image: &Legacy<'_>) -> Result<(), Fault>
-    ensures ok { OnOk result (CanBeConverted image.now.image) }
+/// Checks that a legacy image can be converted, and returns the names of its codes. Fails with
+/// NoCodeName at the first code without a name, EmptyPart at 64 if there are no parts, or
+/// TooManyParts at 64.
+fn check(image: &Legacy<'_>) -> Result<CodeNames, Fault>
+    ensures can { OnOk result (CanBeConverted image.now.image) }
+    ensures names { IfOk result (AreCodeNames image.now.image) }
     ensures fault { IfErr result (IsConvertFault image.now.image) }
 {
     let fields = image.fields();
-    if os_name(fields.os).is_none() {
+    let Some(os) = os_name(fields.os) else {
         return refuse(Cause::NoCodeName, 28);
-    }
-    if arch_name(fields.arch).is_none() {
+    };
+    let Some(arch) = arch_name(fields.arch) else {
         return refuse(Cause::NoCodeName, 29);
-    }
+    };
     if type_name(fields.image_type).is_none() {
         return refuse(Cause::NoCodeName, 30);
     }
-    if compression_name(fields.compression).is_none() {
+    let Some(compression) = compression_name(fields.compression) else {
         return refuse(Cause::NoCodeName, 31);
-    }
+    };
     if image.part_count() == 0 {
         return refuse(Cause::EmptyPart, 64);
     }
     if image.part_count() > keys_of_type(fields.image_type).len() {
         return refuse(Cause::TooManyParts, 64);
     }
-    Ok(())
+    Ok(CodeNames {
+        os,
+        arch,
+        compression,
+    })
 }

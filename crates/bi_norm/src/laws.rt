@@ -43,8 +43,8 @@ pub fn meaning_where_no_fault()
 }
 
 /// A file that is longer than the limit has the fault TooLarge at the limit and means nothing. A
-/// conversion of the file has the same fault. So the calls on readers, which read no more than the limit
-/// and one byte, refuse a longer input as the calls on bytes do.
+/// conversion of the file has the same fault. So the calls on readers, which read no more than the
+/// limit and one byte, refuse a longer input as the calls on bytes do.
 pub fn too_long_is_refused()
     ensures { TooLongIsRefused }
 {}

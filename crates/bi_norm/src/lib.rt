@@ -2,26 +2,26 @@
 //! building and comparing.
 #![tactic(auto)]
 
-mod building;
 mod comparing;
 mod converting;
 mod cutting;
+mod fit_building;
 mod image;
+mod keys;
 mod kind;
 pub mod known_files;
 pub mod laws;
 mod legacy;
+mod legacy_text;
 mod normal_form;
-mod payloads;
-mod texts;
 
-pub use bi_fit::Form;
-pub use building::{Head, ImageSpec, build_fit, build_fit_into};
+pub use bi_fit::{Form, Head};
 pub use comparing::same_meaning;
 pub use converting::{convert, convert_into};
 pub use cutting::cut;
+pub use fit_building::{ImageSpec, build_fit, build_fit_into};
 pub use image::BootImage;
 pub use kind::{Kind, kind_of};
 pub use legacy::build_legacy;
+pub use legacy_text::append_legacy;
 pub use normal_form::{Normaliser, normalise, normalise_into, normalise_to};
-pub use texts::{append_document, append_legacy};

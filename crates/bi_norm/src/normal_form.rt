@@ -10,7 +10,7 @@ ghost use Rattle.bi_norm.specs.NormalForm.{IsNormalForm, IsNormaliseError, Norma
 ghost use Rattle.bi_norm.specs.NormalForm.{normalise_promise, normalise_laws};
 
 use crate::image::BootImage;
-use crate::texts::{append_document, append_legacy};
+use crate::legacy_text::append_legacy;
 use bi_base::{Command, Error, Limits, Sink, VecSink, pipe_to};
 use bi_fit::{Fit, Form};
 use bi_legacy::Legacy;
@@ -95,8 +95,8 @@ fn emit_fit<S: Sink>(
         IfErr result (AppendFailed S.fails (IsNormalForm limits form file)
         (IsNormaliseError limits form file) sink.old sink.new) }
 {
-    let document = fit.to_doc(alloc, form, limits)?;
-    append_document(&document, fit.images(), form, sink)?;
+    let text = fit.text(alloc, form, limits)?;
+    text.emit(sink)?;
     Ok(fit.signature_count())
 }
 

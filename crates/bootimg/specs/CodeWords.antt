@@ -15,9 +15,9 @@ codes_of Arch = arch_names
 codes_of ImageType = type_names
 codes_of Compression = compression_names
 
--- The argument is this code of a field: its name, or if no code of the field has this name, a number of
--- at most 255.
+-- The argument is this code of a field: its name, or if no code of the field has this name, a
+-- number of at most 255.
 pub data IsCode (field : CodeField) (argument : List ℕ) (code : ℕ) : Type 0 where
   Named : name_of_code (codes_of field) code ≡ Some argument → IsCode field argument code
-  Numbered : ((named : ℕ) → name_of_code (codes_of field) named ≢ Some argument) → IsNumber argument code
-      → code < 2 ^ 8 → IsCode field argument code
+  Numbered : ((named : ℕ) → name_of_code (codes_of field) named ≢ Some argument)
+      → IsNumber argument code → code < 2 ^ 8 → IsCode field argument code

@@ -15,7 +15,7 @@ use Rattle.bi_fit.specs.declared.form.Form.{Form}
 use Rattle.bi_fit.specs.declared.form.Form.TheVariants.{Embedded, External}
 use Rattle.bi_fit.specs.declared.key.Key.{Key}
 use Rattle.bi_legacy.specs.declared.fields.Fields.{Fields}
-use Rattle.bi_norm.specs.declared.building.ImageSpec.{ImageSpec}
+use Rattle.bi_norm.specs.declared.fit_building.ImageSpec.{ImageSpec}
 use Rattle.bootimg.specs.CodeWords.{IsCode}
 use Rattle.bootimg.specs.Numbers.{IsNumber}
 use Rattle.bootimg.specs.declared.codes.CodeField.TheVariants.{Os, Arch, ImageType, Compression}

@@ -11,6 +11,6 @@ pub record AreDigitsOf (base number : ℕ) (digits : List ℕ) : Type 0 where
 -- The text is this number, of at most 32 bits: decimal digits, or `0x` and hexadecimal digits of
 -- either case.
 pub record IsNumber (argument : List ℕ) (number : ℕ) : Type 0 where
-  pub written : AreDigitsOf 10 number argument ⊎ ((digits : List ℕ) × (argument ≡ codes "0x" ++ digits)
-      × AreDigitsOf 16 number digits)
+  pub written : AreDigitsOf 10 number argument
+      ⊎ ((digits : List ℕ) × (argument ≡ codes "0x" ++ digits) × AreDigitsOf 16 number digits)
   pub fits : number < 2 ^ 32

@@ -16,11 +16,11 @@ ghost use Rattle.bi_fit.specs.NormalNodes.{sorted_images, sorted_images_node};
 
 use crate::changes::Changes;
 use crate::document::nodes::{add_children, begin_node, begin_with};
-use crate::document::payload_area::end_after;
 use crate::document::property_map::PropertyMap;
 use crate::form::Form;
 use crate::image::Image;
 use crate::new_digests::hash_algo;
+use crate::payload_area::end_after;
 use bi_base::{Error, up4};
 use bi_fdt::NodeRef;
 use bi_lay::Doc;

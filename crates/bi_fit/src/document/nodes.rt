@@ -39,7 +39,7 @@ pub(super) fn begin_node<'a>(
 /// the name, and the name of each property has a byte and no zero.
 ///
 /// The only error is `OutOfMemory`. It is not specified which of the events the document has then.
-pub fn begin_with<'a>(
+pub(crate) fn begin_with<'a>(
     doc: &mut Doc<'a>,
     name: &'a [u8],
     properties: &PropertyMap<'a>,

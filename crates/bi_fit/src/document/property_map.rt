@@ -26,7 +26,7 @@ use std::marker::Model;
 
 /// The properties of a node, by name. Names and values are borrowed and not copied.
 #[derive(Drop)]
-pub struct PropertyMap<'a> {
+pub(crate) struct PropertyMap<'a> {
     values: BTreeMap<&'a [u8], Value<'a>>,
 }
 
@@ -48,7 +48,7 @@ impl<'a> Model for PropertyMap<'a> {
 
 impl<'a> PropertyMap<'a> {
     /// A map without properties. It allocates nothing.
-    pub fn new(alloc: Global) -> PropertyMap<'a>
+    pub(crate) fn new(alloc: Global) -> PropertyMap<'a>
         ensures { result ≡ empty }
     {
         PropertyMap {
@@ -76,7 +76,7 @@ impl<'a> PropertyMap<'a> {
     /// number n of properties.
     ///
     /// It fails if memory runs out. It is not specified which properties the map has then.
-    pub fn insert(&mut self, name: &'a [u8], value: Value<'a>) -> Result<(), AllocError>
+    pub(crate) fn insert(&mut self, name: &'a [u8], value: Value<'a>) -> Result<(), AllocError>
         ensures { OnOk result (self.new ≡ insert self.old name.entry.now
             (value_bytes value.entry)) }
     {
@@ -91,7 +91,7 @@ impl<'a> PropertyMap<'a> {
     /// `begin` is the offset of an external payload in bytes from the end of the blob.
     ///
     /// It fails if memory runs out. It is not specified which properties the map has then.
-    pub fn set_payload(
+    pub(crate) fn set_payload(
         &mut self,
         form: Form,
         begin: u32,
@@ -162,7 +162,7 @@ impl<'a> PropertyMap<'a> {
     ///
     /// The only error is `OutOfMemory`. It is not specified which of the properties the document
     /// has then.
-    pub fn add_to(&self, doc: &mut Doc<'a>) -> Result<(), Error>
+    pub(crate) fn add_to(&self, doc: &mut Doc<'a>) -> Result<(), Error>
         requires { MayAdd doc.old (map NodeProperty (entries self.now)) }
         ensures added { OnOk result (doc.new ≡ with_events doc.old
             (map NodeProperty (entries self.now))) }

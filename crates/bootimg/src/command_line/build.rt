@@ -137,8 +137,8 @@ pub fn fit_plan<'a>(alloc: Global, options: &ArgMatches<'a>) -> Result<FitPlan<'
     })
 }
 
-/// Parses images, and where their payloads come from. Fails with BadImage at the first argument that is
-/// no image, or with OutOfMemory.
+/// Parses images, and where their payloads come from. Fails with BadImage at the first argument
+/// that is no image, or with OutOfMemory.
 fn parse_images<'a>(
     alloc: Global,
     arguments: &[&'a str],

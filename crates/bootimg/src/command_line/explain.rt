@@ -8,7 +8,8 @@ use crate::failure::Failure;
 use bi_base::Cause;
 use clap::ArgMatches;
 
-/// Returns the cause that the argument names, if there is one. Fails with BadValue at another argument.
+/// Returns the cause that the argument names, if there is one. Fails with BadValue at another
+/// argument.
 pub fn explained_cause(options: &ArgMatches<'_>) -> Result<Option<Cause>, Failure>
     ensures cause { IfOk result (IsExplained (option_of options.now (codes "cause"))) }
     ensures bad { IfErr result (IsBadValue

@@ -84,8 +84,8 @@ pub fn selection(alloc: Global, options: &ArgMatches<'_>) -> Result<Selected, Ou
     }
 }
 
-/// Returns the name that the argument is, or the one that is printed as the argument if it is escaped.
-/// Fails with BadValue if there is none, or with OutOfMemory.
+/// Returns the name that the argument is, or the one that is printed as the argument if it is
+/// escaped. Fails with BadValue if there is none, or with OutOfMemory.
 fn name(alloc: Global, argument: &str, escaped: bool) -> Result<Vec<u8>, Outcome>
     ensures name { IfOk result (λ name. IsNameOf escaped argument.now name.items) }
     ensures failure { IfErr result (IsFailureOutcome (IsBadValue (IsNameOf escaped argument.now))) }

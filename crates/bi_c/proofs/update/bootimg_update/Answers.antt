@@ -2,7 +2,7 @@ use Rattle.std.proofs.Common.{◌≡◌, ◌++◌, List, ℕ, refl, subst, sym, 
 use Rattle.bi_base.specs.Limits.{Limits}
 use Rattle.bi_fit.specs.declared.changes.Changes.{Changes}
 use Rattle.bi_fit.specs.declared.form.Form.{Form}
-use Rattle.bi_norm.proofs.Appending.{error_in_memory}
+use Rattle.bi_fit.proofs.Appending.{error_in_memory}
 use Rattle.bi_commands.specs.UpdatedFiles.{IsUpdated, Updated, IsUpdateError}
 use Rattle.bi_commands.proofs.UpdatedFiles.{updated_needs_memory}
 use Rattle.bi_c.specs.declared.failure.Failure.TheVariants.{WrongArgument}

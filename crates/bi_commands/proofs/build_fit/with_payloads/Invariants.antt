@@ -2,7 +2,7 @@ use Rattle.std.proofs.Common.{◌≡◌, ◌++◌, map, length}
 use Rattle.std.specs.Iterator.Adapters.{zip_first, zip_second}
 use Rattle.std.specs.Slice.Iter.{iter_rest}
 use Rattle.bi_base.specs.Slices.{bytes_of}
-use Rattle.bi_norm.specs.declared.building.ImageSpec.{ImageSpec}
+use Rattle.bi_norm.specs.declared.fit_building.ImageSpec.{ImageSpec}
 use Rattle.bi_commands.specs.BuildCommands.{image_fields}
 use Rattle.bi_commands.proofs.build_fit.with_payloads.Given as goal
 

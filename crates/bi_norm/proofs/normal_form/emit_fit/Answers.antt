@@ -1,52 +1,33 @@
-use Rattle.std.proofs.Common.{◌≤◌, List, ℕ, refl, subst, arith}
+use Rattle.std.proofs.Common.{◌≤◌, length, refl, sym, subst, arith}
 use Rattle.std.proofs.lemmas.Result.{err_from_is_err_and}
-use Rattle.bi_blob.specs.Layout.{longest_text}
-use Rattle.bi_fit.specs.Content.{tree_of}
-use Rattle.bi_fit.specs.Text.{fit_text}
 use Rattle.bi_base.specs.Commands.{WasRefused, SinkFailed}
-use Rattle.bi_norm.proofs.NormalForms.{document_error, tree_normal_form, tree_normalised}
-use Rattle.bi_norm.proofs.Documents.{document_is_short, payloads_are_within, text_of_document}
+use Rattle.bi_blob.specs.Layout.{longest_text}
+use Rattle.bi_norm.specs.NormalForm.{IsNormalForm, Normalised}
+use Rattle.bi_norm.proofs.NormalForms.{text_error, tree_normal_form, tree_normalised}
 use Rattle.bi_norm.proofs.normal_form.emit_fit.Goals as goal
 
-pub returns-in_err-document-clause-failed : goal.returns-in_err-document-clause-failed
-returns-in_err-document-clause-failed g c file opened =
+pub returns-in_err-text-clause-failed : goal.returns-in_err-text-clause-failed
+returns-in_err-text-clause-failed g c file opened =
     let p = err_from_is_err_and c.from_residual.result c.from_residual.ensures.1 in
-    rw (p.1, p.2) (WasRefused (document_error c.args.limits c.args.form file c.args.fit.now c.in_err-document.field-0.0 opened c.in_err-document.ensures.failed) refl)
+    rw (p.1, p.2) (WasRefused (text_error c.args.limits c.args.form file c.args.fit.now c.in_err-text.field-0.0 opened c.in_err-text.ensures.failed) refl)
 
-pub append_document-requires-clause-small : goal.append_document-requires-clause-small
-append_document-requires-clause-small g c =
+pub returns-in_err-emit-clause-failed : goal.returns-in_err-emit-clause-failed
+returns-in_err-emit-clause-failed g c file opened =
+    let p = err_from_is_err_and c.from_residual-in_err-emit.result c.from_residual-in_err-emit.ensures.1 in
     let most : c.args.limits.file ≤ longest_text = omega arith in
-    document_is_short c.args.limits c.args.form (tree_of c.args.fit.now) c.in_ok-document.document c.in_ok-document.ensures.document most
-
-pub append_document-requires-clause-within : goal.append_document-requires-clause-within
-append_document-requires-clause-within g c =
-    let most : c.args.limits.file ≤ longest_text = omega arith in
-    payloads_are_within c.args.limits c.args.form (tree_of c.args.fit.now) c.args.fit.now c.in_ok-document.document c.images.result.now refl c.images.ensures c.in_ok-document.ensures.document most
-
-pub returns-in_err-append_document-clause-failed : goal.returns-in_err-append_document-clause-failed
-returns-in_err-append_document-clause-failed g c file opened =
-    let fails = g.S.Sink.fails in
-    let form = c.args.form in
-    let tree = tree_of c.args.fit.now in
-    let document = c.in_ok-document.ensures.document in
-    let error = c.in_err-append_document.field-0.0 in
-    let p = err_from_is_err_and c.from_residual-in_err-append_document.result c.from_residual-in_err-append_document.ensures.1 in
-    let most : c.args.limits.file ≤ longest_text = omega arith in
-    let same = text_of_document form tree c.args.fit.now c.in_ok-document.document c.images.result.now refl c.images.ensures document.is in
-    rw (p.1, p.2)
-    (SinkFailed (fit_text form tree) error (tree_normal_form c.args.limits form file c.args.fit.now opened document.fits most)
-    (subst (λ (l : List ℕ). fails c.args.sink.now l c.append_document.new.sink error) same c.in_err-append_document.ensures) refl)
+    let made = c.in_ok-text.ensures.text in
+    let fits = subst (λ text. length text ≤ c.args.limits.file) made.is_text made.short in
+    let normal = subst (IsNormalForm c.args.limits c.args.form file) (sym made.is_text) (tree_normal_form c.args.limits c.args.form file c.args.fit.now opened fits most) in
+    rw (p.1, p.2) (SinkFailed c.in_ok-text.text c.in_err-emit.field-0.0 normal c.in_err-emit.ensures refl)
 
 pub returns-clause-appended : goal.returns-clause-appended
 returns-clause-appended g c file opened =
-    let appends = g.S.Sink.appends in
-    let form = c.args.form in
-    let tree = tree_of c.args.fit.now in
-    let document = c.in_ok-document.ensures.document in
     let most : c.args.limits.file ≤ longest_text = omega arith in
-    let same = text_of_document form tree c.args.fit.now c.in_ok-document.document c.images.result.now refl c.images.ensures document.is in
+    let made = c.in_ok-text.ensures.text in
+    let fits = subst (λ text. length text ≤ c.args.limits.file) made.is_text made.short in
     record {
-      text = fit_text form tree;
-      is_text = tree_normalised c.args.limits form file c.args.fit.now c.signature_count.result opened document.fits most c.signature_count.ensures;
-      appended = subst (λ (l : List ℕ). appends c.args.sink.now l c.append_document.new.sink) same c.in_ok-append_document.ensures;
+      text = c.in_ok-text.text;
+      is_text = subst (Normalised c.args.limits c.args.form c.signature_count.result file) (sym made.is_text)
+          (tree_normalised c.args.limits c.args.form file c.args.fit.now c.signature_count.result opened fits most c.signature_count.ensures);
+      appended = c.in_ok-emit.ensures;
     }

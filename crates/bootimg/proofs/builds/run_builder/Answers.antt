@@ -1,7 +1,7 @@
 use Rattle.std.proofs.Common.{List, subst}
 use Rattle.bi_base.specs.Pipes.{IsTracedPipe}
 use Rattle.bi_commands.specs.BuildCommands.{build_fit_promise}
-use Rattle.bi_norm.specs.declared.building.ImageSpec.{ImageSpec}
+use Rattle.bi_norm.specs.declared.fit_building.ImageSpec.{ImageSpec}
 use Rattle.bootimg.proofs.builds.run_builder.Goals as goal
 
 pub returns-in-Legacy : goal.returns-in-Legacy

@@ -3,13 +3,13 @@ use Rattle.bi_base.specs.Sinks.{Wrote}
 use Rattle.bi_lay.specs.Contents.{text_of}
 use Rattle.bi_lay.specs.Items.{structure_of_items}
 use Rattle.bi_lay.specs.Sizes.{AreBlockSizes}
-use Rattle.bi_lay.proofs.DocTexts.{length-structure_block, length-of_sizes, same_text}
+use Rattle.bi_lay.proofs.DocTexts.{length-items_structure, length-of_sizes, same_text}
 use Rattle.bi_lay.proofs.document.Doc.put.Goals as goal
 
 pub put_text-requires-clause-structure : goal.put_text-requires-clause-structure
 put_text-requires-clause-structure g c =
     let are = subst (λ content. AreBlockSizes content c.args.sizes) (sym c.self.view_is) c.requires in
-    are.structure ∙ length-structure_block c.self.inside ∙ ap (λ items. length (structure_of_items items)) (sym c.deref-2.ensures.value)
+    are.structure ∙ length-items_structure c.self.inside ∙ ap (λ items. length (structure_of_items items)) (sym c.deref-2.ensures.value)
 
 pub returns : goal.returns
 returns g c =

@@ -1,0 +1,142 @@
+use Rattle.std.proofs.Common.{◌≡◌, ℕ, ◌+◌, ◌<◌, false, List, [], ◌∷◌, drop, get_or, length, codes, Some, nat_cmp, refl, sym, ap, subst, ◌∙◌}
+use Rattle.std.proofs.Common.{arith}
+use Rattle.std.specs.Cmp.Lexicographic.{slice_cmp}
+use Rattle.std.specs.FinMap.{from_entries, entries, get-from_entries}
+use Rattle.std.proofs.lemmas.Cmp.{nat_list_cmp_total}
+use Rattle.bi_base.specs.Cells.{up4}
+use Rattle.bi_blob.specs.Tree.{node, PropertyMap}
+use Rattle.bi_blob.specs.Events.{Event, events, events_of, NodeEnd}
+use Rattle.bi_blob.specs.Following.{AreClosedEvents, MayFollowInText, MayEnd, stage_of_events}
+use Rattle.bi_blob.specs.Stages.{AfterRoot}
+use Rattle.bi_blob.proofs.Blobs.EventTrees.{same_events}
+use Rattle.bi_blob.proofs.Texts.Normal.{has_one_order}
+use Rattle.bi_blob.proofs.Texts.NormalEvents.{normal_events_have_one_tree}
+use Rattle.bi_lay.specs.Contents.{Doc, empty_content, with_event}
+use Rattle.bi_fit.specs.declared.form.Form.{Form}
+use Rattle.bi_fit.specs.declared.form.Form.TheVariants.{Embedded, External}
+use Rattle.bi_fit.specs.NormalNodes.{MayAdd, with_events, begin_events}
+use Rattle.bi_fit.specs.Building.{HeadModel, ImageSpecModel, CanBeBuilt, built_tree, cell_property, built_image_properties, root_properties}
+use Rattle.bi_fit.specs.Documents.{document_of}
+use Rattle.bi_fit.specs.ImageTree.{with_image_nodes, without_payload}
+use Rattle.bi_fit.specs.Names.{is_payload_name}
+use Rattle.bi_fit.specs.Text.{normal_tree, with_payload, with_payloads, end_after}
+use Rattle.bi_fit.proofs.BuiltTrees.{built_is_image_tree, depth-built, none_found, load_is_no_payload, entry_is_no_payload}
+use Rattle.bi_fit.proofs.TreeContents.{content-normal_tree}
+use Rattle.bi_fit.proofs.ImageNodes.{next_end}
+use Rattle.bi_fit.proofs.PayloadProperties.{taken_out}
+use Rattle.bi_fit.proofs.NodeEvents.{IsAdding, adding_all, may_add_first, adding_later, adding_none}
+use Rattle.bi_fit.proofs.AddedEvents.{whole, may_begin, may_have_children, may_end, whole_added}
+use Rattle.bi_fit.proofs.Texts.{depth-normal_tree}
+use Rattle.std.proofs.lemmas.List.{at_drop_more}
+use Rattle.bi_base.proofs.ListMembers.{each-append}
+use Rattle.bi_fit.specs.declared.building.NamedImage.{NamedImage}
+use Rattle.bi_fit.specs.NamedImages.{named_model, named_models}
+use Rattle.bi_fit.specs.BuiltNodes.{built_payloads, hash_node, placed_properties, built_image_nodes, images_node, configurations_node}
+
+-- The document of a tree to be built.
+
+-- The properties of an image node to be built give no payload.
+pub properties_apart : (head : HeadModel) (image : ImageSpecModel) →
+    without_payload (from_entries (built_image_properties head image)) ≡ from_entries (built_image_properties head image)
+properties_apart head image =
+    taken_out (from_entries (built_image_properties head image)) (from_entries (built_image_properties head image))
+    (λ name is.
+    get-from_entries nat_list_cmp_total (built_image_properties head image) name
+    ∙ none_found is_payload_name name (built_image_properties head image) is
+    (refl, (refl, (refl, (refl, (refl, each-append (λ property. is_payload_name property.0 ≡ false) (cell_property (codes "load") image.load) (cell_property (codes "entry") image.entry) (load_is_no_payload image.load) (entry_is_no_payload image.entry)))))))
+    (λ name other. refl)
+
+-- With those that give its payload they are these.
+pub properties_placed : (form : Form) (begin : ℕ) (head : HeadModel) (image : ImageSpecModel) (made set : PropertyMap) →
+    made ≡ from_entries (built_image_properties head image) → set ≡ with_payload form begin (Some image.payload) (without_payload made) →
+    set ≡ placed_properties form begin head image
+properties_placed form begin head image made set is_made is_set =
+    is_set
+    ∙ ap (λ properties. with_payload form begin (Some image.payload) (without_payload properties)) is_made
+    ∙ ap (with_payload form begin (Some image.payload)) (properties_apart head image)
+
+-- Embedded payloads have no offsets.
+embedded_anywhere : (one other : ℕ) (head : HeadModel) (images : List ImageSpecModel) →
+    built_image_nodes Embedded one head images ≡ built_image_nodes Embedded other head images
+embedded_anywhere one other head [] = refl
+embedded_anywhere one other head (image ∷ later) =
+    ap (node image.name (entries (placed_properties Embedded (up4 one) head image)) (hash_node image.payload))
+    (embedded_anywhere (end_after one (Some image.payload)) (end_after other (Some image.payload)) head later)
+
+-- The image nodes after the first.
+pub nodes_later : (form : Form) (end : ℕ) (payload : List ℕ) (head : HeadModel) (images : List ImageSpecModel) →
+    built_image_nodes form (end_after end (Some payload)) head images
+    ≡ built_image_nodes form (next_end form end (Some payload)) head images
+nodes_later Embedded end payload head images = embedded_anywhere (end_after end (Some payload)) end head images
+nodes_later External end payload head images = refl
+
+-- The image nodes from one on are it and those after it.
+pub nodes_at : (form : Form) (end : ℕ) (head : HeadModel) (images : List NamedImage) (index : ℕ) (d : NamedImage) → index < length images →
+    built_image_nodes form end head (named_models (drop index images))
+    ≡ built_image_nodes form end head (named_model (get_or images index d) ∷ named_models (drop (index + 1) images))
+nodes_at form end head images index d within = at_drop_more (λ l. built_image_nodes form end head (named_models l)) images index d within
+
+module _ (form : Form) (head : HeadModel) (images : List ImageSpecModel) where
+  -- The events of the tree may follow one another, and they end the root.
+  pub built_closed : CanBeBuilt head images → AreClosedEvents MayFollowInText (events_of (normal_tree form (built_tree head images)))
+  built_closed can = (normal_events_have_one_tree (events_of (normal_tree form (built_tree head images)))).1 (record {
+    tree = record {
+      root = normal_tree form (built_tree head images);
+      same = refl;
+      only = λ other also. same_events other (normal_tree form (built_tree head images)) also;
+      is_tree = (content-normal_tree form (built_tree head images) (built_is_image_tree head images can)).is_tree;
+      shallow = omega (arith, depth-normal_tree form (built_tree head images), depth-built head images);
+    };
+    is_normal = (has_one_order (with_image_nodes (with_payloads form 0 (built_payloads images)) (built_tree head images).root)).is_normal;
+  })
+
+  -- The root begins with these events, and its children are these.
+  abbrev pub root_begin : List Event
+  root_begin = begin_events [] (from_entries {R = slice_cmp nat_cmp} (root_properties head))
+
+  abbrev pub root_children : List Event
+  root_children = events (normal_tree form (built_tree head images)).children
+
+  -- Both children of the root, added in turn, are its children.
+  module _ (started : Doc) (is_started : started ≡ empty_content 0) (can : CanBeBuilt head images) where
+    may_all : MayAdd started (whole started root_begin root_children)
+    may_all = subst (λ document. MayAdd document (events_of (normal_tree form (built_tree head images)))) (sym is_started) (built_closed can).follow
+
+    -- The root may begin.
+    pub may_begin_root : MayAdd started root_begin
+    may_begin_root = may_begin started root_begin root_children may_all
+
+    module _ (begun : Doc) (is_begun : begun ≡ with_events started root_begin) where
+      adding : IsAdding begun (with_events begun root_children) (normal_tree form (built_tree head images)).children
+      adding = adding_all begun (normal_tree form (built_tree head images)).children (may_have_children started root_begin root_children begun is_begun may_all)
+
+      -- The node of the images may be added,
+      pub may_add_images : MayAdd begun (events (images_node form head images))
+      may_add_images = may_add_first begun (with_events begun root_children) _ _ _ _ adding
+
+      module _ (more : Doc) (is_more : more ≡ with_events begun (events (images_node form head images))) where
+        after_images : IsAdding more (with_events begun root_children) (configurations_node head images)
+        after_images = adding_later begun (with_events begun root_children) _ _ _ _ adding more is_more
+
+        -- then that of the configuration,
+        pub may_add_configurations : MayAdd more (events (configurations_node head images))
+        may_add_configurations = may_add_first more (with_events begun root_children) _ _ _ _ after_images
+
+        module _ (filled : Doc) (is_filled : filled ≡ with_events more (events (configurations_node head images))) where
+          all_children : filled ≡ with_events begun root_children
+          all_children = adding_none filled (with_events begun root_children) (adding_later more (with_events begun root_children) _ _ _ _ after_images filled is_filled)
+
+          -- then the root may end,
+          pub may_end_root : MayEnd (stage_of_events filled.events)
+          may_end_root = may_end started root_begin root_children begun filled is_begun all_children may_all
+
+          -- and the document is that of the tree.
+          pub is_document : (ended : Doc) → ended ≡ with_event filled NodeEnd → ended ≡ document_of form (built_tree head images)
+          is_document ended is_ended =
+              is_ended ∙ whole_added started root_begin root_children begun filled is_begun all_children
+              ∙ ap (λ document. with_events document (whole started root_begin root_children)) is_started
+
+          -- Its root has ended.
+          pub is_closed : (ended : Doc) → ended ≡ with_event filled NodeEnd → stage_of_events ended.events ≡ AfterRoot
+          is_closed ended is_ended =
+              subst (λ (document : Doc). stage_of_events document.events ≡ AfterRoot) (sym (is_document ended is_ended)) (built_closed can).closed

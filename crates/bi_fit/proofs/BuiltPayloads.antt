@@ -1,0 +1,48 @@
+use Rattle.std.proofs.Common.{◌≡◌, ℕ, ◌+◌, ◌<◌, ◌≤◌, List, ◌∷◌, [], map, drop, get_or, length, Option, Some, None, refl, ap, ◌∙◌}
+use Rattle.std.proofs.lemmas.List.{at_drop_more}
+use Rattle.bi_blob.specs.Layout.{longest_text}
+use Rattle.bi_fit.specs.declared.building.NamedImage.{NamedImage}
+use Rattle.bi_fit.specs.declared.form.Form.{Form}
+use Rattle.bi_fit.specs.declared.form.Form.TheVariants.{Embedded, External}
+use Rattle.bi_fit.specs.declared.key.Key.TheVariants.{Kernel}
+use Rattle.bi_fit.specs.declared.image.Image.{Image}
+use Rattle.bi_fit.specs.NormalNodes.{AreWithin, payloads_of}
+use Rattle.bi_fit.specs.Documents.{length_after_blob}
+use Rattle.bi_fit.specs.NamedImages.{named_models, image_to_place}
+use Rattle.bi_fit.specs.BuiltNodes.{built_payloads}
+
+-- The payloads of images to be built.
+
+-- What a list of images gives past its end.
+abbrev pub no_named_image : NamedImage
+no_named_image = record {
+  name = record { ref_ptr = (0, 0); now = [] };
+  key = Kernel;
+  arch = record { ref_ptr = (0, 0); now = [] };
+  os = record { ref_ptr = (0, 0); now = [] };
+  compression = record { ref_ptr = (0, 0); now = [] };
+  load = None;
+  entry = None;
+  payload = record { ref_ptr = (0, 0); now = [] };
+}
+
+-- The payloads from an image on are its payload and those after it.
+pub built_payloads_from : (images : List NamedImage) (index : ℕ) (d : NamedImage) → index < length images →
+    built_payloads (named_models (drop index images))
+    ≡ Some (get_or images index d).payload.now ∷ built_payloads (named_models (drop (index + 1) images))
+built_payloads_from images index d within = at_drop_more (λ l. built_payloads (named_models l)) images index d within
+
+-- Payloads after the blob that end within the longest text do so in this form.
+pub are_within : (form : Form) (payloads : List (Option (List ℕ))) → length_after_blob form payloads ≤ longest_text →
+    AreWithin form 0 payloads
+are_within Embedded payloads short = tt
+are_within External payloads short = short
+
+-- The images whose payloads are placed have the payloads of those that are built.
+placed_payloads : (images : List NamedImage) → payloads_of (map image_to_place images) ≡ built_payloads (named_models images)
+placed_payloads [] = refl
+placed_payloads (image ∷ later) = ap (λ l. Some image.payload.now ∷ l) (placed_payloads later)
+
+pub payloads_to_place : (list : List Image) (images : List NamedImage) → list ≡ map image_to_place images →
+    payloads_of list ≡ built_payloads (named_models images)
+payloads_to_place list images is = ap payloads_of is ∙ placed_payloads images

@@ -1,0 +1,76 @@
+use Rattle.std.proofs.Common.{◌≡◌, ℕ, ◌+◌, ◌<◌, ◌≤◌, List, ◌++◌, length, Option, Result, refl, ap, subst, ◌∙◌, arith, length-append}
+use Rattle.std.specs.Result.{IfErr, IsErrAnd}
+use Rattle.bi_base.specs.declared.fault.Error.{Error}
+use Rattle.bi_base.specs.declared.fault.Error.TheVariants.{Refused}
+use Rattle.bi_base.specs.declared.fault.Fault.{Fault}
+use Rattle.bi_base.specs.Limits.{Limits}
+use Rattle.bi_base.specs.Reading.{too_large}
+use Rattle.bi_base.proofs.Refusals.{error_passed_on}
+use Rattle.bi_lay.specs.Contents.{Doc, text_of}
+use Rattle.bi_fit.specs.declared.form.Form.{Form}
+use Rattle.bi_fit.specs.declared.form.Form.TheVariants.{Embedded, External}
+use Rattle.bi_fit.specs.Documents.{document_of, length_after_blob, payloads_after, whole_text, IsTextOfTree, IsTextFault, IsTextError}
+use Rattle.bi_fit.specs.ImageTree.{ImageTree}
+use Rattle.bi_fit.specs.Text.{blob_of, after_blob, fit_text}
+use Rattle.bi_fit.proofs.NormalTrees.{length-fit_text}
+use Rattle.bi_fit.proofs.PayloadAreas.{length-payload_area}
+
+-- The text of a document with what follows its blob.
+
+-- How long what follows the blob is.
+length-payloads_after : (form : Form) (payloads : List (Option (List ℕ))) →
+    length (payloads_after form payloads) ≡ length_after_blob form payloads
+length-payloads_after Embedded payloads = refl
+length-payloads_after External payloads = omega (arith, length-payload_area 0 payloads)
+
+-- How long the text is.
+pub length-whole_text : (form : Form) (document : Doc) (payloads : List (Option (List ℕ))) →
+    length (whole_text form document payloads) ≡ length (text_of document) + length_after_blob form payloads
+length-whole_text form document payloads =
+    omega (arith, length-append (text_of document) (payloads_after form payloads), length-payloads_after form payloads)
+
+-- What follows the blob of a tree's text.
+after_of : (form : Form) (tree : ImageTree) → payloads_after form tree.payloads ≡ after_blob form tree
+after_of Embedded tree = refl
+after_of External tree = refl
+
+module _ (form : Form) (tree : ImageTree) (payloads : List (Option (List ℕ))) (same : payloads ≡ tree.payloads) where
+  -- The document of a tree, with its payloads, has the tree's text.
+  pub whole_text_of_tree : (document : Doc) → document ≡ document_of form tree → whole_text form document payloads ≡ fit_text form tree
+  whole_text_of_tree document is =
+      ap (λ document. whole_text form document payloads) is
+      ∙ ap (whole_text form (document_of form tree)) same
+      ∙ ap (λ l. blob_of form tree ++ l) (after_of form tree)
+
+  -- The text of a tree is too long where what follows its blob is.
+  pub late_payloads : (limit : ℕ) → limit < length_after_blob form payloads → limit < length (fit_text form tree)
+  late_payloads limit late =
+      let late_there : limit < length_after_blob form tree.payloads = subst (λ payloads. limit < length_after_blob form payloads) same late in
+      omega (arith, late_there, length-fit_text form tree)
+
+  module _ (limits : Limits) (limit : ℕ) (is_limit : limit ≡ limits.file) (fault : Fault) (is_fault : fault ≡ too_large limit) where
+    -- So the fault is that the text is too long, where what follows the blob is,
+    pub too_long_after : limit < length_after_blob form payloads → IsTextFault limits form tree fault
+    too_long_after late =
+        (is_fault ∙ ap too_large is_limit, subst (λ n. n < length (fit_text form tree)) is_limit (late_payloads limit late))
+
+    -- and where the whole is.
+    pub too_long_text : (document : Doc) → document ≡ document_of form tree → limit < length (whole_text form document payloads) →
+        IsTextFault limits form tree fault
+    too_long_text document is late = (
+      is_fault ∙ ap too_large is_limit,
+      subst (λ n. n < length (fit_text form tree)) is_limit (subst (λ text. limit < length text) (whole_text_of_tree document is) late),
+    )
+
+  -- A text within the limit is that of the tree.
+  pub is_text_of_tree : (limits : Limits) (limit : ℕ) → limit ≡ limits.file → (document : Doc) → document ≡ document_of form tree →
+      (text : List ℕ) → text ≡ whole_text form document payloads → length text ≤ limit → IsTextOfTree limits form tree text
+  is_text_of_tree limits limit is_limit document is text is_whole short = record {
+    is_text = is_whole ∙ whole_text_of_tree document is;
+    short = subst (λ n. length text ≤ n) is_limit short;
+  }
+
+-- Such a fault is passed on as an error.
+pub too_long_passed_on : {A : Type 0} (r : Result A Error) (limits : Limits) (form : Form) (tree : ImageTree) (fault : Fault) →
+    IsErrAnd r (λ error. error ≡ Refused fault) → IsTextFault limits form tree fault → IfErr r (IsTextError limits form tree)
+too_long_passed_on r limits form tree fault is late = error_passed_on r (Refused fault) (IsTextError limits form tree) is late

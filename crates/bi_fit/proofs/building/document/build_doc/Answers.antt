@@ -1,0 +1,57 @@
+use Rattle.std.proofs.Common.{◌≡◌, [], sym, ap, subst, ◌∙◌}
+use Rattle.bi_fit.specs.NormalNodes.{MayAdd, with_events, begin_events}
+use Rattle.bi_fit.specs.NamedImages.{head_model, named_models}
+use Rattle.bi_fit.proofs.BuiltDocuments.{root_begin, may_begin_root, may_add_images, may_add_configurations, may_end_root, is_document}
+use Rattle.bi_fit.proofs.BuiltDocuments.{is_closed}
+use Rattle.bi_fit.proofs.building.document.build_doc.Goals as goal
+
+pub begin_with-requires : goal.begin_with-requires
+begin_with-requires c =
+    let head = head_model c.args.parts.head in
+    let images = named_models c.args.parts.images.now in
+    subst (λ properties. MayAdd c.in_ok-doc.doc (begin_events [] properties)) (sym c.in_ok-properties.ensures)
+    (may_begin_root c.args.form head images c.in_ok-doc.doc c.in_ok-doc.ensures.empty c.requires.prepared.can)
+
+pub add_images-requires-clause-may : goal.add_images-requires-clause-may
+add_images-requires-clause-may c =
+    let head = head_model c.args.parts.head in
+    let images = named_models c.args.parts.images.now in
+    let begun : c.begin_with.new.doc ≡ with_events c.in_ok-doc.doc (root_begin c.args.form head images) =
+    c.in_ok-begin_with.ensures.added ∙ ap (λ properties. with_events c.in_ok-doc.doc (begin_events [] properties)) c.in_ok-properties.ensures in
+    may_add_images c.args.form head images c.in_ok-doc.doc c.in_ok-doc.ensures.empty c.requires.prepared.can c.begin_with.new.doc begun
+
+pub add_configurations-requires-clause-may : goal.add_configurations-requires-clause-may
+add_configurations-requires-clause-may c =
+    let head = head_model c.args.parts.head in
+    let images = named_models c.args.parts.images.now in
+    let begun : c.begin_with.new.doc ≡ with_events c.in_ok-doc.doc (root_begin c.args.form head images) =
+    c.in_ok-begin_with.ensures.added ∙ ap (λ properties. with_events c.in_ok-doc.doc (begin_events [] properties)) c.in_ok-properties.ensures in
+    may_add_configurations c.args.form head images c.in_ok-doc.doc c.in_ok-doc.ensures.empty c.requires.prepared.can c.begin_with.new.doc begun
+    c.add_images.new.doc c.in_ok-add_images.ensures.added
+
+pub end-requires : goal.end-requires
+end-requires c =
+    let head = head_model c.args.parts.head in
+    let images = named_models c.args.parts.images.now in
+    let begun : c.begin_with.new.doc ≡ with_events c.in_ok-doc.doc (root_begin c.args.form head images) =
+    c.in_ok-begin_with.ensures.added ∙ ap (λ properties. with_events c.in_ok-doc.doc (begin_events [] properties)) c.in_ok-properties.ensures in
+    may_end_root c.args.form head images c.in_ok-doc.doc c.in_ok-doc.ensures.empty c.requires.prepared.can c.begin_with.new.doc begun
+    c.add_images.new.doc c.in_ok-add_images.ensures.added c.add_configurations.new.doc c.in_ok-add_configurations.ensures.added
+
+pub returns-clause-document : goal.returns-clause-document
+returns-clause-document c =
+    let head = head_model c.args.parts.head in
+    let images = named_models c.args.parts.images.now in
+    let begun : c.begin_with.new.doc ≡ with_events c.in_ok-doc.doc (root_begin c.args.form head images) =
+    c.in_ok-begin_with.ensures.added ∙ ap (λ properties. with_events c.in_ok-doc.doc (begin_events [] properties)) c.in_ok-properties.ensures in
+    is_document c.args.form head images c.in_ok-doc.doc c.in_ok-doc.ensures.empty c.requires.prepared.can c.begin_with.new.doc begun
+    c.add_images.new.doc c.in_ok-add_images.ensures.added c.add_configurations.new.doc c.in_ok-add_configurations.ensures.added c.end.new.self c.end.ensures
+
+pub returns-clause-closed : goal.returns-clause-closed
+returns-clause-closed c =
+    let head = head_model c.args.parts.head in
+    let images = named_models c.args.parts.images.now in
+    let begun : c.begin_with.new.doc ≡ with_events c.in_ok-doc.doc (root_begin c.args.form head images) =
+    c.in_ok-begin_with.ensures.added ∙ ap (λ properties. with_events c.in_ok-doc.doc (begin_events [] properties)) c.in_ok-properties.ensures in
+    is_closed c.args.form head images c.in_ok-doc.doc c.in_ok-doc.ensures.empty c.requires.prepared.can c.begin_with.new.doc begun
+    c.add_images.new.doc c.in_ok-add_images.ensures.added c.add_configurations.new.doc c.in_ok-add_configurations.ensures.added c.end.new.self c.end.ensures

@@ -1,0 +1,51 @@
+use Rattle.std.proofs.Common.{◌+◌, ◌++◌, ◌≤◌, length, ap, sym, ◌∙◌, subst, arith}
+use Rattle.bi_base.specs.Cells.{up4}
+use Rattle.bi_base.proofs.SinkLaws.{passed_on}
+use Rattle.bi_blob.specs.Layout.{padding_to_4, longest_text}
+use Rattle.bi_fit.proofs.AppendedPayloads.{area_before, area_from, area_with_payload, end_with_payload, area_without_payload}
+use Rattle.bi_fit.proofs.AppendedPayloads.{end_without_payload, area_split, end_within}
+use Rattle.bi_fit.proofs.payload_area.put_payloads.Goals.{in-Some+in_ok-end, in_default}
+use Rattle.bi_fit.proofs.payload_area.put_payloads.Goals as goal
+
+pub put_payload-requires : goal.put_payload-requires
+put_payload-requires g c =
+    let images = c.args.images.now in
+    let i = c.loop-image.image-index in
+    let payload = c.in-Some.payload in
+    let same = ap (λ end. up4 end + length payload.now) c.loop-image.invariant.1 ∙ sym (end_with_payload images i _ payload c.loop-image-test.true c.in-Some.is) in
+    subst (λ end. end ≤ longest_text) (sym same) (omega (arith, end_within images (i + 1), c.requires))
+
+pub returns-in_err-end : goal.returns-in_err-end
+returns-in_err-end g c =
+    let fails = g.S.Sink.fails in
+    let images = c.args.images.now in
+    let i = c.loop-image.image-index in
+    let payload = c.in-Some.payload in
+    let error = c.in_err-end.field-0.0 in
+    let put = padding_to_4 c.loop-image.end ++ payload.now in
+    let same = ap (λ end. area_before images i ++ (padding_to_4 end ++ payload.now)) c.loop-image.invariant.1 ∙ sym (area_with_payload images i _ payload c.loop-image-test.true c.in-Some.is) in
+    let all = ap (λ l. l ++ area_from images (i + 1)) same ∙ sym (area_split images (i + 1)) in
+    let failed = g.met.S.Sink.fails_before c.args.sink.now c.put_payload.new.sink (area_before images i ++ put) (area_from images (i + 1)) error
+    (g.met.S.Sink.fails_after c.args.sink.now c.loop-image.sink c.put_payload.new.sink (area_before images i) put error c.loop-image.invariant.0 c.in_err-end.ensures.written) in
+    passed_on g.S.Sink.appends fails c.args.sink.now _ _ c.from_residual.result c.put_payload.new.sink c.from_residual.ensures.1
+    (subst (λ l. fails c.args.sink.now l c.put_payload.new.sink error) all failed)
+
+pub loop-image-preserved : goal.loop-image-preserved
+loop-image-preserved g c =
+    let appends = g.S.Sink.appends in
+    let images = c.args.images.now in
+    let i = c.loop-image.image-index in
+    elim c.match-image.branch [
+      | in-Some+in_ok-end w ↦
+          let payload = w.in-Some.payload in
+          let same = ap (λ end. area_before images i ++ (padding_to_4 end ++ payload.now)) c.loop-image.invariant.1 ∙ sym (area_with_payload images i _ payload c.loop-image-test.true w.in-Some.is) in
+          let both = g.met.S.Sink.appends_in_turn c.args.sink.now c.loop-image.sink w.put_payload.new.sink (area_before images i) (padding_to_4 c.loop-image.end ++ payload.now) c.loop-image.invariant.0 w.in_ok-end.ensures.written in (
+            subst (λ sink. appends c.args.sink.now (area_before images (i + 1)) sink) (sym w.sink-is) (subst (λ l. appends c.args.sink.now l w.put_payload.new.sink) same both),
+            w.end-is ∙ w.in_ok-end.ensures.end ∙ ap (λ end. up4 end + length payload.now) c.loop-image.invariant.1 ∙ sym (end_with_payload images i _ payload c.loop-image-test.true w.in-Some.is),
+          )
+      | in_default w ↦ (
+        subst (λ l. appends c.args.sink.now l c.match-image.sink) (sym (area_without_payload images i _ c.loop-image-test.true w.in_default.is))
+            (subst (λ sink. appends c.args.sink.now (area_before images i) sink) (sym w.sink-is) c.loop-image.invariant.0),
+        w.end-is ∙ c.loop-image.invariant.1 ∙ sym (end_without_payload images i _ c.loop-image-test.true w.in_default.is),
+      )
+    ]

@@ -1,0 +1,93 @@
+use Rattle.std.specs.Prelude.{◌≡◌, ℕ, List, [], ◌∷◌, map, Option, None, Some}
+use Rattle.std.specs.Ordering.{nat_cmp}
+use Rattle.std.specs.Cmp.Lexicographic.{slice_cmp}
+use Rattle.std.specs.FinMap.{insert, entries, from_entries}
+use Rattle.bi_base.specs.Cells.{cell}
+use Rattle.bi_blob.specs.Tree.{Nodes, none, node, Property, PropertyMap, with_each}
+use Rattle.bi_blob.specs.Layout.{strings_of}
+use Rattle.bi_hash.specs.declared.algo.Algo.TheVariants.{Sha256}
+use Rattle.bi_hash.specs.Digests.{digest_of}
+use Rattle.bi_fit.specs.declared.form.Form.{Form}
+use Rattle.bi_fit.specs.declared.key.Key.TheVariants.{Kernel, Fdt, Ramdisk, Firmware, Loadables}
+use Rattle.bi_fit.specs.declared.key.Key.TheVariants.{Script}
+use Rattle.bi_fit.specs.Building.{HeadModel, ImageSpecModel, CanBeBuilt, built_image_properties}
+use Rattle.bi_fit.specs.Building.{hash_properties, hash_node_name, configuration_name, text_value}
+use Rattle.bi_fit.specs.Building.{built_images, names_under, configuration_properties}
+use Rattle.bi_fit.specs.Names.{images_name, configurations_name, default_name}
+use Rattle.bi_fit.specs.Text.{with_payload, with_payloads}
+use Rattle.bi_fit.specs.declared.building.document.Parts.{Parts}
+use Rattle.bi_fit.specs.declared.building.lists.KeyLists.{KeyLists}
+use Rattle.bi_fit.specs.NamedImages.{head_model, named_models}
+
+-- What is added to the document of a tree to be built, node by node.
+
+-- These lists have the names of the images by their keys.
+pub record AreKeyLists (images : List ImageSpecModel) (lists : KeyLists) : Type 0 where
+  pub kernel : lists.kernel.items ≡ strings_of (names_under Kernel images)
+  pub fdt : lists.fdt.items ≡ strings_of (names_under Fdt images)
+  pub ramdisk : lists.ramdisk.items ≡ strings_of (names_under Ramdisk images)
+  pub firmware : lists.firmware.items ≡ strings_of (names_under Firmware images)
+  pub loadables : lists.loadables.items ≡ strings_of (names_under Loadables images)
+  pub script : lists.script.items ≡ strings_of (names_under Script images)
+
+-- Properties in byte order of their names.
+abbrev pub in_order : List Property → List Property
+in_order properties = entries {R = slice_cmp nat_cmp} (from_entries properties)
+
+-- The payloads of images.
+abbrev pub built_payloads : List ImageSpecModel → List (Option (List ℕ))
+built_payloads images = map (λ image. Some image.payload) images
+
+-- The hash node of an image with this payload.
+abbrev pub hash_node : List ℕ → Nodes (List Property)
+hash_node payload = node hash_node_name (in_order (hash_properties payload)) none none
+
+-- The properties of an image node, with those that give its payload.
+abbrev pub placed_properties : Form → (begin : ℕ) → HeadModel → ImageSpecModel → PropertyMap
+placed_properties form begin head image =
+    with_payload form begin (Some image.payload) (from_entries (built_image_properties head image))
+
+-- An image node without its siblings.
+abbrev pub image_node : Form → (begin : ℕ) → HeadModel → ImageSpecModel → Nodes (List Property)
+image_node form begin head image =
+    node image.name (entries (placed_properties form begin head image)) (hash_node image.payload)
+    none
+
+-- Image nodes, where the payloads before theirs end at `end`.
+abbrev pub built_image_nodes : Form → (end : ℕ) → HeadModel → List ImageSpecModel
+    → Nodes (List Property)
+built_image_nodes form end head images =
+    with_each entries (with_payloads form end (built_payloads images) (built_images head images))
+
+-- The node of the image nodes, without its siblings.
+abbrev pub images_node : Form → HeadModel → List ImageSpecModel → Nodes (List Property)
+images_node form head images =
+    node images_name (in_order []) (built_image_nodes form 0 head images) none
+
+-- The configuration node.
+abbrev pub configuration_node : HeadModel → List ImageSpecModel → Nodes (List Property)
+configuration_node head images =
+    node configuration_name (in_order (configuration_properties head images)) none none
+
+-- The node of the configuration, without its siblings.
+abbrev pub configurations_node : HeadModel → List ImageSpecModel → Nodes (List Property)
+configurations_node head images =
+    node configurations_name (in_order ((default_name, text_value configuration_name) ∷ []))
+    (configuration_node head images) none
+
+-- Properties with one of one cell, if its number is given.
+abbrev pub with_cell_property : List ℕ → Option ℕ → PropertyMap → PropertyMap
+with_cell_property name None properties = properties
+with_cell_property name (Some number) properties = insert properties name (cell number)
+
+-- A node of this name with these properties and no children, without its siblings.
+abbrev pub leaf : List ℕ → PropertyMap → Nodes (List Property)
+leaf name properties = node name (entries properties) none none
+
+-- What the document of a tree borrows is prepared: the tree can be built, and the digests and the
+-- lists are those of the images.
+pub record ArePrepared (parts : Parts) : Type 0 where
+  pub can : CanBeBuilt (head_model parts.head) (named_models parts.images.now)
+  pub digests : parts.digests.now
+      ≡ map (λ image. digest_of Sha256 image.payload.now) parts.images.now
+  pub lists : AreKeyLists (named_models parts.images.now) parts.lists.now

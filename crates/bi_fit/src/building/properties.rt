@@ -1,0 +1,139 @@
+//! The properties of the nodes of a tree to be built.
+
+ghost use Rattle.std.specs.Prelude.{◌≡◌, ◌++◌, ◌∷◌, [], ℕ, List, OnOk, IfOk};
+ghost use Rattle.std.specs.FinMap.{from_entries};
+ghost use Rattle.bi_blob.specs.Layout.{strings_of};
+ghost use Rattle.bi_blob.specs.Tree.{Property};
+ghost use Rattle.bi_hash.specs.declared.algo.Algo.TheVariants.{Sha256};
+ghost use Rattle.bi_hash.specs.Digests.{digest_of};
+ghost use Rattle.bi_fit.specs.Building.{ImageSpecModel, list_property};
+ghost use Rattle.bi_fit.specs.Building.{root_properties as root_properties_of};
+ghost use Rattle.bi_fit.specs.Building.{built_image_properties as image_properties_of};
+ghost use Rattle.bi_fit.specs.Building.{hash_properties as hash_properties_of};
+ghost use Rattle.bi_fit.specs.Building.{configuration_properties as configuration_properties_of};
+ghost use Rattle.bi_fit.specs.Building.{configuration_name, text_value};
+ghost use Rattle.bi_fit.specs.Names.{default_name};
+ghost use Rattle.bi_fit.specs.BuiltNodes.{AreKeyLists, with_cell_property};
+ghost use Rattle.bi_fit.specs.NamedImages.{head_model, named_model};
+
+use crate::building::lists::KeyLists;
+use crate::building::{Head, NamedImage};
+use crate::document::PropertyMap;
+use crate::key::Key;
+use bi_hash::Algo;
+use bi_lay::Value;
+use std::alloc::{AllocError, Global};
+
+/// The name of the one configuration.
+pub(super) const CONFIGURATION_NAME: &[u8] = b"conf-1";
+
+/// Returns the properties of the root.
+pub(super) fn root_properties<'a>(
+    alloc: Global,
+    head: Head<'a>,
+) -> Result<PropertyMap<'a>, AllocError>
+    ensures { IfOk result (λ properties. properties
+        ≡ from_entries (root_properties_of (head_model head.entry))) }
+{
+    let mut properties = PropertyMap::new(alloc);
+    properties.insert(b"timestamp", Value::Cell(head.time))?;
+    properties.insert(b"description", Value::Text(head.description))?;
+    properties.insert(b"#address-cells", Value::Cell(1))?;
+    Ok(properties)
+}
+
+/// Returns the properties of an image node, without those that give its payload.
+pub(super) fn image_properties<'a>(
+    alloc: Global,
+    head: Head<'a>,
+    image: &NamedImage<'a>,
+) -> Result<PropertyMap<'a>, AllocError>
+    ensures { IfOk result (λ properties. properties
+        ≡ from_entries (image_properties_of (head_model head.entry) (named_model image.now))) }
+{
+    let mut properties = PropertyMap::new(alloc);
+    insert_cell(&mut properties, b"entry", image.entry)?;
+    insert_cell(&mut properties, b"load", image.load)?;
+    properties.insert(b"type", Value::Text(image.key.type_name().as_bytes()))?;
+    properties.insert(b"os", Value::Text(image.os.as_bytes()))?;
+    properties.insert(b"description", Value::Text(head.description))?;
+    properties.insert(b"compression", Value::Text(image.compression.as_bytes()))?;
+    properties.insert(b"arch", Value::Text(image.arch.as_bytes()))?;
+    Ok(properties)
+}
+
+/// Returns the properties of a hash node with this SHA-256.
+pub(super) fn hash_properties(
+    alloc: Global,
+    digest: &[u8; 32],
+) -> Result<PropertyMap<'_>, AllocError>
+    ensures { (payload : List ℕ) → digest.entry.now ≡ digest_of Sha256 payload →
+        IfOk result (λ properties. properties ≡ from_entries (hash_properties_of payload)) }
+{
+    let mut properties = PropertyMap::new(alloc);
+    properties.insert(b"value", Value::Slice(digest))?;
+    properties.insert(b"algo", Value::Text(Algo::Sha256.name().as_bytes()))?;
+    Ok(properties)
+}
+
+/// Returns the properties of the node of the configuration.
+pub(super) fn default_properties<'a>(alloc: Global) -> Result<PropertyMap<'a>, AllocError>
+    ensures { IfOk result (λ properties. properties
+        ≡ from_entries ((default_name, text_value configuration_name) ∷ [])) }
+{
+    let mut properties = PropertyMap::new(alloc);
+    properties.insert(b"default", Value::Text(CONFIGURATION_NAME))?;
+    Ok(properties)
+}
+
+/// Returns the properties of the configuration, which has these lists.
+pub(super) fn configuration_properties<'a>(
+    alloc: Global,
+    head: Head<'a>,
+    lists: &'a KeyLists,
+) -> Result<PropertyMap<'a>, AllocError>
+    ensures { (images : List ImageSpecModel) → AreKeyLists images lists.entry.now →
+        IfOk result (λ properties. properties
+        ≡ from_entries (configuration_properties_of (head_model head.entry) images)) }
+{
+    let mut properties = PropertyMap::new(alloc);
+    insert_list(&mut properties, Key::Script, &lists.script)?;
+    insert_list(&mut properties, Key::Loadables, &lists.loadables)?;
+    insert_list(&mut properties, Key::Firmware, &lists.firmware)?;
+    insert_list(&mut properties, Key::Ramdisk, &lists.ramdisk)?;
+    insert_list(&mut properties, Key::Fdt, &lists.fdt)?;
+    insert_list(&mut properties, Key::Kernel, &lists.kernel)?;
+    properties.insert(b"description", Value::Text(head.description))?;
+    Ok(properties)
+}
+
+/// Adds a property of one cell, if there is a number.
+fn insert_cell<'a>(
+    properties: &mut PropertyMap<'a>,
+    name: &'a [u8],
+    number: Option<u32>,
+) -> Result<(), AllocError>
+    ensures { OnOk result
+        (properties.new ≡ with_cell_property name.entry.now number properties.old) }
+{
+    match number {
+        Some(number) => properties.insert(name, Value::Cell(number)),
+        None => Ok(()),
+    }
+}
+
+/// Adds the property of a key that lists names, if it lists one at least.
+fn insert_list<'a>(
+    properties: &mut PropertyMap<'a>,
+    key: Key,
+    list: &'a [u8],
+) -> Result<(), AllocError>
+    ensures { (names : List (List ℕ)) (rest : List Property)
+        → list.entry.now ≡ strings_of names → properties.old ≡ from_entries rest →
+        OnOk result (properties.new ≡ from_entries (list_property key names ++ rest)) }
+{
+    if list.is_empty() {
+        return Ok(());
+    }
+    properties.insert(key.name().as_bytes(), Value::Slice(list))
+}

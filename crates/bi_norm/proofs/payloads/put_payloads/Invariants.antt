@@ -1,9 +1,0 @@
-use Rattle.std.proofs.Common.{◌≡◌}
-use Rattle.bi_norm.proofs.ReadPayloadAreas.{area_before, end_before}
-use Rattle.bi_norm.proofs.payloads.put_payloads.Given as goal
-
--- The payloads before this image were appended, and end here.
-abbrev pub invariant-loop-image : goal.invariant-loop-image
-invariant-loop-image g l =
-    g.S.Sink.appends l.initial.sink (area_before l.images l.image-index) l.sink
-    × (l.end ≡ end_before l.images l.image-index)
