@@ -9,21 +9,22 @@ use Rattle.bi_base.specs.Cells.{AreBytes, u64_at}
 use Rattle.bi_base.specs.Limits.{Limits}
 use Rattle.bi_base.specs.Errors.{IsFaultOrNoMemory}
 use Rattle.bi_blob.specs.Tree.{Root, FileNode}
-use Rattle.bi_blob.specs.Blob.{Reservation, boot_cpuid_phys, header_length, lacks_structure_size, totalsize, off_mem_rsvmap, tree_blocks}
+use Rattle.bi_blob.specs.Blob.{Reservation, boot_cpuid_phys, header_length, lacks_structure_size, totalsize, off_mem_rsvmap, strings_end, tree_blocks}
 use Rattle.bi_blob.specs.Blob.{Header, IsBlob, IsBlobWithin, reservations_at}
 use Rattle.bi_blob.specs.BlobFaults.{HasNoHeaderFault, HasReservations, IsStructureFault, IsBlobFault, InStructure}
 use Rattle.bi_blob.proofs.Blobs.Headers.{HasNoHeaderFault-Header}
 use Rattle.bi_blob.proofs.Blobs.ReservationFaults.{HasReservations-BeginsWithReservations}
 use Rattle.bi_blob.proofs.Blobs.Faults.{blob_has_no_fault, one_blob_fault, blob_of_parts}
 use Rattle.bi_fdt.specs.declared.table.Entry.{Entry}
-use Rattle.bi_fdt.specs.Table.{item_of}
+use Rattle.bi_fdt.specs.Table.{item_in}
 use Rattle.bi_fdt.specs.Reading.{IsTable, HasTable}
 use Rattle.bi_fdt.specs.Content.{root_in}
-use Rattle.bi_fdt.specs.Fields.{IsBlobHeld}
+use Rattle.bi_fdt.specs.Fields.{IsBlobHeld, HaveNameOffsets}
 use Rattle.bi_fdt.specs.ReadBlobs.{IsOnlyFault, IsReadBlob, IsBlobReadError}
 use Rattle.bi_blob.proofs.Blobs.OneBlob.{one_blob}
 use Rattle.bi_blob.proofs.Blobs.Faults.{blob_has_no_fault}
 use Rattle.bi_fdt.proofs.Parsing.{root_in-table}
+use Rattle.bi_fdt.proofs.NameOffsetsOfTables.{names_in_tree}
 
 -- What a blob that was read holds.
 
@@ -53,8 +54,16 @@ header_length-least file = elim (cases_Bool (lacks_structure_size file)) [
 ]
 
 -- The root of a table is that of the tree whose table it is.
-pub table_root : (entries : List Entry) (root : Root FileNode) → IsTable entries root → root_in (map item_of entries) ≡ root
-table_root entries root table = ap root_in table.items ∙ root_in-table root
+pub table_root : (file : List ℕ) (entries : List Entry) (root : Root FileNode) → IsTable file entries root →
+    root_in (map (item_in file) entries) ≡ root
+table_root file entries root table = ap root_in table.items ∙ root_in-table root
+
+-- The strings block is within the file.
+pub strings_within : (file : List ℕ) → Header file → strings_end file ≤ length file
+strings_within file header =
+    let total : strings_end file ≤ totalsize file = header.strings_within in
+    let within : totalsize file ≤ length file = header.file_holds_total in
+    omega arith
 
 pub is_held : (bounds : Limits) (file : List ℕ) (count : ℕ) (entries : List Entry) → HasNoHeaderFault bounds file →
     HasReservations file (off_mem_rsvmap file) (totalsize file) count → HasTable (tree_blocks file) bounds.depth entries →
@@ -66,16 +75,18 @@ is_held bounds file count entries fine has table =
     record {
       header = omega arith;
       total = header.file_holds_total;
+      strings = strings_within file header;
       reservations = has;
-      is_table = subst (IsTable entries) (sym (table_root entries table.root table.is_table)) table.is_table;
+      is_table = subst (IsTable file entries) (sym (table_root file entries table.root table.is_table)) table.is_table;
+      named = subst (HaveNameOffsets file) (sym table.is_table.items) (names_in_tree file table.root table.holds);
     }
 
 pub is_blob : (bounds : Limits) (file : List ℕ) (count : ℕ) (entries : List Entry) → AreBytes file → HasNoHeaderFault bounds file →
     HasReservations file (off_mem_rsvmap file) (totalsize file) count → HasTable (tree_blocks file) bounds.depth entries →
-    IsBlob file (boot_cpuid_phys file) (reservations_at file (off_mem_rsvmap file) count) (root_in (map item_of entries))
+    IsBlob file (boot_cpuid_phys file) (reservations_at file (off_mem_rsvmap file) count) (root_in (map (item_in file) entries))
 is_blob bounds file count entries bytes fine has table =
     let header : Header file = HasNoHeaderFault-Header bounds file fine in
-    subst (IsBlob file (boot_cpuid_phys file) (reservations_at file (off_mem_rsvmap file) count)) (sym (table_root entries table.root table.is_table)) (record {
+    subst (IsBlob file (boot_cpuid_phys file) (reservations_at file (off_mem_rsvmap file) count)) (sym (table_root file entries table.root table.is_table)) (record {
       bytes = bytes;
       header = header;
       is_cpu = refl;
@@ -97,7 +108,7 @@ pub is_read_blob : (bounds : Limits) (file : List ℕ) (count : ℕ) (entries : 
       cpu = boot_cpuid_phys file;
       total_size = totalsize file;
       reservations = reservations_at file (off_mem_rsvmap file) count;
-      table = map item_of entries;
+      table = map (item_in file) entries;
     })
 is_read_blob bounds file count entries bytes fine has table =
     let blob = is_blob bounds file count entries bytes fine has table in

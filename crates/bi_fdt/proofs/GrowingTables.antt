@@ -1,4 +1,4 @@
-use Rattle.std.proofs.Common.{◌≡◌, ℕ, zero, suc, ◌+◌, ◌-◌, ◌<◌, Some, slice_get, List, [], ◌∷◌, ◌++◌, length, map, drop, reverse, refl, sym}
+use Rattle.std.proofs.Common.{◌≡◌, ℕ, zero, suc, ◌+◌, ◌-◌, ◌<◌, ◌≤◌, Some, slice_get, List, [], ◌∷◌, ◌++◌, length, map, drop, reverse, refl, sym}
 use Rattle.std.proofs.Common.{ap, subst, ◌∙◌, arith}
 use Rattle.std.proofs.Math.ListN.{set}
 use Rattle.std.proofs.Math.Seq.{drop-append_seam}
@@ -15,9 +15,8 @@ use Rattle.bi_fdt.specs.declared.growing.OpenNode.{OpenNode}
 use Rattle.bi_fdt.specs.declared.table.Entry.{Entry}
 use Rattle.bi_fdt.specs.declared.table.Entry.TheVariants as entry
 use Rattle.bi_fdt.specs.declared.table.NodeEntry.{NodeEntry}
-use Rattle.bi_fdt.specs.declared.table.Property.{Property}
-use Rattle.bi_fdt.specs.Table.{TableItem, NodeItem, PropertyItem, count_inside, item_of, items_of, AreLinked}
-use Rattle.bi_fdt.specs.Properties.{file_property_of}
+use Rattle.bi_fdt.specs.declared.table.PropertyEntry.{PropertyEntry}
+use Rattle.bi_fdt.specs.Table.{TableItem, NodeItem, PropertyItem, count_inside, property_in, item_in, items_of, AreLinked}
 use Rattle.bi_fdt.specs.Growth.{AreOpen, IsGrowing, IsFinished, EndsInside}
 use Rattle.bi_fdt.proofs.Items.{items_of-append, open_items, node_items, items_of-open_nodes, items_of-open, inside-open, childless_items}
 use Rattle.bi_fdt.proofs.Links.{AreLinked-node, AreLinked-property, AreLinked-end, items-set, drop-push, properties_alone}
@@ -39,17 +38,18 @@ open_entry opened later children o (parent ∷ outer) are =
     ∙ ap (λ d. open_items d o) (omega arith)
 
 -- A node's entry where the items have a node.
-pub record IsNodeEntry (entries : List Entry) (index : ℕ) (item : TableItem) (items : List TableItem) : Type 0 where
+pub record IsNodeEntry (file : List ℕ) (entries : List Entry) (index : ℕ) (item : TableItem) (items : List TableItem) : Type 0 where
   pub n : NodeEntry
   pub later : List Entry
   pub is_at : drop index entries ≡ entry.Node n ∷ later
-  pub is_item : item_of (entry.Node n) ≡ item
-  pub are_items : map item_of later ≡ items
+  pub is_item : item_in file (entry.Node n) ≡ item
+  pub are_items : map (item_in file) later ≡ items
 
-pub node_entry : (entries : List Entry) (index depth place : ℕ) (name : List ℕ) (items : List TableItem) →
-    drop index (map item_of entries) ≡ NodeItem depth place name ∷ items → IsNodeEntry entries index (NodeItem depth place name) items
-node_entry entries index depth place name items at = by_rest (drop index entries) refl (sym (drop-map item_of index entries) ∙ at) where
-  by_rest : (rest : List Entry) → drop index entries ≡ rest → map item_of rest ≡ NodeItem depth place name ∷ items → IsNodeEntry entries index (NodeItem depth place name) items
+pub node_entry : (file : List ℕ) (entries : List Entry) (index depth place : ℕ) (name : List ℕ) (items : List TableItem) →
+    drop index (map (item_in file) entries) ≡ NodeItem depth place name ∷ items →
+    IsNodeEntry file entries index (NodeItem depth place name) items
+node_entry file entries index depth place name items at = by_rest (drop index entries) refl (sym (drop-map (item_in file) index entries) ∙ at) where
+  by_rest : (rest : List Entry) → drop index entries ≡ rest → map (item_in file) rest ≡ NodeItem depth place name ∷ items → IsNodeEntry file entries index (NodeItem depth place name) items
   by_rest [] is e = absurd cc
   by_rest (entry.Property p ∷ later) is e = absurd cc
   by_rest (entry.Node n ∷ later) is e = record { n = n; later = later; is_at = is; is_item = cc; are_items = cc }
@@ -66,18 +66,35 @@ abbrev pub open_rest : OpenFileNode → List OpenFileNode → List TableItem
 open_rest o outer = map PropertyItem o.properties ++ node_items (length outer + 1) o.children
 
 -- The entry of the innermost open node.
-pub innermost_entry : (growing : Growing) (o : OpenFileNode) (outer : List OpenFileNode) → IsGrowing growing o outer →
-    IsNodeEntry growing.entries.items growing.innermost.entry (NodeItem (length outer) o.place o.name) (open_rest o outer)
-innermost_entry growing o outer is =
-    node_entry growing.entries.items growing.innermost.entry (length outer) o.place o.name (open_rest o outer)
+pub innermost_entry : (file : List ℕ) (growing : Growing) (o : OpenFileNode) (outer : List OpenFileNode) → IsGrowing file growing o outer →
+    IsNodeEntry file growing.entries.items growing.innermost.entry (NodeItem (length outer) o.place o.name) (open_rest o outer)
+innermost_entry file growing o outer is =
+    node_entry file growing.entries.items growing.innermost.entry (length outer) o.place o.name (open_rest o outer)
     (ap (drop growing.innermost.entry) is.items ∙ open_entry growing.innermost (reverse growing.outer.items) (names o.children) o outer is.opened)
 
 -- It is within the table.
-pub innermost_within : (growing : Growing) (o : OpenFileNode) (outer : List OpenFileNode) → IsGrowing growing o outer →
+pub innermost_within : (file : List ℕ) (growing : Growing) (o : OpenFileNode) (outer : List OpenFileNode) → IsGrowing file growing o outer →
     growing.innermost.entry < length growing.entries.items
-innermost_within growing o outer is =
-    let e : IsNodeEntry growing.entries.items growing.innermost.entry (NodeItem (length outer) o.place o.name) (open_rest o outer) = innermost_entry growing o outer is in
+innermost_within file growing o outer is =
+    let e : IsNodeEntry file growing.entries.items growing.innermost.entry (NodeItem (length outer) o.place o.name) (open_rest o outer) = innermost_entry file growing o outer is in
     let long : growing.innermost.entry + 1 + length e.later ≡ length growing.entries.items = drop-within growing.entries.items e.later growing.innermost.entry (entry.Node e.n) e.is_at in
+    omega arith
+
+-- No more nodes are open than there are items, and so entries.
+open_nodes_few : (o : OpenFileNode) (outer : List OpenFileNode) → length outer + 1 ≤ length (items_of 0 (events_of_open_nodes o outer))
+open_nodes_few o [] = omega arith
+open_nodes_few o (parent ∷ outer) =
+    let before : List TableItem = items_of 0 (events_of_open_nodes parent outer) in
+    let rest : length outer + 1 ≤ length before = open_nodes_few parent outer in
+    let long : length (items_of 0 (events_of_open_nodes o (parent ∷ outer))) ≡ length before + length (open_items (length outer + 1) o) =
+    ap length (items_of-open_nodes o parent outer) ∙ length-append before (open_items (length outer + 1) o) in
+    omega arith
+
+pub open_nodes_within : (file : List ℕ) (growing : Growing) (o : OpenFileNode) (outer : List OpenFileNode) →
+    IsGrowing file growing o outer → length outer + 1 ≤ length growing.entries.items
+open_nodes_within file growing o outer is =
+    let most : length outer + 1 ≤ length (items_of 0 (events_of_open_nodes o outer)) = open_nodes_few o outer in
+    let long : length growing.entries.items ≡ length (items_of 0 (events_of_open_nodes o outer)) = sym (simp length-map) ∙ ap length is.items in
     omega arith
 
 -- What is at an index where a list goes on after it.
@@ -95,22 +112,22 @@ AreOpen-first a b (c ∷ later) children more name [] are same holds = absurd ar
 AreOpen-first a b later children more name (parent ∷ outer) are same holds = (same ∙ are.0, holds, are.2)
 
 -- A child begins.
-pub growing_begun : (growing grown : Growing) (o : OpenFileNode) (outer : List OpenFileNode) (name : List ℕ) (place : ℕ) (new : NodeEntry)
-    (parent : OpenNode) → IsGrowing growing o outer
+pub growing_begun : (file : List ℕ) (growing grown : Growing) (o : OpenFileNode) (outer : List OpenFileNode) (name : List ℕ)
+    (place : ℕ) (new : NodeEntry) (parent : OpenNode) → IsGrowing file growing o outer
     → grown.entries.items ≡ growing.entries.items ++ entry.Node new ∷ []
-    → item_of (entry.Node new) ≡ NodeItem (length outer + 1) place name → new.depth ≡ length outer + 1 → new.property_count ≡ 0
+    → item_in file (entry.Node new) ≡ NodeItem (length outer + 1) place name → new.depth ≡ length outer + 1 → new.property_count ≡ 0
     → grown.innermost.entry ≡ length growing.entries.items → HoldsNames grown.innermost.children []
     → grown.outer.items ≡ growing.outer.items ++ parent ∷ [] → parent.entry ≡ growing.innermost.entry
     → HoldsNames parent.children (names o.children ++ name ∷ [])
     → HoldsProperties grown.properties []
-    → IsGrowing grown (new_node name place) (o ∷ outer)
-growing_begun growing grown o outer name place new parent is entries item deep none at fresh outers same holds properties = record {
-  items = ap (map item_of) entries ∙ map-append item_of growing.entries.items (entry.Node new ∷ [])
-      ∙ ap (λ l. map item_of growing.entries.items ++ l ∷ []) item
+    → IsGrowing file grown (new_node name place) (o ∷ outer)
+growing_begun file growing grown o outer name place new parent is entries item deep none at fresh outers same holds properties = record {
+  items = ap (map (item_in file)) entries ∙ map-append (item_in file) growing.entries.items (entry.Node new ∷ [])
+      ∙ ap (λ l. map (item_in file) growing.entries.items ++ l ∷ []) item
       ∙ ap (λ l. l ++ NodeItem (length outer + 1) place name ∷ []) is.items
       ∙ sym (items_of-open_nodes (new_node name place) o outer);
-  linked = subst (λ n. AreLinked n 0 grown.entries.items) (more (length outer)) (subst (AreLinked (length outer + 1 + 1) 0) (sym entries)
-      (AreLinked-node (length outer + 1) 0 growing.entries.items new deep none is.linked));
+  linked = subst (λ n. AreLinked file n 0 grown.entries.items) (more (length outer)) (subst (AreLinked file (length outer + 1 + 1) 0) (sym entries)
+      (AreLinked-node file (length outer + 1) 0 growing.entries.items new deep none is.linked));
   opened = subst (λ l. AreOpen (grown.innermost ∷ l) [] name (o ∷ outer)) (sym (ap reverse outers ∙ reverse-append growing.outer.items (parent ∷ []))) (
     at ∙ sym (simp length-map) ∙ ap length is.items,
     fresh,
@@ -122,16 +139,17 @@ growing_begun growing grown o outer name place new parent is entries item deep n
   more n = omega arith
 
 -- A property of the innermost open node, which has no child.
-pub growing_property : (growing grown : Growing) (o : OpenFileNode) (outer : List OpenFileNode) (p : Property) → IsGrowing growing o outer →
+pub growing_property : (file : List ℕ) (growing grown : Growing) (o : OpenFileNode) (outer : List OpenFileNode) (p : PropertyEntry) →
+    IsGrowing file growing o outer →
     names o.children ≡ []
     → ((n : NodeEntry) → slice_get (growing.entries.items ++ entry.Property p ∷ []) growing.innermost.entry ≡ Some (entry.Node n)
     → grown.entries.items ≡ set (growing.entries.items ++ entry.Property p ∷ []) growing.innermost.entry
     (entry.Node (record n { property_count = length (growing.entries.items ++ entry.Property p ∷ []) - growing.innermost.entry - 1 })))
     → grown.innermost ≡ growing.innermost → grown.outer ≡ growing.outer
-    → HoldsProperties grown.properties (map (λ (q : FileProperty). q.name) o.properties ++ p.name.now ∷ [])
-    → IsGrowing grown (with_one_property o (file_property_of p)) outer
-growing_property growing grown o outer p is childless entries same same_outer holds =
-    let found : IsNodeEntry growing.entries.items growing.innermost.entry (NodeItem (length outer) o.place o.name) (open_rest o outer) = innermost_entry growing o outer is in
+    → HoldsProperties grown.properties (map (λ (q : FileProperty). q.name) o.properties ++ (property_in file p).name ∷ [])
+    → IsGrowing file grown (with_one_property o (property_in file p)) outer
+growing_property file growing grown o outer p is childless entries same same_outer holds =
+    let found : IsNodeEntry file growing.entries.items growing.innermost.entry (NodeItem (length outer) o.place o.name) (open_rest o outer) = innermost_entry file growing o outer is in
     let pushed : drop growing.innermost.entry (growing.entries.items ++ entry.Property p ∷ []) ≡ entry.Node found.n ∷ (found.later ++ entry.Property p ∷ []) =
     drop-push growing.entries.items found.later growing.innermost.entry found.n (entry.Property p) found.is_at in
     let count : ℕ = length (growing.entries.items ++ entry.Property p ∷ []) - growing.innermost.entry - 1 in
@@ -141,35 +159,36 @@ growing_property growing grown o outer p is childless entries same same_outer ho
     let long : growing.innermost.entry + 1 + length found.later ≡ length growing.entries.items = drop-within growing.entries.items found.later growing.innermost.entry (entry.Node found.n) found.is_at in
     let longer : length (growing.entries.items ++ entry.Property p ∷ []) ≡ length growing.entries.items + 1 = length-append growing.entries.items (entry.Property p ∷ []) in
     let deep : found.n.depth ≡ length outer = item_depth found.is_item in
-    let rest : map item_of found.later ≡ map PropertyItem o.properties = found.are_items ∙ childless_items (length outer) o childless in
+    let rest : map (item_in file) found.later ≡ map PropertyItem o.properties = found.are_items ∙ childless_items (length outer) o childless in
     record {
-      items = ap (map item_of) written
-          ∙ items-set (growing.entries.items ++ entry.Property p ∷ []) (found.later ++ entry.Property p ∷ []) growing.innermost.entry found.n m pushed refl
-          ∙ map-append item_of growing.entries.items (entry.Property p ∷ [])
-          ∙ ap (λ l. l ++ PropertyItem (file_property_of p) ∷ []) is.items
-          ∙ sym (items_of-append 0 (events_of_open_nodes o outer) (FileNodeProperty (file_property_of p) ∷ []))
-          ∙ ap (items_of 0) (sym (events_of_open_nodes-property o outer (file_property_of p) childless));
-      linked = subst (AreLinked (length outer + 1) 0) (sym written)
-          (AreLinked-property (length outer + 1) 0 growing.entries.items found.later growing.innermost.entry found.n m p found.is_at (ap (λ d. d + 1) deep)
+      items = ap (map (item_in file)) written
+          ∙ items-set file (growing.entries.items ++ entry.Property p ∷ []) (found.later ++ entry.Property p ∷ []) growing.innermost.entry found.n m pushed refl
+          ∙ map-append (item_in file) growing.entries.items (entry.Property p ∷ [])
+          ∙ ap (λ l. l ++ PropertyItem (property_in file p) ∷ []) is.items
+          ∙ sym (items_of-append 0 (events_of_open_nodes o outer) (FileNodeProperty (property_in file p) ∷ []))
+          ∙ ap (items_of 0) (sym (events_of_open_nodes-property o outer (property_in file p) childless));
+      linked = subst (AreLinked file (length outer + 1) 0) (sym written)
+          (AreLinked-property file (length outer + 1) 0 growing.entries.items found.later growing.innermost.entry found.n m p found.is_at (ap (λ d. d + 1) deep)
           (subst AreOnlyProperties (sym rest) (properties_alone o.properties)) refl refl (omega arith) is.linked);
       opened = subst (λ a. AreOpen (a ∷ reverse grown.outer.items) (names o.children) o.name outer) (sym same)
           (subst (λ l. AreOpen (growing.innermost ∷ reverse l.items) (names o.children) o.name outer) (sym same_outer) is.opened);
-      properties = λ _. subst (HoldsProperties grown.properties) (sym (map_push (λ (q : FileProperty). q.name) o.properties (file_property_of p))) holds;
+      properties = λ _. subst (HoldsProperties grown.properties) (sym (map_push (λ (q : FileProperty). q.name) o.properties (property_in file p))) holds;
     } where
       item_depth : {a b : ℕ} {x y : ℕ} {k l : List ℕ} → NodeItem a x k ≡ NodeItem b y l → a ≡ b
       item_depth e = cc
 
 -- The innermost open node ends.
-pub growing_ended : (growing grown : Growing) (o : OpenFileNode) (outer : List OpenFileNode) (parent : OpenNode) → IsGrowing growing o outer
+pub growing_ended : (file : List ℕ) (growing grown : Growing) (o : OpenFileNode) (outer : List OpenFileNode) (parent : OpenNode) →
+    IsGrowing file growing o outer
     → ((n : NodeEntry) → slice_get growing.entries.items growing.innermost.entry ≡ Some (entry.Node n)
     → grown.entries.items ≡ set growing.entries.items growing.innermost.entry
     (entry.Node (record n { after = length growing.entries.items })))
     → growing.outer.items ≡ grown.outer.items ++ parent ∷ [] → grown.innermost ≡ parent
-    → EndsInside grown o outer
-growing_ended growing grown o [] parent is entries outers same =
+    → EndsInside file grown o outer
+growing_ended file growing grown o [] parent is entries outers same =
     absurd (subst (λ l. AreOpen (growing.innermost ∷ l) (names o.children) o.name []) (ap reverse outers ∙ reverse-append grown.outer.items (parent ∷ [])) is.opened)
-growing_ended growing grown o (up ∷ outer) parent is entries outers same =
-    let found : IsNodeEntry growing.entries.items growing.innermost.entry (NodeItem (length (up ∷ outer)) o.place o.name) (open_rest o (up ∷ outer)) = innermost_entry growing o (up ∷ outer) is in
+growing_ended file growing grown o (up ∷ outer) parent is entries outers same =
+    let found : IsNodeEntry file growing.entries.items growing.innermost.entry (NodeItem (length (up ∷ outer)) o.place o.name) (open_rest o (up ∷ outer)) = innermost_entry file growing o (up ∷ outer) is in
     let m : NodeEntry = record found.n { after = length growing.entries.items } in
     let written : grown.entries.items ≡ set growing.entries.items growing.innermost.entry (entry.Node m) =
     entries found.n (get_at growing.entries.items found.later growing.innermost.entry (entry.Node found.n) found.is_at) in
@@ -177,14 +196,14 @@ growing_ended growing grown o (up ∷ outer) parent is entries outers same =
     let opened : AreOpen (growing.innermost ∷ (parent ∷ reverse grown.outer.items)) (names o.children) o.name (up ∷ outer) =
     subst (λ l. AreOpen (growing.innermost ∷ l) (names o.children) o.name (up ∷ outer)) (ap reverse outers ∙ reverse-append grown.outer.items (parent ∷ [])) is.opened in
     record {
-      items = ap (map item_of) written
-          ∙ items-set growing.entries.items found.later growing.innermost.entry found.n m found.is_at refl
+      items = ap (map (item_in file)) written
+          ∙ items-set file growing.entries.items found.later growing.innermost.entry found.n m found.is_at refl
           ∙ is.items
           ∙ sym (append-nil (items_of 0 (events_of_open_nodes o (up ∷ outer))))
           ∙ sym (items_of-append 0 (events_of_open_nodes o (up ∷ outer)) (FileNodeEnd ∷ []))
           ∙ ap (items_of 0) (sym (events_of_open_nodes-child up o outer));
-      linked = subst (λ n. AreLinked n 0 grown.entries.items) (fewer (length outer)) (subst (AreLinked (suc (length outer)) 0) (sym written)
-          (AreLinked-end (suc (length outer)) 0 (length growing.entries.items) growing.entries.items found.later growing.innermost.entry found.n m found.is_at deep
+      linked = subst (λ n. AreLinked file n 0 grown.entries.items) (fewer (length outer)) (subst (AreLinked file (suc (length outer)) 0) (sym written)
+          (AreLinked-end file (suc (length outer)) 0 (length growing.entries.items) growing.entries.items found.later growing.innermost.entry found.n m found.is_at deep
           (ap (count_inside found.n.depth) found.are_items ∙ ap (λ d. count_inside d (open_rest o (up ∷ outer))) deep ∙ inside-open (suc (length outer)) o ∙ ap length (sym found.are_items))
           refl refl refl refl (omega arith) is.linked));
       opened = subst (λ a. AreOpen (a ∷ reverse grown.outer.items) (names (with_one_child up o).children) up.name outer) (sym same)
@@ -202,28 +221,29 @@ growing_ended growing grown o (up ∷ outer) parent is entries outers same =
       some (m ∷ ns) n e = cc
 
 -- The root ends.
-pub growing_finished : (growing : Growing) (entries : List Entry) (o : OpenFileNode) (outer : List OpenFileNode) → IsGrowing growing o outer
+pub growing_finished : (file : List ℕ) (growing : Growing) (entries : List Entry) (o : OpenFileNode) (outer : List OpenFileNode) →
+    IsGrowing file growing o outer
     → ((n : NodeEntry) → slice_get growing.entries.items growing.innermost.entry ≡ Some (entry.Node n)
     → entries ≡ set growing.entries.items growing.innermost.entry (entry.Node (record n { after = length growing.entries.items })))
     → growing.outer.items ≡ []
-    → (outer ≡ []) × IsFinished entries o
-growing_finished growing entries o (up ∷ outer) is written none =
+    → (outer ≡ []) × IsFinished file entries o
+growing_finished file growing entries o (up ∷ outer) is written none =
     let opened : AreOpen (growing.innermost ∷ []) (names o.children) o.name (up ∷ outer) =
     subst (λ l. AreOpen (growing.innermost ∷ reverse l) (names o.children) o.name (up ∷ outer)) none is.opened in
     absurd opened.2
-growing_finished growing entries o [] is written none =
-    let found : IsNodeEntry growing.entries.items growing.innermost.entry (NodeItem 0 o.place o.name) (open_rest o []) = innermost_entry growing o [] is in
+growing_finished file growing entries o [] is written none =
+    let found : IsNodeEntry file growing.entries.items growing.innermost.entry (NodeItem 0 o.place o.name) (open_rest o []) = innermost_entry file growing o [] is in
     let m : NodeEntry = record found.n { after = length growing.entries.items } in
     let same : entries ≡ set growing.entries.items growing.innermost.entry (entry.Node m) =
     written found.n (get_at growing.entries.items found.later growing.innermost.entry (entry.Node found.n) found.is_at) in
     let deep : found.n.depth ≡ 0 = item_depth found.is_item in (
       refl,
       record {
-        items = ap (map item_of) same
-            ∙ items-set growing.entries.items found.later growing.innermost.entry found.n m found.is_at refl
+        items = ap (map (item_in file)) same
+            ∙ items-set file growing.entries.items found.later growing.innermost.entry found.n m found.is_at refl
             ∙ is.items;
-        linked = subst (AreLinked 0 0) (sym same)
-            (AreLinked-end 0 0 (length growing.entries.items) growing.entries.items found.later growing.innermost.entry found.n m found.is_at deep
+        linked = subst (AreLinked file 0 0) (sym same)
+            (AreLinked-end file 0 0 (length growing.entries.items) growing.entries.items found.later growing.innermost.entry found.n m found.is_at deep
             (ap (count_inside found.n.depth) found.are_items ∙ ap (λ d. count_inside d (open_rest o [])) deep ∙ inside-open 0 o ∙ ap length (sym found.are_items))
             refl refl refl refl (omega arith) is.linked);
       },

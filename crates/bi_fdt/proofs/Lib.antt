@@ -9,6 +9,13 @@ pub mod GrowingTables
 pub mod TokenSteps
 pub mod RootSteps
 pub mod Parsing
+pub mod NameOffsetsOfTables
 pub mod BlobViews
 pub mod NodeEntries
 pub mod NodeViews
+pub mod NumberedTables
+pub mod NameParts
+pub mod NameTails
+pub mod NumberedNames
+pub mod NameTables
+pub mod KeptNumbers

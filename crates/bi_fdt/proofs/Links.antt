@@ -8,9 +8,8 @@ use Rattle.bi_blob.specs.Tree.{FileProperty}
 use Rattle.bi_fdt.specs.declared.table.Entry.{Entry}
 use Rattle.bi_fdt.specs.declared.table.Entry.TheVariants as entry
 use Rattle.bi_fdt.specs.declared.table.NodeEntry.{NodeEntry}
-use Rattle.bi_fdt.specs.declared.table.Property.{Property}
-use Rattle.bi_fdt.specs.Table.{TableItem, NodeItem, PropertyItem, first_properties, count_inside, item_of, IsLinked, AreLinked}
-use Rattle.bi_fdt.specs.Properties.{file_property_of}
+use Rattle.bi_fdt.specs.declared.table.PropertyEntry.{PropertyEntry}
+use Rattle.bi_fdt.specs.Table.{TableItem, NodeItem, PropertyItem, first_properties, count_inside, node_name_in, property_in, item_in, IsLinked, AreLinked}
 use Rattle.bi_fdt.proofs.Items.{inside-deeper, inside-stops}
 
 -- The numbers of the entries of a table while it grows.
@@ -112,10 +111,11 @@ inside-properties_all depth (PropertyItem q ∷ items) all =
     let rest : count_inside depth items ≡ length items = inside-properties_all depth items (omega arith) in omega arith
 inside-properties_all depth (NodeItem own place name ∷ items) all = absurd (omega arith)
 
-AreLinked-properties : (opened at : ℕ) (entries : List Entry) → AreOnlyProperties (map item_of entries) → AreLinked opened at entries
-AreLinked-properties opened at [] all = tt
-AreLinked-properties opened at (entry.Property p ∷ entries) all = AreLinked-properties opened (at + 1) entries (omega arith)
-AreLinked-properties opened at (entry.Node n ∷ entries) all = absurd (omega arith)
+AreLinked-properties : (file : List ℕ) (opened at : ℕ) (entries : List Entry) → AreOnlyProperties (map (item_in file) entries) →
+    AreLinked file opened at entries
+AreLinked-properties file opened at [] all = tt
+AreLinked-properties file opened at (entry.Property p ∷ entries) all = AreLinked-properties file opened (at + 1) entries (omega arith)
+AreLinked-properties file opened at (entry.Node n ∷ entries) all = absurd (omega arith)
 
 -- What follows an entry after one more at the end.
 pub drop-push : (entries later : List Entry) (index : ℕ) (n : NodeEntry) (new : Entry) → drop index entries ≡ entry.Node n ∷ later →
@@ -134,10 +134,11 @@ item-at (e ∷ entries) later zero n d at = cc
 item-at (e ∷ entries) later (suc index) n d at = item-at entries later index n d at
 
 -- Another number in a node's entry changes no item.
-pub items-set : (entries later : List Entry) (index : ℕ) (n m : NodeEntry) → drop index entries ≡ entry.Node n ∷ later →
-    item_of (entry.Node m) ≡ item_of (entry.Node n) → map item_of (set entries index (entry.Node m)) ≡ map item_of entries
-items-set entries later index n m at same =
-    map-set_same item_of entries index (entry.Node m) (entry.Node m) (same ∙ sym (ap item_of (item-at entries later index n (entry.Node m) at)))
+pub items-set : (file : List ℕ) (entries later : List Entry) (index : ℕ) (n m : NodeEntry) → drop index entries ≡ entry.Node n ∷ later →
+    item_in file (entry.Node m) ≡ item_in file (entry.Node n) →
+    map (item_in file) (set entries index (entry.Node m)) ≡ map (item_in file) entries
+items-set file entries later index n m at same =
+    map-set_same (item_in file) entries index (entry.Node m) (entry.Node m) (same ∙ sym (ap (item_in file) (item-at entries later index n (entry.Node m) at)))
 
 -- The numbers of a node fit still after one more item that is neither its property nor inside it.
 link-same : (opened at : ℕ) (n : NodeEntry) (items : List TableItem) (item : TableItem) →
@@ -178,123 +179,125 @@ link-node opened at n items place name linked =
     ]
 
 -- The numbers of a table fit still after a node at the end that opens.
-pub AreLinked-node : (opened at : ℕ) (entries : List Entry) (new : NodeEntry) → new.depth ≡ opened → new.property_count ≡ 0 →
-    AreLinked opened at entries → AreLinked (opened + 1) at (entries ++ entry.Node new ∷ [])
-AreLinked-node opened at [] new deep none linked = (
+pub AreLinked-node : (file : List ℕ) (opened at : ℕ) (entries : List Entry) (new : NodeEntry) → new.depth ≡ opened →
+    new.property_count ≡ 0 → AreLinked file opened at entries → AreLinked file (opened + 1) at (entries ++ entry.Node new ∷ [])
+AreLinked-node file opened at [] new deep none linked = (
   record { count = none; before_end = λ (within : 0 < 0). absurd (omega arith); at_end = λ closed. absurd (omega arith) },
   tt,
 )
-AreLinked-node opened at (entry.Property p ∷ entries) new deep none linked = AreLinked-node opened (at + 1) entries new deep none linked
-AreLinked-node opened at (entry.Node n ∷ entries) new deep none linked = (
-  subst (IsLinked (opened + 1) at n) (sym (map-append item_of entries (entry.Node new ∷ [])))
-      (subst (λ d. IsLinked (opened + 1) at n (map item_of entries ++ NodeItem d new.place new.name.now ∷ [])) (sym deep)
-      (link-node opened at n (map item_of entries) new.place new.name.now linked.0)),
-  AreLinked-node opened (at + 1) entries new deep none linked.1,
+AreLinked-node file opened at (entry.Property p ∷ entries) new deep none linked = AreLinked-node file opened (at + 1) entries new deep none linked
+AreLinked-node file opened at (entry.Node n ∷ entries) new deep none linked = (
+  subst (IsLinked (opened + 1) at n) (sym (map-append (item_in file) entries (entry.Node new ∷ [])))
+      (subst (λ d. IsLinked (opened + 1) at n (map (item_in file) entries ++ NodeItem d new.place (node_name_in file new) ∷ [])) (sym deep)
+      (link-node opened at n (map (item_in file) entries) new.place (node_name_in file new) linked.0)),
+  AreLinked-node file opened (at + 1) entries new deep none linked.1,
 )
 
 -- The numbers of a table fit still after one more property of its innermost open node, which has no child, where this is
 -- counted.
-pub AreLinked-property : (opened at : ℕ) (entries later : List Entry) (index : ℕ) (n m : NodeEntry) (p : Property) →
-    drop index entries ≡ entry.Node n ∷ later → n.depth + 1 ≡ opened → AreOnlyProperties (map item_of later) → m.depth ≡ n.depth →
-    item_of (entry.Node m) ≡ item_of (entry.Node n) → m.property_count ≡ length later + 1 → AreLinked opened at entries →
-    AreLinked opened at (set (entries ++ entry.Property p ∷ []) index (entry.Node m))
-AreLinked-property opened at [] later zero n m p here deep all same same_item counted linked = absurd cc
-AreLinked-property opened at [] later (suc index) n m p here deep all same same_item counted linked = absurd cc
-AreLinked-property opened at (e ∷ entries) later zero n m p here deep all same same_item counted linked =
+pub AreLinked-property : (file : List ℕ) (opened at : ℕ) (entries later : List Entry) (index : ℕ) (n m : NodeEntry) (p : PropertyEntry) →
+    drop index entries ≡ entry.Node n ∷ later → n.depth + 1 ≡ opened → AreOnlyProperties (map (item_in file) later) → m.depth ≡ n.depth →
+    item_in file (entry.Node m) ≡ item_in file (entry.Node n) → m.property_count ≡ length later + 1 → AreLinked file opened at entries →
+    AreLinked file opened at (set (entries ++ entry.Property p ∷ []) index (entry.Node m))
+AreLinked-property file opened at [] later zero n m p here deep all same same_item counted linked = absurd cc
+AreLinked-property file opened at [] later (suc index) n m p here deep all same same_item counted linked = absurd cc
+AreLinked-property file opened at (e ∷ entries) later zero n m p here deep all same same_item counted linked =
     let rest : entries ≡ later = cc in
-    let long : length (map item_of later) ≡ length later = simp length-map in
-    let pushed : map item_of (entries ++ entry.Property p ∷ []) ≡ map item_of later ++ PropertyItem (file_property_of p) ∷ [] =
-    ap (λ l. map item_of (l ++ entry.Property p ∷ [])) rest ∙ map-append item_of later (entry.Property p ∷ []) in
-    let more : length (first_properties (map item_of later ++ PropertyItem (file_property_of p) ∷ [])) ≡ length (map item_of later) + 1 =
-    first-property (map item_of later) (file_property_of p) all in
-    let longer : length (map item_of later ++ PropertyItem (file_property_of p) ∷ []) ≡ length (map item_of later) + 1 =
-    length-append (map item_of later) (PropertyItem (file_property_of p) ∷ []) in
-    let every : AreOnlyProperties (map item_of later ++ PropertyItem (file_property_of p) ∷ []) = omega arith in
-    let inside : count_inside m.depth (map item_of later ++ PropertyItem (file_property_of p) ∷ []) ≡ length (map item_of later ++ PropertyItem (file_property_of p) ∷ []) =
-    inside-properties_all m.depth (map item_of later ++ PropertyItem (file_property_of p) ∷ []) every in (
+    let long : length (map (item_in file) later) ≡ length later = simp length-map in
+    let pushed : map (item_in file) (entries ++ entry.Property p ∷ []) ≡ map (item_in file) later ++ PropertyItem (property_in file p) ∷ [] =
+    ap (λ l. map (item_in file) (l ++ entry.Property p ∷ [])) rest ∙ map-append (item_in file) later (entry.Property p ∷ []) in
+    let more : length (first_properties (map (item_in file) later ++ PropertyItem (property_in file p) ∷ [])) ≡ length (map (item_in file) later) + 1 =
+    first-property (map (item_in file) later) (property_in file p) all in
+    let longer : length (map (item_in file) later ++ PropertyItem (property_in file p) ∷ []) ≡ length (map (item_in file) later) + 1 =
+    length-append (map (item_in file) later) (PropertyItem (property_in file p) ∷ []) in
+    let every : AreOnlyProperties (map (item_in file) later ++ PropertyItem (property_in file p) ∷ []) = omega arith in
+    let inside : count_inside m.depth (map (item_in file) later ++ PropertyItem (property_in file p) ∷ []) ≡ length (map (item_in file) later ++ PropertyItem (property_in file p) ∷ []) =
+    inside-properties_all m.depth (map (item_in file) later ++ PropertyItem (property_in file p) ∷ []) every in (
       subst (IsLinked opened at m) (sym pushed) (record {
         count = omega arith;
         before_end = λ within. absurd (omega arith);
         at_end = λ closed. absurd (omega arith);
       }),
-      AreLinked-properties opened (at + 1) (entries ++ entry.Property p ∷ []) (subst AreOnlyProperties (sym pushed) every),
+      AreLinked-properties file opened (at + 1) (entries ++ entry.Property p ∷ []) (subst AreOnlyProperties (sym pushed) every),
     )
-AreLinked-property opened at (entry.Property q ∷ entries) later (suc index) n m p here deep all same same_item counted linked =
-    AreLinked-property opened (at + 1) entries later index n m p here deep all same same_item counted linked
-AreLinked-property opened at (entry.Node o ∷ entries) later (suc index) n m p here deep all same same_item counted linked =
-    let new : TableItem = PropertyItem (file_property_of p) in
-    let there : drop index (map item_of entries) ≡ NodeItem n.depth n.place n.name.now ∷ map item_of later =
-    drop-map item_of index entries ∙ ap (map item_of) here in
+AreLinked-property file opened at (entry.Property q ∷ entries) later (suc index) n m p here deep all same same_item counted linked =
+    AreLinked-property file opened (at + 1) entries later index n m p here deep all same same_item counted linked
+AreLinked-property file opened at (entry.Node o ∷ entries) later (suc index) n m p here deep all same same_item counted linked =
+    let new : TableItem = PropertyItem (property_in file p) in
+    let there : drop index (map (item_in file) entries) ≡ NodeItem n.depth n.place (node_name_in file n) ∷ map (item_in file) later =
+    drop-map (item_in file) index entries ∙ ap (map (item_in file)) here in
     let inner : drop index (entries ++ entry.Property p ∷ []) ≡ entry.Node n ∷ (later ++ entry.Property p ∷ []) = drop-push entries later index n (entry.Property p) here in
-    let items : map item_of (set (entries ++ entry.Property p ∷ []) index (entry.Node m)) ≡ map item_of entries ++ new ∷ [] =
-    items-set (entries ++ entry.Property p ∷ []) (later ++ entry.Property p ∷ []) index n m inner same_item ∙ map-append item_of entries (entry.Property p ∷ []) in
-    let first : first_properties (map item_of entries ++ new ∷ []) ≡ first_properties (map item_of entries) =
-    first-after_node (map item_of entries) (map item_of later) index n.depth n.place n.name.now (file_property_of p) there in (
-      subst (IsLinked opened at o) (sym items) (by_end (map item_of entries) (map item_of later) index linked.0 first there),
-      AreLinked-property opened (at + 1) entries later index n m p here deep all same same_item counted linked.1,
+    let items : map (item_in file) (set (entries ++ entry.Property p ∷ []) index (entry.Node m)) ≡ map (item_in file) entries ++ new ∷ [] =
+    items-set file (entries ++ entry.Property p ∷ []) (later ++ entry.Property p ∷ []) index n m inner same_item ∙ map-append (item_in file) entries (entry.Property p ∷ []) in
+    let first : first_properties (map (item_in file) entries ++ new ∷ []) ≡ first_properties (map (item_in file) entries) =
+    first-after_node (map (item_in file) entries) (map (item_in file) later) index n.depth n.place (node_name_in file n) (property_in file p) there in (
+      subst (IsLinked opened at o) (sym items) (by_end (map (item_in file) entries) (map (item_in file) later) index linked.0 first there),
+      AreLinked-property file opened (at + 1) entries later index n m p here deep all same same_item counted linked.1,
     ) where
-      by_end : (items later : List TableItem) (index : ℕ) → IsLinked opened at o items → first_properties (items ++ PropertyItem (file_property_of p) ∷ []) ≡ first_properties items → drop index items ≡ NodeItem n.depth n.place n.name.now ∷ later → IsLinked opened at o (items ++ PropertyItem (file_property_of p) ∷ [])
+      by_end : (items later : List TableItem) (index : ℕ) → IsLinked opened at o items → first_properties (items ++ PropertyItem (property_in file p) ∷ []) ≡ first_properties items → drop index items ≡ NodeItem n.depth n.place (node_name_in file n) ∷ later → IsLinked opened at o (items ++ PropertyItem (property_in file p) ∷ [])
       by_end items later index linked first there =
           let most : count_inside o.depth items ≤ length items = inside-most o.depth items in
-          let longer : length (items ++ PropertyItem (file_property_of p) ∷ []) ≡ length items + 1 = length-append items (PropertyItem (file_property_of p) ∷ []) in
+          let longer : length (items ++ PropertyItem (property_in file p) ∷ []) ≡ length items + 1 = length-append items (PropertyItem (property_in file p) ∷ []) in
           elim (cases_lt (count_inside o.depth items) (length items)) [
-            | inl some ↦ link-same opened at o items (PropertyItem (file_property_of p)) first some linked
+            | inl some ↦ link-same opened at o items (PropertyItem (property_in file p)) first some linked
             | inr every ↦ (
-                let inside : count_inside o.depth (items ++ PropertyItem (file_property_of p) ∷ []) ≡ length items + count_inside o.depth (PropertyItem (file_property_of p) ∷ []) =
-                inside-all o.depth items (PropertyItem (file_property_of p) ∷ []) (omega arith) in
+                let inside : count_inside o.depth (items ++ PropertyItem (property_in file p) ∷ []) ≡ length items + count_inside o.depth (PropertyItem (property_in file p) ∷ []) =
+                inside-all o.depth items (PropertyItem (property_in file p) ∷ []) (omega arith) in
                 record {
                   count = linked.count ∙ ap length (sym first);
                   before_end = λ within. absurd (omega arith);
-                  at_end = λ closed. (let some : count_inside o.depth items < length items = inside-some o.depth n.depth n.place n.name.now index items later there (omega arith) in absurd (omega arith));
+                  at_end = λ closed. (let some : count_inside o.depth items < length items = inside-some o.depth n.depth n.place (node_name_in file n) index items later there (omega arith) in absurd (omega arith));
                 })
           ]
 
 -- Where all entries are deeper than a depth, their numbers fit with one open node fewer.
-lower : (depth at : ℕ) (entries : List Entry) → count_inside depth (map item_of entries) ≡ length (map item_of entries) →
-    AreLinked (depth + 1) at entries → AreLinked depth at entries
-lower depth at [] all linked = tt
-lower depth at (entry.Property p ∷ entries) all linked = lower depth (at + 1) entries (omega arith) linked
-lower depth at (entry.Node n ∷ entries) all linked =
+lower : (file : List ℕ) (depth at : ℕ) (entries : List Entry) →
+    count_inside depth (map (item_in file) entries) ≡ length (map (item_in file) entries) →
+    AreLinked file (depth + 1) at entries → AreLinked file depth at entries
+lower file depth at [] all linked = tt
+lower file depth at (entry.Property p ∷ entries) all linked = lower file depth (at + 1) entries (omega arith) linked
+lower file depth at (entry.Node n ∷ entries) all linked =
     elim (cases_lt depth n.depth) [
-      | inl deeper ↦ (let e : count_inside depth (NodeItem n.depth n.place n.name.now ∷ map item_of entries) ≡ count_inside depth (map item_of entries) + 1 = inside-deeper depth n.depth n.place n.name.now (map item_of entries) deeper in (
+      | inl deeper ↦ (let e : count_inside depth (NodeItem n.depth n.place (node_name_in file n) ∷ map (item_in file) entries) ≡ count_inside depth (map (item_in file) entries) + 1 = inside-deeper depth n.depth n.place (node_name_in file n) (map (item_in file) entries) deeper in (
         record { count = linked.0.count; before_end = linked.0.before_end; at_end = λ _. linked.0.at_end (omega arith) },
-        lower depth (at + 1) entries (omega arith) linked.1,
+        lower file depth (at + 1) entries (omega arith) linked.1,
       ))
-      | inr stops ↦ (let e : count_inside depth (NodeItem n.depth n.place n.name.now ∷ map item_of entries) ≡ 0 = inside-stops depth n.depth n.place n.name.now (map item_of entries) stops in absurd (omega arith))
+      | inr stops ↦ (let e : count_inside depth (NodeItem n.depth n.place (node_name_in file n) ∷ map (item_in file) entries) ≡ 0 = inside-stops depth n.depth n.place (node_name_in file n) (map (item_in file) entries) stops in absurd (omega arith))
     ]
 
 -- The numbers of a table fit still after its innermost open node has ended.
-pub AreLinked-end : (opened at total : ℕ) (entries later : List Entry) (index : ℕ) (n m : NodeEntry) →
-    drop index entries ≡ entry.Node n ∷ later → n.depth ≡ opened → count_inside n.depth (map item_of later) ≡ length (map item_of later) →
-    m.depth ≡ n.depth → item_of (entry.Node m) ≡ item_of (entry.Node n) → m.property_count ≡ n.property_count → m.after ≡ total →
-    total ≡ at + length entries → AreLinked (opened + 1) at entries → AreLinked opened at (set entries index (entry.Node m))
-AreLinked-end opened at total [] later zero n m here deep all same same_item same_count after end linked = absurd cc
-AreLinked-end opened at total [] later (suc index) n m here deep all same same_item same_count after end linked = absurd cc
-AreLinked-end opened at total (e ∷ entries) later zero n m here deep all same same_item same_count after end linked =
+pub AreLinked-end : (file : List ℕ) (opened at total : ℕ) (entries later : List Entry) (index : ℕ) (n m : NodeEntry) →
+    drop index entries ≡ entry.Node n ∷ later → n.depth ≡ opened →
+    count_inside n.depth (map (item_in file) later) ≡ length (map (item_in file) later) →
+    m.depth ≡ n.depth → item_in file (entry.Node m) ≡ item_in file (entry.Node n) → m.property_count ≡ n.property_count → m.after ≡ total →
+    total ≡ at + length entries → AreLinked file (opened + 1) at entries → AreLinked file opened at (set entries index (entry.Node m))
+AreLinked-end file opened at total [] later zero n m here deep all same same_item same_count after end linked = absurd cc
+AreLinked-end file opened at total [] later (suc index) n m here deep all same same_item same_count after end linked = absurd cc
+AreLinked-end file opened at total (e ∷ entries) later zero n m here deep all same same_item same_count after end linked =
     let rest : entries ≡ later = cc in
     let first : e ≡ entry.Node n = cc in
-    let whole : AreLinked (opened + 1) at (entry.Node n ∷ later) = subst (AreLinked (opened + 1) at) here linked in
-    let long : length (map item_of later) ≡ length later = simp length-map in
+    let whole : AreLinked file (opened + 1) at (entry.Node n ∷ later) = subst (AreLinked file (opened + 1) at) here linked in
+    let long : length (map (item_in file) later) ≡ length later = simp length-map in
     let same_long : length entries ≡ length later = ap length rest in
-    let inside : count_inside m.depth (map item_of later) ≡ length (map item_of later) = ap (λ d. count_inside d (map item_of later)) same ∙ all in
-    let inside_opened : count_inside opened (map item_of later) ≡ length (map item_of later) = ap (λ d. count_inside d (map item_of later)) (sym deep) ∙ all in
-    subst (λ l. AreLinked opened at (entry.Node m ∷ l)) (sym rest) (
+    let inside : count_inside m.depth (map (item_in file) later) ≡ length (map (item_in file) later) = ap (λ d. count_inside d (map (item_in file) later)) same ∙ all in
+    let inside_opened : count_inside opened (map (item_in file) later) ≡ length (map (item_in file) later) = ap (λ d. count_inside d (map (item_in file) later)) (sym deep) ∙ all in
+    subst (λ l. AreLinked file opened at (entry.Node m ∷ l)) (sym rest) (
       record {
         count = same_count ∙ whole.0.count;
         before_end = λ within. absurd (omega arith);
         at_end = λ _. omega arith;
       },
-      lower opened (at + 1) later inside_opened whole.1,
+      lower file opened (at + 1) later inside_opened whole.1,
     )
-AreLinked-end opened at total (entry.Property q ∷ entries) later (suc index) n m here deep all same same_item same_count after end linked =
-    AreLinked-end opened (at + 1) total entries later index n m here deep all same same_item same_count after (omega arith) linked
-AreLinked-end opened at total (entry.Node o ∷ entries) later (suc index) n m here deep all same same_item same_count after end linked =
-    let there : drop index (map item_of entries) ≡ NodeItem n.depth n.place n.name.now ∷ map item_of later =
-    drop-map item_of index entries ∙ ap (map item_of) here in (
-      subst (IsLinked opened at o) (sym (items-set entries later index n m here same_item)) (record {
+AreLinked-end file opened at total (entry.Property q ∷ entries) later (suc index) n m here deep all same same_item same_count after end linked =
+    AreLinked-end file opened (at + 1) total entries later index n m here deep all same same_item same_count after (omega arith) linked
+AreLinked-end file opened at total (entry.Node o ∷ entries) later (suc index) n m here deep all same same_item same_count after end linked =
+    let there : drop index (map (item_in file) entries) ≡ NodeItem n.depth n.place (node_name_in file n) ∷ map (item_in file) later =
+    drop-map (item_in file) index entries ∙ ap (map (item_in file)) here in (
+      subst (IsLinked opened at o) (sym (items-set file entries later index n m here same_item)) (record {
         count = linked.0.count;
         before_end = linked.0.before_end;
-        at_end = λ closed. linked.0.before_end (inside-some o.depth n.depth n.place n.name.now index (map item_of entries) (map item_of later) there (omega arith));
+        at_end = λ closed. linked.0.before_end (inside-some o.depth n.depth n.place (node_name_in file n) index (map (item_in file) entries) (map (item_in file) later) there (omega arith));
       }),
-      AreLinked-end opened (at + 1) total entries later index n m here deep all same same_item same_count after (omega arith) linked.1,
+      AreLinked-end file opened (at + 1) total entries later index n m here deep all same same_item same_count after (omega arith) linked.1,
     )

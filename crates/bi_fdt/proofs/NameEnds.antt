@@ -7,6 +7,7 @@ use Rattle.std.proofs.lemmas.List.{length-drop, get_or_append_left, get_or-appen
 use Rattle.bi_blob.specs.Tokens.{name_from}
 use Rattle.bi_blob.specs.BlobFaults.{HasName}
 use Rattle.bi_blob.proofs.Blobs.BytesBeforeZero.{before_zero, before_zero-cons, length_before_zero}
+use Rattle.bi_fdt.specs.Growth.{HasBytesAt}
 use Rattle.bi_fdt.specs.Strings.{end_of}
 
 -- Where names end.
@@ -61,6 +62,12 @@ take_front (byte ∷ rest) =
 
 pub name_before_end : (bytes : List ℕ) (at end : ℕ) → end ≡ end_of bytes at → take (end - at) (drop at bytes) ≡ name_from bytes at
 name_before_end bytes at end is = ap (λ n. take n (drop at bytes)) (omega arith) ∙ take_front (drop at bytes)
+
+-- A name is the slice of its length where it begins.
+pub name_there : (file name : List ℕ) (at : ℕ) → name ≡ name_from file at → HasBytesAt file at name
+name_there file name at is =
+    let long : length name ≡ length (name_from file at) = ap length is in
+    ap (λ n. take n (drop at file)) (omega arith) ∙ name_before_end file at (at + length (name_from file at)) refl ∙ sym is
 
 -- No name ends before an offset where the name has not ended.
 pub end_not_before : (bytes : List ℕ) (at end : ℕ) → ¬ (HasName bytes at end) → end ≤ end_of bytes at

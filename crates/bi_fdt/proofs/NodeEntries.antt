@@ -9,8 +9,8 @@ use Rattle.bi_blob.specs.Events.{FileEvent, FileNodeStart, FileNodeProperty, Fil
 use Rattle.bi_fdt.specs.declared.table.Entry.{Entry}
 use Rattle.bi_fdt.specs.declared.table.Entry.TheVariants as entry
 use Rattle.bi_fdt.specs.declared.table.NodeEntry.{NodeEntry}
-use Rattle.bi_fdt.specs.declared.table.Property.{Property}
-use Rattle.bi_fdt.specs.Table.{TableItem, NodeItem, PropertyItem, first_properties, nodes_of, items_of, count_inside, item_of, IsLinked}
+use Rattle.bi_fdt.specs.declared.table.PropertyEntry.{PropertyEntry}
+use Rattle.bi_fdt.specs.Table.{TableItem, NodeItem, PropertyItem, first_properties, nodes_of, items_of, count_inside, node_name_in, item_in, IsLinked}
 use Rattle.bi_fdt.specs.Table.{AreLinked}
 use Rattle.bi_fdt.specs.Content.{begins_with_node}
 use Rattle.bi_fdt.specs.Fields.{IsNodeOf}
@@ -24,27 +24,28 @@ pub entry_here : (entries : List Entry) (index : ℕ) (e d : Entry) → index < 
     drop index entries ≡ e ∷ drop (suc index) entries
 entry_here entries index e d within is = drop-cons entries index d within ∙ ap (λ x. x ∷ drop (suc index) entries) is
 
-pub items_here : (entries : List Entry) (index : ℕ) (e d : Entry) → index < length entries → get_or entries index d ≡ e →
-    drop index (map item_of entries) ≡ item_of e ∷ map item_of (drop (suc index) entries)
-items_here entries index e d within is = drop-map item_of index entries ∙ ap (map item_of) (entry_here entries index e d within is)
+pub items_here : (file : List ℕ) (entries : List Entry) (index : ℕ) (e d : Entry) → index < length entries → get_or entries index d ≡ e →
+    drop index (map (item_in file) entries) ≡ item_in file e ∷ map (item_in file) (drop (suc index) entries)
+items_here file entries index e d within is = drop-map (item_in file) index entries ∙ ap (map (item_in file)) (entry_here entries index e d within is)
 
 -- A property is no node.
-pub no_property : (entries : List Entry) (table : List TableItem) (index : ℕ) (p : Property) (d : Entry) → map item_of entries ≡ table →
+pub no_property : (file : List ℕ) (entries : List Entry) (table : List TableItem) (index : ℕ) (p : PropertyEntry) (d : Entry) →
+    map (item_in file) entries ≡ table →
     IsTrue (begins_with_node (drop index table)) → index < length entries → get_or entries index d ≡ entry.Property p → ⊥
-no_property entries table index p d same is_node within is =
-    false≢true (sym (ap begins_with_node (ap (drop index) (sym same) ∙ items_here entries index (entry.Property p) d within is)) ∙ is_node)
+no_property file entries table index p d same is_node within is =
+    false≢true (sym (ap begins_with_node (ap (drop index) (sym same) ∙ items_here file entries index (entry.Property p) d within is)) ∙ is_node)
 
 -- The numbers of one entry of a table fit.
-pub linked_at : (at : ℕ) (entries later : List Entry) (index : ℕ) (n : NodeEntry) → AreLinked 0 at entries →
-    drop index entries ≡ entry.Node n ∷ later → IsLinked 0 (at + index) n (map item_of later)
-linked_at at [] later zero n linked here = absurd cc
-linked_at at [] later (suc index) n linked here = absurd cc
-linked_at at (e ∷ entries) later zero n linked here =
-    subst (λ k. IsLinked 0 k n (map item_of later)) (omega arith) ((subst (AreLinked 0 at) here linked).0)
-linked_at at (entry.Property p ∷ entries) later (suc index) n linked here =
-    subst (λ k. IsLinked 0 k n (map item_of later)) (omega arith) (linked_at (at + 1) entries later index n linked here)
-linked_at at (entry.Node m ∷ entries) later (suc index) n linked here =
-    subst (λ k. IsLinked 0 k n (map item_of later)) (omega arith) (linked_at (at + 1) entries later index n linked.1 here)
+pub linked_at : (file : List ℕ) (at : ℕ) (entries later : List Entry) (index : ℕ) (n : NodeEntry) → AreLinked file 0 at entries →
+    drop index entries ≡ entry.Node n ∷ later → IsLinked 0 (at + index) n (map (item_in file) later)
+linked_at file at [] later zero n linked here = absurd cc
+linked_at file at [] later (suc index) n linked here = absurd cc
+linked_at file at (e ∷ entries) later zero n linked here =
+    subst (λ k. IsLinked 0 k n (map (item_in file) later)) (omega arith) ((subst (AreLinked file 0 at) here linked).0)
+linked_at file at (entry.Property p ∷ entries) later (suc index) n linked here =
+    subst (λ k. IsLinked 0 k n (map (item_in file) later)) (omega arith) (linked_at file (at + 1) entries later index n linked here)
+linked_at file at (entry.Node m ∷ entries) later (suc index) n linked here =
+    subst (λ k. IsLinked 0 k n (map (item_in file) later)) (omega arith) (linked_at file (at + 1) entries later index n linked.1 here)
 
 -- After the node that begins at an index come the items of events, one deeper.
 pub record AreBelow (depth : ℕ) (items : List TableItem) : Type 0 where
@@ -134,32 +135,33 @@ after_inside depth (NodeItem own place name ∷ items) rest item at = elim (case
   first e = cc
 
 -- Where items have a node at an index, the entries go that far.
-pub node_within : (entries : List Entry) (table : List TableItem) (index : ℕ) → map item_of entries ≡ table →
+pub node_within : (file : List ℕ) (entries : List Entry) (table : List TableItem) (index : ℕ) → map (item_in file) entries ≡ table →
     IsTrue (begins_with_node (drop index table)) → index < length entries
-node_within entries table index same is_node =
+node_within file entries table index same is_node =
     by_entries entries index (subst (λ t. IsTrue (begins_with_node (drop index t))) (sym same) is_node) where
-      by_entries : (es : List Entry) (i : ℕ) → IsTrue (begins_with_node (drop i (map item_of es))) → i < length es
+      by_entries : (es : List Entry) (i : ℕ) → IsTrue (begins_with_node (drop i (map (item_in file) es))) → i < length es
       by_entries [] zero is = absurd (false≢true is)
       by_entries [] (suc i) is = absurd (false≢true is)
       by_entries (e ∷ es) zero is = omega arith
       by_entries (e ∷ es) (suc i) is = let rest : i < length es = by_entries es i is in omega arith
 
 -- The entry of a node in a table.
-pub node_of_table : (entries : List Entry) (table : List TableItem) (es : List FileEvent) (index : ℕ) (n : NodeEntry) (d : Entry) →
-    map item_of entries ≡ table → map item_of entries ≡ items_of 0 es → AreLinked 0 0 entries →
-    IsTrue (begins_with_node (drop index table)) → get_or entries index d ≡ entry.Node n → IsNodeOf table index n
-node_of_table entries table es index n d same events linked is_node is =
-    let within : index < length entries = node_within entries table index same is_node in
+pub node_of_table : (file : List ℕ) (entries : List Entry) (table : List TableItem) (es : List FileEvent) (index : ℕ)
+    (n : NodeEntry) (d : Entry) → map (item_in file) entries ≡ table → map (item_in file) entries ≡ items_of 0 es →
+    AreLinked file 0 0 entries → IsTrue (begins_with_node (drop index table)) → get_or entries index d ≡ entry.Node n →
+    IsNodeOf file table index n
+node_of_table file entries table es index n d same events linked is_node is =
+    let within : index < length entries = node_within file entries table index same is_node in
     let later : List Entry = drop (suc index) entries in
     let here : drop index entries ≡ entry.Node n ∷ later = entry_here entries index (entry.Node n) d within is in
-    let at : drop index table ≡ NodeItem n.depth n.place n.name.now ∷ map item_of later =
-    ap (drop index) (sym same) ∙ items_here entries index (entry.Node n) d within is in
-    let below : AreBelow n.depth (map item_of later) =
-    items_below 0 es index n.depth n.place n.name.now (map item_of later) (ap (drop index) (sym events ∙ same) ∙ at) in
+    let at : drop index table ≡ NodeItem n.depth n.place (node_name_in file n) ∷ map (item_in file) later =
+    ap (drop index) (sym same) ∙ items_here file entries index (entry.Node n) d within is in
+    let below : AreBelow n.depth (map (item_in file) later) =
+    items_below 0 es index n.depth n.place (node_name_in file n) (map (item_in file) later) (ap (drop index) (sym events ∙ same) ∙ at) in
     record {
-      later = map item_of later;
+      later = map (item_in file) later;
       is_at = at;
-      linked = subst (λ k. IsLinked 0 k n (map item_of later)) (omega arith) (linked_at 0 entries later index n linked here);
+      linked = subst (λ k. IsLinked 0 k n (map (item_in file) later)) (omega arith) (linked_at file 0 entries later index n linked here);
       below = (below.events, below.is);
     }
 

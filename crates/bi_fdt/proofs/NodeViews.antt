@@ -10,9 +10,8 @@ use Rattle.bi_blob.specs.Lookups.{Sibling, siblings, root_node, node_at, value_n
 use Rattle.bi_fdt.specs.declared.table.Entry.{Entry}
 use Rattle.bi_fdt.specs.declared.table.Entry.TheVariants as entry
 use Rattle.bi_fdt.specs.declared.table.NodeEntry.{NodeEntry}
-use Rattle.bi_fdt.specs.declared.table.Property.{Property as PropertyEntry}
-use Rattle.bi_fdt.specs.Table.{TableItem, NodeItem, PropertyItem, first_properties, nodes_of, count_inside, item_of}
-use Rattle.bi_fdt.specs.Properties.{file_property_of}
+use Rattle.bi_fdt.specs.declared.table.PropertyEntry.{PropertyEntry}
+use Rattle.bi_fdt.specs.Table.{TableItem, NodeItem, PropertyItem, first_properties, nodes_of, count_inside, node_name_in, property_in, item_in}
 use Rattle.bi_fdt.specs.Content.{begins_with_node, first_sibling, table_of}
 use Rattle.bi_fdt.specs.Fields.{IsNodeOf}
 use Rattle.bi_fdt.proofs.Parsing.{nodes-same, nodes-above, nodes-deeper, nodes-table}
@@ -23,23 +22,24 @@ use Rattle.bi_fdt.proofs.NodeEntries.{nodes-past_properties, inside-past_propert
 
 -- What the getters of a node give.
 
-module _ (table : List TableItem) (index : ℕ) (n : NodeEntry) (there : IsNodeOf table index n) where
+module _ (file : List ℕ) (table : List TableItem) (index : ℕ) (n : NodeEntry) (there : IsNodeOf file table index n) where
   -- Its properties are within the table.
   pub properties_within : index + 1 + n.property_count ≤ length table
   properties_within =
-      let long : index + 1 + length there.later ≡ length table = drop-within table there.later index (NodeItem n.depth n.place n.name.now) there.is_at in
+      let long : index + 1 + length there.later ≡ length table = drop-within table there.later index (NodeItem n.depth n.place (node_name_in file n)) there.is_at in
       let most : length (first_properties there.later) ≤ length there.later = first_most there.later in
       let count : n.property_count ≡ length (first_properties there.later) = there.linked.count in
       omega arith
 
   pub after_node : (more : ℕ) → drop (index + 1 + more) table ≡ drop more there.later
-  after_node more = drop-next table there.later index more (NodeItem n.depth n.place n.name.now) there.is_at
+  after_node more = drop-next table there.later index more (NodeItem n.depth n.place (node_name_in file n)) there.is_at
 
   -- The entries after it as many as it has properties are these.
-  pub properties_there : (entries : List Entry) → map item_of entries ≡ table →
-      first_properties (map item_of (take n.property_count (drop (index + 1) entries))) ≡ (first_sibling (drop index table)).own.properties
+  pub properties_there : (entries : List Entry) → map (item_in file) entries ≡ table →
+      first_properties (map (item_in file) (take n.property_count (drop (index + 1) entries)))
+      ≡ (first_sibling (drop index table)).own.properties
   properties_there entries same =
-      ap first_properties (sym (take-map item_of n.property_count (drop (index + 1) entries)) ∙ ap (take n.property_count) (sym (drop-map item_of (index + 1) entries) ∙ ap (drop (index + 1)) same ∙ ap (λ k. drop k table) (omega arith) ∙ after_node 0))
+      ap first_properties (sym (take-map (item_in file) n.property_count (drop (index + 1) entries)) ∙ ap (take n.property_count) (sym (drop-map (item_in file) (index + 1) entries) ∙ ap (drop (index + 1)) same ∙ ap (λ k. drop k table) (omega arith) ∙ after_node 0))
       ∙ ap (λ k. first_properties (take k there.later)) there.linked.count
       ∙ first_take there.later
       ∙ ap (λ items. (first_sibling items).own.properties) (sym there.is_at)
@@ -209,7 +209,7 @@ no_child_past (node name own children later) (suc index) zero gone past = absurd
 no_child_past (node name own children later) (suc index) (suc more) gone past = no_child_past later index more gone (omega arith)
 
 -- A property of a node by its index.
-module _ (entries : List Entry) (table : List TableItem) (index : ℕ) (n : NodeEntry) (same : map item_of entries ≡ table) (there : IsNodeOf table index n) (i : ℕ) (within : i < length (first_sibling (drop index table)).own.properties) where
+module _ (file : List ℕ) (entries : List Entry) (table : List TableItem) (index : ℕ) (n : NodeEntry) (same : map (item_in file) entries ≡ table) (there : IsNodeOf file table index n) (i : ℕ) (within : i < length (first_sibling (drop index table)).own.properties) where
   few : i < length (first_properties there.later)
   few = subst (λ items. i < length (first_sibling items).own.properties) there.is_at within
 
@@ -217,34 +217,34 @@ module _ (entries : List Entry) (table : List TableItem) (index : ℕ) (n : Node
   property_within =
       let long : length table ≡ length entries = sym (ap length same) ∙ simp length-map in
       let count : n.property_count ≡ length (first_properties there.later) = there.linked.count in
-      let most : index + 1 + n.property_count ≤ length table = properties_within table index n there in
+      let most : index + 1 + n.property_count ≤ length table = properties_within file table index n there in
       let some : i < length (first_properties there.later) = few in
       omega arith
 
   -- The items from it on.
   property_item : (e d : Entry) → get_or entries (index + 1 + i) d ≡ e →
-      item_of e ∷ map item_of (drop (suc (index + 1 + i)) entries)
+      item_in file e ∷ map (item_in file) (drop (suc (index + 1 + i)) entries)
       ≡ PropertyItem (first_at there.later i few).property ∷ (first_at there.later i few).rest
   property_item e d is =
-      sym (items_here entries (index + 1 + i) e d property_within is) ∙ ap (drop (index + 1 + i)) same ∙ after_node table index n there i ∙ (first_at there.later i few).is_at
+      sym (items_here file entries (index + 1 + i) e d property_within is) ∙ ap (drop (index + 1 + i)) same ∙ after_node file table index n there i ∙ (first_at there.later i few).is_at
 
   pub no_node_there : (m : NodeEntry) (d : Entry) → get_or entries (index + 1 + i) d ≡ entry.Node m → ⊥
   no_node_there m d is = let e = property_item (entry.Node m) d is in cc
 
   pub property_there : (p : PropertyEntry) (d : Entry) → get_or entries (index + 1 + i) d ≡ entry.Property p →
-      slice_get (first_sibling (drop index table)).own.properties i ≡ Some (file_property_of p)
+      slice_get (first_sibling (drop index table)).own.properties i ≡ Some (property_in file p)
   property_there p d is =
       let f : IsFirstAt there.later i = first_at there.later i few in
-      let e : PropertyItem (file_property_of p) ∷ map item_of (drop (suc (index + 1 + i)) entries) ≡ PropertyItem f.property ∷ f.rest = property_item (entry.Property p) d is in
-      let same_property : file_property_of p ≡ f.property = first_item e in
+      let e : PropertyItem (property_in file p) ∷ map (item_in file) (drop (suc (index + 1 + i)) entries) ≡ PropertyItem f.property ∷ f.rest = property_item (entry.Property p) d is in
+      let same_property : property_in file p ≡ f.property = first_item e in
       ap (λ items. slice_get (first_sibling items).own.properties i) there.is_at ∙ f.is_got ∙ ap (λ q. Some q) (sym same_property) where
         first_item : {a b : FileProperty} {u v : List TableItem} → PropertyItem a ∷ u ≡ PropertyItem b ∷ v → a ≡ b
         first_item e = cc
 
 -- A node has as many properties as its entry says.
-pub property_count_is : (table : List TableItem) (index : ℕ) (n : NodeEntry) → IsNodeOf table index n →
+pub property_count_is : (file : List ℕ) (table : List TableItem) (index : ℕ) (n : NodeEntry) → IsNodeOf file table index n →
     n.property_count ≡ length (first_sibling (drop index table)).own.properties
-property_count_is table index n there = there.linked.count ∙ ap (λ items. length (first_sibling items).own.properties) (sym there.is_at)
+property_count_is file table index n there = there.linked.count ∙ ap (λ items. length (first_sibling items).own.properties) (sym there.is_at)
 
 -- A look-up passes over a node of another name.
 pub lookup_passes : (name : List ℕ) (child : Sibling FileNode) (later : List (Sibling FileNode)) → bytes_eq child.name name ≡ false →

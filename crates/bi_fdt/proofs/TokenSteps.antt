@@ -140,8 +140,9 @@ after_root blocks depth_limit place o position number =
     (next_last blocks depth_limit place o position (end_is_next blocks depth_limit place o [] position number))
 
 -- The table of a root that has ended is that of its tree.
-pub finished_table : (entries : List Entry) (o : OpenFileNode) → o.name ≡ [] → IsFinished entries o → IsTable entries (ended_root o)
-finished_table entries o unnamed finished = record {
+pub finished_table : (file : List ℕ) (entries : List Entry) (o : OpenFileNode) → o.name ≡ [] → IsFinished file entries o →
+    IsTable file entries (ended_root o)
+finished_table file entries o unnamed finished = record {
   items = finished.items ∙ sym (append-nil (items_of 0 (events_of_open_node o)))
       ∙ sym (items_of-append 0 (events_of_open_node o) (FileNodeEnd ∷ []))
       ∙ ap (items_of 0) (sym (events_of_open_nodes-root o unnamed));
@@ -152,31 +153,34 @@ finished_table entries o unnamed finished = record {
 pub after_end_inside : (blocks : TreeBlocks) (depth_limit : ℕ) (reading : Reading) (grown : table.Growing) →
     IsReading blocks depth_limit reading → IsNumberAt blocks reading.place end_node_number →
     IsEnding reading.growing (ending.Inside grown) → IsReading blocks depth_limit (record { place = reading.place + 4; growing = grown })
-after_end_inside blocks depth_limit reading grown r number ended = by_outer r.innermost r.outer r.position (ended r.innermost r.outer r.growing) where
-  by_outer : (o : OpenFileNode) (outer : List OpenFileNode) → IsOpenAt blocks depth_limit reading.place (OpenTree o outer) → EndsInside grown o outer → IsReading blocks depth_limit (record { place = reading.place + 4; growing = grown })
-  by_outer o [] position ended = absurd ended
-  by_outer o (parent ∷ outer) position ended = record {
+after_end_inside blocks depth_limit reading grown r number ended = by_outer r.innermost r.outer r.position (ended.1 blocks.file r.innermost r.outer r.growing) where
+  by_outer : (o : OpenFileNode) (outer : List OpenFileNode) → IsOpenAt blocks depth_limit reading.place (OpenTree o outer) → EndsInside blocks.file grown o outer → IsReading blocks depth_limit (record { place = reading.place + 4; growing = grown })
+  by_outer o [] position more = absurd more
+  by_outer o (parent ∷ outer) position more = record {
     innermost = with_one_child parent o;
     outer = outer;
     position = after_child blocks depth_limit reading.place o parent outer position number;
-    growing = ended;
+    growing = more;
+    few = (let few : length reading.growing.entries.items ≤ reading.place = r.few in
+        let same : length grown.entries.items ≡ length reading.growing.entries.items = ended.0 in omega arith);
     within = (let within : reading.place + 4 ≤ blocks.end = number.within in omega arith);
   }
 
 -- A reader after FDT_END_NODE of the root.
 pub after_end_root : (blocks : TreeBlocks) (depth_limit : ℕ) (reading : Reading) (entries : List Entry) →
     IsReading blocks depth_limit reading → IsNumberAt blocks reading.place end_node_number →
-    ((o : OpenFileNode) (outer : List OpenFileNode) → IsGrowing reading.growing o outer → (outer ≡ []) × IsFinished entries o) →
+    ((file : List ℕ) (o : OpenFileNode) (outer : List OpenFileNode) → IsGrowing file reading.growing o outer →
+    (outer ≡ []) × IsFinished file entries o) →
     IsAfter blocks depth_limit (reading.place + 4) entries
 after_end_root blocks depth_limit reading entries r number ended =
-    by_outer r.outer r.position (ended r.innermost r.outer r.growing) where
-      by_outer : (outer : List OpenFileNode) → IsOpenAt blocks depth_limit reading.place (OpenTree r.innermost outer) → (outer ≡ []) × IsFinished entries r.innermost → IsAfter blocks depth_limit (reading.place + 4) entries
+    by_outer r.outer r.position (ended blocks.file r.innermost r.outer r.growing) where
+      by_outer : (outer : List OpenFileNode) → IsOpenAt blocks depth_limit reading.place (OpenTree r.innermost outer) → (outer ≡ []) × IsFinished blocks.file entries r.innermost → IsAfter blocks depth_limit (reading.place + 4) entries
       by_outer (parent ∷ outer) position whole = absurd (one_more whole.0) where
         one_more : parent ∷ outer ≡ [] → ⊥
         one_more e = cc
       by_outer [] position whole = record {
         root = ended_root r.innermost;
         position = after_root blocks depth_limit reading.place r.innermost position number;
-        is_table = finished_table entries r.innermost position.is_tree_so_far.1 whole.1;
+        is_table = finished_table blocks.file entries r.innermost position.is_tree_so_far.1 whole.1;
         within = (let within : reading.place + 4 ≤ blocks.end = number.within in omega arith);
       }

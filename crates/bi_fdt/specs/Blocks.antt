@@ -1,5 +1,5 @@
-use Rattle.std.specs.Prelude.{◌≡◌, ℕ, ◌+◌, ◌^◌, ◌<◌, ◌≤◌, List, [], ◌∷◌}
-use Rattle.bi_base.specs.Cells.{u32_at}
+use Rattle.std.specs.Prelude.{◌≡◌, ℕ, ◌+◌, ◌^◌, ◌<◌, ◌≤◌, List, [], ◌∷◌, length}
+use Rattle.bi_base.specs.Cells.{u32_at, slice}
 use Rattle.bi_blob.specs.Blob.{TreeBlocks, IsReadable}
 use Rattle.bi_blob.specs.BlobFaults.{TokenCheck, IsWithinDepth, HasNodeName, MayNameNode}
 use Rattle.bi_blob.specs.BlobFaults.{IsBeforeChildren, HasValue, HasPropertyName, MayNameProperty}
@@ -14,10 +14,12 @@ blocks_of blocks = record {
   strings = blocks.strings.now;
 }
 
--- The structure block is within a file of bytes that is no longer than limits allow.
-pub record AreBlocks (blocks : TreeBlocks) : Type 0 where
-  pub readable : IsReadable blocks
-  pub small : blocks.end < 2 ^ 31
+-- The two blocks are within a file of bytes that is no longer than limits allow.
+pub record AreBlocks (blocks : Blocks) : Type 0 where
+  pub readable : IsReadable (blocks_of blocks)
+  pub small : length blocks.file.now < 2 ^ 31
+  pub strings_there : blocks.strings.now
+      ≡ slice blocks.file.now blocks.strings_begin (length blocks.strings.now)
 
 -- The number of the token at this offset is within the structure block, and it is this.
 pub record IsNumberAt (blocks : TreeBlocks) (place number : ℕ) : Type 0 where

@@ -11,3 +11,7 @@ pub mod Views
 pub mod Digests
 pub mod Strings
 pub mod PropertySets
+pub mod Numbers
+pub mod NameParts
+pub mod NameTails
+pub mod NameTables

@@ -1,4 +1,4 @@
-use Rattle.std.specs.Prelude.{◌≡◌, ℕ, ◌+◌, ◌<◌, ◌≤◌, List, map}
+use Rattle.std.specs.Prelude.{◌≡◌, ℕ, ◌+◌, ◌<◌, ◌≤◌, List, length, map}
 use Rattle.bi_blob.specs.Tree.{Root, FileNode, depth_of}
 use Rattle.bi_blob.specs.Events.{file_events_of}
 use Rattle.bi_blob.specs.Blob.{TreeBlocks, HoldsTree}
@@ -7,30 +7,32 @@ use Rattle.bi_fdt.specs.declared.table.Entry.{Entry}
 use Rattle.bi_fdt.specs.declared.tokens.Reading.{Reading}
 use Rattle.bi_fdt.specs.declared.tokens.Next.{Next}
 use Rattle.bi_fdt.specs.declared.tokens.Next.TheVariants as next
-use Rattle.bi_fdt.specs.Table.{item_of, items_of, AreLinked}
+use Rattle.bi_fdt.specs.Table.{item_in, items_of, AreLinked}
 use Rattle.bi_fdt.specs.Growth.{IsGrowing}
 
 -- A reader of the structure block, token by token.
 
--- A reader is inside the root.
+-- A reader is inside the root. Its table has no more entries than there are bytes before it.
 pub record IsReading (blocks : TreeBlocks) (depth_limit : ℕ) (reading : Reading) : Type 0 where
   pub innermost : OpenFileNode
   pub outer : List OpenFileNode
   pub position : IsOpenAt blocks depth_limit reading.place (OpenTree innermost outer)
-  pub growing : IsGrowing reading.growing innermost outer
+  pub growing : IsGrowing blocks.file reading.growing innermost outer
+  pub few : length reading.growing.entries.items ≤ reading.place
   pub within : reading.place ≤ blocks.end + 3
 
--- A table is that of this tree.
-pub record IsTable (entries : List Entry) (root : Root FileNode) : Type 0 where
-  pub items : map item_of entries ≡ items_of 0 (file_events_of root)
-  pub linked : AreLinked 0 0 entries
+-- A table is that of this tree of a file.
+pub record IsTable (file : List ℕ) (entries : List Entry) (root : Root FileNode)
+    : Type 0 where
+  pub items : map (item_in file) entries ≡ items_of 0 (file_events_of root)
+  pub linked : AreLinked file 0 0 entries
 
 -- A reader is at this offset, after the root, which this table holds.
 pub record IsAfter (blocks : TreeBlocks) (depth_limit place : ℕ) (entries : List Entry)
     : Type 0 where
   pub root : Root FileNode
   pub position : IsOpenAt blocks depth_limit place (WholeTree root)
-  pub is_table : IsTable entries root
+  pub is_table : IsTable blocks.file entries root
   pub within : place ≤ blocks.end + 3
 
 -- A reader has read the token at an offset, and has come to what is after it.
@@ -45,4 +47,4 @@ pub record HasTable (blocks : TreeBlocks) (depth_limit : ℕ) (entries : List En
   pub root : Root FileNode
   pub holds : HoldsTree blocks root
   pub shallow : depth_of root ≤ depth_limit
-  pub is_table : IsTable entries root
+  pub is_table : IsTable blocks.file entries root

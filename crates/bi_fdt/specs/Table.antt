@@ -1,11 +1,12 @@
 use Rattle.std.specs.Prelude.{◌≡◌, ℕ, ◌+◌, ◌-◌, ◌<◌, ◌≤◌, List, [], ◌∷◌, length, map, nat_lt, ◌==◌}
 use Rattle.std.specs.Prelude.{if◌then◌else◌}
+use Rattle.bi_base.specs.Cells.{slice}
 use Rattle.bi_blob.specs.Tree.{Nodes, none, node, FileProperty, FileNode}
 use Rattle.bi_blob.specs.Events.{FileEvent, FileNodeStart, FileNodeProperty, FileNodeEnd}
 use Rattle.bi_fdt.specs.declared.table.Entry.{Entry}
 use Rattle.bi_fdt.specs.declared.table.Entry.TheVariants as entry
 use Rattle.bi_fdt.specs.declared.table.NodeEntry.{NodeEntry}
-use Rattle.bi_fdt.specs.Properties.{file_property_of}
+use Rattle.bi_fdt.specs.declared.table.PropertyEntry.{PropertyEntry}
 
 -- The table of a tree: its nodes and properties in the order of their tokens in the file.
 
@@ -45,10 +46,23 @@ count_inside depth (PropertyItem property ∷ later) = count_inside depth later 
 count_inside depth (NodeItem own_depth place name ∷ later) =
     if nat_lt depth own_depth then count_inside depth later + 1 else 0
 
--- The item of an entry.
-abbrev pub item_of : Entry → TableItem
-item_of (entry.Node node_entry) = NodeItem node_entry.depth node_entry.place node_entry.name.now
-item_of (entry.Property property) = PropertyItem (file_property_of property)
+-- The name of a node of a file: it is after the number of the node's token.
+abbrev pub node_name_in : List ℕ → NodeEntry → List ℕ
+node_name_in file node_entry = slice file (node_entry.place + 4) node_entry.name_length
+
+-- A property of a file: the value is after the number of the property's token and two cells.
+abbrev pub property_in : List ℕ → PropertyEntry → FileProperty
+property_in file property_entry = record {
+  name = slice file property_entry.name_begin property_entry.name_length;
+  value = slice file (property_entry.place + 12) property_entry.value_length;
+  place = property_entry.place;
+}
+
+-- The item of an entry, with the file that the entry is of.
+abbrev pub item_in : List ℕ → Entry → TableItem
+item_in file (entry.Node node_entry) =
+    NodeItem node_entry.depth node_entry.place (node_name_in file node_entry)
+item_in file (entry.Property property_entry) = PropertyItem (property_in file property_entry)
 
 -- The numbers of the entry of a node at index `at` fit the items after it. While the node is open,
 -- `opened` being the number of the open nodes, nothing is required of its last descendant.
@@ -60,8 +74,10 @@ pub record IsLinked (opened at : ℕ) (node_entry : NodeEntry) (later : List Tab
       ≡ at + 1 + count_inside node_entry.depth later
 
 -- The numbers of all entries from index `at` on fit.
-abbrev pub AreLinked : ℕ → ℕ → List Entry → Type 0
-AreLinked opened at [] = Unit {0}
-AreLinked opened at (entry.Node node_entry ∷ later) =
-    IsLinked opened at node_entry (map item_of later) × AreLinked opened (at + 1) later
-AreLinked opened at (entry.Property property ∷ later) = AreLinked opened (at + 1) later
+abbrev pub AreLinked : List ℕ → ℕ → ℕ → List Entry → Type 0
+AreLinked file opened at [] = Unit {0}
+AreLinked file opened at (entry.Node node_entry ∷ later) =
+    IsLinked opened at node_entry (map (item_in file) later)
+    × AreLinked file opened (at + 1) later
+AreLinked file opened at (entry.Property property_entry ∷ later) =
+    AreLinked file opened (at + 1) later

@@ -1,6 +1,6 @@
 //! Reading a devicetree blob.
 
-ghost use Rattle.std.specs.Prelude.{◌≡◌, ◌<◌, ◌^◌, length, map, slice_get, IfOk};
+ghost use Rattle.std.specs.Prelude.{◌≡◌, ◌<◌, ◌≤◌, ◌^◌, length, map, slice_get, IfOk};
 ghost use Rattle.std.specs.Prelude.{IfErr, OnOk};
 ghost use Rattle.bi_base.specs.declared.fault.Fault.{Fault};
 ghost use Rattle.bi_blob.specs.Blob as header;
@@ -9,9 +9,10 @@ ghost use Rattle.bi_blob.specs.BlobFaults.{HasNoHeaderFault, HasReservations};
 ghost use Rattle.bi_blob.specs.BlobFaults.{IsFaultBeforeTree};
 ghost use Rattle.bi_fdt.specs.Blocks.{blocks_of};
 ghost use Rattle.bi_blob.specs.Lookups.{root_node};
-ghost use Rattle.bi_fdt.specs.Table.{item_of};
+ghost use Rattle.bi_fdt.specs.Table.{item_in};
 ghost use Rattle.bi_fdt.specs.Reading.{IsTable};
 ghost use Rattle.bi_fdt.specs.Content.{root_of};
+ghost use Rattle.bi_fdt.specs.Fields.{HaveNameOffsets};
 ghost use Rattle.bi_fdt.specs.ReadBlobs.{IsReadBlob, IsBlobReadError};
 
 use crate::blocks::Blocks;
@@ -34,14 +35,14 @@ use std::marker::Model;
 pub struct Blob<'a> {
     file: &'a [u8],
     reservation_count: usize,
-    entries: Vec<Entry<'a>>,
+    entries: Vec<Entry>,
 }
 
 impl<'a> Model for Blob<'a> {
     ghost use Rattle.std.specs.Prelude.{map};
     ghost use Rattle.bi_blob.specs.Blob as header;
     ghost use Rattle.bi_blob.specs.Blob.{reservations_at};
-    ghost use Rattle.bi_fdt.specs.Table.{item_of};
+    ghost use Rattle.bi_fdt.specs.Table.{item_in};
     ghost use Rattle.bi_fdt.specs.Content.{Blob};
     ghost use Rattle.bi_fdt.specs.Fields.{IsBlobHeld};
 
@@ -53,7 +54,7 @@ impl<'a> Model for Blob<'a> {
       total_size = header.totalsize blob.file.now;
       reservations = reservations_at blob.file.now (header.off_mem_rsvmap blob.file.now)
           blob.reservation_count;
-      table = map item_of blob.entries.items;
+      table = map (item_in blob.file.now) blob.entries.items;
     } };
 
     ghost invariant = { λ blob.
@@ -61,7 +62,7 @@ impl<'a> Model for Blob<'a> {
 }
 
 impl<'a> Blob<'a> {
-    ghost use Rattle.bi_fdt.specs.Views.{node_of};
+    ghost use Rattle.bi_fdt.specs.Views.{node_of, table_of_node};
 
     /// Reads a blob of version 16 or 17, or of a later version that is compatible with 17. The file
     /// may be longer than the blob.
@@ -94,6 +95,13 @@ impl<'a> Blob<'a> {
             reservation_count,
             entries,
         })
+    }
+
+    /// The file, which may be longer than the blob.
+    pub fn file(&self) -> &'a [u8]
+        ensures { result.now ≡ self.now.file }
+    {
+        self.file
     }
 
     /// The physical number of the boot processor (5.2, boot_cpuid_phys).
@@ -135,15 +143,24 @@ impl<'a> Blob<'a> {
 
     /// The root of the tree.
     pub fn root<'b>(&'b self) -> NodeRef<'a, 'b>
-        ensures { node_of result ≡ root_node (root_of self.now) }
+        ensures root { node_of result ≡ root_node (root_of self.now) }
+        ensures same_table { table_of_node result ≡ self.now.table }
     {
         NodeRef::new(self)
     }
 
+    /// The bytes of the strings block (5.5).
+    pub(crate) fn strings(&self) -> &'a [u8]
+        ensures strings { result.now ≡ (tree_blocks_of self.now.file).strings }
+        ensures names { HaveNameOffsets self.now.file self.now.table }
+    {
+        strings_block(self.file)
+    }
+
     /// The table of the tree.
-    pub(crate) fn entries<'b>(&'b self) -> &'b [Entry<'a>]
-        ensures items { map item_of result.now ≡ self.now.table }
-        ensures is_table { IsTable result.now (root_of self.now) }
+    pub(crate) fn entries(&self) -> &[Entry]
+        ensures items { map (item_in self.now.file) result.now ≡ self.now.table }
+        ensures is_table { IsTable self.now.file result.now (root_of self.now) }
         ensures small { length self.now.table < 2 ^ 63 }
     {
         &self.entries
@@ -165,9 +182,10 @@ fn check_before_tree(file: &[u8], limits: Limits) -> Result<usize, Fault>
     )
 }
 
-/// The bytes of the strings block of a file whose header was checked.
+/// The bytes of the strings block of a file that has its header and the block.
 fn strings_block(file: &[u8]) -> &[u8]
-    requires { Header file.now }
+    requires header { 36 ≤ length file.now }
+    requires strings { header.strings_end file.now ≤ length file.now }
     ensures { result.now ≡ (tree_blocks_of file.entry.now).strings }
 {
     let strings = off_dt_strings(file) as usize;
@@ -178,12 +196,14 @@ fn strings_block(file: &[u8]) -> &[u8]
 fn tree_blocks<'a, 's>(file: &'a [u8], strings: &'s Strings<'a>) -> Blocks<'a, 's>
     requires header { Header file.now }
     requires strings { strings.now ≡ (tree_blocks_of file.now).strings }
-    ensures { blocks_of result ≡ tree_blocks_of file.entry.now }
+    ensures blocks { blocks_of result ≡ tree_blocks_of file.entry.now }
+    ensures strings_begin { result.strings_begin ≡ header.off_dt_strings file.entry.now }
 {
     Blocks {
         file,
         begin: off_dt_struct(file) as usize,
         end: structure_end(file),
         strings,
+        strings_begin: off_dt_strings(file) as usize,
     }
 }

@@ -14,24 +14,25 @@ ghost use Rattle.bi_fdt.specs.Digests.{digest_of_name};
 
 use crate::names::name_at;
 use crate::strings::Strings;
-use crate::table::Property;
+use crate::table::PropertyEntry;
 use bi_base::{Cause, Fault, cell_at, refuse};
 use bi_blob::is_child_name;
 
-/// Where a file has its tree: the structure block, from `begin` to `end`, and the strings block
-/// (Devicetree Specification, 5.4, 5.5).
+/// Where a file has its tree: the structure block, from `begin` to `end`, and the strings block,
+/// from `strings_begin` on (Devicetree Specification, 5.4, 5.5).
 #[derive(Clone, Copy)]
 pub(crate) struct Blocks<'a, 's> {
     pub(crate) file: &'a [u8],
     pub(crate) begin: usize,
     pub(crate) end: usize,
     pub(crate) strings: &'s Strings<'a>,
+    pub(crate) strings_begin: usize,
 }
 
 /// The number of the token at `place`. Truncated if the structure block ends before the number
 /// does.
 pub(crate) fn number_at(blocks: Blocks, place: usize) -> Result<u32, Fault>
-    requires blocks { AreBlocks (blocks_of blocks) }
+    requires blocks { AreBlocks blocks }
     requires within { place ≤ blocks.end + 3 }
     ensures within { OnOk result (place + 4 ≤ blocks.entry.end) }
     ensures number { IfOk result (λ number. number ≡ u32_at blocks.entry.file.now place) }
@@ -50,7 +51,7 @@ pub(crate) fn root_name<'a>(
     place: usize,
     depth_limit: usize,
 ) -> Result<&'a [u8], Fault>
-    requires blocks { AreBlocks (blocks_of blocks) }
+    requires blocks { AreBlocks blocks }
     requires within { place + 4 ≤ blocks.end }
     requires depth { 1 ≤ depth_limit }
     ensures name { IfOk result (λ name. name.now ≡ name_from blocks.entry.file.now (place + 4)) }
@@ -76,7 +77,7 @@ pub(crate) fn child_name<'a>(
     depth: usize,
     depth_limit: usize,
 ) -> Result<&'a [u8], Fault>
-    requires blocks { AreBlocks (blocks_of blocks) }
+    requires blocks { AreBlocks blocks }
     requires within { place + 4 ≤ blocks.end }
     ensures name { IfOk result (λ name. name.now ≡ name_from blocks.entry.file.now (place + 4)) }
     ensures ok { OnOk result ((innermost : OpenNode) (outer : List OpenNode)
@@ -101,17 +102,18 @@ pub(crate) fn child_name<'a>(
 }
 
 /// The property whose token is at `place`.
-pub(crate) fn property_at<'a>(
-    blocks: Blocks<'a, '_>,
+pub(crate) fn property_at(
+    blocks: Blocks,
     place: usize,
     is_childless: bool,
-) -> Result<Property<'a>, Fault>
-    requires blocks { AreBlocks (blocks_of blocks) }
+) -> Result<PropertyEntry, Fault>
+    requires blocks { AreBlocks blocks }
     requires within { place + 4 ≤ blocks.end }
-    ensures name { IfOk result (λ property. property.name.now
+    ensures name { IfOk result (λ property.
+        slice blocks.entry.file.now property.name_begin property.name_length
         ≡ name_from blocks.entry.strings.now (u32_at blocks.entry.file.now (place + 8))) }
-    ensures value { IfOk result (λ property. property.value.now
-        ≡ slice blocks.entry.file.now (place + 12) (u32_at blocks.entry.file.now (place + 4))) }
+    ensures value { IfOk result (λ property. property.value_length
+        ≡ u32_at blocks.entry.file.now (place + 4)) }
     ensures place { IfOk result (λ property. property.place ≡ place) }
     ensures within { OnOk result (place + 12 ≤ blocks.entry.end) }
     ensures ok { OnOk result ((innermost : OpenNode) (outer : List OpenNode)
@@ -129,8 +131,8 @@ pub(crate) fn property_at<'a>(
     if place + 12 > blocks.end {
         return refuse(Cause::Truncated, place as u32);
     }
-    let length = cell_at(blocks.file, place + 4) as usize;
-    if length > blocks.end - (place + 12) {
+    let value_length = cell_at(blocks.file, place + 4);
+    if value_length as usize > blocks.end - (place + 12) {
         return refuse(Cause::Truncated, place as u32);
     }
     let name_offset = cell_at(blocks.file, place + 8) as usize;
@@ -140,16 +142,17 @@ pub(crate) fn property_at<'a>(
     if name.is_empty() {
         return refuse(Cause::BadName, place as u32);
     }
-    Ok(Property {
-        name,
-        value: &blocks.file[place + 12..place + 12 + length],
+    Ok(PropertyEntry {
         place: place as u32,
+        name_begin: (blocks.strings_begin + name_offset) as u32,
+        name_length: name.len() as u32,
+        value_length,
     })
 }
 
 /// The digest of the name of the property whose token is at `place`.
 pub(crate) fn name_digest(blocks: Blocks, place: usize, name: &[u8]) -> [u8; 32]
-    requires blocks { AreBlocks (blocks_of blocks) }
+    requires blocks { AreBlocks blocks }
     requires within { place + 12 ≤ blocks.end }
     requires name { name.now ≡ name_from blocks.strings.now (u32_at blocks.file.now (place + 8)) }
     ensures { result ≡ digest_of_name name.now }

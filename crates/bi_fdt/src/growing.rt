@@ -1,17 +1,17 @@
 //! A tree while its tokens are read.
 
-ghost use Rattle.std.specs.Prelude.{◌≡◌, ◌+◌, List, [], ◌∷◌, ◌↔◌, length, map, IsTrue, IfOk};
-ghost use Rattle.std.specs.Prelude.{IfErr, OnOk};
+ghost use Rattle.std.specs.Prelude.{◌≡◌, ℕ, ◌+◌, ◌<◌, ◌≤◌, ◌^◌, List, [], ◌∷◌, ◌↔◌, length, map};
+ghost use Rattle.std.specs.Prelude.{IsTrue, IfOk, IfErr, OnOk};
 ghost use Rattle.bi_base.specs.Errors.{IsFaultOrNoMemory};
 ghost use Rattle.bi_blob.specs.Tree.{names, IsNew};
 ghost use Rattle.bi_blob.specs.BlobFaults.{token_fault, IsNewNode, IsNewProperty};
 ghost use Rattle.bi_blob.specs.OpenNodes.{OpenFileNode, new_node, with_one_property};
 ghost use Rattle.bi_fdt.specs.Digests.{digest_of_name};
-ghost use Rattle.bi_fdt.specs.Properties.{file_property_of};
-ghost use Rattle.bi_fdt.specs.Growth.{IsGrowing, IsGrown, IsEnding};
+ghost use Rattle.bi_fdt.specs.Table.{property_in};
+ghost use Rattle.bi_fdt.specs.Growth.{HasBytesAt, IsGrowing, IsGrown, IsEnding};
 
 use crate::property_names::PropertyNames;
-use crate::table::{Entry, NodeEntry, Property, set_after, set_property_count};
+use crate::table::{Entry, NodeEntry, PropertyEntry, set_after, set_property_count};
 use bi_base::{Cause, Error, refuse};
 use std::alloc::Global;
 use std::collections::BTreeSet;
@@ -28,7 +28,7 @@ pub(crate) struct OpenNode<'a> {
 /// The table of a tree whose root has started and has not ended.
 #[derive(Drop)]
 pub(crate) struct Growing<'a> {
-    entries: Vec<Entry<'a>>,
+    entries: Vec<Entry>,
     innermost: OpenNode<'a>,
     /// The nodes that contain the innermost open node, the root first.
     outer: Vec<OpenNode<'a>>,
@@ -41,19 +41,23 @@ pub(crate) struct Growing<'a> {
 #[derive(Drop)]
 pub(crate) enum Ending<'a> {
     Inside(Growing<'a>),
-    Root(Vec<Entry<'a>>),
+    Root(Vec<Entry>),
 }
 
 impl<'a> Growing<'a> {
     /// A tree whose root has started at `place`.
     pub(crate) fn new(alloc: Global, name: &'a [u8], place: u32) -> Result<Growing<'a>, Error>
-        ensures ok { IfOk result (λ growing. IsGrowing growing (new_node name.entry.now place) []) }
+        requires { length name.now < 2 ^ 32 }
+        ensures ok { IfOk result (λ growing. (file : List ℕ)
+            → HasBytesAt file (place + 4) name.entry.now
+            → IsGrowing file growing (new_node name.entry.now place) []) }
+        ensures count { IfOk result (λ growing. length growing.entries.items ≡ 1) }
         ensures failed { IfErr result (IsFaultOrNoMemory (λ _. ⊥)) }
     {
         let mut entries = Vec::new(alloc);
         entries.push(Entry::Node(NodeEntry {
-            name,
             place,
+            name_length: name.len() as u32,
             depth: 0,
             property_count: 0,
             after: 0,
@@ -71,16 +75,16 @@ impl<'a> Growing<'a> {
 
     /// The number of the open nodes.
     pub(crate) fn depth(&self) -> usize
-        ensures { (innermost : OpenFileNode) (outer : List OpenFileNode)
-            → IsGrowing self.now innermost outer → result ≡ length outer + 1 }
+        ensures { (file : List ℕ) (innermost : OpenFileNode) (outer : List OpenFileNode)
+            → IsGrowing file self.now innermost outer → result ≡ length outer + 1 }
     {
         self.outer.len() + 1
     }
 
     /// Whether the innermost open node has no child yet.
     pub(crate) fn is_childless(&self) -> bool
-        ensures { (innermost : OpenFileNode) (outer : List OpenFileNode)
-            → IsGrowing self.now innermost outer
+        ensures { (file : List ℕ) (innermost : OpenFileNode) (outer : List OpenFileNode)
+            → IsGrowing file self.now innermost outer
             → (IsTrue result ↔ (names innermost.children ≡ [])) }
     {
         self.innermost.children.is_empty()
@@ -94,18 +98,23 @@ impl<'a> Growing<'a> {
         name: &'a [u8],
         place: u32,
     ) -> Result<Growing<'a>, Error>
-        ensures new { OnOk result ((innermost : OpenFileNode) (outer : List OpenFileNode)
-            → IsGrowing self.entry innermost outer
+        requires grown { IsGrown self }
+        requires few { length self.entries.items ≤ place }
+        requires name { length name.now < 2 ^ 32 }
+        ensures new { OnOk result ((file : List ℕ) (innermost : OpenFileNode)
+            (outer : List OpenFileNode) → IsGrowing file self.entry innermost outer
             → IsNew name.entry.now (names innermost.children)) }
-        ensures grown { IfOk result
-            (λ grown. (innermost : OpenFileNode) (outer : List OpenFileNode)
-            → IsGrowing self.entry innermost outer
-            → IsGrowing grown (new_node name.entry.now place) (innermost ∷ outer)) }
+        ensures grown { IfOk result (λ grown. (file : List ℕ) (innermost : OpenFileNode)
+            (outer : List OpenFileNode) → IsGrowing file self.entry innermost outer
+            → HasBytesAt file (place + 4) name.entry.now
+            → IsGrowing file grown (new_node name.entry.now place) (innermost ∷ outer)) }
+        ensures count { IfOk result (λ grown. length grown.entries.items
+            ≡ length self.entry.entries.items + 1) }
         ensures fault { IfErr result (IsFaultOrNoMemory
             (λ fault. fault ≡ token_fault place IsNewNode)) }
         ensures duplicate { IfErr result (IsFaultOrNoMemory
-            (λ _. (innermost : OpenFileNode) (outer : List OpenFileNode)
-            → IsGrowing self.entry innermost outer
+            (λ _. (file : List ℕ) (innermost : OpenFileNode) (outer : List OpenFileNode)
+            → IsGrowing file self.entry innermost outer
             → ¬ (IsNew name.entry.now (names innermost.children)))) }
     {
         let Growing {
@@ -119,9 +128,9 @@ impl<'a> Growing<'a> {
         }
         let entry = entries.len();
         entries.push(Entry::Node(NodeEntry {
-            name,
             place,
-            depth: outer.len() + 1,
+            name_length: name.len() as u32,
+            depth: outer.len() as u32 + 1,
             property_count: 0,
             after: 0,
         }))?;
@@ -138,32 +147,36 @@ impl<'a> Growing<'a> {
         })
     }
 
-    /// The tree after a property of the innermost open node, which has no child yet, with the
-    /// digest of its name. DuplicateProperty if a property has the name already.
+    /// The tree after a property of the innermost open node, which has no child yet, with its name
+    /// and the digest of that. DuplicateProperty if a property has the name already.
     pub(crate) fn add_property(
         self,
-        property: Property<'a>,
+        property: PropertyEntry,
+        name: &'a [u8],
         digest: [u8; 32],
     ) -> Result<Growing<'a>, Error>
         requires grown { IsGrown self }
-        requires digest { digest ≡ digest_of_name property.name.now }
-        ensures new { OnOk result ((innermost : OpenFileNode) (outer : List OpenFileNode)
-            → IsGrowing self.entry innermost outer
+        requires few { length self.entries.items ≤ property.place }
+        requires digest { digest ≡ digest_of_name name.now }
+        ensures new { OnOk result ((file : List ℕ) (innermost : OpenFileNode)
+            (outer : List OpenFileNode) → IsGrowing file self.entry innermost outer
             → names innermost.children ≡ []
-            → IsNew property.entry.name.now (map (λ other. other.name) innermost.properties)) }
-        ensures grown { IfOk result
-            (λ grown. (innermost : OpenFileNode) (outer : List OpenFileNode)
-            → IsGrowing self.entry innermost outer
+            → IsNew name.entry.now (map (λ other. other.name) innermost.properties)) }
+        ensures grown { IfOk result (λ grown. (file : List ℕ) (innermost : OpenFileNode)
+            (outer : List OpenFileNode) → IsGrowing file self.entry innermost outer
             → names innermost.children ≡ []
-            → IsGrowing grown
-            (with_one_property innermost (file_property_of property.entry)) outer) }
-        ensures fault { IfErr result (IsFaultOrNoMemory (λ fault. fault
-            ≡ token_fault property.entry.place IsNewProperty)) }
+            → (property_in file property).name ≡ name.entry.now
+            → IsGrowing file grown
+            (with_one_property innermost (property_in file property)) outer) }
+        ensures count { IfOk result (λ grown. length grown.entries.items
+            ≡ length self.entry.entries.items + 1) }
+        ensures fault { IfErr result (IsFaultOrNoMemory
+            (λ fault. fault ≡ token_fault property.place IsNewProperty)) }
         ensures duplicate { IfErr result (IsFaultOrNoMemory
-            (λ _. (innermost : OpenFileNode) (outer : List OpenFileNode)
-            → IsGrowing self.entry innermost outer
+            (λ _. (file : List ℕ) (innermost : OpenFileNode) (outer : List OpenFileNode)
+            → IsGrowing file self.entry innermost outer
             → names innermost.children ≡ []
-            → ¬ (IsNew property.entry.name.now (map (λ other. other.name) innermost.properties)))) }
+            → ¬ (IsNew name.entry.now (map (λ other. other.name) innermost.properties)))) }
     {
         let Growing {
             mut entries,
@@ -171,12 +184,12 @@ impl<'a> Growing<'a> {
             outer,
             mut properties,
         } = self;
-        if !properties.insert(property.name, digest)? {
+        if !properties.insert(name, digest)? {
             return refuse(Cause::DuplicateProperty, property.place).map_err(Error::from);
         }
         entries.push(Entry::Property(property))?;
         let property_count = entries.len() - innermost.entry - 1;
-        set_property_count(&mut entries, innermost.entry, property_count);
+        set_property_count(&mut entries, innermost.entry, property_count as u32);
         Ok(Growing {
             entries,
             innermost,
@@ -187,7 +200,8 @@ impl<'a> Growing<'a> {
 
     /// The tree after the innermost open node has ended.
     pub(crate) fn end_node(self) -> Ending<'a>
-        requires { IsGrown self }
+        requires grown { IsGrown self }
+        requires few { length self.entries.items < 2 ^ 31 }
         ensures { IsEnding self.entry result }
     {
         let Growing {
@@ -198,7 +212,7 @@ impl<'a> Growing<'a> {
         } = self;
         let OpenNode { entry, children: _ } = innermost;
         let after = entries.len();
-        set_after(&mut entries, entry, after);
+        set_after(&mut entries, entry, after as u32);
         match outer.pop() {
             Some(parent) => Ending::Inside(Growing {
                 entries,

@@ -1,12 +1,15 @@
 //! The nodes of a blob.
 
-ghost use Rattle.std.specs.Prelude.{◌≡◌, ◌<◌, ◌^◌, drop, length, slice_get, IsTrue};
+ghost use Rattle.std.specs.Prelude.{◌≡◌, ◌<◌, ◌^◌, ℕ, List, drop, length, slice_get, IsTrue};
+ghost use Rattle.std.specs.Prelude.{IfSome};
+ghost use Rattle.std.specs.List.{AllZip};
 ghost use Rattle.std.specs.Option.{option_map};
 ghost use Rattle.bi_blob.specs.Tree.{properties_of};
 ghost use Rattle.bi_blob.specs.Lookups.{siblings, root_node, node_at, node_named, value_named};
 ghost use Rattle.bi_blob.specs.Lookups.{property_named};
 ghost use Rattle.bi_fdt.specs.Properties.{file_property_of};
 ghost use Rattle.bi_fdt.specs.Content.{root_of, begins_with_node};
+ghost use Rattle.bi_fdt.specs.Numbers.{HasNumber, AreNumbered};
 
 use crate::blob::Blob;
 use crate::properties::Properties;
@@ -25,12 +28,13 @@ pub struct NodeRef<'a, 'b> {
 }
 
 impl<'a, 'b> NodeRef<'a, 'b> {
-    ghost use Rattle.bi_fdt.specs.Views.{node_of};
+    ghost use Rattle.bi_fdt.specs.Views.{node_of, table_of_node};
     ghost use Rattle.bi_fdt.specs.Fields.{IsNodeOf};
 
     /// The root of a blob.
     pub(crate) fn new(blob: &'b Blob<'a>) -> NodeRef<'a, 'b>
-        ensures { node_of result ≡ root_node (root_of blob.entry.now) }
+        ensures root { node_of result ≡ root_node (root_of blob.entry.now) }
+        ensures same_table { table_of_node result ≡ blob.entry.now.table }
     {
         // The call gives the proof the invariant of the blob: its table begins with the root.
         let _ = blob.entries();
@@ -38,8 +42,9 @@ impl<'a, 'b> NodeRef<'a, 'b> {
     }
 
     /// The node's entry.
-    fn entry(self) -> NodeEntry<'a>
-        ensures { IsNodeOf self.entry.blob.now.table self.entry.index result }
+    fn entry(self) -> NodeEntry
+        ensures { IsNodeOf self.entry.blob.now.file self.entry.blob.now.table self.entry.index
+            result }
     {
         let entry = self.blob.entries()[self.index];
         match entry {
@@ -52,7 +57,7 @@ impl<'a, 'b> NodeRef<'a, 'b> {
     pub fn name(self) -> &'a [u8]
         ensures { result.now ≡ (node_of self.entry).name }
     {
-        self.entry().name
+        self.entry().name_in(self.blob.file())
     }
 
     /// The offset in the file of the token that begins the node.
@@ -66,7 +71,7 @@ impl<'a, 'b> NodeRef<'a, 'b> {
     pub fn property_count(self) -> usize
         ensures { result ≡ length (node_of self.entry).own.properties }
     {
-        self.entry().property_count
+        self.entry().property_count as usize
     }
 
     /// The properties in their order in the file. Iterating over all of them takes time linear in
@@ -76,8 +81,21 @@ impl<'a, 'b> NodeRef<'a, 'b> {
     {
         let entries = self.blob.entries();
         let begin = self.index + 1;
-        let end = begin + self.entry().property_count;
-        Properties::new(&entries[begin..end])
+        let end = begin + self.entry().property_count as usize;
+        Properties::new(self.blob.file(), &entries[begin..end])
+    }
+
+    /// The numbers of the names of the properties, in their order in the file. `numbers` are those
+    /// of all nodes and properties of the blob.
+    pub fn name_numbers<'n>(self, numbers: &'n [usize]) -> &'n [usize]
+        requires { length numbers.now ≡ length (table_of_node self) }
+        ensures { (names : List (List ℕ))
+            → AreNumbered names (table_of_node self.entry) numbers.entry.now
+            → AllZip (HasNumber names) (node_of self.entry).own.properties result.now }
+    {
+        let begin = self.index + 1;
+        let end = begin + self.entry().property_count as usize;
+        &numbers[begin..end]
     }
 
     /// The name and value of property `index`, from 0, in the order of the file. None exactly if
@@ -87,12 +105,15 @@ impl<'a, 'b> NodeRef<'a, 'b> {
             ≡ slice_get (properties_of (node_of self.entry).own) index }
     {
         let node = self.entry();
-        if index >= node.property_count {
+        if index >= node.property_count as usize {
             return None;
         }
         let entry = self.blob.entries()[self.index + 1 + index];
         match entry {
-            Entry::Property(property) => Some((property.name, property.value)),
+            Entry::Property(property) => {
+                let property = property.property_in(self.blob.file());
+                Some((property.name, property.value))
+            }
             Entry::Node(_) => unreachable!(),
         }
     }
@@ -130,11 +151,13 @@ impl<'a, 'b> NodeRef<'a, 'b> {
 
     /// The first child. None exactly if there is no child.
     pub fn first_child(self) -> Option<NodeRef<'a, 'b>>
-        ensures { option_map node_of result ≡ node_at (node_of self.entry).children 0 }
+        ensures child { option_map node_of result ≡ node_at (node_of self.entry).children 0 }
+        ensures same_table { IfSome result
+            (λ child. table_of_node child ≡ table_of_node self.entry) }
     {
         let node = self.entry();
-        let index = self.index + 1 + node.property_count;
-        if index == node.after {
+        let index = self.index + 1 + node.property_count as usize;
+        if index == node.after as usize {
             return None;
         }
         Some(NodeRef {
@@ -145,10 +168,13 @@ impl<'a, 'b> NodeRef<'a, 'b> {
 
     /// The next child of the node's parent. None exactly for the last child, and for the root.
     pub fn next_sibling(self) -> Option<NodeRef<'a, 'b>>
-        ensures { option_map node_of result ≡ node_at (node_of self.entry).later 0 }
+        ensures sibling { option_map node_of result ≡ node_at (node_of self.entry).later 0 }
+        ensures same_table { IfSome result
+            (λ sibling. table_of_node sibling ≡ table_of_node self.entry) }
     {
         let node = self.entry();
-        let entry = *self.blob.entries().get(node.after)?;
+        let after = node.after as usize;
+        let entry = *self.blob.entries().get(after)?;
         match entry {
             Entry::Node(next) => {
                 // A node of less depth is a sibling of a parent.
@@ -157,7 +183,7 @@ impl<'a, 'b> NodeRef<'a, 'b> {
                 }
                 Some(NodeRef {
                     blob: self.blob,
-                    index: node.after,
+                    index: after,
                 })
             }
             Entry::Property(_) => None,

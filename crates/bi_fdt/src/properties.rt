@@ -3,7 +3,7 @@
 ghost use Rattle.std.specs.Prelude.{◌≡◌, drop, length, map, List};
 ghost use Rattle.std.specs.Iterator.{at_most};
 ghost use Rattle.bi_blob.specs.Tree.{FileProperty};
-ghost use Rattle.bi_fdt.specs.Table.{item_of, first_properties};
+ghost use Rattle.bi_fdt.specs.Table.{item_in, first_properties};
 ghost use Rattle.bi_fdt.specs.Properties.{GivesProperty};
 
 use crate::table::{Entry, Property};
@@ -12,23 +12,29 @@ use std::marker::Model;
 /// The properties of a node that are left, in their order in the file.
 #[derive(Drop)]
 pub struct Properties<'a, 'b> {
-    entries: &'b [Entry<'a>],
+    file: &'a [u8],
+    entries: &'b [Entry],
     index: usize,
 }
 
 impl<'a, 'b> Model for Properties<'a, 'b> {
     ghost Value = { List FileProperty };
 
-    ghost view = { λ properties. first_properties (map item_of
-        (drop properties.index properties.entries.now)) };
+    ghost view = { λ properties. first_properties
+        (map (item_in properties.file.now) (drop properties.index properties.entries.now)) };
 }
 
 impl<'a, 'b> Properties<'a, 'b> {
-    /// The properties that these entries begin with.
-    pub(crate) fn new(entries: &'b [Entry<'a>]) -> Properties<'a, 'b>
-        ensures { result ≡ first_properties (map item_of entries.entry.now) }
+    /// The properties that these entries of a file begin with.
+    pub(crate) fn new(file: &'a [u8], entries: &'b [Entry]) -> Properties<'a, 'b>
+        ensures { result
+            ≡ first_properties (map (item_in file.entry.now) entries.entry.now) }
     {
-        Properties { entries, index: 0 }
+        Properties {
+            file,
+            entries,
+            index: 0,
+        }
     }
 }
 
@@ -44,7 +50,7 @@ impl<'a, 'b> Iterator for Properties<'a, 'b> {
         match entry {
             Entry::Property(property) => {
                 self.index += 1;
-                Some(property)
+                Some(property.property_in(self.file))
             }
             Entry::Node(_) => None,
         }

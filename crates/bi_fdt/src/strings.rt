@@ -85,7 +85,7 @@ impl<'a> Strings<'a> {
 }
 
 /// The ends of the names at the first multiples of 64.
-fn ends_of_names(alloc: Global, bytes: &[u8]) -> Result<Vec<usize>, AllocError>
+pub(crate) fn ends_of_names(alloc: Global, bytes: &[u8]) -> Result<Vec<usize>, AllocError>
     ensures ends { IfOk result (λ ends. AreEnds bytes.now ends.items) }
     ensures count { IfOk result (λ ends. length ends.items ≡ length bytes.now / 64 + 1) }
 {

@@ -24,8 +24,8 @@ pub(crate) fn read_tree<'a>(
     alloc: Global,
     blocks: Blocks<'a, '_>,
     depth_limit: usize,
-) -> Result<Vec<Entry<'a>>, Error>
-    requires blocks { AreBlocks (blocks_of blocks) }
+) -> Result<Vec<Entry>, Error>
+    requires blocks { AreBlocks blocks }
     requires ordered { blocks.begin ≤ blocks.end }
     requires depth { 1 ≤ depth_limit }
     ensures ok { IfOk result (λ entries. HasTable
@@ -42,7 +42,7 @@ pub(crate) fn read_tree<'a>(
 
 /// The offset of the token of the root.
 fn skip_to_root(blocks: Blocks) -> Result<usize, Fault>
-    requires blocks { AreBlocks (blocks_of blocks) }
+    requires blocks { AreBlocks blocks }
     requires ordered { blocks.begin ≤ blocks.end }
     ensures number { IfOk result
         (λ place. IsNumberAt (blocks_of blocks.entry) place begin_node_number) }
@@ -71,7 +71,7 @@ fn begin_root<'a>(
     depth_limit: usize,
     place: usize,
 ) -> Result<Reading<'a>, Error>
-    requires blocks { AreBlocks (blocks_of blocks) }
+    requires blocks { AreBlocks blocks }
     requires depth { 1 ≤ depth_limit }
     requires number { IsNumberAt (blocks_of blocks) place begin_node_number }
     requires position { IsOpenAt (blocks_of blocks) depth_limit place NoTree }
@@ -93,8 +93,8 @@ fn read_root<'a>(
     blocks: Blocks<'a, '_>,
     depth_limit: usize,
     begun: Reading<'a>,
-) -> Result<(usize, Vec<Entry<'a>>), Error>
-    requires blocks { AreBlocks (blocks_of blocks) }
+) -> Result<(usize, Vec<Entry>), Error>
+    requires blocks { AreBlocks blocks }
     requires reading { IsReading (blocks_of blocks) depth_limit begun }
     ensures ok { IfOk result (λ after. IsAfter (blocks_of blocks.entry)
         depth_limit after.0 after.1.items) }
@@ -112,7 +112,7 @@ fn read_root<'a>(
 
 /// Checks the tokens after the root, from `place` on.
 fn check_after_root(blocks: Blocks, place: usize) -> Result<(), Fault>
-    requires blocks { AreBlocks (blocks_of blocks) }
+    requires blocks { AreBlocks blocks }
     requires within { place ≤ blocks.end + 3 }
     ensures ok { OnOk result ((depth_limit : ℕ) (root : Root FileNode)
         → IsOpenAt (blocks_of blocks.entry) depth_limit place (WholeTree root)

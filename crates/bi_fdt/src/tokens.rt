@@ -27,7 +27,7 @@ pub(crate) enum Next<'a> {
     /// More tokens inside the root.
     Inside(Reading<'a>),
     /// The tokens after the root, from this offset on, and the table of the tree.
-    After(usize, Vec<Entry<'a>>),
+    After(usize, Vec<Entry>),
 }
 
 /// Reads the token at `reading.place`. Fails with the fault of the first of its checks that fails,
@@ -38,7 +38,7 @@ pub(crate) fn step<'a>(
     depth_limit: usize,
     reading: Reading<'a>,
 ) -> Result<Next<'a>, Error>
-    requires blocks { AreBlocks (blocks_of blocks) }
+    requires blocks { AreBlocks blocks }
     requires reading { IsReading (blocks_of blocks) depth_limit reading }
     ensures ok { IfOk result (IsAhead (blocks_of blocks.entry) depth_limit reading.entry.place) }
     ensures failed { IfErr result (IsFaultOrNoMemory
@@ -75,7 +75,7 @@ fn begin_node<'a>(
     depth_limit: usize,
     reading: Reading<'a>,
 ) -> Result<Next<'a>, Error>
-    requires blocks { AreBlocks (blocks_of blocks) }
+    requires blocks { AreBlocks blocks }
     requires reading { IsReading (blocks_of blocks) depth_limit reading }
     requires number { IsNumberAt (blocks_of blocks) reading.place begin_node_number }
     ensures ok { IfOk result (IsAhead (blocks_of blocks.entry) depth_limit reading.entry.place) }
@@ -98,7 +98,7 @@ fn add_property<'a>(
     depth_limit: usize,
     reading: Reading<'a>,
 ) -> Result<Next<'a>, Error>
-    requires blocks { AreBlocks (blocks_of blocks) }
+    requires blocks { AreBlocks blocks }
     requires reading { IsReading (blocks_of blocks) depth_limit reading }
     requires number { IsNumberAt (blocks_of blocks) reading.place prop_number }
     ensures added { IfOk result (IsAhead (blocks_of blocks.entry) depth_limit reading.entry.place) }
@@ -107,11 +107,12 @@ fn add_property<'a>(
 {
     let Reading { place, growing } = reading;
     let property = property_at(blocks, place, growing.is_childless())?;
-    let digest = name_digest(blocks, place, property.name);
+    let name = property.name_in(blocks.file);
+    let digest = name_digest(blocks, place, name);
     // Besides the value, the token has its number and two cells.
-    let width = up4(property.value.len() + 12);
+    let width = up4(property.value_length as usize + 12);
     Ok(Next::Inside(Reading {
         place: place + width,
-        growing: growing.add_property(property, digest)?,
+        growing: growing.add_property(property, name, digest)?,
     }))
 }

@@ -3,6 +3,7 @@ use Rattle.bi_base.specs.Cells.{up4}
 use Rattle.bi_blob.specs.Tokens.{name_from}
 use Rattle.bi_blob.specs.OpenNodes.{IsOpenAt, OpenTree, new_node}
 use Rattle.bi_fdt.specs.Blocks.{blocks_of}
+use Rattle.bi_fdt.proofs.NameEnds.{name_there}
 use Rattle.bi_fdt.proofs.TokenSteps.{up4-within}
 use Rattle.bi_fdt.proofs.RootSteps.{past_root}
 use Rattle.bi_fdt.proofs.structure.begin_root.Goals as goal
@@ -21,6 +22,7 @@ returns-clause-ok c =
       outer = [];
       position = subst (λ w. IsOpenAt blocks c.args.depth_limit (c.args.place + w) (OpenTree (new_node name c.args.place) [])) (sym wide)
           (past_root blocks c.args.depth_limit c.args.place name c.requires.position c.requires.number c.in_ok-name.ensures.name passes);
-      growing = c.in_ok-growing.ensures.ok;
+      growing = c.in_ok-growing.ensures.ok c.args.blocks.file.now (name_there c.args.blocks.file.now name (c.args.place + 4) c.in_ok-name.ensures.name);
+      few = omega (arith, c.in_ok-growing.ensures.count);
       within = omega arith;
     }

@@ -4,6 +4,7 @@ use Rattle.bi_base.proofs.Refusals.{refused_by, refusal_passed_on}
 use Rattle.bi_blob.specs.Tokens.{name_from}
 use Rattle.bi_blob.specs.OpenNodes.{IsOpenAt, OpenTree, open_node_of, outer_nodes_of, new_node}
 use Rattle.bi_fdt.specs.Blocks.{blocks_of}
+use Rattle.bi_fdt.proofs.NameEnds.{name_there}
 use Rattle.bi_fdt.proofs.TokenSteps.{up4-within, begin_fault, duplicate_node, after_begin}
 use Rattle.bi_blob.proofs.Blobs.Steps.{length-outer_nodes_of}
 use Rattle.bi_fdt.proofs.tokens.begin_node.Goals as goal
@@ -13,7 +14,7 @@ returns-in_err-name-clause-failed c =
     let r = c.requires.reading in
     let blocks = blocks_of c.args.blocks in
     let deep : length (outer_nodes_of r.innermost.name r.outer) ≡ length r.outer = length-outer_nodes_of r.innermost.name r.outer in
-    let depth : c.depth.result ≡ length r.outer + 1 = c.depth.ensures r.innermost r.outer r.growing in
+    let depth : c.depth.result ≡ length r.outer + 1 = c.depth.ensures c.args.blocks.file.now r.innermost r.outer r.growing in
     refused_by _ c.in_err-name.field-0.0 _ c.from_residual.ensures.1
     (begin_fault blocks c.args.depth_limit c.args.reading.place r.innermost r.outer r.position _ c.requires.number
     (c.in_err-name.ensures.fault (open_node_of r.innermost) (outer_nodes_of r.innermost.name r.outer) (omega arith)))
@@ -23,12 +24,12 @@ returns-in_err-growing-clause-failed c =
     let r = c.requires.reading in
     let blocks = blocks_of c.args.blocks in
     let deep : length (outer_nodes_of r.innermost.name r.outer) ≡ length r.outer = length-outer_nodes_of r.innermost.name r.outer in
-    let depth : c.depth.result ≡ length r.outer + 1 = c.depth.ensures r.innermost r.outer r.growing in
+    let depth : c.depth.result ≡ length r.outer + 1 = c.depth.ensures c.args.blocks.file.now r.innermost r.outer r.growing in
     refusal_passed_on _ c.in_err-growing.field-0.0 _ _ _ c.from_residual-in_err-growing.ensures.1 c.in_err-growing.ensures.fault c.in_err-growing.ensures.duplicate
     (λ fault is old.
     duplicate_node blocks c.args.depth_limit c.args.reading.place r.innermost r.outer r.position c.in_ok-name.name.now fault c.requires.number c.in_ok-name.ensures.name
     (c.in_ok-name.ensures.ok (open_node_of r.innermost) (outer_nodes_of r.innermost.name r.outer) (omega arith))
-    is (old r.innermost r.outer r.growing))
+    is (old c.args.blocks.file.now r.innermost r.outer r.growing))
 
 pub returns-clause-ok : goal.returns-clause-ok
 returns-clause-ok c =
@@ -36,7 +37,7 @@ returns-clause-ok c =
     let blocks = blocks_of c.args.blocks in
     let name = c.in_ok-name.name.now in
     let deep : length (outer_nodes_of r.innermost.name r.outer) ≡ length r.outer = length-outer_nodes_of r.innermost.name r.outer in
-    let depth : c.depth.result ≡ length r.outer + 1 = c.depth.ensures r.innermost r.outer r.growing in
+    let depth : c.depth.result ≡ length r.outer + 1 = c.depth.ensures c.args.blocks.file.now r.innermost r.outer r.growing in
     let passes = c.in_ok-name.ensures.ok (open_node_of r.innermost) (outer_nodes_of r.innermost.name r.outer) (omega arith) in
     let ends : c.args.reading.place + 4 + length (name_from c.args.blocks.file.now (c.args.reading.place + 4)) < c.args.blocks.end = passes.1.0 in
     let long : length name ≡ length (name_from c.args.blocks.file.now (c.args.reading.place + 4)) = ap length c.in_ok-name.ensures.name in
@@ -48,8 +49,10 @@ returns-clause-ok c =
         outer = r.innermost ∷ r.outer;
         position = subst (λ w. IsOpenAt blocks c.args.depth_limit (c.args.reading.place + w) (OpenTree (new_node name c.args.reading.place) (r.innermost ∷ r.outer))) (sym wide)
             (after_begin blocks c.args.depth_limit c.args.reading.place r.innermost r.outer r.position name c.requires.number c.in_ok-name.ensures.name passes
-            (c.in_ok-growing.ensures.new r.innermost r.outer r.growing));
-        growing = c.in_ok-growing.ensures.grown r.innermost r.outer r.growing;
+            (c.in_ok-growing.ensures.new c.args.blocks.file.now r.innermost r.outer r.growing));
+        growing = c.in_ok-growing.ensures.grown c.args.blocks.file.now r.innermost r.outer r.growing
+            (name_there c.args.blocks.file.now name (c.args.reading.place + 4) c.in_ok-name.ensures.name);
+        few = omega (arith, r.few, c.in_ok-growing.ensures.count);
         within = omega arith;
       },
       omega arith,

@@ -15,6 +15,7 @@ returns-then-number-eq-NOP-clause-ok c =
         outer = r.outer;
         position = after_nop (blocks_of c.args.blocks) c.args.depth_limit c.args.reading.place r.innermost r.outer r.position (record { within = within; is_number = sym c.in_ok-number.ensures.number ∙ c.if-number-eq-NOP.true });
         growing = r.growing;
+        few = omega (arith, r.few);
         within = omega arith;
       },
       omega arith,

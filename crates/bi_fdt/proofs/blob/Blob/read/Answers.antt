@@ -22,7 +22,7 @@ returns-in_err-entries-clause-failed c =
     (refused_in_tree c.args.limits c.args.file.now c.in_ok-reservation_count.reservation_count c.in_err-entries.field-0.0
     c.in_ok-reservation_count.ensures.header c.in_ok-reservation_count.ensures.reservations
     (subst (λ n. IsFaultOrNoMemory (IsStructureFault (tree_blocks c.args.file.now) n) c.in_err-entries.field-0.0) depth
-    (subst (λ b. IsFaultOrNoMemory (IsStructureFault b c.from.result) c.in_err-entries.field-0.0) c.tree_blocks-blocks.ensures c.in_err-entries.ensures.failed)))
+    (subst (λ b. IsFaultOrNoMemory (IsStructureFault b c.from.result) c.in_err-entries.field-0.0) c.tree_blocks-blocks.ensures.blocks c.in_err-entries.ensures.failed)))
 
 pub invariant_of-result : goal.invariant_of-result
 invariant_of-result c =
@@ -30,7 +30,7 @@ invariant_of-result c =
     is_held c.args.limits c.args.file.now c.in_ok-reservation_count.reservation_count c.in_ok-entries.entries.items
     c.in_ok-reservation_count.ensures.header c.in_ok-reservation_count.ensures.reservations
     (subst (λ n. HasTable (tree_blocks c.args.file.now) n c.in_ok-entries.entries.items) depth
-    (subst (λ b. HasTable b c.from.result c.in_ok-entries.entries.items) c.tree_blocks-blocks.ensures c.in_ok-entries.ensures.ok))
+    (subst (λ b. HasTable b c.from.result c.in_ok-entries.entries.items) c.tree_blocks-blocks.ensures.blocks c.in_ok-entries.ensures.ok))
 
 pub returns-clause-read : goal.returns-clause-read
 returns-clause-read c =
@@ -39,4 +39,4 @@ returns-clause-read c =
     is_read_blob c.args.limits c.args.file.now c.in_ok-reservation_count.reservation_count c.in_ok-entries.entries.items bytes
     c.in_ok-reservation_count.ensures.header c.in_ok-reservation_count.ensures.reservations
     (subst (λ n. HasTable (tree_blocks c.args.file.now) n c.in_ok-entries.entries.items) depth
-    (subst (λ b. HasTable b c.from.result c.in_ok-entries.entries.items) c.tree_blocks-blocks.ensures c.in_ok-entries.ensures.ok))
+    (subst (λ b. HasTable b c.from.result c.in_ok-entries.entries.items) c.tree_blocks-blocks.ensures.blocks c.in_ok-entries.ensures.ok))

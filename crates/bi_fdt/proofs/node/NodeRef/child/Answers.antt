@@ -11,12 +11,12 @@ use Rattle.bi_fdt.proofs.node.NodeRef.child.Goals as goal
 pub loop-next-init : goal.loop-next-init
 loop-next-init c =
     ap (λ l. lookup (λ other. bytes_eq other c.args.name.now) (map (λ sibling. (sibling.name, sibling)) l))
-    (ap siblings_from c.first_child-next.ensures ∙ siblings_from-first (node_of c.args.self).children)
+    (ap siblings_from c.first_child-next.ensures.child ∙ siblings_from-first (node_of c.args.self).children)
 
 pub loop-next-smaller : goal.loop-next-smaller
 loop-next-smaller c =
     let e : length (siblings_from (option_map node_of c.loop-next.next)) ≡ suc (length (siblings_from (option_map node_of c.next_sibling-next.result))) =
-    ap length (siblings_from-next (option_map node_of c.loop-next.next) (option_map node_of c.next_sibling-next.result) (node_of c.in-Some.child) (ap (option_map node_of) c.in-Some.is) c.next_sibling-next.ensures) in
+    ap length (siblings_from-next (option_map node_of c.loop-next.next) (option_map node_of c.next_sibling-next.result) (node_of c.in-Some.child) (ap (option_map node_of) c.in-Some.is) c.next_sibling-next.ensures.sibling) in
     omega arith
 
 pub loop-next-preserved : goal.loop-next-preserved
@@ -25,5 +25,5 @@ loop-next-preserved c =
     let other : bytes_eq child.name c.args.name.now ≡ false = ap (λ l. bytes_eq l c.args.name.now) (sym c.name.ensures) ∙ sym c.eq.ensures ∙ c.if-eq.false in
     sym (lookup_passes c.args.name.now child (siblings_from (option_map node_of c.next_sibling-next.result)) other)
     ∙ ap (λ l. lookup (λ o. bytes_eq o c.args.name.now) (map (λ sibling. (sibling.name, sibling)) l))
-    (sym (siblings_from-next (option_map node_of c.loop-next.next) (option_map node_of c.next_sibling-next.result) child (ap (option_map node_of) c.in-Some.is) c.next_sibling-next.ensures))
+    (sym (siblings_from-next (option_map node_of c.loop-next.next) (option_map node_of c.next_sibling-next.result) child (ap (option_map node_of) c.in-Some.is) c.next_sibling-next.ensures.sibling))
     ∙ c.loop-next.invariant

@@ -11,7 +11,7 @@ use Rattle.bi_fdt.proofs.node.NodeRef.child_count.Goals as goal
 pub loop-next-init : goal.loop-next-init
 loop-next-init c =
     let e : length (siblings_from (option_map node_of c.first_child-next.result)) ≡ length (siblings (node_of c.args.self).children) =
-    ap (λ o. length (siblings_from o)) c.first_child-next.ensures ∙ ap length (siblings_from-first (node_of c.args.self).children) in
+    ap (λ o. length (siblings_from o)) c.first_child-next.ensures.child ∙ ap length (siblings_from-first (node_of c.args.self).children) in
     omega arith
 
 pub overflow_add-count : goal.overflow_add-count
@@ -26,12 +26,12 @@ overflow_add-count c =
 pub loop-next-smaller : goal.loop-next-smaller
 loop-next-smaller c =
     let e : length (siblings_from (option_map node_of c.loop-next.next)) ≡ suc (length (siblings_from (option_map node_of c.next_sibling-next.result))) =
-    ap length (siblings_from-next (option_map node_of c.loop-next.next) (option_map node_of c.next_sibling-next.result) (node_of c.in-Some.child) (ap (option_map node_of) c.in-Some.is) c.next_sibling-next.ensures) in
+    ap length (siblings_from-next (option_map node_of c.loop-next.next) (option_map node_of c.next_sibling-next.result) (node_of c.in-Some.child) (ap (option_map node_of) c.in-Some.is) c.next_sibling-next.ensures.sibling) in
     omega arith
 
 pub loop-next-preserved : goal.loop-next-preserved
 loop-next-preserved c =
     let i : c.loop-next.count + length (siblings_from (option_map node_of c.loop-next.next)) ≡ length (siblings (node_of c.args.self).children) = c.loop-next.invariant in
     let e : length (siblings_from (option_map node_of c.loop-next.next)) ≡ suc (length (siblings_from (option_map node_of c.next_sibling-next.result))) =
-    ap length (siblings_from-next (option_map node_of c.loop-next.next) (option_map node_of c.next_sibling-next.result) (node_of c.in-Some.child) (ap (option_map node_of) c.in-Some.is) c.next_sibling-next.ensures) in
+    ap length (siblings_from-next (option_map node_of c.loop-next.next) (option_map node_of c.next_sibling-next.result) (node_of c.in-Some.child) (ap (option_map node_of) c.in-Some.is) c.next_sibling-next.ensures.sibling) in
     omega arith

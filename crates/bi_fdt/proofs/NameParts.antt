@@ -1,0 +1,148 @@
+use Rattle.std.proofs.Common.{◌≡◌, ◌⊎◌, ℕ, zero, suc, inl, inr, Bool, true, false, cond, List, [], ◌∷◌, ◌++◌, length, Some, None}
+use Rattle.std.proofs.Common.{slice_get, refl, sym, ap, subst, ◌∙◌}
+use Rattle.std.specs.declared.cmp.Ordering.{Ordering}
+use Rattle.std.specs.declared.cmp.Ordering.TheVariants.{Less, Equal, Greater}
+use Rattle.std.specs.Ordering.{nat_cmp, ordering_then, is_eq}
+use Rattle.std.specs.Cmp.Lexicographic.{slice_cmp, lists_total}
+use Rattle.std.specs.BTreeMap.{BTreeMap, get, Updates}
+use denote.Ref.{Bor}
+use Rattle.std.proofs.lemmas.Bool.{true≢false}
+use Rattle.std.proofs.lemmas.Cmp.{tied_itself, nat_cmp_total}
+use Rattle.std.proofs.lemmas.List.{append_assoc, append-nil}
+use Rattle.std.proofs.lemmas.Map.Lookups.{exact_pairs, exact_unsigned, exact_bytes}
+use Rattle.std.proofs.lemmas.Option.{none-some, same_Some}
+use Rattle.bi_blob.specs.NamesByLength.{by_length}
+use Rattle.bi_fdt.specs.NameParts.{NamePart, AreOnce, IsNewPart, IsPlaced, AreMoreParts}
+use Rattle.bi_fdt.specs.Numbers.{BeginsWith}
+
+-- Parts of names keep their numbers, and a map has the numbers of exactly these parts.
+
+-- Elements of a list that is longer.
+pub slice_get-longer : {Item : Type 0} (xs ys : List Item) (index : ℕ) (x : Item) → slice_get xs index ≡ Some x →
+    slice_get (xs ++ ys) index ≡ Some x
+slice_get-longer [] ys index x is = absurd (none-some x is)
+slice_get-longer (y ∷ xs) ys zero x is = is
+slice_get-longer (y ∷ xs) ys (suc index) x is = slice_get-longer xs ys index x is
+
+pub slice_get-last : {Item : Type 0} (xs : List Item) (x : Item) → slice_get (xs ++ x ∷ []) (length xs) ≡ Some x
+slice_get-last [] x = refl
+slice_get-last (y ∷ xs) x = slice_get-last xs x
+
+pub slice_get-pushed : {Item : Type 0} (xs : List Item) (y : Item) (index : ℕ) (x : Item) → slice_get (xs ++ y ∷ []) index ≡ Some x →
+    (slice_get xs index ≡ Some x) ⊎ ((index ≡ length xs) × (y ≡ x))
+slice_get-pushed [] y zero x is = inr (refl, same_Some y x is)
+slice_get-pushed [] y (suc index) x is = absurd (none-some x is)
+slice_get-pushed (z ∷ xs) y zero x is = inl is
+slice_get-pushed (z ∷ xs) y (suc index) x is = elim (slice_get-pushed xs y index x is) [
+  | inl there ↦ inl there
+  | inr last ↦ inr (ap suc last.0, last.1)
+]
+
+-- What was in the list is in one that begins with it.
+pub slice_get-begin : {Item : Type 0} (all front : List Item) → BeginsWith all front → (index : ℕ) (x : Item) →
+    slice_get front index ≡ Some x →
+    slice_get all index ≡ Some x
+slice_get-begin all front begins index x is = ap (λ l. slice_get l index) begins.1 ∙ slice_get-longer front begins.0 index x is
+
+-- The part of a key of the map.
+abbrev part_of : ℕ × Bor (List ℕ) → NamePart
+part_of key = (key.0, key.1.now)
+
+-- Keys are equal in the order of the map exactly if the parts are.
+same_part : (a b : ℕ × Bor (List ℕ)) → is_eq (by_length a b) ≡ true → part_of a ≡ part_of b
+same_part a b is = exact_pairs nat_cmp (slice_cmp nat_cmp) exact_unsigned exact_bytes (part_of a) (part_of b) (equal (by_length a b) is) where
+  equal : (o : Ordering) → is_eq o ≡ true → o ≡ Equal
+  equal Less is = absurd (true≢false (sym is))
+  equal Equal is = refl
+  equal Greater is = absurd (true≢false (sym is))
+
+equal_part : (a b : ℕ × Bor (List ℕ)) → part_of a ≡ part_of b → is_eq (by_length a b) ≡ true
+equal_part a b same =
+    ap (λ (part : NamePart). is_eq (ordering_then (nat_cmp a.0 part.0) (slice_cmp nat_cmp a.1.now part.1))) (sym same)
+    ∙ ap (λ o. is_eq (ordering_then o (slice_cmp nat_cmp a.1.now a.1.now))) (tied_itself nat_cmp_total a.0)
+    ∙ ap is_eq (tied_itself (lists_total nat_cmp_total) a.1.now)
+
+-- The map with one more part has the numbers of no others.
+pub found_more : (old new : BTreeMap (ℕ × Bor (List ℕ)) ℕ) (parts : List NamePart) (key : ℕ × Bor (List ℕ))
+    → ((part : ℕ × Bor (List ℕ)) (number : ℕ) → get by_length old part ≡ Some number → slice_get parts number ≡ Some (part.0, part.1.now))
+    → Updates by_length old new key (Some (length parts)) → (part : ℕ × Bor (List ℕ)) (number : ℕ) → get by_length new part ≡ Some number
+    → slice_get (parts ++ (key.0, key.1.now) ∷ []) number ≡ Some (part.0, part.1.now)
+found_more old new parts key found updates part number is = by (is_eq (by_length key part)) refl where
+  now : cond (is_eq (by_length key part)) (Some (length parts)) (get by_length old part) ≡ Some number
+  now = sym (updates.0 part) ∙ is
+
+  by : (test : Bool) → is_eq (by_length key part) ≡ test → slice_get (parts ++ part_of key ∷ []) number ≡ Some (part_of part)
+  by true same =
+      let last : length parts ≡ number = same_Some _ _ (ap (λ b. cond b (Some (length parts)) (get by_length old part)) (sym same) ∙ now) in
+      ap (slice_get (parts ++ part_of key ∷ [])) (sym last) ∙ slice_get-last parts (part_of key) ∙ ap Some (same_part key part same)
+  by false other =
+      slice_get-longer parts (part_of key ∷ []) number (part_of part)
+      (found part number (ap (λ b. cond b (Some (length parts)) (get by_length old part)) (sym other) ∙ now))
+
+-- The map with one more part, which it lacked, has the numbers of all.
+pub listed_more : (old new : BTreeMap (ℕ × Bor (List ℕ)) ℕ) (parts : List NamePart) (key : ℕ × Bor (List ℕ))
+    → ((part : ℕ × Bor (List ℕ)) (number : ℕ) → slice_get parts number ≡ Some (part.0, part.1.now) → get by_length old part ≡ Some number)
+    → Updates by_length old new key (Some (length parts)) → get by_length old key ≡ None → (part : ℕ × Bor (List ℕ)) (number : ℕ)
+    → slice_get (parts ++ (key.0, key.1.now) ∷ []) number ≡ Some (part.0, part.1.now) → get by_length new part ≡ Some number
+listed_more old new parts key listed updates lacks part number is =
+    updates.0 part ∙ elim (slice_get-pushed parts (part_of key) number (part_of part) is) [
+      | inl there ↦ other there (is_eq (by_length key part)) refl
+      | inr last ↦ ap (λ b. cond b (Some (length parts)) (get by_length old part)) (equal_part key part last.1) ∙ ap Some (sym last.0)
+    ] where
+      other : slice_get parts number ≡ Some (part_of part) → (test : Bool) → is_eq (by_length key part) ≡ test
+          → cond (is_eq (by_length key part)) (Some (length parts)) (get by_length old part) ≡ Some number
+      other there true same = absurd (none-some number (sym lacks ∙ listed key number (there ∙ ap Some (sym (same_part key part same)))))
+      other there false differs = ap (λ b. cond b (Some (length parts)) (get by_length old part)) differs ∙ listed part number there
+
+-- A part that the map lacks is new.
+pub lacks_part : (numbers : BTreeMap (ℕ × Bor (List ℕ)) ℕ) (parts : List NamePart) (key : ℕ × Bor (List ℕ))
+    → ((part : ℕ × Bor (List ℕ)) (number : ℕ) → slice_get parts number ≡ Some (part.0, part.1.now) →
+    get by_length numbers part ≡ Some number)
+    → get by_length numbers key ≡ None → IsNewPart (key.0, key.1.now) parts
+lacks_part numbers parts key listed lacks index there = none-some index (sym lacks ∙ listed key index there)
+
+-- The same parts.
+pub AreMoreParts-same : (old new : List NamePart) → new ≡ old → AreMoreParts old new
+AreMoreParts-same old new same = record {
+  begin = ([], same ∙ sym (append-nil old));
+  once = λ once. subst AreOnce (sym same) once;
+}
+
+-- One more part.
+once_more : (parts : List NamePart) (part : NamePart) → IsNewPart part parts → AreOnce parts → AreOnce (parts ++ part ∷ [])
+once_more parts part new once other m n at_m at_n =
+    elim (slice_get-pushed parts part m other at_m) [
+      | inl m_there ↦ elim (slice_get-pushed parts part n other at_n) [
+        | inl n_there ↦ once other m n m_there n_there
+        | inr n_last ↦ absurd (new m (m_there ∙ ap Some (sym n_last.1)))
+      ]
+      | inr m_last ↦ elim (slice_get-pushed parts part n other at_n) [
+        | inl n_there ↦ absurd (new n (n_there ∙ ap Some (sym m_last.1)))
+        | inr n_last ↦ m_last.0 ∙ sym n_last.0
+      ]
+    ]
+
+-- What adding a part does.
+pub placed_more : (old : List NamePart) (part : NamePart) (index : ℕ) (new : List NamePart) → IsPlaced old part index new →
+    AreMoreParts old new
+placed_more old part index new placed = elim placed [
+  | inl there ↦ AreMoreParts-same old new there.1
+  | inr added ↦ record {
+    begin = (part ∷ [], added.2);
+    once = λ once. subst AreOnce (sym added.2) (once_more old part added.0 once);
+  }
+]
+
+pub placed_at : (old : List NamePart) (part : NamePart) (index : ℕ) (new : List NamePart) → IsPlaced old part index new →
+    slice_get new index ≡ Some part
+placed_at old part index new placed = elim placed [
+  | inl there ↦ ap (λ l. slice_get l index) there.1 ∙ there.0
+  | inr added ↦ ap (λ l. slice_get l index) added.2 ∙ ap (slice_get (old ++ part ∷ [])) added.1 ∙ slice_get-last old part
+]
+
+-- More parts than more parts.
+pub AreMoreParts-again : (a b c : List NamePart) → AreMoreParts a b → AreMoreParts b c → AreMoreParts a c
+AreMoreParts-again a b c first second = record {
+  begin = (first.begin.0 ++ second.begin.0, second.begin.1 ∙ ap (λ l. l ++ second.begin.0) first.begin.1 ∙ append_assoc a first.begin.0 second.begin.0);
+  once = λ once. second.once (first.once once);
+}

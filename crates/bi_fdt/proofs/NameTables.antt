@@ -1,0 +1,74 @@
+use Rattle.std.proofs.Common.{◌≡◌, ℕ, zero, suc, ◌+◌, ◌<◌, List, [], ◌∷◌, ◌++◌, length, map, take, slice_index_or, sym, ap, subst, ◌∙◌, arith}
+use Rattle.std.proofs.Common.{add-one}
+use Rattle.std.specs.List.{AllByRecursion}
+use Rattle.std.proofs.Math.Seq.{take-suc}
+use Rattle.std.proofs.lemmas.List.{append_assoc, append-nil, map-append}
+use Rattle.bi_blob.specs.Blob.{tree_blocks}
+use Rattle.bi_blob.specs.Tokens.{name_from}
+use Rattle.bi_blob.proofs.Blobs.BytesBeforeZero.{name_from-IsNameAt}
+use Rattle.bi_base.specs.Cells.{u32_at}
+use Rattle.bi_fdt.specs.declared.name_table.NameTable.{NameTable}
+use Rattle.bi_fdt.specs.declared.table.Entry.{Entry}
+use Rattle.bi_fdt.specs.declared.table.Entry.TheVariants as entry
+use Rattle.bi_fdt.specs.declared.table.PropertyEntry.{PropertyEntry}
+use Rattle.bi_fdt.specs.Fields.{HasNameOffset, IsNamedAt}
+use Rattle.bi_fdt.specs.NameParts.{NamePart, AreMoreParts}
+use Rattle.bi_fdt.specs.NameTables.{names_in_table, IsNameTable, HasMoreNames}
+use Rattle.bi_fdt.specs.Numbers.{BeginsWith, IsNumbered, AreNumbered}
+use Rattle.bi_fdt.specs.Table.{TableItem, item_in, property_in}
+use Rattle.bi_fdt.proofs.NumberedNames.{AreHeads-tails, AreNumbered-push}
+
+-- Tables of names while the properties of a blob are numbered.
+
+-- The name of a property is at the offset that its token has.
+pub name_at_offset : (file strings : List ℕ) (e : Entry) (property : PropertyEntry) (at : ℕ) → strings ≡ (tree_blocks file).strings →
+    e ≡ entry.Property property → HasNameOffset file (item_in file e) → at ≡ u32_at file (property.place + 8) →
+    name_from strings at ≡ (property_in file property).name
+name_at_offset file strings e property at block is has offset =
+    let named : IsNamedAt file (property_in file property) = subst (λ other. HasNameOffset file (item_in file other)) is has in
+    (λ i. name_from (block i) (offset i))
+    ∙ name_from-IsNameAt (tree_blocks file).strings (u32_at file (property.place + 8)) (property_in file property).name named.name
+
+-- What holds of the item of each entry.
+pub item_at : (P : TableItem → Type 0) (file : List ℕ) (entries : List Entry) (index : ℕ) (d : Entry) →
+    AllByRecursion P (map (item_in file) entries) → index < length entries → P (item_in file (slice_index_or entries index d))
+item_at P file [] index d each within = absurd (omega arith)
+item_at P file (e ∷ entries) zero d each within = each.0
+item_at P file (e ∷ entries) (suc index) d each within = item_at P file entries index d each.1 (omega arith)
+
+-- A list that begins with one that begins with another.
+begins_again : {Item : Type 0} (a b c : List Item) → BeginsWith b a → BeginsWith c b → BeginsWith c a
+begins_again a b c first second =
+    (first.0 ++ second.0, second.1 ∙ ap (λ l. l ++ second.0) first.1 ∙ append_assoc a first.0 second.0)
+
+-- More names than more names.
+pub HasMoreNames-again : (a b c : NameTable) → HasMoreNames a b → HasMoreNames b c → HasMoreNames a c
+HasMoreNames-again a b c first second = record {
+  is_table = second.is_table;
+  names = begins_again (names_in_table a) (names_in_table b) (names_in_table c) first.names second.names;
+  tails = begins_again a.tails b.tails c.tails first.tails second.tails;
+}
+
+-- The same names, with more tails.
+pub HasMoreNames-tails : (table : NameTable) (tails : List NamePart) → IsNameTable table → AreMoreParts table.tails tails →
+    HasMoreNames table (record { tails = tails; heads = table.heads; names = table.names })
+HasMoreNames-tails table tails is more = record {
+  is_table = AreHeads-tails table.tails tails table.heads (names_in_table table) more is;
+  names = ([], sym (append-nil (names_in_table table)));
+  tails = more.begin;
+}
+
+-- The items with one more entry have one more number.
+pub numbers_more : (old new : NameTable) → HasMoreNames old new → (file other : List ℕ) → other ≡ file →
+    (entries : List Entry) (index : ℕ) (d : Entry) (numbers more : List ℕ) (number : ℕ) →
+    index < length entries → AreNumbered (names_in_table old) (map (item_in file) (take index entries)) numbers →
+    IsNumbered (names_in_table new) (item_in other (slice_index_or entries index d)) number → more ≡ numbers ++ number ∷ [] →
+    AreNumbered (names_in_table new) (map (item_in file) (take (index + 1) entries)) more
+numbers_more old new has file other same entries index d numbers more number within are is pushed =
+    let taken : take (index + 1) entries ≡ take index entries ++ slice_index_or entries index d ∷ [] = ap (λ n. take n entries) (add-one index) ∙ take-suc entries index d within in
+    let items : map (item_in file) (take (index + 1) entries) ≡ map (item_in file) (take index entries) ++ item_in file (slice_index_or entries index d) ∷ [] =
+    ap (map (item_in file)) taken ∙ map-append (item_in file) (take index entries) (slice_index_or entries index d ∷ []) in
+    subst (λ l. AreNumbered (names_in_table new) l more) (sym items)
+    (subst (AreNumbered (names_in_table new) (map (item_in file) (take index entries) ++ item_in file (slice_index_or entries index d) ∷ [])) (sym pushed)
+    (AreNumbered-push (names_in_table new) (names_in_table old) has.names (map (item_in file) (take index entries)) numbers (item_in file (slice_index_or entries index d)) number are
+    (subst (λ (here : List ℕ). IsNumbered (names_in_table new) (item_in here (slice_index_or entries index d)) number) same is)))

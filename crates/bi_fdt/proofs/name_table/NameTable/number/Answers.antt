@@ -1,0 +1,44 @@
+use Rattle.std.proofs.Common.{[], map, sym, subst}
+use Rattle.bi_fdt.specs.Fields.{HasNameOffset, HaveNameOffsets}
+use Rattle.bi_fdt.specs.NameTables.{names_in_table}
+use Rattle.bi_fdt.specs.NameTails.{AreTails}
+use Rattle.bi_fdt.specs.Numbers.{AreNumbered}
+use Rattle.bi_fdt.specs.Table.{item_in}
+use Rattle.bi_fdt.proofs.NumberedNames.{AreTails-more}
+use Rattle.bi_fdt.proofs.NameTables.{HasMoreNames-tails, HasMoreNames-again, item_at, numbers_more}
+use Rattle.bi_fdt.proofs.name_table.NameTable.number.Goals as goal
+
+pub returns-in_err-tails-clause-more : goal.returns-in_err-tails-clause-more
+returns-in_err-tails-clause-more c = HasMoreNames-tails c.args.self.now c.tails_of_names.new.tails c.requires c.tails_of_names.ensures.more
+
+pub returns-in_err-numbers-clause-more : goal.returns-in_err-numbers-clause-more
+returns-in_err-numbers-clause-more c = HasMoreNames-tails c.args.self.now c.tails_of_names.new.tails c.requires c.tails_of_names.ensures.more
+
+pub loop-entry-init : goal.loop-entry-init
+loop-entry-init c = record {
+  numbers = subst (AreNumbered (names_in_table c.args.self.now) []) (sym c.in_ok-numbers.ensures.items) tt;
+  more = HasMoreNames-tails c.args.self.now c.tails_of_names.new.tails c.requires c.tails_of_names.ensures.more;
+  tails = c.in_ok-tails.ensures.tails;
+}
+
+pub number_entry-requires-clause-tails : goal.number_entry-requires-clause-tails
+number_entry-requires-clause-tails c =
+    subst (AreTails c.loop-entry.self.tails c.strings-strings.result.now) (sym c.deref-in-loop-entry.ensures.value) c.loop-entry.invariant.tails
+
+pub number_entry-requires-clause-name : goal.number_entry-requires-clause-name
+number_entry-requires-clause-name c =
+    item_at (HasNameOffset c.file.result.now) c.file.result.now c.entries-entries.result.now c.loop-entry.entry-index _
+    (subst (λ file. HaveNameOffsets file (map (item_in file) c.entries-entries.result.now)) (sym c.file.ensures)
+    (subst (HaveNameOffsets c.args.blob.now.file) (sym c.entries-entries.ensures.items) c.strings-strings.ensures.names))
+    c.loop-entry-test.true
+
+pub loop-entry-preserved : goal.loop-entry-preserved
+loop-entry-preserved c = record {
+  numbers = numbers_more c.loop-entry.self c.number_entry.new.self c.number_entry.ensures.more c.args.blob.now.file c.file.result.now c.file.ensures c.entries-entries.result.now
+      c.loop-entry.entry-index _
+      c.loop-entry.numbers.items c.push.new.self.items c.in_ok-number_entry.field-0 c.loop-entry-test.true c.loop-entry.invariant.numbers
+      c.in_ok-number_entry.ensures.number c.in_ok-push.ensures.items;
+  more = HasMoreNames-again c.args.self.now c.loop-entry.self c.number_entry.new.self c.loop-entry.invariant.more c.number_entry.ensures.more;
+  tails = AreTails-more c.loop-entry.self.tails c.number_entry.new.self.tails c.strings-strings.result.now c.in_ok-tails.tails.items
+      c.number_entry.ensures.more.tails c.loop-entry.invariant.tails;
+}

@@ -1,0 +1,44 @@
+use Rattle.std.specs.Prelude.{◌≡◌, ◌⊎◌, ℕ, List, [], ◌∷◌, ◌++◌, length, map, Some, slice_get}
+use Rattle.std.specs.BTreeMap.{get}
+use Rattle.std.specs.Borrow.{Bor}
+use Rattle.bi_blob.specs.NamesByLength.{by_length}
+use Rattle.bi_fdt.specs.Numbers.{BeginsWith}
+use Rattle.bi_fdt.specs.declared.name_parts.NameParts.TheInside.{Inside}
+
+-- Parts of names, each with a number: its index in the order of their first use.
+
+-- A part of a name: the number of the tail after it, and its bytes.
+abbrev pub NamePart : Type 0
+NamePart = ℕ × List ℕ
+
+-- No part is in a list twice.
+abbrev pub AreOnce : List NamePart → Type 0
+AreOnce parts = (part : NamePart) (m n : ℕ) → slice_get parts m ≡ Some part
+    → slice_get parts n ≡ Some part → m ≡ n
+
+-- A part is not in a list.
+abbrev pub IsNewPart : NamePart → List NamePart → Type 0
+IsNewPart part parts = (index : ℕ) → ¬ (slice_get parts index ≡ Some part)
+
+-- A part was in a list at this index, or it was not there and is now at the end, at this index.
+abbrev pub IsPlaced : List NamePart → NamePart → ℕ → List NamePart → Type 0
+IsPlaced old part index new = ((slice_get old index ≡ Some part) × (new ≡ old))
+    ⊎ (IsNewPart part old × (index ≡ length old) × (new ≡ old ++ part ∷ []))
+
+-- The same parts and maybe more: each part keeps its number, and still none is there twice.
+pub record AreMoreParts (old new : List NamePart) : Type 0 where
+  pub begin : BeginsWith new old
+  pub once : AreOnce old → AreOnce new
+
+-- The parts that the fields hold.
+abbrev pub name_parts_of : Inside → List NamePart
+name_parts_of inside = map (λ part. (part.0, part.1.now)) inside.parts.items
+
+-- What is true of the fields: the map has exactly the numbers of the parts.
+pub record AreNameParts (inside : Inside) : Type 0 where
+  pub found : (part : ℕ × Bor (List ℕ)) (number : ℕ)
+      → get by_length inside.numbers part ≡ Some number
+      → slice_get (name_parts_of inside) number ≡ Some (part.0, part.1.now)
+  pub listed : (part : ℕ × Bor (List ℕ)) (number : ℕ)
+      → slice_get (name_parts_of inside) number ≡ Some (part.0, part.1.now)
+      → get by_length inside.numbers part ≡ Some number

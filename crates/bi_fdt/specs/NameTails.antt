@@ -1,0 +1,43 @@
+use Rattle.std.specs.Prelude.{◌≡◌, ℕ, zero, suc, ◌+◌, ◌-◌, ◌*◌, ◌/◌, ◌%◌, ◌<◌, ◌≤◌, List, length}
+use Rattle.std.specs.Prelude.{take, drop, Some, slice_get, slice_index_or}
+use Rattle.std.specs.List.{AllZip}
+use Rattle.bi_blob.specs.Tokens.{name_from}
+use Rattle.bi_blob.specs.Tree.{AreDistinct}
+use Rattle.bi_fdt.specs.NameParts.{NamePart, AreOnce}
+
+-- Heads and tails of names. The tail of a name is all blocks of 64 bytes that the name ends with,
+-- and its head is the bytes before them, less than 64. A tail is a list of parts that have a block
+-- each, so that the numbers of two tails are equal exactly if the tails are.
+
+-- The last blocks of a name have this number: 0 if they are none, and else 1 more than the number
+-- of the part that has the first of them.
+abbrev pub AreBlocksNumbered : List NamePart → ℕ → ℕ → List ℕ → Type 0
+AreBlocksNumbered tails zero number name = number ≡ 0
+AreBlocksNumbered tails (suc count) number name =
+    (later : ℕ) × (1 ≤ number)
+    × (slice_get tails (number - 1)
+    ≡ Some (later, take 64 (drop (length name - 64 * (count + 1)) name)))
+    × AreBlocksNumbered tails count later name
+
+-- The tail of a name has this number.
+abbrev pub IsTail : List NamePart → ℕ → List ℕ → Type 0
+IsTail tails number name = AreBlocksNumbered tails (length name / 64) number name
+
+-- These are the numbers of the tails of the names at the first multiples of 64, the last of them
+-- first.
+pub record AreTails (tails : List NamePart) (strings : List ℕ) (numbers : List ℕ) : Type 0 where
+  pub count : length numbers ≡ length strings / 64 + 1
+  pub each : (index : ℕ) (d : ℕ) → index < length numbers → IsTail tails
+      (slice_index_or numbers index d) (name_from strings (64 * (length numbers - 1 - index)))
+
+-- A part has the head of a name, and the number of its tail.
+pub record IsHead (tails : List NamePart) (part : NamePart) (name : List ℕ) : Type 0 where
+  pub head : part.1 ≡ take (length name % 64) name
+  pub tail : IsTail tails part.0 name
+
+-- These are the heads of distinct names.
+pub record AreHeads (tails heads : List NamePart) (names : List (List ℕ)) : Type 0 where
+  pub tails_once : AreOnce tails
+  pub heads_once : AreOnce heads
+  pub each : AllZip (IsHead tails) heads names
+  pub distinct : AreDistinct names

@@ -1,0 +1,25 @@
+use Rattle.std.specs.Prelude.{◌≡◌, ⊤, ℕ, List, ◌++◌, Some, slice_get}
+use Rattle.std.specs.List.{AllZip}
+use Rattle.bi_blob.specs.Tree.{FileProperty}
+use Rattle.bi_fdt.specs.Table.{TableItem, NodeItem, PropertyItem}
+
+-- The numbers of the names of properties, by which names are compared without reading them. The
+-- number of a name is its index in a list that has each name once.
+
+-- A property has the name of this number.
+abbrev pub HasNumber : List (List ℕ) → FileProperty → ℕ → Type 0
+HasNumber names property number = slice_get names number ≡ Some property.name
+
+-- If an item of a table is a property, it has the name of this number.
+abbrev pub IsNumbered : List (List ℕ) → TableItem → ℕ → Type 0
+IsNumbered names (NodeItem depth place name) number = ⊤
+IsNumbered names (PropertyItem property) number = HasNumber names property number
+
+-- The properties of a table have the names of these numbers. There is a number for each item of the
+-- table.
+abbrev pub AreNumbered : List (List ℕ) → List TableItem → List ℕ → Type 0
+AreNumbered names table numbers = AllZip (IsNumbered names) table numbers
+
+-- A list begins with another. Names keep their numbers when names are added at the end.
+abbrev pub BeginsWith : {Item : Type 0} → List Item → List Item → Type 0
+BeginsWith {Item} all front = (rest : List Item) × (all ≡ front ++ rest)

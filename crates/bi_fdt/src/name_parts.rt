@@ -1,0 +1,58 @@
+//! Parts of names, and their numbers.
+
+ghost use Rattle.std.specs.Prelude.{◌≡◌, ◌+◌, ◌<◌, ◌^◌, [], IfOk, IfErr, length};
+
+use std::alloc::{AllocError, Global};
+use std::collections::BTreeMap;
+use std::marker::Model;
+
+/// Parts of names, each once. The number of a part is its index in the order of their first use.
+#[derive(Drop)]
+pub(crate) struct NameParts<'a> {
+    parts: Vec<(usize, &'a [u8])>,
+    numbers: BTreeMap<(usize, &'a [u8]), usize>,
+}
+
+impl<'a> Model for NameParts<'a> {
+    ghost use Rattle.std.specs.Prelude.{List};
+    ghost use Rattle.bi_fdt.specs.NameParts.{NamePart, name_parts_of, AreNameParts};
+
+    ghost Value = { List NamePart };
+
+    ghost view = { name_parts_of };
+
+    ghost invariant = { AreNameParts };
+}
+
+impl<'a> NameParts<'a> {
+    ghost use Rattle.bi_fdt.specs.NameParts.{IsPlaced};
+
+    /// No parts. It allocates nothing yet.
+    pub(crate) fn new(alloc: Global) -> NameParts<'a>
+        ensures { result ≡ [] }
+    {
+        NameParts {
+            parts: Vec::new(alloc),
+            numbers: BTreeMap::new(alloc),
+        }
+    }
+
+    /// Adds a part if it is not there yet, and returns its number. The part has these bytes, and
+    /// the tail after it has the number `tail`. It takes log n comparisons, for n parts. If memory
+    /// runs out, the parts are unchanged.
+    pub(crate) fn add(&mut self, tail: usize, bytes: &'a [u8]) -> Result<usize, AllocError>
+        ensures added { IfOk result (λ number.
+            IsPlaced self.old (tail, bytes.entry.now) number self.new) }
+        ensures small { length self.new < 2 ^ 63 }
+        ensures failed { IfErr result (λ _. self.new ≡ self.old) }
+    {
+        if let Some(number) = self.numbers.get(&(tail, bytes)) {
+            return Ok(*number);
+        }
+        self.parts.reserve(1)?;
+        let number = self.parts.len();
+        self.numbers.insert((tail, bytes), number)?;
+        self.parts.push((tail, bytes)).unwrap();
+        Ok(number)
+    }
+}

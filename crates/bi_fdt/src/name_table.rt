@@ -1,0 +1,107 @@
+//! A table of the names of properties.
+
+ghost use Rattle.std.specs.Prelude.{◌≡◌, [], IfOk, Some, slice_get};
+ghost use Rattle.bi_blob.specs.Blob.{tree_blocks};
+ghost use Rattle.bi_fdt.specs.Fields.{HasNameOffset};
+ghost use Rattle.bi_fdt.specs.NameTables.{names_in_table, IsNameTable, HasMoreNames};
+ghost use Rattle.bi_fdt.specs.NameTails.{IsTail, AreTails};
+ghost use Rattle.bi_fdt.specs.Numbers.{IsNumbered, AreNumbered};
+ghost use Rattle.bi_fdt.specs.Table.{item_in};
+
+use crate::blob::Blob;
+use crate::name_parts::NameParts;
+use crate::name_tails::{tail_at, tails_of_names};
+use crate::strings::{STRIDE, ends_of_names};
+use crate::table::Entry;
+use bi_base::cell_at;
+use std::alloc::{AllocError, Global};
+
+/// Names, each once, in the order of their first use. A name is found by its head of less than 64
+/// bytes and the number of its tail, so that no more of it is read.
+#[derive(Drop)]
+pub(crate) struct NameTable<'a> {
+    /// The blocks of the tails of the names.
+    tails: NameParts<'a>,
+    /// The head of each name, with the number of its tail.
+    heads: NameParts<'a>,
+    pub(crate) names: Vec<&'a [u8]>,
+}
+
+impl<'a> NameTable<'a> {
+    /// No names. It allocates nothing yet.
+    pub(crate) fn new(alloc: Global) -> NameTable<'a>
+        ensures names { names_in_table result ≡ [] }
+        ensures is_table { IsNameTable result }
+    {
+        NameTable {
+            tails: NameParts::new(alloc),
+            heads: NameParts::new(alloc),
+            names: Vec::new(alloc),
+        }
+    }
+
+    /// Returns the number of a name, whose tail has the number `tail`. Fails if memory runs out.
+    fn add(&mut self, name: &'a [u8], tail: usize) -> Result<usize, AllocError>
+        requires table { IsNameTable self.old }
+        requires tail { IsTail self.old.tails tail name.now }
+        ensures added { IfOk result (λ number.
+            slice_get (names_in_table self.new) number ≡ Some name.entry.now) }
+        ensures more { HasMoreNames self.old self.new }
+    {
+        self.names.reserve(1)?;
+        let number = self.heads.add(tail, &name[..name.len() % STRIDE])?;
+        if number == self.names.len() {
+            self.names.push(name).unwrap();
+        }
+        Ok(number)
+    }
+
+    /// Returns the number of the name of a property, and any number for a node. `tails` are the
+    /// numbers of the tails at the multiples of 64. Fails if memory runs out.
+    fn number_entry(
+        &mut self,
+        file: &'a [u8],
+        strings: &'a [u8],
+        tails: &[usize],
+        entry: Entry,
+    ) -> Result<usize, AllocError>
+        requires table { IsNameTable self.old }
+        requires strings { strings.now ≡ (tree_blocks file.now).strings }
+        requires tails { AreTails self.old.tails strings.now tails.now }
+        requires name { HasNameOffset file.now (item_in file.now entry) }
+        ensures number { IfOk result
+            (IsNumbered (names_in_table self.new) (item_in file.entry.now entry)) }
+        ensures more { HasMoreNames self.old self.new }
+    {
+        let Entry::Property(property) = entry else {
+            return Ok(0);
+        };
+        let name = property.name_in(file);
+        let at = cell_at(file, property.place as usize + 8) as usize;
+        let tail = tail_at(&mut self.tails, strings, tails, at, at + name.len())?;
+        self.add(name, tail)
+    }
+
+    /// Returns the number of the name of each property of a blob, and any number for each node.
+    /// Fails if memory runs out.
+    pub(crate) fn number(
+        &mut self,
+        alloc: Global,
+        blob: &Blob<'a>,
+    ) -> Result<Vec<usize>, AllocError>
+        requires { IsNameTable self.old }
+        ensures numbers { IfOk result (λ numbers.
+            AreNumbered (names_in_table self.new) blob.now.table numbers.items) }
+        ensures more { HasMoreNames self.old self.new }
+    {
+        let strings = blob.strings();
+        let ends = ends_of_names(alloc, strings)?;
+        let tails = tails_of_names(alloc, &mut self.tails, strings, &ends)?;
+        let entries = blob.entries();
+        let mut numbers = Vec::with_capacity(alloc, entries.len())?;
+        for entry in entries {
+            numbers.push(self.number_entry(blob.file(), strings, &tails, *entry)?)?;
+        }
+        Ok(numbers)
+    }
+}
