@@ -9,4 +9,3 @@ pub mod BlockBytes
 pub mod DocTexts
 pub mod ClosedEvents
 pub mod Building
-pub mod SameContents

@@ -5,7 +5,6 @@ ghost use Rattle.std.specs.Prelude.{IfErr, MatchOption};
 ghost use Rattle.bi_base.specs.Sinks.{Wrote};
 ghost use Rattle.bi_base.specs.declared.fault.Error.TheVariants.{OutOfMemory};
 
-use crate::comparing::{have_same_events, have_same_reservations};
 use crate::items::{Item, Property, Value};
 use crate::names::Names;
 use crate::siblings::is_new_child;
@@ -23,9 +22,9 @@ const MAX_DEPTH: usize = 64;
 /// a tree, which come in the order of the structure block (Devicetree Specification, 5.4.2). Names
 /// and values are borrowed and not copied.
 ///
-/// Each call but `may_begin`, `property`, `has_same_content` and `close` takes time linear in the
-/// length of its name, if it has one, apart from allocations. `property` looks its name up among
-/// the n names so far, which takes log n comparisons; only names of the same length are read.
+/// Each call but `may_begin`, `property` and `close` takes time linear in the length of its name,
+/// if it has one, apart from allocations. `property` looks its name up among the n names so far,
+/// which takes log n comparisons; only names of the same length are read.
 #[derive(Drop)]
 pub struct Doc<'a> {
     boot_cpu: u32,
@@ -178,17 +177,6 @@ impl<'a> Doc<'a> {
         ensures tree { IsTrue result → HasOneNormalTree self.now.events }
     {
         self.depth == 0 && !self.items.is_empty()
-    }
-
-    /// Whether both documents have the same boot processor, the same memory reservations and the
-    /// same events, each in the same order. Values are the same if their bytes are. It takes time
-    /// linear in both documents, and allocates nothing.
-    pub fn has_same_content(&self, other: &Doc<'_>) -> bool
-        ensures { IsTrue result ↔ (self.now ≡ other.now) }
-    {
-        self.boot_cpu == other.boot_cpu
-            && have_same_reservations(&self.reservations, &other.reservations)
-            && have_same_events(&self.items, &other.items)
     }
 
     /// Returns the sizes of the blocks of the document's text, or None if the text has more than

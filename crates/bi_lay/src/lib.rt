@@ -3,7 +3,6 @@
 #![tactic(auto)]
 
 mod closed;
-mod comparing;
 mod document;
 mod items;
 pub mod laws;
