@@ -1,19 +1,13 @@
 use Rattle.std.proofs.Common.{◌≡◌, ◌≤◌, ◌+◌, ℕ, zero, suc, Bool, true, false, List, [], ◌∷◌, length, map, slice_get, Option, Some}
 use Rattle.std.proofs.Common.{None, Bor, Result, Ok, Err, IfOk, IfErr, IfSome, refl, sym, ap, subst, ◌∙◌, arith, if◌then◌else◌, MatchOption}
 use Rattle.std.specs.Option.{option_map, option_and_then, ok_or}
-use Rattle.std.specs.List.{AllZip, AllByRecursion}
+use Rattle.std.specs.List.{AllByRecursion}
 use Rattle.bi_base.specs.Limits.{Limits}
 use Rattle.bi_base.specs.Cells.{up4}
-use Rattle.bi_blob.specs.Tree.{Nodes, none, node, FileNode}
-use Rattle.bi_blob.specs.Lookups.{siblings}
-use Rattle.bi_fdt.specs.Content.{root_of}
 use Rattle.bi_fit.specs.declared.image.Place.{Place}
-use Rattle.bi_fit.specs.Content.{FitModel, ImageModel, IsReadImage, IsHeld, index_of, tree_of, place_of, place_or_absent}
-use Rattle.bi_fit.specs.ImageTree.{each_own, image_nodes, nodes_or_none}
-use Rattle.bi_fit.specs.Payloads.{PayloadSource, NoSource, Data, DataOffset, DataPosition, source_of, payload_place, IsAt, IsAtPlace}
-use Rattle.bi_fit.specs.Reading.{IsReadFit}
+use Rattle.bi_fit.specs.Content.{FitModel, ImageModel, IsHeld, index_of, tree_of, place_or_absent, offset_of_place, ArePlaced}
+use Rattle.bi_fit.specs.Payloads.{IsAt, IsAtPlace}
 use Rattle.bi_fit.proofs.Meanings.{same_in_some}
-use Rattle.bi_fit.proofs.FilePayloads.{payloads_are_at_places}
 use Rattle.bi_legacy.specs.Meaning.{LegacyImage}
 use Rattle.bi_legacy.specs.Parts.{parts_start, parts_end_from, part_table}
 use Rattle.bi_legacy.specs.PlacedParts.{PartModel, placed_parts_from, AreAtOffsets}
@@ -25,40 +19,9 @@ use Rattle.bi_commands.specs.declared.extract.ExtractError.TheVariants.{NoPart, 
 use Rattle.bi_commands.specs.Extracting.{Choice, HasNoPayload, IsReason, choice_of_part, choice_of_payload, choice_by_name}
 use Rattle.bi_commands.proofs.Choices.{choice_at, chosen_by_name}
 use Rattle.bi_c.specs.declared.regions.Region.{Region}
-use Rattle.bi_c.specs.Extracting.{IsChosenAt, IsNamedOffset, ArePlaced, offset_of_place}
+use Rattle.bi_c.specs.Extracting.{IsChosenAt, IsNamedOffset}
 
 -- Where the parts and payloads of images that were read are.
-
--- The offset of the place of a source is where its payload is.
-offset_of_source : (file : List ℕ) (source : PayloadSource) → offset_of_place (place_of file source) ≡ payload_place file source
-offset_of_source file NoSource = refl
-offset_of_source file (Data property) = refl
-offset_of_source file (DataOffset offset size) = refl
-offset_of_source file (DataPosition position size) = refl
-
--- Images are read from nodes whose payloads are at their places, so those of the images are.
-placed_images : (file : List ℕ) (nodes : Nodes FileNode) (images : List ImageModel) → AllZip (IsReadImage file) (siblings nodes) images
-    → AllZip (λ own payload. IsAtPlace file (payload_place file (source_of own)) payload) (each_own nodes)
-    (map (λ (image : ImageModel). image.payload) images)
-    → AllByRecursion (λ (image : ImageModel). IsAtPlace file (offset_of_place image.place) image.payload) images
-placed_images file none [] read there = tt
-placed_images file none (image ∷ images) read there = absurd read
-placed_images file (node name own children later) [] read there = absurd read
-placed_images file (node name own children later) (image ∷ images) read there = (
-  subst (λ (place : Option ℕ). IsAtPlace file place image.payload) (sym (ap (λ (place : Place). offset_of_place place) read.0.place ∙ offset_of_source file (source_of own))) there.0,
-  placed_images file later images read.1 there.1,
-)
-
--- The payload of each image of a file that was read is in it at its place.
-pub are_placed : (limits : Limits) (file : List ℕ) (content : FitModel) → IsReadFit limits file content → ArePlaced content
-are_placed limits file content read =
-    let is = read.means.is_file in
-    let nodes : image_nodes (root_of content.blob) ≡ Some is.images = sym (ap image_nodes read.same_root) ∙ is.has_images in
-    subst (λ (f : List ℕ). AllByRecursion (λ (image : ImageModel). IsAtPlace f (offset_of_place image.place) image.payload) content.images) (sym read.is_file)
-    (placed_images file is.images content.images
-    (subst (λ (f : List ℕ). AllZip (IsReadImage f) (siblings is.images) content.images) read.is_file
-    (subst (λ (found : Option (Nodes FileNode)). AllZip (IsReadImage content.blob.file) (siblings (nodes_or_none found)) content.images) nodes read.held.images))
-    (payloads_are_at_places file (tree_of content) is))
 
 -- The same of the image at an index, if there is one.
 placed_at : (file : List ℕ) (images : List ImageModel) (index : ℕ) →

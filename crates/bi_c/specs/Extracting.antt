@@ -1,14 +1,11 @@
-use Rattle.std.specs.Prelude.{ℕ, ◌≡◌, List, length, slice_get, Option, None, Some}
-use Rattle.std.specs.List.{AllByRecursion}
+use Rattle.std.specs.Prelude.{ℕ, ◌≡◌, List, length, slice_get, Some}
 use Rattle.bi_base.specs.declared.fault.Error.TheVariants as error
 use Rattle.bi_base.specs.Limits.{Limits}
-use Rattle.bi_fit.specs.Content.{FitModel, ImageModel, index_of, place_or_absent}
+use Rattle.bi_fit.specs.Content.{FitModel, index_of, place_or_absent, offset_of_place}
 use Rattle.bi_fit.specs.Reading.{IsReadFit}
 use Rattle.bi_legacy.specs.Reading.{LegacyModel, IsReadLegacy, part_places}
-use Rattle.bi_fit.specs.Payloads.{IsAt, IsAtPlace}
+use Rattle.bi_fit.specs.Payloads.{IsAt}
 use Rattle.bi_fit.specs.declared.configurations.ConfigError.TheVariants as list
-use Rattle.bi_fit.specs.declared.image.Place.{Place}
-use Rattle.bi_fit.specs.declared.image.Place.TheVariants.{Absent, Data, DataOffset, DataPosition}
 use Rattle.bi_norm.specs.NormalForm.{IsOpenError}
 use Rattle.bi_commands.specs.declared.extract.ExtractError.{ExtractError}
 use Rattle.bi_commands.specs.declared.extract.ExtractError.TheVariants as extract
@@ -25,13 +22,6 @@ use Rattle.bi_c.specs.declared.failure.Failure.TheVariants.{NotFound}
 
 -- What calls from C that extract return: where in the caller's file the bytes are (profile of this
 -- project).
-
--- The offset of a place, if there is a payload.
-abbrev pub offset_of_place : Place → Option ℕ
-offset_of_place Absent = None
-offset_of_place (Data offset) = Some offset
-offset_of_place (DataOffset offset) = Some offset
-offset_of_place (DataPosition offset) = Some offset
 
 -- The offset is that of the payload of the image of this name.
 pub record IsNamedOffset (content : FitModel) (name : List ℕ) (offset : ℕ) : Type 0 where
@@ -123,11 +113,3 @@ failure_of_extraction (extract.Config (list.Missing index)) = NotFound 7 index
 failure_of_extraction (extract.Config list.OutOfMemory) = OutOfMemory
 failure_of_extraction extract.NoIndex = NotFound 8 0
 failure_of_extraction extract.NoPayload = NotFound 9 0
-
--- The payload of each image is in the file at its place.
-abbrev pub ArePlaced : FitModel → Type 0
-ArePlaced content =
-    AllByRecursion
-    (λ (image : ImageModel).
-    IsAtPlace content.blob.file (offset_of_place image.place) image.payload)
-    content.images

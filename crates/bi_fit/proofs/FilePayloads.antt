@@ -136,7 +136,7 @@ source_place file (DataPosition position size) payload has_value is =
     counted = omega arith
 
 -- So are those of image nodes.
-images_places : (file : List ℕ) (nodes : Nodes FileNode) (payloads : List (Option (List ℕ))) → HaveValues file nodes →
+pub images_places : (file : List ℕ) (nodes : Nodes FileNode) (payloads : List (Option (List ℕ))) → HaveValues file nodes →
     AllZip (HasPayload file) (each_own nodes) payloads →
     AllZip (λ own payload. IsAtPlace file (payload_place file (source_of own)) payload) (each_own nodes) payloads
 images_places file none [] have has = tt

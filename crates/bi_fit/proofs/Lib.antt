@@ -39,9 +39,14 @@ pub mod Reservations
 pub mod UpdatedTrees
 pub mod NewDigests
 pub mod TakenDigests
+pub mod RegionPairs
 pub mod NormalTrees
 pub mod NormalDocuments
-pub mod SameMeanings
+pub mod PlacedImages
+pub mod PairedPayloads
+pub mod ValueMaps
+pub mod NumberedValues
+pub mod ComparedTrees
 pub mod UpdatedVerdicts
 pub mod Appending
 pub mod WholeTexts

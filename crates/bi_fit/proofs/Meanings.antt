@@ -29,7 +29,7 @@ one_payload file (DataOffset offset size) one other a b = one_region file (exter
 one_payload file (DataPosition position size) one other a b = one_region file 0 position size one other a b
 
 -- Image nodes have one list of payloads.
-pub one_list : (file : List ℕ) (own : List FileNode) (one other : List (Option (List ℕ))) → AllZip (HasPayload file) own one →
+one_list : (file : List ℕ) (own : List FileNode) (one other : List (Option (List ℕ))) → AllZip (HasPayload file) own one →
     AllZip (HasPayload file) own other → one ≡ other
 one_list file [] [] [] a b = refl
 one_list file [] [] (x ∷ xs) a b = absurd b

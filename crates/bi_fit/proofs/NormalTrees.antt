@@ -47,7 +47,7 @@ use Rattle.bi_fit.proofs.ReadBlobs.{read_payloads}
 -- The normal tree, node by node of the file.
 
 -- A name that is not `images` fails the test.
-other_name : (name : List ℕ) → (name ≡ images_name → ⊥) → bytes_eq name images_name ≡ false
+pub other_name : (name : List ℕ) → (name ≡ images_name → ⊥) → bytes_eq name images_name ≡ false
 other_name name differs = where_same (bytes_eq name images_name) refl
   where
     where_same : (b : Bool) → bytes_eq name images_name ≡ b → bytes_eq name images_name ≡ false
@@ -147,7 +147,7 @@ images_found AreImages IsOwn (node name own children later) inner has are images
         ((λ same. absurd (true≢false (sym ((bytes_eq-Decides name images_name).1 same) ∙ is))), rest (rw is at has))
 
 -- Nodes that are there.
-some_nodes : (nodes : Option (Nodes FileNode)) → IsSome nodes → nodes ≡ Some (nodes_or_none nodes)
+pub some_nodes : (nodes : Option (Nodes FileNode)) → IsSome nodes → nodes ≡ Some (nodes_or_none nodes)
 some_nodes None is = absurd cc
 some_nodes (Some nodes) is = refl
 
@@ -164,7 +164,7 @@ module _ (content : FitModel) (held : IsHeld content) where
   }
 
   -- The nodes of its file are nodes that a tree can have.
-  held_nodes : AreNodes (λ own. AreProperties (properties_of own)) (root_of content.blob).children
+  pub held_nodes : AreNodes (λ own. AreProperties (properties_of own)) (root_of content.blob).children
   held_nodes = nodes_with_places AreProperties (root_of content.blob).children
       (blob_has_content content.blob.file content.blob.cpu content.blob.reservations (root_of content.blob) held.is_blob).is_tree.children
 

@@ -1,10 +1,14 @@
-use Rattle.std.proofs.Common.{◌≡◌, ℕ, zero, suc, List, [], ◌∷◌, drop, map, Some, slice_get, ap, append_assoc}
+use Rattle.std.proofs.Common.{◌≡◌, ℕ, zero, suc, true, ◌&&◌, List, [], ◌∷◌, take, drop, map, Option, Some, None, slice_get, refl, ap, ap₂, append_assoc}
+use Rattle.std.specs.Prelude.{nat_eq}
+use Rattle.std.specs.Option.{option_eq}
+use Rattle.std.proofs.lemmas.Bool.{and_parts}
+use Rattle.std.proofs.lemmas.Bool.Decides.{Decides-eqb}
 use Rattle.bi_blob.specs.Blob.{Reservation}
 use Rattle.bi_lay.specs.Contents.{Doc, with_reservation}
 use Rattle.bi_fit.specs.NormalNodes.{with_reservations}
 use Rattle.bi_fit.proofs.Meanings.{same_in_some}
 
--- Memory reservations that are added to a document.
+-- Memory reservations that are added to a document, and those of two blobs.
 
 -- The address and the size of a reservation.
 abbrev pub pair_of : Reservation → ℕ × ℕ
@@ -26,3 +30,31 @@ pub with_reservations-cons : (document : Doc) (address size : ℕ) (later : List
     ≡ with_reservations document (record { address = address; size = size } ∷ later)
 with_reservations-cons document address size later =
     ap (λ l. record document { reservations = l }) (append_assoc document.reservations (record { address = address; size = size } ∷ []) later)
+
+-- The test of two pairs that may be there is true only if they are the same.
+pub same_pairs : (one other : Option (ℕ × ℕ)) → option_eq (λ x y. nat_eq x.0 y.0 && nat_eq x.1 y.1) one other ≡ true → one ≡ other
+same_pairs None None is = refl
+same_pairs None (Some other) is = absurd cc
+same_pairs (Some one) None is = absurd cc
+same_pairs (Some one) (Some other) is =
+    let both = and_parts (nat_eq one.0 other.0) (nat_eq one.1 other.1) is in
+    let address : one.0 ≡ other.0 = (Decides-eqb one.0 other.0).0 both.0 in
+    let size : one.1 ≡ other.1 = (Decides-eqb one.1 other.1).0 both.1 in
+    λ i. Some (address i, size i)
+
+-- First reservations that are the same, and one more.
+pub same_with_next : (reservations others : List Reservation) (index : ℕ) → take index reservations ≡ take index others →
+    slice_get (map pair_of reservations) index ≡ slice_get (map pair_of others) index →
+    take (suc index) reservations ≡ take (suc index) others
+same_with_next [] [] index same next = refl
+same_with_next [] (other ∷ others) zero same next = absurd cc
+same_with_next [] (other ∷ others) (suc index) same next = absurd cc
+same_with_next (reservation ∷ later) [] zero same next = absurd cc
+same_with_next (reservation ∷ later) [] (suc index) same next = absurd cc
+same_with_next (reservation ∷ later) (other ∷ others) zero same next =
+    let pair : pair_of reservation ≡ pair_of other = same_in_some (pair_of reservation) (pair_of other) next in
+    λ i. record { address = (pair i).0; size = (pair i).1 } ∷ []
+same_with_next (reservation ∷ later) (other ∷ others) (suc index) same next =
+    let first : reservation ≡ other = cc in
+    let rest : take index later ≡ take index others = cc in
+    ap₂ (λ r rs. r ∷ rs) first (same_with_next later others index rest next)

@@ -76,7 +76,7 @@ text_has_payloads External tree is short =
     (omega (arith, short))
 
 -- The image nodes of the tree of a text.
-pub normal_images : (form : Form) (tree : ImageTree) (is : IsImageTree tree) →
+normal_images : (form : Form) (tree : ImageTree) (is : IsImageTree tree) →
     image_nodes (normal_tree form tree) ≡ Some (with_each entries (with_payloads form 0 tree.payloads is.images))
 normal_images form tree is =
     children_of-with_each entries images_name (with_image_nodes (with_payloads form 0 tree.payloads) tree.root).children
@@ -90,7 +90,7 @@ text_images form tree is =
     children_of-with_places _ images_name (normal_tree form tree).children (with_each entries (with_payloads form 0 tree.payloads is.images)) (normal_images form tree is)
 
 -- The tree of a text is the tree, with the properties that give payloads.
-pub normal_root : (form : Form) (tree : ImageTree) → IsImageTree tree →
+normal_root : (form : Form) (tree : ImageTree) → IsImageTree tree →
     tree_without_payloads (tree_without_order (normal_tree form tree)) ≡ tree.root
 normal_root form tree is =
     ap tree_without_payloads (has_one_order (with_image_nodes (with_payloads form 0 tree.payloads) tree.root)).is_same

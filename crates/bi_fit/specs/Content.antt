@@ -1,6 +1,6 @@
 use Rattle.std.specs.Prelude.{◌≡◌, ℕ, ◌+◌, ◌≤◌, List, [], ◌∷◌, map, Option, Some, None, IsSome}
 use Rattle.std.specs.Prelude.{option_map, length, bytes_eq, if◌then◌else◌}
-use Rattle.std.specs.List.{AllZip}
+use Rattle.std.specs.List.{AllByRecursion, AllZip}
 use Rattle.std.specs.Ordering.{nat_cmp}
 use Rattle.std.specs.Cmp.Lexicographic.{slice_cmp}
 use Rattle.std.specs.BTreeMap.{BTreeMap, get_by}
@@ -16,7 +16,7 @@ use Rattle.bi_fit.specs.declared.image.Place.{Place}
 use Rattle.bi_fit.specs.declared.image.Place.TheVariants as place
 use Rattle.bi_fit.specs.ImageTree.{ImageTree, image_nodes, nodes_or_none, tree_without_payloads}
 use Rattle.bi_fit.specs.Payloads.{PayloadSource, NoSource, Data, DataOffset, DataPosition}
-use Rattle.bi_fit.specs.Payloads.{source_of, cell_number, external_base, HasPayload}
+use Rattle.bi_fit.specs.Payloads.{source_of, cell_number, external_base, HasPayload, IsAtPlace}
 
 -- What a flattened image tree that was read holds.
 
@@ -93,3 +93,22 @@ pub record HasIndices (indices : BTreeMap (Bor (List ℕ)) ℕ) (images : List I
 abbrev pub place_or_absent : Option ImageModel → Place
 place_or_absent None = place.Absent
 place_or_absent (Some image) = image.place
+
+-- The offset of a place, if there is a payload.
+abbrev pub offset_of_place : Place → Option ℕ
+offset_of_place place.Absent = None
+offset_of_place (place.Data offset) = Some offset
+offset_of_place (place.DataOffset offset) = Some offset
+offset_of_place (place.DataPosition offset) = Some offset
+
+-- The payload of an image is in the file at its place, or there is neither.
+abbrev pub IsAtItsPlace : List ℕ → ImageModel → Type 0
+IsAtItsPlace file image = IsAtPlace file (offset_of_place image.place) image.payload
+
+-- The payload of each image is in the file at its place.
+abbrev pub ArePlaced : FitModel → Type 0
+ArePlaced content = AllByRecursion (IsAtItsPlace content.blob.file) content.images
+
+-- The payloads of images, by their order.
+abbrev pub payloads_of_models : List ImageModel → List (Option (List ℕ))
+payloads_of_models images = map (λ image. image.payload) images

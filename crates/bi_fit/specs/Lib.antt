@@ -15,11 +15,13 @@ pub mod Fields
 pub mod Images
 pub mod Reading
 pub mod Documents
+pub mod RegionPairs
 pub mod HashNodes
 pub mod JudgementCalls
 pub mod Siblings
 pub mod TakenDigests
 pub mod NormalNodes
+pub mod ComparedNodes
 pub mod BuiltNodes
 pub mod FitTexts
 pub mod PropertyMaps

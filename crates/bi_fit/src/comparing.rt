@@ -2,20 +2,39 @@
 
 ghost use Rattle.std.specs.Prelude.{◌≡◌, ◌↔◌, IsTrue, IfOk, IfErr};
 ghost use Rattle.bi_base.specs.declared.fault.Error.TheVariants.{OutOfMemory};
+ghost use Rattle.bi_blob.specs.Tree.{EachOwn};
+ghost use Rattle.bi_blob.specs.Lookups.{root_node};
+ghost use Rattle.bi_fdt.specs.Content.{root_of};
 ghost use Rattle.bi_fit.specs.Content.{tree_of};
+ghost use Rattle.bi_fit.specs.NormalNodes.{HasDistinctNames, alone};
+ghost use Rattle.bi_fit.specs.ComparedNodes.{compared_tree, AreSameBlobs};
 
+mod nodes;
+mod numbers;
+mod payloads;
+mod properties;
+mod region_pairs;
+mod reservations;
+mod role;
+
+use crate::comparing::nodes::are_same_nodes;
+use crate::comparing::numbers::Numbers;
+use crate::comparing::payloads::have_same_payloads;
+use crate::comparing::reservations::have_same_reservations;
+use crate::comparing::role::Role;
 use crate::fit::Fit;
-use crate::form::Form;
 use bi_base::Error;
-use std::alloc::Global;
+use bi_fdt::{Blob, NameNumbers};
+use std::alloc::{AllocError, Global};
 
 impl<'a> Fit<'a> {
     /// Whether both files mean the same: they have the same boot processor, the same memory
     /// reservations and the same nodes, each in the same order, and nodes have the same properties
     /// by name. The payloads of images are compared, and not where the files have them.
     ///
-    /// No normal text is made, so no limit applies. Payloads are compared one by one: if images
-    /// share regions of a file, this takes time in the sum of the lengths of the payloads.
+    /// No normal text is made, so no limit applies. Names of properties are numbered first, and
+    /// compared by their numbers. Bytes that the payloads of several images share are compared
+    /// once, if the two payloads that are compared are as far apart in the two files each time.
     ///
     /// The only error is OutOfMemory.
     pub fn has_same_meaning(&self, alloc: Global, other: &Fit<'_>) -> Result<bool, Error>
@@ -25,8 +44,41 @@ impl<'a> Fit<'a> {
     {
         self.give_invariant();
         other.give_invariant();
-        let own_doc = self.build_doc(alloc, Form::Embedded)?;
-        let other_doc = other.build_doc(alloc, Form::Embedded)?;
-        Ok(own_doc.has_same_content(&other_doc))
+        if !are_same_blobs(alloc, self.blob(), other.blob())? {
+            return Ok(false);
+        }
+        Ok(have_same_payloads(alloc, self, other)?)
     }
+}
+
+/// Whether both blobs have the same boot processor, the same memory reservations and the same
+/// nodes, without what gives the payloads of images.
+fn are_same_blobs<'a>(alloc: Global, own: &Blob<'a>, other: &Blob<'a>) -> Result<bool, AllocError>
+    requires distinct { EachOwn HasDistinctNames (alone (root_node (root_of own.now))) }
+    requires other_distinct { EachOwn HasDistinctNames (alone (root_node (root_of other.now))) }
+    ensures { IfOk result (λ same. IsTrue same ↔ AreSameBlobs own.now other.now) }
+{
+    Ok(
+        own.boot_cpu() == other.boot_cpu()
+            && have_same_reservations(own, other)
+            && have_same_trees(alloc, own, other)?,
+    )
+}
+
+/// Whether the trees of both blobs have the same nodes, without the properties that give the
+/// payloads of images.
+fn have_same_trees<'a>(alloc: Global, own: &Blob<'a>, other: &Blob<'a>) -> Result<bool, AllocError>
+    requires distinct { EachOwn HasDistinctNames (alone (root_node (root_of own.now))) }
+    requires other_distinct { EachOwn HasDistinctNames (alone (root_node (root_of other.now))) }
+    ensures { IfOk result (λ same. IsTrue same
+        ↔ (compared_tree own.now ≡ compared_tree other.now)) }
+{
+    let mut names = NameNumbers::new(alloc);
+    let own_numbers = names.number(alloc, own)?;
+    let other_numbers = names.number(alloc, other)?;
+    let numbers = Numbers {
+        own: &own_numbers,
+        other: &other_numbers,
+    };
+    are_same_nodes(alloc, own.root(), other.root(), Role::RootNode, numbers)
 }

@@ -19,7 +19,7 @@ mod tree;
 
 use crate::changes::Changes;
 pub(crate) use crate::document::nodes::begin_with;
-pub(crate) use crate::document::property_map::PropertyMap;
+pub(crate) use crate::document::property_map::{PropertyMap, is_payload_name};
 use crate::document::tree::add_tree;
 use crate::fit::Fit;
 use crate::form::Form;
@@ -82,16 +82,6 @@ impl<'a> Fit<'a> {
         let after = length_after_blob(images, form, limit)?;
         let document = self.build_updated_doc(alloc, changes, digests, form)?;
         Ok(FitText::new(document, form, images, after, limit)?)
-    }
-
-    /// Builds the document of the normal text in a form, however long the text is.
-    pub(crate) fn build_doc(&self, alloc: Global, form: Form) -> Result<Doc<'a>, Error>
-        requires { AreWithin form 0 (tree_of self.now).payloads }
-        ensures document { IfOk result (λ doc. doc ≡ document_of form (tree_of self.now)) }
-        ensures closed { IfOk result (λ doc. stage_of_events doc.events ≡ AfterRoot) }
-        ensures failed { IfErr result (λ error. error ≡ OutOfMemory) }
-    {
-        self.build_updated_doc(alloc, Changes::default(), b"", form)
     }
 
     /// Builds the document of the normal text of the updated tree, however long the text is.

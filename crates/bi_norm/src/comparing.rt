@@ -10,9 +10,8 @@ use bi_legacy::Legacy;
 use std::alloc::Global;
 
 /// Returns whether two boot images mean the same. Images of different kinds do not. The images are
-/// compared without their normal texts, so these may be longer than the limit. If images of a
-/// flattened image tree share regions of its file, this takes time in the sum of the lengths of the
-/// payloads.
+/// compared without their normal texts, so these may be longer than the limit.
+/// `Fit::has_same_meaning` describes the time that this takes.
 ///
 /// Errors, the first that applies: those of `BootImage::read` for the first file; those for the
 /// second file. OutOfMemory never comes if the first file fails a check that needs no memory.
@@ -27,9 +26,7 @@ pub fn same_meaning(alloc: Global, one: &[u8], other: &[u8], limits: Limits) -> 
 }
 
 impl<'a> BootImage<'a> {
-    /// Returns whether both images mean the same. Images of different kinds do not. If images of a
-    /// flattened image tree share regions of its file, this takes time in the sum of the lengths of
-    /// the payloads.
+    /// Returns whether both images mean the same. Images of different kinds do not.
     ///
     /// Fails with OutOfMemory alone.
     pub fn has_same_meaning(&self, alloc: Global, other: &BootImage<'_>) -> Result<bool, Error>

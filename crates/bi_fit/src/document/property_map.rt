@@ -176,7 +176,7 @@ impl<'a> PropertyMap<'a> {
 }
 
 /// Whether a property of this name holds a payload or names its region.
-fn is_payload_name(name: &[u8]) -> bool
+pub(crate) fn is_payload_name(name: &[u8]) -> bool
     ensures { result ≡ is_payload_name_of name.now }
 {
     name == b"data".as_slice()

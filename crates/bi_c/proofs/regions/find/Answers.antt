@@ -6,7 +6,7 @@ use Rattle.bi_norm.specs.Opening.{IsReadBootImage}
 use Rattle.bi_commands.specs.Extracting.{choice_of}
 use Rattle.bi_commands.proofs.Opened.{tree_needs_memory}
 use Rattle.bi_c.specs.Extracting.{IsChosenAt}
-use Rattle.bi_c.proofs.Places.{are_placed}
+use Rattle.bi_fit.proofs.PlacedImages.{are_placed}
 use Rattle.bi_commands.proofs.Opened.{refused_of_file, failed_of_file}
 use Rattle.bi_c.proofs.Extracting.{found_in_file, payload_offset_in_file}
 use Rattle.bi_c.proofs.regions.find.Goals as goal
@@ -14,7 +14,7 @@ use Rattle.bi_c.proofs.regions.find.Goals as goal
 pub find_payload-requires : goal.find_payload-requires
 find_payload-requires c =
     let read : IsReadFit c.args.limits c.args.file.now c.in-Fit.fit = subst (IsReadBootImage c.args.limits c.args.file.now) c.in-Fit.is c.in_ok-image.ensures.read in
-    record { held = read.held; placed = are_placed c.args.limits c.args.file.now c.in-Fit.fit read }
+    record { held = read.held; placed = are_placed c.in-Fit.fit read.held }
 
 pub returns-in-Legacy-clause-found : goal.returns-in-Legacy-clause-found
 returns-in-Legacy-clause-found c =

@@ -14,7 +14,7 @@ pub loop-next-init : goal.loop-next-init
 loop-next-init c =
     let children = (node_of c.args.node).children in
     subst (λ items. AreReadTo c.args.file.now children (map image_model items) (siblings_from (option_map node_of c.first_child-next.result))) (sym c.new-images.ensures.items)
-    (none_read c.args.file.now children (siblings_from (option_map node_of c.first_child-next.result)) (ap siblings_from c.first_child-next.ensures ∙ siblings_from-first children) c.requires.data)
+    (none_read c.args.file.now children (siblings_from (option_map node_of c.first_child-next.result)) (ap siblings_from c.first_child-next.ensures.child ∙ siblings_from-first children) c.requires.data)
 
 pub returns-in_err-read_image-clause-failed : goal.returns-in_err-read_image-clause-failed
 returns-in_err-read_image-clause-failed c =
@@ -24,7 +24,7 @@ returns-in_err-read_image-clause-failed c =
 pub loop-next-smaller : goal.loop-next-smaller
 loop-next-smaller c =
     let e : length (siblings_from (option_map node_of c.loop-next.next)) ≡ suc (length (siblings_from (option_map node_of c.next_sibling-next.result))) =
-    ap length (siblings_from-next (option_map node_of c.loop-next.next) (option_map node_of c.next_sibling-next.result) (node_of c.in-Some.child) (ap (option_map node_of) c.in-Some.is) c.next_sibling-next.ensures) in
+    ap length (siblings_from-next (option_map node_of c.loop-next.next) (option_map node_of c.next_sibling-next.result) (node_of c.in-Some.child) (ap (option_map node_of) c.in-Some.is) c.next_sibling-next.ensures.sibling) in
     omega arith
 
 pub loop-next-preserved : goal.loop-next-preserved
@@ -33,7 +33,7 @@ loop-next-preserved c =
     let left = siblings_from (option_map node_of c.next_sibling-next.result) in
     subst (λ images. AreReadTo c.args.file.now children images left) (sym (ap (map image_model) c.in_ok-push.ensures.items ∙ map-append image_model c.loop-next.images.items (c.in_ok-read_image.field-0 ∷ [])))
     (one_more c.args.file.now children (map image_model c.loop-next.images.items) (siblings_from (option_map node_of c.loop-next.next)) left (node_of c.in-Some.child)
-    (siblings_from-next (option_map node_of c.loop-next.next) (option_map node_of c.next_sibling-next.result) (node_of c.in-Some.child) (ap (option_map node_of) c.in-Some.is) c.next_sibling-next.ensures)
+    (siblings_from-next (option_map node_of c.loop-next.next) (option_map node_of c.next_sibling-next.result) (node_of c.in-Some.child) (ap (option_map node_of) c.in-Some.is) c.next_sibling-next.ensures.sibling)
     c.loop-next.invariant (image_model c.in_ok-read_image.field-0) c.in_ok-read_image.ensures.image)
 
 pub returns-clause-images : goal.returns-clause-images

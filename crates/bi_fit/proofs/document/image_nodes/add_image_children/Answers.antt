@@ -14,7 +14,7 @@ use Rattle.bi_fit.proofs.document.image_nodes.add_image_children.Goals as goal
 pub loop-next-init : goal.loop-next-init
 loop-next-init c =
     let s = node_of c.args.node in
-    let all : nodes_from (option_map node_of c.first_child-next.result) ≡ s.children = ap nodes_from c.first_child-next.ensures ∙ nodes_from_first s.children in
+    let all : nodes_from (option_map node_of c.first_child-next.result) ≡ s.children = ap nodes_from c.first_child-next.ensures.child ∙ nodes_from_first s.children in
     rw all (record {
       adding = adding_all c.args.doc.now (sorted_image_children c.args.hashed c.args.digests.now s.children) c.requires.may;
       distinct = c.requires.distinct;
@@ -44,7 +44,7 @@ loop-next-smaller c =
     let before : length (siblings (nodes_from (option_map node_of c.loop-next.next))) ≡ suc (length (siblings s.later)) =
     ap (λ next. length (siblings (nodes_from (option_map node_of next)))) c.in-Some.is in
     let after : length (siblings (nodes_from (option_map node_of c.next_sibling-next.result))) ≡ length (siblings s.later) =
-    ap (λ nodes. length (siblings nodes)) (ap nodes_from c.next_sibling-next.ensures ∙ nodes_from_first s.later) in
+    ap (λ nodes. length (siblings nodes)) (ap nodes_from c.next_sibling-next.ensures.sibling ∙ nodes_from_first s.later) in
     omega arith
 
 pub loop-next-preserved : goal.loop-next-preserved
@@ -52,7 +52,7 @@ loop-next-preserved c =
     let s = node_of c.in-Some.child in
     let target = with_events c.args.doc.now (events (sorted_image_children c.args.hashed c.args.digests.now (node_of c.args.node).children)) in
     let here : nodes_from (option_map node_of c.loop-next.next) ≡ nodes_from (Some s) = ap (λ next. nodes_from (option_map node_of next)) c.in-Some.is in
-    let rest : nodes_from (option_map node_of c.next_sibling-next.result) ≡ s.later = ap nodes_from c.next_sibling-next.ensures ∙ nodes_from_first s.later in
+    let rest : nodes_from (option_map node_of c.next_sibling-next.result) ≡ s.later = ap nodes_from c.next_sibling-next.ensures.sibling ∙ nodes_from_first s.later in
     let distinct : EachOwn HasDistinctNames (nodes_from (Some s)) = subst (EachOwn HasDistinctNames) here c.loop-next.invariant.distinct in
     let has : HaveDigests c.args.hashed c.loop-next.left.now (nodes_by_name (nodes_from (Some s))) =
     subst (λ nodes. HaveDigests c.args.hashed c.loop-next.left.now (nodes_by_name nodes)) here c.loop-next.invariant.has_digests in

@@ -21,7 +21,7 @@ use Rattle.bi_fit.proofs.document.image_nodes.add_image_nodes.Goals.{in-Embedded
 pub loop-image-init : goal.loop-image-init
 loop-image-init c =
     let s = node_of c.args.node in
-    let all : nodes_from (option_map node_of c.first_child-next.result) ≡ s.children = ap nodes_from c.first_child-next.ensures ∙ nodes_from_first s.children in
+    let all : nodes_from (option_map node_of c.first_child-next.result) ≡ s.children = ap nodes_from c.first_child-next.ensures.child ∙ nodes_from_first s.children in
     rw all (record {
       adding = adding_all c.args.doc.now (sorted_images c.args.changes.hashes c.args.form 0 (payloads_of c.args.images.now) c.args.digests.now s.children) c.requires.may;
       distinct = c.requires.distinct;
@@ -66,7 +66,7 @@ loop-image-preserved c =
     let later = payloads_of (drop (c.loop-image.image-index + 1) c.args.images.now) in
     let target = with_events c.args.doc.now (events (sorted_images hashes c.args.form 0 (payloads_of c.args.images.now) c.args.digests.now (node_of c.args.node).children)) in
     let here : nodes_from (option_map node_of c.loop-image.next) ≡ nodes_from (Some s) = ap (λ next. nodes_from (option_map node_of next)) c.in-Some.is in
-    let rest : nodes_from (option_map node_of c.next_sibling-next.result) ≡ s.later = ap nodes_from c.next_sibling-next.ensures ∙ nodes_from_first s.later in
+    let rest : nodes_from (option_map node_of c.next_sibling-next.result) ≡ s.later = ap nodes_from c.next_sibling-next.ensures.sibling ∙ nodes_from_first s.later in
     let adding : IsAdding c.loop-image.doc target (sorted_images hashes c.args.form c.loop-image.end (payload ∷ later) left (nodes_from (Some s))) =
     subst (λ payloads. IsAdding c.loop-image.doc target (sorted_images hashes c.args.form c.loop-image.end payloads left (nodes_from (Some s)))) (payloads_from c.args.images.now c.loop-image.image-index c.loop-image-test.true)
     (subst (λ nodes. IsAdding c.loop-image.doc target (sorted_images hashes c.args.form c.loop-image.end (payloads_of (drop c.loop-image.image-index c.args.images.now)) left nodes)) here c.loop-image.invariant.adding) in

@@ -13,7 +13,7 @@ use Rattle.bi_fit.proofs.document.nodes.+nodes.Goals as goal
 pub add_children-loop-next-init : goal.add_children-loop-next-init
 add_children-loop-next-init t c =
     let s = node_of c.args.node in
-    let all : nodes_from (option_map node_of c.first_child-next.result) ≡ s.children = ap nodes_from c.first_child-next.ensures ∙ nodes_from_first s.children in
+    let all : nodes_from (option_map node_of c.first_child-next.result) ≡ s.children = ap nodes_from c.first_child-next.ensures.child ∙ nodes_from_first s.children in
     rw all (record {
       adding = adding_all c.args.doc.now (sorted_nodes s.children) c.requires.may;
       distinct = c.requires.distinct;
@@ -42,7 +42,7 @@ add_children-loop-next-smaller t c =
     let before : length (siblings (nodes_from (option_map node_of c.loop-next.next))) ≡ suc (length (siblings s.later)) =
     ap (λ next. length (siblings (nodes_from (option_map node_of next)))) c.in-Some.is in
     let after : length (siblings (nodes_from (option_map node_of c.next_sibling-next.result))) ≡ length (siblings s.later) =
-    ap (λ nodes. length (siblings nodes)) (ap nodes_from c.next_sibling-next.ensures ∙ nodes_from_first s.later) in
+    ap (λ nodes. length (siblings nodes)) (ap nodes_from c.next_sibling-next.ensures.sibling ∙ nodes_from_first s.later) in
     omega arith
 
 pub add_children-loop-next-preserved : goal.add_children-loop-next-preserved
@@ -50,7 +50,7 @@ add_children-loop-next-preserved t c =
     let s = node_of c.in-Some.child in
     let target = with_events c.args.doc.now (events (sorted_nodes (node_of c.args.node).children)) in
     let here : nodes_from (option_map node_of c.loop-next.next) ≡ nodes_from (Some s) = ap (λ next. nodes_from (option_map node_of next)) c.in-Some.is in
-    let rest : nodes_from (option_map node_of c.next_sibling-next.result) ≡ s.later = ap nodes_from c.next_sibling-next.ensures ∙ nodes_from_first s.later in
+    let rest : nodes_from (option_map node_of c.next_sibling-next.result) ≡ s.later = ap nodes_from c.next_sibling-next.ensures.sibling ∙ nodes_from_first s.later in
     let adding : IsAdding c.loop-next.doc target (sorted_nodes (nodes_from (Some s))) = subst (λ nodes. IsAdding c.loop-next.doc target (sorted_nodes nodes)) here c.loop-next.invariant.adding in
     let distinct : EachOwn HasDistinctNames (nodes_from (Some s)) = subst (EachOwn HasDistinctNames) here c.loop-next.invariant.distinct in
     let shallow : max (depth s.children + 1) (depth s.later) ≤ depth (node_of c.args.node).children =

@@ -23,14 +23,14 @@ pub returns-in_default-clause-failed : goal.returns-in_default-clause-failed
 returns-in_default-clause-failed c =
     let blob = c.in_ok-blob.blob in
     let none : image_nodes (root_of blob) ≡ None =
-    found_images c.root-root.result blob c.child.result c.root-root.ensures c.child.ensures ∙ ap (option_map (λ images. (node_of images).children)) c.in_default.is in
-    subst (λ place. IsOnlyFitFault c.args.limits c.args.file.now (record { cause = NoImages; offset = place })) (sym (c.place.ensures ∙ ap (λ (root : Sibling FileNode). root.own.place) c.root-root.ensures))
+    found_images c.root-root.result blob c.child.result c.root-root.ensures.root c.child.ensures ∙ ap (option_map (λ images. (node_of images).children)) c.in_default.is in
+    subst (λ place. IsOnlyFitFault c.args.limits c.args.file.now (record { cause = NoImages; offset = place })) (sym (c.place.ensures ∙ ap (λ (root : Sibling FileNode). root.own.place) c.root-root.ensures.root))
     (no_images c.args.limits c.args.file.now blob c.in_ok-blob.ensures.read.within c.in_ok-blob.ensures.read.means none)
 
 -- The image nodes of the blob.
 images_found : (c : In-Some) → image_nodes (root_of c.in_ok-blob.blob) ≡ Some (node_of c.in-Some.node).children
 images_found c =
-    found_images c.root-root.result c.in_ok-blob.blob c.child.result c.root-root.ensures c.child.ensures ∙ ap (option_map (λ images. (node_of images).children)) c.in-Some.is
+    found_images c.root-root.result c.in_ok-blob.blob c.child.result c.root-root.ensures.root c.child.ensures ∙ ap (option_map (λ images. (node_of images).children)) c.in-Some.is
 
 pub read_images-requires-clause-data : goal.read_images-requires-clause-data
 read_images-requires-clause-data c =

@@ -1,0 +1,90 @@
+use Rattle.std.specs.Prelude.{◌≡◌, ℕ, ◌==◌, ◌&&◌, Bool, true, not, List, [], ◌∷◌, ◌++◌, Option}
+use Rattle.std.specs.Prelude.{Some, None, option_map, bytes_eq, if◌then◌else◌}
+use Rattle.std.specs.Borrow.{Bor}
+use Rattle.std.specs.Ordering.{nat_cmp}
+use Rattle.std.specs.BTreeMap.{BTreeMap, IsOrdered, get_by}
+use Rattle.bi_blob.specs.Tree.{Nodes, none, node, PropertyMap, FileProperty, FileNode, AreDistinct}
+use Rattle.bi_blob.specs.Lookups.{root_node}
+use Rattle.bi_fdt.specs.declared.node.NodeRef.{NodeRef}
+use Rattle.bi_fdt.specs.Content.{Blob, root_of}
+use Rattle.bi_fdt.specs.Views.{table_of_node}
+use Rattle.bi_fdt.specs.Numbers.{AreNumbered}
+use Rattle.bi_fit.specs.declared.comparing.role.Role.{Role}
+use Rattle.bi_fit.specs.declared.comparing.role.Role.TheVariants.{RootNode, RootChild, ImageNode}
+use Rattle.bi_fit.specs.declared.comparing.role.Role.TheVariants.{OtherNode}
+use Rattle.bi_fit.specs.Names.{images_name, is_payload_name}
+use Rattle.bi_fit.specs.ImageTree.{without_payload}
+use Rattle.bi_fit.specs.NormalNodes.{properties_by_name, alone}
+
+-- What is compared of the nodes of two image trees, node by node of their files.
+
+-- The role of the children of a node that has this role and this name.
+abbrev pub role_below : Role → (name : List ℕ) → Role
+role_below RootNode name = RootChild
+role_below RootChild name = if bytes_eq name images_name then ImageNode else OtherNode
+role_below ImageNode name = OtherNode
+role_below OtherNode name = OtherNode
+
+-- Whether properties of this name are compared in a node of this role: in image nodes, the four
+-- that hold a payload or name its region are not.
+abbrev pub is_compared : Role → (name : List ℕ) → Bool
+is_compared RootNode name = true
+is_compared RootChild name = true
+is_compared ImageNode name = not (is_payload_name name)
+is_compared OtherNode name = true
+
+-- The properties of a node of this role that are compared, by name.
+abbrev pub compared_properties : Role → FileNode → PropertyMap
+compared_properties RootNode own = properties_by_name own
+compared_properties RootChild own = properties_by_name own
+compared_properties ImageNode own = without_payload (properties_by_name own)
+compared_properties OtherNode own = properties_by_name own
+
+-- Nodes of this role, and all below them, with their properties that are compared.
+abbrev pub compared_nodes : Role → Nodes FileNode → Nodes PropertyMap
+compared_nodes role none = none
+compared_nodes role (node name own children later) =
+    node name (compared_properties role own) (compared_nodes (role_below role name) children)
+    (compared_nodes role later)
+
+-- The root of a blob as a list of one node, with what is compared of each node.
+abbrev pub compared_tree : Blob → Nodes PropertyMap
+compared_tree content = compared_nodes RootNode (alone (root_node (root_of content)))
+
+-- Two blobs have the same boot processor, the same memory reservations and the same tree, as far as
+-- it is compared.
+pub record AreSameBlobs (own other : Blob) : Type 0 where
+  pub same_cpu : own.cpu ≡ other.cpu
+  pub same_reservations : own.reservations ≡ other.reservations
+  pub same_tree : compared_tree own ≡ compared_tree other
+
+-- The names of the properties of two blobs have numbers by one list of names: the names of the
+-- first blob, and those that the second one has besides. These are the blobs that the two nodes are
+-- of.
+pub record HaveOneNumbering (own other : NodeRef) (numbers other_numbers : List ℕ)
+    : Type 0 where
+  pub names : List (List ℕ)
+  pub more : List (List ℕ)
+  pub distinct : AreDistinct (names ++ more)
+  pub are : AreNumbered names (table_of_node own) numbers
+  pub other_are : AreNumbered (names ++ more) (table_of_node other) other_numbers
+
+-- The value of the last of these properties that has a number and is compared in a node of this
+-- role. The names of the properties have these numbers. If there is no such property, it is the
+-- value that is given.
+abbrev pub value_numbered : Role → Option (List ℕ) → List FileProperty → (numbers : List ℕ)
+    → (wanted : ℕ) → Option (List ℕ)
+value_numbered role value [] numbers wanted = value
+value_numbered role value (property ∷ later) [] wanted = value
+value_numbered role value (property ∷ later) (number ∷ numbers) wanted =
+    value_numbered role
+    (if (number == wanted) && is_compared role property.name then Some property.value else value)
+    later numbers wanted
+
+-- The map has the values of these properties that are compared in a node of this role, by the
+-- numbers of their names.
+pub record HaveNumberedValues (role : Role) (properties : List FileProperty) (numbers : List ℕ)
+    (values : BTreeMap ℕ (Bor (List ℕ))) : Type 0 where
+  pub ordered : IsOrdered nat_cmp values
+  pub each : (wanted : ℕ) → option_map (λ value. value.now) (get_by (nat_cmp wanted) values)
+      ≡ value_numbered role None properties numbers wanted

@@ -1,0 +1,43 @@
+//! What the nodes of a flattened image tree are.
+
+ghost use Rattle.std.specs.Prelude.{◌≡◌};
+ghost use Rattle.bi_fit.specs.ComparedNodes.{role_below, is_compared};
+
+use crate::document::is_payload_name;
+
+/// What a node of a flattened image tree is.
+#[derive(Clone, Copy)]
+pub(super) enum Role {
+    /// The root.
+    RootNode,
+    /// A child of the root.
+    RootChild,
+    /// A child of the node `/images`.
+    ImageNode,
+    /// Any other node.
+    OtherNode,
+}
+
+impl Role {
+    /// The role of the children of a node that has this role and this name.
+    pub(super) fn below(self, name: &[u8]) -> Role
+        ensures { result ≡ role_below self name.now }
+    {
+        match self {
+            Role::RootNode => Role::RootChild,
+            Role::RootChild if name == b"images".as_slice() => Role::ImageNode,
+            Role::RootChild | Role::ImageNode | Role::OtherNode => Role::OtherNode,
+        }
+    }
+
+    /// Whether properties of this name are compared in a node of this role. In image nodes, the
+    /// four that hold a payload or name its region are not.
+    pub(super) fn compares(self, name: &[u8]) -> bool
+        ensures { result ≡ is_compared self name.now }
+    {
+        match self {
+            Role::ImageNode => !is_payload_name(name),
+            Role::RootNode | Role::RootChild | Role::OtherNode => true,
+        }
+    }
+}
