@@ -25,6 +25,8 @@ pub mod LegacyOutputs
 pub mod FitOutputs
 pub mod TextFacts
 pub mod LineSets
+pub mod LongNames
+pub mod LongNamesOfFiles
 pub mod DescribedLines
 pub mod ComparedTexts
 pub mod Compared

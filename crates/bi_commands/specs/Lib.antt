@@ -12,6 +12,7 @@ pub mod Comparing
 pub mod Extracting
 pub mod LimitedSinks
 pub mod Listing
+pub mod LongNames
 pub mod MadeEntries
 pub mod Parts
 pub mod PayloadBounds

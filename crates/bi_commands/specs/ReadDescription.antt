@@ -1,8 +1,11 @@
-use Rattle.std.specs.Prelude.{◌≡◌, ℕ, List, [], ◌∷◌, ◌++◌, codes, map}
+use Rattle.std.specs.Prelude.{◌≡◌, ⊤, ℕ, List, [], ◌∷◌, ◌++◌, codes, map}
 use Rattle.std.specs.Fmt.{decimal}
 use Rattle.bi_base.specs.Limits.{Limits}
 use Rattle.bi_fdt.specs.Content.{Blob}
+use Rattle.bi_fit.specs.Content.{IsHeld}
 use Rattle.bi_legacy.specs.Meaning.{LegacyImage}
+use Rattle.bi_norm.specs.declared.image.BootImage.{BootImage}
+use Rattle.bi_norm.specs.declared.image.BootImage.TheVariants.{Legacy, Fit}
 use Rattle.bi_norm.specs.Meaning.{Meaning}
 use Rattle.bi_commands.specs.Descriptions.{Words, PayloadDigest, description}
 use Rattle.bi_commands.specs.Descriptions.{reservation_words, field_words, code_words, part_words}
@@ -35,3 +38,8 @@ read_legacy_lines image parts =
 pub record IsDescriptionOf (limits : Limits) (meaning : Meaning) (text : List ℕ) : Type 0 where
   pub within : CanBeDescribed limits meaning
   pub is_text : text ≡ description meaning
+
+-- A boot image that was read. The images of a flattened image tree are those of its blob.
+abbrev pub IsHeldImage : BootImage → Type 0
+IsHeldImage (Legacy image) = ⊤
+IsHeldImage (Fit content) = IsHeld content

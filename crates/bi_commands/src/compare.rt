@@ -15,6 +15,7 @@ ghost use Rattle.bi_commands.specs.Comparing.{IsComparison, IsComparisonError};
 ghost use Rattle.bi_commands.specs.Comparing.{IsReadingError, IsDescribingError, comparison};
 ghost use Rattle.bi_commands.specs.Descriptions.{description};
 ghost use Rattle.bi_commands.specs.Describing.{CanBeDescribed};
+ghost use Rattle.bi_commands.specs.ReadDescription.{IsHeldImage};
 
 use crate::describe::describe_image;
 use bi_base::{Error, Fault, Limits};
@@ -164,6 +165,7 @@ fn describe_one(
     image: &BootImage<'_>,
     limits: Limits,
 ) -> Result<String, CompareError>
+    requires held { IsHeldImage image.now }
     ensures within { OnOk result (CanBeDescribed limits (meaning_of image.now)) }
     ensures described { IfOk result (λ text. string_bytes text
         ≡ description (meaning_of image.now)) }
@@ -183,6 +185,7 @@ fn describe_other(
     image: &BootImage<'_>,
     limits: Limits,
 ) -> Result<String, CompareError>
+    requires held { IsHeldImage image.now }
     ensures within { OnOk result (CanBeDescribed limits (meaning_of image.now)) }
     ensures described { IfOk result (λ text. string_bytes text
         ≡ description (meaning_of image.now)) }

@@ -8,7 +8,7 @@ ghost use Rattle.bi_commands.specs.Descriptions.{description};
 ghost use Rattle.bi_commands.specs.Describing.{CanBeDescribed, IsImageError};
 ghost use Rattle.bi_commands.specs.Describing.{IsDescription, IsDescribeError};
 ghost use Rattle.bi_commands.specs.Describing.{describe_promise, describe_laws};
-ghost use Rattle.bi_commands.specs.ReadDescription.{IsDescriptionOf};
+ghost use Rattle.bi_commands.specs.ReadDescription.{IsDescriptionOf, IsHeldImage};
 
 mod digests;
 mod entries;
@@ -17,6 +17,7 @@ mod image_nodes;
 mod legacy;
 mod limited_sink;
 mod lines;
+mod long_names;
 mod nodes;
 mod properties;
 mod values;
@@ -103,6 +104,7 @@ pub(crate) fn describe_image(
     image: &BootImage,
     limits: Limits,
 ) -> Result<String, Error>
+    requires held { IsHeldImage image.now }
     ensures within { OnOk result (CanBeDescribed limits (meaning_of image.now)) }
     ensures described { IfOk result (λ text. string_bytes text
         ≡ description (meaning_of image.now)) }
@@ -125,6 +127,7 @@ fn describe_into<S: Sink>(
     limits: Limits,
     sink: &mut S,
 ) -> Result<(), Error>
+    requires held { IsHeldImage image.now }
     ensures appended { OnOk result (Appended S.appends
         (IsDescriptionOf limits (meaning_of image.now)) sink.old sink.new) }
     ensures failed { IfErr result (AppendFailed S.fails

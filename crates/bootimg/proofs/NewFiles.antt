@@ -1,5 +1,5 @@
-use Rattle.std.proofs.Common.{◌≡◌, ◌≢◌, ◌++◌, ◌∷◌, [], ◌∙◌, ◌<◌, ◌≤◌, ◌+◌, ◌⊎◌, ℕ, List, Option, Some, None, option_map, map, Contains, Result}
-use Rattle.std.proofs.Common.{OnOk, OnErr, IfErr, Ok, Err, ap, subst, sym, inl, inr, refl, arith}
+use Rattle.std.proofs.Common.{◌≡◌, ◌≢◌, ◌++◌, ◌∷◌, [], ◌∙◌, ◌<◌, ◌+◌, ◌⊎◌, ℕ, List, Option, Some, None, option_map, map, Result}
+use Rattle.std.proofs.Common.{OnOk, OnErr, IfErr, Ok, Err, ap, subst, sym, inl, inr, refl}
 use Rattle.bi_base.specs.Sinks.{Wrote}
 use Rattle.bi_base.specs.Traces.{WriteTrace}
 use Rattle.bi_base.specs.Writing.{WroteAndFlushed, WriteOrFlushStopped}

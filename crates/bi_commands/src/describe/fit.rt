@@ -3,7 +3,7 @@
 ghost use Rattle.std.specs.Prelude.{◌≡◌, ◌≤◌, OnOk, IfErr, flat_map, length, map};
 ghost use Rattle.bi_base.specs.Commands.{Appended, AppendFailed};
 ghost use Rattle.bi_base.specs.Sinks.{Wrote};
-ghost use Rattle.bi_fit.specs.Content.{tree_of};
+ghost use Rattle.bi_fit.specs.Content.{IsHeld, tree_of};
 ghost use Rattle.bi_norm.specs.Meaning.{OfFit};
 ghost use Rattle.bi_commands.specs.Describing.{IsImageError};
 ghost use Rattle.bi_blob.specs.Blob.{Reservation};
@@ -17,6 +17,7 @@ use super::entries::Entry;
 use super::image_nodes::entries_of;
 use super::limited_sink::LimitedSink;
 use super::lines::{most_open, put_tree};
+use super::long_names::check_long_names;
 use super::words::{Word, put_line, put_lines};
 use bi_base::{Error, Limits, Sink};
 use bi_fdt::Blob;
@@ -30,6 +31,7 @@ pub(super) fn describe_fit<S: Sink>(
     limits: Limits,
     sink: &mut S,
 ) -> Result<(), Error>
+    requires held { IsHeld fit.now }
     ensures appended { OnOk result (Appended S.appends
         (IsDescriptionOf limits (OfFit (tree_of fit.now))) sink.old sink.new) }
     ensures failed { IfErr result (AppendFailed S.fails
@@ -37,6 +39,7 @@ pub(super) fn describe_fit<S: Sink>(
         (IsImageError limits (OfFit (tree_of fit.now))) sink.old sink.new) }
 {
     check_payloads(fit.images(), limits.file())?;
+    check_long_names(fit.blob().root(), limits.file())?;
     let entries = entries_of(alloc, fit)?;
     let mut names = vec![in alloc; b"".as_slice(); most_open(&entries)]?;
     let mut measure = LimitedSink::new(limits.file());

@@ -18,7 +18,7 @@ use Rattle.bi_commands.proofs.check.images.put_image_nodes.Goals as goal
 pub loop-image-init : goal.loop-image-init
 loop-image-init c =
     let s = node_of c.args.node in
-    let all : nodes_from (option_map node_of c.first_child-next.result) ≡ s.children = ap nodes_from c.first_child-next.ensures ∙ nodes_from_first s.children in (
+    let all : nodes_from (option_map node_of c.first_child-next.result) ≡ s.children = ap nodes_from c.first_child-next.ensures.child ∙ nodes_from_first s.children in (
       omega arith,
       ap (λ nodes. string_bytes c.args.text.now ++ concern_lines c.args.allowed (read_images_concerns nodes (map image_model c.args.images.now) (map checked_hash_of c.args.hashes.now))) all,
     )
@@ -37,7 +37,7 @@ loop-image-preserved c =
     rw add-one (drop-cons c.args.images.now c.loop-image.image-index no_image c.loop-image-test.true) in
     let images : map image_model (drop c.loop-image.image-index c.args.images.now) ≡ image ∷ later = ap (map image_model) items in
     let here : nodes_from (option_map node_of c.loop-image.next) ≡ nodes_from (Some s) = ap (λ next. nodes_from (option_map node_of next)) c.in-Some.is in
-    let rest : nodes_from (option_map node_of c.next_sibling-next.result) ≡ s.later = ap nodes_from c.next_sibling-next.ensures ∙ nodes_from_first s.later in
+    let rest : nodes_from (option_map node_of c.next_sibling-next.result) ≡ s.later = ap nodes_from c.next_sibling-next.ensures.sibling ∙ nodes_from_first s.later in
     let before : text ++ concern_lines c.args.allowed (read_images_concerns (nodes_from (Some s)) (image ∷ later) left) ≡ target =
     subst (λ (l : List ImageModel). text ++ concern_lines c.args.allowed (read_images_concerns (nodes_from (Some s)) l left) ≡ target) images
     (subst (λ nodes. text ++ concern_lines c.args.allowed (read_images_concerns nodes (map image_model (drop c.loop-image.image-index c.args.images.now)) left) ≡ target) here c.loop-image.invariant.1) in

@@ -14,7 +14,7 @@ use Rattle.bi_commands.proofs.describe.image_nodes.add_image_nodes.Goals as goal
 pub loop-image-init : goal.loop-image-init
 loop-image-init c =
     let s = node_of c.args.node in
-    let all : nodes_from (option_map node_of c.first_child-next.result) ≡ s.children = ap nodes_from c.first_child-next.ensures ∙ nodes_from_first s.children in
+    let all : nodes_from (option_map node_of c.first_child-next.result) ≡ s.children = ap nodes_from c.first_child-next.ensures.child ∙ nodes_from_first s.children in
     ap (λ nodes. map as_entry c.args.entries.now.items ++ images_entries c.args.is_first nodes (payloads_of c.args.images.now)) all
 
 pub returns-in_default : goal.returns-in_default
@@ -35,7 +35,7 @@ loop-image-preserved c =
     let later = payloads_of (drop (c.loop-image.image-index + 1) c.args.images.now) in
     let target = map as_entry c.args.entries.now.items ++ images_entries c.args.is_first (node_of c.args.node).children (payloads_of c.args.images.now) in
     let here : nodes_from (option_map node_of c.loop-image.next) ≡ nodes_from (Some s) = ap (λ next. nodes_from (option_map node_of next)) c.in-Some.is in
-    let rest : nodes_from (option_map node_of c.next_sibling-next.result) ≡ s.later = ap nodes_from c.next_sibling-next.ensures ∙ nodes_from_first s.later in
+    let rest : nodes_from (option_map node_of c.next_sibling-next.result) ≡ s.later = ap nodes_from c.next_sibling-next.ensures.sibling ∙ nodes_from_first s.later in
     let all : start ++ images_entries c.args.is_first (nodes_from (Some s)) (payload ∷ later) ≡ target =
     subst (λ payloads. start ++ images_entries c.args.is_first (nodes_from (Some s)) payloads ≡ target) (payloads_from c.args.images.now c.loop-image.image-index c.loop-image-test.true)
     (subst (λ nodes. start ++ images_entries c.args.is_first nodes (payloads_of (drop c.loop-image.image-index c.args.images.now)) ≡ target) here c.loop-image.invariant) in

@@ -14,7 +14,7 @@ use Rattle.bi_commands.proofs.describe.image_nodes.add_root_children.Goals.{then
 pub loop-next-init : goal.loop-next-init
 loop-next-init c =
     let s = node_of c.args.root in
-    let all : nodes_from (option_map node_of c.first_child-next.result) ≡ s.children = ap nodes_from c.first_child-next.ensures ∙ nodes_from_first s.children in
+    let all : nodes_from (option_map node_of c.first_child-next.result) ≡ s.children = ap nodes_from c.first_child-next.ensures.child ∙ nodes_from_first s.children in
     ap (λ nodes. map as_entry c.args.entries.now.items ++ root_children_entries true nodes (payloads_of c.args.images.now)) all
 
 pub loop-next-smaller : goal.loop-next-smaller
@@ -23,7 +23,7 @@ loop-next-smaller c =
     let before : length (siblings (nodes_from (option_map node_of c.loop-next.next))) ≡ suc (length (siblings s.later)) =
     ap (λ next. length (siblings (nodes_from (option_map node_of next)))) c.in-Some.is in
     let after : length (siblings (nodes_from (option_map node_of c.next_sibling-next.result))) ≡ length (siblings s.later) =
-    ap (λ nodes. length (siblings nodes)) (ap nodes_from c.next_sibling-next.ensures ∙ nodes_from_first s.later) in
+    ap (λ nodes. length (siblings nodes)) (ap nodes_from c.next_sibling-next.ensures.sibling ∙ nodes_from_first s.later) in
     omega arith
 
 pub loop-next-preserved : goal.loop-next-preserved
@@ -33,7 +33,7 @@ loop-next-preserved c =
     let payloads = payloads_of c.args.images.now in
     let target = map as_entry c.args.entries.now.items ++ root_children_entries true (node_of c.args.root).children payloads in
     let here : nodes_from (option_map node_of c.loop-next.next) ≡ nodes_from (Some s) = ap (λ next. nodes_from (option_map node_of next)) c.in-Some.is in
-    let rest : nodes_from (option_map node_of c.next_sibling-next.result) ≡ s.later = ap nodes_from c.next_sibling-next.ensures ∙ nodes_from_first s.later in
+    let rest : nodes_from (option_map node_of c.next_sibling-next.result) ≡ s.later = ap nodes_from c.next_sibling-next.ensures.sibling ∙ nodes_from_first s.later in
     let all : start ++ root_children_entries c.loop-next.is_first (nodes_from (Some s)) payloads ≡ target =
     subst (λ nodes. start ++ root_children_entries c.loop-next.is_first nodes payloads ≡ target) here c.loop-next.invariant in
     let same : bytes_eq s.name images_name ≡ c.eq.result =

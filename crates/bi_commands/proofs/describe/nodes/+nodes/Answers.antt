@@ -13,7 +13,7 @@ use Rattle.bi_commands.proofs.describe.nodes.+nodes.Goals as goal
 pub add_children-loop-next-init : goal.add_children-loop-next-init
 add_children-loop-next-init t c =
     let s = node_of c.args.node in
-    let all : nodes_from (option_map node_of c.first_child-next.result) ≡ s.children = ap nodes_from c.first_child-next.ensures ∙ nodes_from_first s.children in
+    let all : nodes_from (option_map node_of c.first_child-next.result) ≡ s.children = ap nodes_from c.first_child-next.ensures.child ∙ nodes_from_first s.children in
     rw all (record { left = refl; shallow = omega arith })
 
 pub add_children-add_node-requires : goal.add_children-add_node-requires
@@ -30,7 +30,7 @@ add_children-loop-next-smaller t c =
     let before : length (siblings (nodes_from (option_map node_of c.loop-next.next))) ≡ suc (length (siblings s.later)) =
     ap (λ next. length (siblings (nodes_from (option_map node_of next)))) c.in-Some.is in
     let after : length (siblings (nodes_from (option_map node_of c.next_sibling-next.result))) ≡ length (siblings s.later) =
-    ap (λ nodes. length (siblings nodes)) (ap nodes_from c.next_sibling-next.ensures ∙ nodes_from_first s.later) in
+    ap (λ nodes. length (siblings nodes)) (ap nodes_from c.next_sibling-next.ensures.sibling ∙ nodes_from_first s.later) in
     omega arith
 
 pub add_children-loop-next-preserved : goal.add_children-loop-next-preserved
@@ -38,7 +38,7 @@ add_children-loop-next-preserved t c =
     let s = node_of c.in-Some.child in
     let target = map as_entry c.args.entries.now.items ++ plain_entries (node_of c.args.node).children in
     let here : nodes_from (option_map node_of c.loop-next.next) ≡ nodes_from (Some s) = ap (λ next. nodes_from (option_map node_of next)) c.in-Some.is in
-    let rest : nodes_from (option_map node_of c.next_sibling-next.result) ≡ s.later = ap nodes_from c.next_sibling-next.ensures ∙ nodes_from_first s.later in
+    let rest : nodes_from (option_map node_of c.next_sibling-next.result) ≡ s.later = ap nodes_from c.next_sibling-next.ensures.sibling ∙ nodes_from_first s.later in
     let left : map as_entry c.loop-next.entries.items ++ (plain_entries (alone s) ++ plain_entries s.later) ≡ target =
     ap (λ l. map as_entry c.loop-next.entries.items ++ l) (sym (plain-first s))
     ∙ subst (λ nodes. map as_entry c.loop-next.entries.items ++ plain_entries nodes ≡ target) here c.loop-next.invariant.left in

@@ -11,7 +11,7 @@ pub loop-next-init : goal.loop-next-init
 loop-next-init g c = (
   [],
   g.met.S.Sink.appends_nothing c.args.sink.now,
-  ap (flat_map (configuration_node_lines c.args.fit.now.images)) (from_first c.first_child-next.result (node_of c.args.parent).children c.first_child-next.ensures),
+  ap (flat_map (configuration_node_lines c.args.fit.now.images)) (from_first c.first_child-next.result (node_of c.args.parent).children c.first_child-next.ensures.child),
 )
 
 pub returns-in_err-put_configuration : goal.returns-in_err-put_configuration
@@ -33,7 +33,7 @@ loop-next-preserved g c =
     let lines = configuration_node_lines c.args.fit.now.images in
     let later : List ℕ = flat_map lines (siblings_from (option_map node_of c.next_sibling-next.result)) in
     let (done, written, is) = c.loop-next.invariant in
-    let here = from_next c.loop-next.next c.next_sibling-next.result c.in-Some.node c.in-Some.is c.next_sibling-next.ensures in (
+    let here = from_next c.loop-next.next c.next_sibling-next.result c.in-Some.node c.in-Some.is c.next_sibling-next.ensures.sibling in (
       done ++ lines entry,
       g.met.S.Sink.appends_in_turn c.args.sink.now c.loop-next.sink c.put_configuration.new.sink done (lines entry) written c.in_ok-put_configuration.ensures,
       append_assoc done (lines entry) later ∙ ap (λ entries. done ++ flat_map lines entries) (sym here) ∙ is,
@@ -41,5 +41,5 @@ loop-next-preserved g c =
 
 pub loop-next-smaller : goal.loop-next-smaller
 loop-next-smaller g c =
-    let here = ap length (from_next c.loop-next.next c.next_sibling-next.result c.in-Some.node c.in-Some.is c.next_sibling-next.ensures) in
+    let here = ap length (from_next c.loop-next.next c.next_sibling-next.result c.in-Some.node c.in-Some.is c.next_sibling-next.ensures.sibling) in
     omega (arith, here)

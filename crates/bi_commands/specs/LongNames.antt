@@ -1,0 +1,30 @@
+use Rattle.std.specs.Prelude.{ℕ, nat_le, List, [], ◌++◌, flat_map, length, if◌then◌else◌}
+use Rattle.bi_blob.specs.Tree.{Nodes, none, node, Property, FileNode, properties_of, with_each}
+use Rattle.bi_blob.specs.Lookups.{Sibling}
+
+-- The long names of the properties of a tree: a description has each of them in full (profile of
+-- this project).
+
+-- A name of 64 bytes or more, and no bytes in place of a shorter one. The names of the four
+-- properties that hold a payload or name its region are shorter.
+abbrev pub name_if_long : List ℕ → List ℕ
+name_if_long name = if nat_le 64 (length name) then name else []
+
+-- The long names of these properties, one after the other.
+abbrev pub long_names : List Property → List ℕ
+long_names properties = flat_map (λ property. name_if_long property.0) properties
+
+-- The long names of the properties of these nodes and of all nodes below them.
+abbrev pub long_names_of : Nodes (List Property) → List ℕ
+long_names_of none = []
+long_names_of (node name own children later) =
+    long_names own ++ (long_names_of children ++ long_names_of later)
+
+-- The same of the nodes of a file.
+abbrev pub long_names_in : Nodes FileNode → List ℕ
+long_names_in nodes = long_names_of (with_each properties_of nodes)
+
+-- The same of a node of a file and of all nodes below it.
+abbrev pub long_names_from : Sibling FileNode → List ℕ
+long_names_from sibling =
+    long_names (properties_of sibling.own) ++ long_names_in sibling.children
