@@ -1,9 +1,10 @@
 """Measures the program on hostile files: for each shape and size, the time and the peak memory of each command.
 
     python3 bench/names.py [--program PATH] [--size MIB ..] [--shape NAME ..] [--command WORDS ..] [--stop SECONDS]
-        [--rounds NUMBER] [--write DIRECTORY]
+        [--rounds NUMBER] [--unlimited] [--write DIRECTORY]
 
-Without sizes the files have 1, 4 and 16 MiB, and without shapes or commands all are tried. A time is that of the processor, the
+Without sizes the files have 1, 4 and 16 MiB, and without shapes or commands all are tried. The option --limit of each command is the
+length of the file, or is left out with --unlimited. A time is that of the processor, the
 least of three runs, or of --rounds. Beside it are three ratios: to the time of the same command with the file before, divided by
 the ratio of the sizes, so 1 is linear; to the time of `sha256sum` of the file; and of the memory above the size of the file to
 the size. A command that takes longer than 60 seconds, or than --stop, is ended, and larger files of its shape are left out for
@@ -268,6 +269,8 @@ def measure(options, path):
                 if command in ended:
                     continue
                 words = [options.program] + [path if word == "FILE" else word for word in command.split()]
+                if not options.unlimited:
+                    words += ["--limit", str(max(64, os.path.getsize(path)))]
                 measured = least(words, path, options.stop, options.rounds)
                 row(shape, mib, command, measured, before.get(command), checksum)
                 before[command] = (mib, measured)
@@ -297,6 +300,7 @@ def main():
     parser.add_argument("--command", nargs="+", default=COMMANDS)
     parser.add_argument("--stop", type=float, default=60)
     parser.add_argument("--rounds", type=int, default=3)
+    parser.add_argument("--unlimited", action="store_true")
     parser.add_argument("--write")
     options = parser.parse_args()
     if options.write:
