@@ -8,13 +8,15 @@ use Rattle.std.proofs.lemmas.Grind.{flat_map-append}
 use Rattle.std.proofs.lemmas.Slice.Eq.{bytes_eq-Decides}
 use Rattle.bi_blob.specs.Tree.{Nodes, none, node, names, as_nodes, with_each, AreNodes, IsNew, Property, PropertyMap}
 use Rattle.bi_fit.specs.ImageTree.{ImageTree, IsImageTree, IsApart, ArePropertiesByName, children_of, each_own}
+use Rattle.bi_fit.specs.LongNames.{name_if_long}
 use Rattle.bi_fit.specs.Names.{images_name}
+use Rattle.bi_fit.proofs.LongNames.{length-name_if_long}
 use Rattle.bi_fit.proofs.Meanings.{same_in_some}
 use Rattle.bi_norm.specs.Meaning.{OfFit}
 use Rattle.bi_commands.specs.Descriptions.{Words, DescribedNode, plain_node, described_images, described_children, described_nodes}
 use Rattle.bi_commands.specs.Descriptions.{description, node_lines, own_lines, path, payload_words, property_words, reservation_words}
 use Rattle.bi_commands.specs.Descriptions.{tree_lines}
-use Rattle.bi_commands.specs.LongNames.{name_if_long, long_names, long_names_of}
+use Rattle.bi_commands.specs.LongNames.{long_names, long_names_of}
 use Rattle.bi_commands.specs.Shown.{line, is_plain, shown_byte, shown_text, digits_of_byte}
 use Rattle.bi_commands.specs.ValueTexts.{value_words}
 use Rattle.bi_commands.proofs.FitLines.{joined_after}
@@ -50,14 +52,6 @@ name_shown name = by_name (bytes_eq name []) refl (bytes_eq name (codes "-")) re
         rw (is, dash) (omega (arith, one))
     by_name false is false dash = rw (is, dash) (bytes_shown name)
 
--- A name, or nothing in place of it, is no longer than the name.
-if_long : (name : List ℕ) → length (name_if_long name) ≤ length name
-if_long name = where_long (nat_le 64 (length name))
-  where
-    where_long : (b : Bool) → length (if b then name else []) ≤ length name
-    where_long true = omega arith
-    where_long false = omega arith
-
 -- A line is at least as long as its third word.
 third_word : (first second third : List ℕ) (later : Words) → length third ≤ length (line (first ∷ second ∷ third ∷ later))
 third_word first second third later =
@@ -77,7 +71,7 @@ properties_long path (property ∷ later) =
     let written = property_words path property in
     let names = length-append (name_if_long property.0) (long_names later) in
     let lines = length-append (line written) (flat_map line (map (property_words path) later)) in
-    let short = if_long property.0 in
+    let short = length-name_if_long property.0 in
     let shown = name_shown property.0 in
     let one = third_word (codes "property") path (shown_text property.0) (value_words property.1) in
     let rest = properties_long path later in

@@ -14,11 +14,13 @@ use Rattle.bi_blob.proofs.Texts.PropertyOrder.{order_tells}
 use Rattle.bi_fdt.specs.Content.{root_of}
 use Rattle.bi_fit.specs.Content.{FitModel, IsHeld, tree_of}
 use Rattle.bi_fit.specs.ImageTree.{with_children_of, without_payload, without_payloads}
-use Rattle.bi_fit.specs.Names.{images_name, is_payload_name, payload_names}
+use Rattle.bi_fit.specs.LongNames.{name_if_long}
+use Rattle.bi_fit.specs.Names.{images_name, is_payload_name}
 use Rattle.bi_fit.specs.NormalNodes.{HasDistinctNames, nodes_by_name, properties_by_name}
 use Rattle.bi_fit.proofs.PayloadProperties.{same, get-without}
 use Rattle.bi_fit.proofs.FileFacts.{no_entries}
 use Rattle.bi_fit.proofs.FileTrees.{is_image_tree}
+use Rattle.bi_fit.proofs.LongNames.{payload_name_short}
 use Rattle.bi_fit.proofs.NormalTrees.{held_distinct, held_means}
 use Rattle.bi_base.specs.declared.fault.Error.{Error}
 use Rattle.bi_base.specs.declared.fault.Error.TheVariants.{Refused}
@@ -27,7 +29,7 @@ use Rattle.bi_base.specs.Reading.{too_large}
 use Rattle.bi_norm.specs.Meaning.{OfFit}
 use Rattle.bi_commands.specs.Describing.{IsImageError}
 use Rattle.bi_commands.specs.Descriptions.{description}
-use Rattle.bi_commands.specs.LongNames.{name_if_long, long_names, long_names_of, long_names_in, long_names_from}
+use Rattle.bi_commands.specs.LongNames.{long_names, long_names_of, long_names_in, long_names_from}
 use Rattle.bi_commands.proofs.LongNames.{long_names_described}
 
 -- The tree of a file has long names of the same length together as its nodes, in another order.
@@ -76,19 +78,6 @@ long_by_name (property ∷ later) distinct =
     ∙ put_is_longer property.0 property.1 (entries (from_entries later)) (is_new_by_name property.0 later distinct.0)
     ∙ ap (λ n. length (name_if_long property.0) + n) (long_by_name later distinct.1)
     ∙ sym (length-append (name_if_long property.0) (long_names later))
-
--- The name of a property that holds a payload or names its region is not long.
-one_of_short : (name : List ℕ) (others : List (List ℕ)) → AllByRecursion (λ other. name_if_long other ≡ []) others →
-    list_any (bytes_eq name) others ≡ true → name_if_long name ≡ []
-one_of_short name [] short is = absurd cc
-one_of_short name (other ∷ others) short is = where_first (bytes_eq name other) refl is (one_of_short name others short.1)
-  where
-    where_first : (b : Bool) → bytes_eq name other ≡ b → (b || list_any (bytes_eq name) others) ≡ true → (list_any (bytes_eq name) others ≡ true → name_if_long name ≡ []) → name_if_long name ≡ []
-    where_first true same is rest = ap name_if_long ((bytes_eq-Decides name other).0 same) ∙ short.0
-    where_first false same is rest = rest is
-
-payload_name_short : (name : List ℕ) → is_payload_name name ≡ true → name_if_long name ≡ []
-payload_name_short name is = one_of_short name payload_names (refl, (refl, (refl, (refl, tt)))) is
 
 -- Without the properties of a payload, the long names stay.
 kept_names : (properties : List Property) →

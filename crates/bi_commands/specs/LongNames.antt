@@ -1,14 +1,10 @@
-use Rattle.std.specs.Prelude.{ℕ, nat_le, List, [], ◌++◌, flat_map, length, if◌then◌else◌}
+use Rattle.std.specs.Prelude.{ℕ, List, [], ◌++◌, flat_map}
 use Rattle.bi_blob.specs.Tree.{Nodes, none, node, Property, FileNode, properties_of, with_each}
 use Rattle.bi_blob.specs.Lookups.{Sibling}
+use Rattle.bi_fit.specs.LongNames.{name_if_long}
 
 -- The long names of the properties of a tree: a description has each of them in full (profile of
 -- this project).
-
--- A name of 64 bytes or more, and no bytes in place of a shorter one. The names of the four
--- properties that hold a payload or name its region are shorter.
-abbrev pub name_if_long : List ℕ → List ℕ
-name_if_long name = if nat_le 64 (length name) then name else []
 
 -- The long names of these properties, one after the other.
 abbrev pub long_names : List Property → List ℕ

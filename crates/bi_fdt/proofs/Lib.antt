@@ -10,6 +10,7 @@ pub mod TokenSteps
 pub mod RootSteps
 pub mod Parsing
 pub mod NameOffsetsOfTables
+pub mod TreeNames
 pub mod BlobViews
 pub mod NodeEntries
 pub mod NodeViews

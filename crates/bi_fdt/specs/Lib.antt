@@ -5,6 +5,7 @@ pub mod Table
 pub mod Growth
 pub mod Reading
 pub mod Content
+pub mod TreeNames
 pub mod Fields
 pub mod ReadBlobs
 pub mod Views

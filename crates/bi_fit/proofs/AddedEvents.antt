@@ -1,10 +1,12 @@
-use Rattle.std.proofs.Common.{◌≡◌, ℕ, List, [], ◌∷◌, ◌++◌, fold, sym, ap, subst, ◌∙◌, append_assoc, append-nil}
+use Rattle.std.proofs.Common.{◌≡◌, ℕ, List, [], ◌∷◌, ◌++◌, fold, sym, ap, subst, ◌∙◌, append_assoc, append-nil, Option, IfSome}
 use Rattle.std.proofs.lemmas.List.Sums.{fold-append}
 use Rattle.bi_blob.specs.Tree.{PropertyMap}
 use Rattle.bi_blob.specs.Events.{Event, NodeEnd}
 use Rattle.bi_blob.specs.Stages.{Stage, BeforeRoot, next_stage}
 use Rattle.bi_blob.specs.Following.{AllFollow, MayFollowInText, stage_of_events, MayEnd}
 use Rattle.bi_lay.specs.Contents.{Doc, with_event}
+use Rattle.bi_fit.specs.declared.document.ranked_node.RankedNode.{RankedNode}
+use Rattle.bi_fit.specs.RankedNodes.{HasRanks}
 use Rattle.bi_fit.specs.NormalNodes.{with_events, MayAdd, begin_events}
 
 -- Events that are added to a document in turn.
@@ -17,6 +19,23 @@ with_events-none document = ap (λ l. record document { events = l }) (append-ni
 pub with_events-append : (document : Doc) (events later : List Event) →
     with_events (with_events document events) later ≡ with_events document (events ++ later)
 with_events-append document events later = ap (λ l. record document { events = l }) (append_assoc document.events events later)
+
+-- The names that may be given by number stay the same,
+pub same_names : (document more : Doc) (events : List Event) → more ≡ with_events document events → more.names ≡ document.names
+same_names document more events is = ap (λ document. document.names) is
+
+-- so that ranks by these stay ranks by these.
+pub still_ranked : (ranked : RankedNode) (document more : Doc) (events : List Event) → more ≡ with_events document events →
+    HasRanks document.names ranked → HasRanks more.names ranked
+still_ranked ranked document more events is has = subst (λ names. HasRanks names ranked) (sym (same_names document more events is)) has
+
+-- The next node has ranks if there is one.
+abbrev pub HasNextRanks : List (List ℕ) → Option RankedNode → Type 0
+HasNextRanks names next = IfSome next (HasRanks names)
+
+pub still_ranked_next : (next : Option RankedNode) (document more : Doc) (events : List Event) → more ≡ with_events document events →
+    HasNextRanks document.names next → HasNextRanks more.names next
+still_ranked_next next document more events is has = subst (λ names. HasNextRanks names next) (sym (same_names document more events is)) has
 
 -- Of events that may follow one another, the first of them may,
 follow-front : (stage : Stage) (events later : List Event) → AllFollow MayFollowInText stage (events ++ later) →

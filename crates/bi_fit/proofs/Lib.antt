@@ -32,6 +32,8 @@ pub mod FileLists
 pub mod SignatureCounts
 pub mod AddedEvents
 pub mod PropertyMaps
+pub mod Rankings
+pub mod AddedProperties
 pub mod NodeEvents
 pub mod PayloadEnds
 pub mod ImageNodes
@@ -41,6 +43,7 @@ pub mod NewDigests
 pub mod TakenDigests
 pub mod RegionPairs
 pub mod NormalTrees
+pub mod LongNames
 pub mod NormalDocuments
 pub mod PlacedImages
 pub mod PairedPayloads

@@ -66,8 +66,8 @@ module _ (content : FitModel) (held : IsHeld content) (changes : Changes) (form 
         is_filled
         ∙ ap (λ document. with_events document tree_events) same_reserved
         ∙ ap (with_events (with_reservations (empty_content cpu) blob.reservations)) same_events
-        ∙ ap (λ cpu. record { boot_cpu = cpu; reservations = blob.reservations; events = events_of (normal_tree form (with_changes changes (tree_of content))) }) (is_cpu ∙ ap (λ blob. blob.cpu) is_blob)
-        ∙ ap (λ reservations. record { boot_cpu = content.blob.cpu; reservations = reservations; events = events_of (normal_tree form (with_changes changes (tree_of content))) }) (ap (λ blob. blob.reservations) is_blob)
+        ∙ ap (λ cpu. record { boot_cpu = cpu; reservations = blob.reservations; events = events_of (normal_tree form (with_changes changes (tree_of content))); names = [] }) (is_cpu ∙ ap (λ blob. blob.cpu) is_blob)
+        ∙ ap (λ reservations. record { boot_cpu = content.blob.cpu; reservations = reservations; events = events_of (normal_tree form (with_changes changes (tree_of content))); names = [] }) (ap (λ blob. blob.reservations) is_blob)
 
 -- The root of the document has ended.
 pub document_closed : (content : FitModel) → IsHeld content → (changes : Changes) (form : Form) (digests : List ℕ) →

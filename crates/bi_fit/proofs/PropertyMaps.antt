@@ -1,97 +1,169 @@
-use Rattle.std.proofs.Common.{◌≡◌, ◌≢◌, ℕ, Bool, true, false, cond, not, T, List, [], ◌∷◌, map, filter, bytes_eq, Ordering, Less, Equal}
-use Rattle.std.proofs.Common.{Greater, is_lt, Some, None, refl, sym, ap, subst, ◌∙◌, nat_cmp}
-use Rattle.std.specs.Borrow.{Bor}
+use Rattle.std.proofs.Common.{◌≡◌, ◌≢◌, ℕ, zero, suc, Bool, true, false, cond, not, T, List, [], ◌∷◌, ◌++◌, map, flat_map, ◌++◌, take, drop, set, filter, bytes_eq}
+use Rattle.std.proofs.Common.{Ordering, Less, Equal, Greater, is_lt, Option, Some, None, slice_get, slice_index_or, refl, sym, ap, ap₂, subst, ◌∙◌, nat_cmp, true≢false, length, ◌≤◌, arith}
 use Rattle.std.specs.Cmp.Lexicographic.{slice_cmp}
-use Rattle.std.specs.Ordering.{match_ordering}
-use Rattle.std.specs.Map.{keys_of}
-use Rattle.std.specs.BTreeMap.{insert_entry}
-use Rattle.std.specs.List.{AllByRecursion}
-use Rattle.std.specs.List.Sorted.{IsStrictlySortedBy}
+use Rattle.std.specs.List.{AllByRecursion, insert as insert_at}
 use Rattle.std.specs.FinMap.{get, empty, insert, from_entries, from_sorted, is_sorted, put, find, same_entries_map, entries-from_sorted}
 use Rattle.std.specs.FinMap.{entries-insert, get-empty, get-from_sorted}
-use Rattle.std.specs.FinMap.Entries.{below_all, by_order, where_key, find-where_key, is_sorted-where_key}
+use Rattle.std.specs.FinMap.Entries.{by_order, where_key, find-where_key, is_sorted-where_key, is_sorted-put}
+use Rattle.std.specs.Cmp.{tied_itself}
+use Rattle.std.specs.Option.{option_to_list}
 use Rattle.std.proofs.lemmas.Cmp.{nat_list_cmp_total}
-use Rattle.std.proofs.lemmas.Map.Keys.{sorted_head, sorted_tail}
 use Rattle.std.proofs.lemmas.Slice.Eq.{bytes_eq-Decides}
+use Rattle.std.proofs.lemmas.List.{take-append-drop}
+use Rattle.std.proofs.lemmas.Grind.{flat_map-append}
+use Rattle.std.proofs.lemmas.Option.{get_or_from_slice_get}
 use Rattle.bi_lay.specs.declared.items.Value.{Value}
 use Rattle.bi_lay.specs.Values.{value_bytes}
+use Rattle.bi_base.proofs.ListMembers.{each-append, each-front, each-back}
 use Rattle.bi_blob.specs.Tree.{Property, PropertyMap, IsNew, AreDistinct}
 use Rattle.bi_blob.proofs.Texts.PropertyOrder.{order_tells}
+use Rattle.bi_fit.specs.declared.document.property_map.MapEntry.{MapEntry}
 use Rattle.bi_fit.specs.Names.{is_payload_name}
 use Rattle.bi_fit.specs.ImageTree.{without_payload}
-use Rattle.bi_fit.specs.PropertyMaps.{properties_in}
+use Rattle.bi_fit.specs.PropertyMaps.{properties_in, number_in, numbers_in}
+use Rattle.bi_fit.specs.PropertyMapModels.{PropertyMapModel}
+use Rattle.bi_fit.specs.PropertyPlaces.{place_in, is_entry_named}
 use Rattle.bi_fit.proofs.PayloadProperties.{same, get-without, get-put, get-put_other}
-use Rattle.bi_blob.proofs.Texts.NormalEvents.{both_hold}
-use Rattle.bi_blob.proofs.NameSets.{name_cmp}
 
 -- The map of a node's properties, and the entries that hold it.
 
--- A name that is before others is before their entries.
-before_all : (name : Bor (List ℕ)) (es : List (Bor (List ℕ) × Value)) → AllByRecursion (λ other. name_cmp name other ≡ Less) (keys_of es) →
-    T (below_all (slice_cmp nat_cmp) name.now (properties_in es))
-before_all name [] before = tt
-before_all name (e ∷ es) before =
-    both_hold (is_lt (slice_cmp nat_cmp name.now e.0.now)) (below_all (slice_cmp nat_cmp) name.now (properties_in es))
-    (subst (λ o. T (is_lt o)) (sym before.0) tt) (before_all name es before.1)
+-- A list of properties in byte order is so with one more,
+pub sorted-put : (properties : List Property) (name value : List ℕ) → T (is_sorted (slice_cmp nat_cmp) properties) →
+    T (is_sorted (slice_cmp nat_cmp) (put (slice_cmp nat_cmp) name value properties))
+sorted-put properties name value ordered = is_sorted-put (slice_cmp nat_cmp) nat_list_cmp_total name value properties ordered
 
--- Entries in the order of their names are properties in byte order.
-pub properties_sorted : (es : List (Bor (List ℕ) × Value)) → IsStrictlySortedBy name_cmp (keys_of es) →
-    T (is_sorted (slice_cmp nat_cmp) (properties_in es))
-properties_sorted [] ordered = tt
-properties_sorted (e ∷ es) ordered =
-    both_hold (below_all (slice_cmp nat_cmp) e.0.now (properties_in es)) (is_sorted (slice_cmp nat_cmp) (properties_in es))
-    (before_all e.0 es (sorted_head name_cmp e.0 (keys_of es) ordered)) (properties_sorted es (sorted_tail name_cmp e.0 (keys_of es) ordered))
-
--- One more entry is one more property.
-properties-insert : (es : List (Bor (List ℕ) × Value)) (name : Bor (List ℕ)) (value : Value) →
-    properties_in (insert_entry name_cmp es name value) ≡ put (slice_cmp nat_cmp) name.now (value_bytes value) (properties_in es)
-properties-insert [] name value = refl
-properties-insert (e ∷ es) name value = where_placed (name_cmp name e.0) (properties-insert es name value)
-  where
-    where_placed : (o : Ordering) → properties_in (insert_entry name_cmp es name value) ≡ put (slice_cmp nat_cmp) name.now (value_bytes value) (properties_in es) → properties_in (match_ordering o ((name, value) ∷ e ∷ es) ((e.0, value) ∷ es) (e ∷ insert_entry name_cmp es name value)) ≡ by_order o ((name.now, value_bytes value) ∷ properties_in (e ∷ es)) ((e.0.now, value_bytes value) ∷ properties_in es) ((e.0.now, value_bytes e.1) ∷ put (slice_cmp nat_cmp) name.now (value_bytes value) (properties_in es))
-    where_placed Less rest = refl
-    where_placed Equal rest = refl
-    where_placed Greater rest = ap (λ l. (e.0.now, value_bytes e.1) ∷ l) rest
-
--- The map of the entries with one more.
-pub from_sorted-insert : (es new : List (Bor (List ℕ) × Value)) (name : Bor (List ℕ)) (value : Value) →
-    IsStrictlySortedBy name_cmp (keys_of es) → IsStrictlySortedBy name_cmp (keys_of new) → new ≡ insert_entry name_cmp es name value →
-    from_sorted {R = slice_cmp nat_cmp} (properties_in new) ≡ insert (from_sorted (properties_in es)) name.now (value_bytes value)
-from_sorted-insert es new name value ordered ordered_new is =
+-- and its map has that one more.
+pub from_sorted-put : (properties : List Property) (name value : List ℕ) → T (is_sorted (slice_cmp nat_cmp) properties) →
+    from_sorted {R = slice_cmp nat_cmp} (put (slice_cmp nat_cmp) name value properties) ≡ insert (from_sorted properties) name value
+from_sorted-put properties name value ordered =
     same_entries_map _ _
-    (entries-from_sorted (slice_cmp nat_cmp) (properties_in new) (properties_sorted new ordered_new)
-    ∙ ap properties_in is
-    ∙ properties-insert es name value
-    ∙ ap (put (slice_cmp nat_cmp) name.now (value_bytes value)) (sym (entries-from_sorted (slice_cmp nat_cmp) (properties_in es) (properties_sorted es ordered)))
-    ∙ sym (entries-insert nat_list_cmp_total (from_sorted (properties_in es)) name.now (value_bytes value)))
+    (entries-from_sorted (slice_cmp nat_cmp) (put (slice_cmp nat_cmp) name value properties) (sorted-put properties name value ordered)
+    ∙ ap (put (slice_cmp nat_cmp) name value) (sym (entries-from_sorted (slice_cmp nat_cmp) properties ordered))
+    ∙ sym (entries-insert nat_list_cmp_total (from_sorted properties) name value))
+
+-- The place of a name is one of an entry, or the end.
+pub place_within : (es : List MapEntry) (name : List ℕ) → place_in es name ≤ length es
+place_within [] name = omega arith
+place_within (e ∷ es) name = by_cmp (slice_cmp nat_cmp name e.name.now) (place_within es name)
+  where
+    by_cmp : (o : Ordering) → place_in es name ≤ length es → by_order o 0 0 (suc (place_in es name)) ≤ suc (length es)
+    by_cmp Less within = omega arith
+    by_cmp Equal within = omega arith
+    by_cmp Greater within = omega arith
+
+-- An entry with a new name in its place is one more property.
+pub properties-insert_at : (es : List MapEntry) (new : MapEntry) → is_entry_named (slice_get es (place_in es new.name.now)) new.name.now ≡ false →
+    properties_in (insert_at es (place_in es new.name.now) new) ≡ put (slice_cmp nat_cmp) new.name.now (value_bytes new.value) (properties_in es)
+properties-insert_at [] new apart = refl
+properties-insert_at (e ∷ es) new apart = by_cmp (slice_cmp nat_cmp new.name.now e.name.now) refl (λ other. properties-insert_at es new other)
+  where
+    by_cmp : (o : Ordering) → slice_cmp nat_cmp new.name.now e.name.now ≡ o →
+        (is_entry_named (slice_get es (place_in es new.name.now)) new.name.now ≡ false → properties_in (insert_at es (place_in es new.name.now) new) ≡ put (slice_cmp nat_cmp) new.name.now (value_bytes new.value) (properties_in es)) →
+        properties_in (insert_at (e ∷ es) (place_in (e ∷ es) new.name.now) new) ≡ put (slice_cmp nat_cmp) new.name.now (value_bytes new.value) (properties_in (e ∷ es))
+    by_cmp Less is later = rw is refl
+    by_cmp Equal is later =
+        let here : bytes_eq e.name.now new.name.now ≡ false = subst (λ o. is_entry_named (slice_get (e ∷ es) (by_order o 0 0 (suc (place_in es new.name.now)))) new.name.now ≡ false) is apart in
+        absurd (true≢false (sym ((bytes_eq-Decides e.name.now new.name.now).1 (sym (order_tells new.name.now e.name.now is))) ∙ here))
+    by_cmp Greater is later =
+        let other : is_entry_named (slice_get es (place_in es new.name.now)) new.name.now ≡ false =
+        subst (λ o. is_entry_named (slice_get (e ∷ es) (by_order o 0 0 (suc (place_in es new.name.now)))) new.name.now ≡ false) is apart in
+        rw is (ap (λ l. (e.name.now, value_bytes e.value) ∷ l) (later other))
+
+-- An entry that takes the place of one of its name gives its property another value.
+pub properties-set : (es : List MapEntry) (name : List ℕ) (new : MapEntry) → is_entry_named (slice_get es (place_in es name)) name ≡ true → new.name.now ≡ name →
+    properties_in (set es (place_in es name) new) ≡ put (slice_cmp nat_cmp) name (value_bytes new.value) (properties_in es)
+properties-set [] name new there same_name = absurd (true≢false (sym there))
+properties-set (e ∷ es) name new there same_name = by_cmp (slice_cmp nat_cmp name e.name.now) refl (λ other. properties-set es name new other same_name)
+  where
+    by_cmp : (o : Ordering) → slice_cmp nat_cmp name e.name.now ≡ o →
+        (is_entry_named (slice_get es (place_in es name)) name ≡ true → properties_in (set es (place_in es name) new) ≡ put (slice_cmp nat_cmp) name (value_bytes new.value) (properties_in es)) →
+        properties_in (set (e ∷ es) (place_in (e ∷ es) name) new) ≡ put (slice_cmp nat_cmp) name (value_bytes new.value) (properties_in (e ∷ es))
+    by_cmp Less is later =
+        let here : bytes_eq e.name.now name ≡ true = subst (λ o. is_entry_named (slice_get (e ∷ es) (by_order o 0 0 (suc (place_in es name)))) name ≡ true) is there in
+        let tied : slice_cmp nat_cmp name e.name.now ≡ Equal =
+        subst (λ n. slice_cmp nat_cmp name n ≡ Equal) (sym ((bytes_eq-Decides e.name.now name).0 here)) (tied_itself nat_list_cmp_total name) in
+        absurd (true≢false (ap is_lt (sym is ∙ tied)))
+    by_cmp Equal is later = rw is (ap (λ n. (n, value_bytes new.value) ∷ properties_in es) (same_name ∙ order_tells name e.name.now is))
+    by_cmp Greater is later =
+        let other : is_entry_named (slice_get es (place_in es name)) name ≡ true =
+        subst (λ o. is_entry_named (slice_get (e ∷ es) (by_order o 0 0 (suc (place_in es name)))) name ≡ true) is there in
+        rw is (ap (λ l. (e.name.now, value_bytes e.value) ∷ l) (later other))
+
+-- The entry that was found has the name.
+pub found_name : (es : List MapEntry) (place : ℕ) (name : List ℕ) (old : MapEntry) → is_entry_named (slice_get es place) name ≡ true →
+    old ≡ slice_index_or es place old → (slice_get es place ≡ Some old) × (old.name.now ≡ name)
+found_name es place name old named is = by_entry (slice_get es place) refl
+  where
+    by_entry : (found : Option MapEntry) → slice_get es place ≡ found → (slice_get es place ≡ Some old) × (old.name.now ≡ name)
+    by_entry None there = absurd (true≢false (sym named ∙ ap (λ found. is_entry_named found name) there))
+    by_entry (Some entry) there =
+        let same_entry : old ≡ entry = is ∙ get_or_from_slice_get es place entry old there in (
+          there ∙ ap Some (sym same_entry),
+          ap (λ e. e.name.now) same_entry ∙ (bytes_eq-Decides entry.name.now name).0 (sym (ap (λ found. is_entry_named found name) there) ∙ named),
+        )
+
+-- An entry without a number adds none,
+pub numbers-insert_at : (es : List MapEntry) (place : ℕ) (new : MapEntry) → new.number ≡ None → numbers_in (insert_at es place new) ≡ numbers_in es
+numbers-insert_at es place new none =
+    flat_map-append number_in (take place es) (new ∷ drop place es)
+    ∙ ap (λ number. numbers_in (take place es) ++ (map (λ n. (new.name.now, n)) (option_to_list number) ++ numbers_in (drop place es))) none
+    ∙ sym (flat_map-append number_in (take place es) (drop place es))
+    ∙ ap numbers_in (take-append-drop place es)
+
+-- and one with the number of the entry in whose place it is changes none.
+pub numbers-set : (es : List MapEntry) (place : ℕ) (old new : MapEntry) → slice_get es place ≡ Some old → number_in new ≡ number_in old →
+    numbers_in (set es place new) ≡ numbers_in es
+numbers-set [] place old new there same_number = refl
+numbers-set (e ∷ es) zero old new there same_number =
+    ap (λ l. l ++ numbers_in es) (same_number ∙ ap number_of_found (sym there))
+  where
+    number_of_found : Option MapEntry → List (List ℕ × ℕ)
+    number_of_found None = []
+    number_of_found (Some entry) = number_in entry
+numbers-set (e ∷ es) (suc place) old new there same_number = ap (λ l. number_in e ++ l) (numbers-set es place old new there same_number)
+
+-- The map and the numbers make up what is shown.
+pub same_model : (properties other : PropertyMapModel) → properties.by_name ≡ other.by_name → properties.numbers ≡ other.numbers → properties ≡ other
+same_model properties other same_map same_numbers = ap₂ (λ by_name numbers. record { by_name = by_name; numbers = numbers }) same_map same_numbers
 
 -- Whether an entry is none of the four that hold a payload or name its region.
-abbrev pub keeps_value : Bor (List ℕ) × Value → Bool
-keeps_value e = not (is_payload_name e.0.now)
+abbrev pub keeps_value : MapEntry → Bool
+keeps_value e = not (is_payload_name e.name.now)
 
 -- The entries that are kept are the properties that are.
-properties-filter : (es : List (Bor (List ℕ) × Value)) →
+properties-filter : (es : List (MapEntry)) →
     properties_in (filter keeps_value es) ≡ where_key (slice_cmp nat_cmp) (λ name. not (is_payload_name name)) (properties_in es)
 properties-filter [] = refl
-properties-filter (e ∷ es) = where_kept (not (is_payload_name e.0.now)) (properties-filter es)
+properties-filter (e ∷ es) = where_kept (not (is_payload_name e.name.now)) (properties-filter es)
   where
-    where_kept : (b : Bool) → properties_in (filter keeps_value es) ≡ where_key (slice_cmp nat_cmp) (λ name. not (is_payload_name name)) (properties_in es) → properties_in (cond b (e ∷ filter keeps_value es) (filter keeps_value es)) ≡ cond b ((e.0.now, value_bytes e.1) ∷ where_key (slice_cmp nat_cmp) (λ name. not (is_payload_name name)) (properties_in es)) (where_key (slice_cmp nat_cmp) (λ name. not (is_payload_name name)) (properties_in es))
-    where_kept true rest = ap (λ l. (e.0.now, value_bytes e.1) ∷ l) rest
+    where_kept : (b : Bool) → properties_in (filter keeps_value es) ≡ where_key (slice_cmp nat_cmp) (λ name. not (is_payload_name name)) (properties_in es) → properties_in (cond b (e ∷ filter keeps_value es) (filter keeps_value es)) ≡ cond b ((e.name.now, value_bytes e.value) ∷ where_key (slice_cmp nat_cmp) (λ name. not (is_payload_name name)) (properties_in es)) (where_key (slice_cmp nat_cmp) (λ name. not (is_payload_name name)) (properties_in es))
+    where_kept true rest = ap (λ l. (e.name.now, value_bytes e.value) ∷ l) rest
+    where_kept false rest = rest
+
+-- They are in byte order,
+pub sorted-filter : (es : List MapEntry) → T (is_sorted (slice_cmp nat_cmp) (properties_in es)) →
+    T (is_sorted (slice_cmp nat_cmp) (properties_in (filter keeps_value es)))
+sorted-filter es sorted =
+    subst (λ l. T (is_sorted (slice_cmp nat_cmp) l)) (sym (properties-filter es)) (is_sorted-where_key (slice_cmp nat_cmp) (λ name. not (is_payload_name name)) (properties_in es) sorted)
+
+-- and keep their numbers.
+pub numbers-filter : (P : List ℕ × ℕ → Type 0) (es : List MapEntry) → AllByRecursion P (numbers_in es) → AllByRecursion P (numbers_in (filter keeps_value es))
+numbers-filter P [] have = tt
+numbers-filter P (e ∷ es) have = where_kept (not (is_payload_name e.name.now)) (numbers-filter P es (each-back P (number_in e) (numbers_in es) have))
+  where
+    where_kept : (b : Bool) → AllByRecursion P (numbers_in (filter keeps_value es)) → AllByRecursion P (numbers_in (cond b (e ∷ filter keeps_value es) (filter keeps_value es)))
+    where_kept true rest = each-append P (number_in e) (numbers_in (filter keeps_value es)) (each-front P (number_in e) (numbers_in es) have) rest
     where_kept false rest = rest
 
 -- The map of the entries that are kept.
-pub from_sorted-filter : (es : List (Bor (List ℕ) × Value)) → IsStrictlySortedBy name_cmp (keys_of es) →
+pub from_sorted-filter : (es : List MapEntry) → T (is_sorted (slice_cmp nat_cmp) (properties_in es)) →
     from_sorted {R = slice_cmp nat_cmp} (properties_in (filter keeps_value es)) ≡ without_payload (from_sorted (properties_in es))
-from_sorted-filter es ordered = same _ _ (λ name.
-    get-from_sorted (slice_cmp nat_cmp) (properties_in (filter keeps_value es)) name
-    (subst (λ l. T (is_sorted (slice_cmp nat_cmp) l)) (sym (properties-filter es)) (is_sorted-where_key (slice_cmp nat_cmp) (λ name. not (is_payload_name name)) (properties_in es) sorted))
+from_sorted-filter es sorted = same _ _ (λ name.
+    get-from_sorted (slice_cmp nat_cmp) (properties_in (filter keeps_value es)) name (sorted-filter es sorted)
     ∙ ap (find (slice_cmp nat_cmp) name) (properties-filter es)
     ∙ find-where_key (slice_cmp nat_cmp) (λ name. not (is_payload_name name)) name (λ other tied. ap (λ name. not (is_payload_name name)) (sym (order_tells name other tied))) (properties_in es)
     ∙ ap (λ o. cond (not (is_payload_name name)) o None) (sym (get-from_sorted (slice_cmp nat_cmp) (properties_in es) name sorted))
     ∙ sym (get-without (from_sorted (properties_in es)) name))
-  where
-    sorted : T (is_sorted (slice_cmp nat_cmp) (properties_in es))
-    sorted = properties_sorted es ordered
 
 -- Properties with these inserted in turn.
 abbrev pub insert_all : PropertyMap → List Property → PropertyMap

@@ -20,6 +20,7 @@ document_of form tree = record {
   boot_cpu = tree.cpu;
   reservations = tree.reservations;
   events = events_of (normal_tree form tree);
+  names = [];
 }
 
 -- How many bytes follow the blob in a form: external payloads, of which these are all.

@@ -22,9 +22,13 @@ pub mod Siblings
 pub mod TakenDigests
 pub mod NormalNodes
 pub mod ComparedNodes
+pub mod LongNames
 pub mod BuiltNodes
 pub mod FitTexts
+pub mod PropertyMapModels
 pub mod PropertyMaps
+pub mod RankedNodes
+pub mod PropertyPlaces
 pub mod Laws
 pub mod KnownFiles
 pub mod KnownFaults

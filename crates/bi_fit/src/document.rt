@@ -14,12 +14,16 @@ ghost use Rattle.bi_fit.specs.NormalNodes.{with_reservations, AreWithin};
 
 mod image_nodes;
 mod nodes;
+mod name_ranks;
 mod property_map;
+mod ranked_node;
 mod tree;
 
 use crate::changes::Changes;
 pub(crate) use crate::document::nodes::begin_with;
+use crate::document::name_ranks::{NameRanks, rank_names};
 pub(crate) use crate::document::property_map::{PropertyMap, is_payload_name};
+use crate::document::ranked_node::RankedNode;
 use crate::document::tree::add_tree;
 use crate::fit::Fit;
 use crate::form::Form;
@@ -104,9 +108,14 @@ impl<'a> Fit<'a> {
         self.give_invariant();
         let blob: &Blob<'b> = self.blob();
         let images: &[Image<'b>] = self.images();
+        let NameRanks { names: _names, ranks } = rank_names(alloc, blob)?;
         let mut doc: Doc<'b> = Doc::new(alloc, blob.boot_cpu())?;
         add_reservations(&mut doc, blob)?;
-        add_tree(alloc, &mut doc, blob.root(), changes, digests, form, images)?;
+        let root = RankedNode {
+            node: blob.root(),
+            ranks: &ranks,
+        };
+        add_tree(alloc, &mut doc, root, changes, digests, form, images)?;
         Ok(doc)
     }
 }

@@ -16,6 +16,7 @@ mod key;
 pub mod known_files;
 pub mod laws;
 mod lists;
+mod long_names;
 mod new_digests;
 mod nodes;
 mod payload_area;

@@ -48,21 +48,21 @@ newest-more old new item more newest =
 
 -- The names of the events with one more that has no name of a property.
 names-more : (old new : Fields) (item : Item) → HasOneMore old new item →
-    distinct_names (used_names (events_of_items old.items.items ++ event_of item ∷ [])) ≡ new.names →
-    new.names ≡ distinct_names (used_names (events_of_items new.items.items))
+    distinct_names (used_names (events_of_items old.items.items ++ event_of item ∷ [])) ≡ new.names.in_block →
+    new.names.in_block ≡ distinct_names (used_names (events_of_items new.items.items))
 names-more old new item more is =
     sym is ∙ sym (ap (λ items. distinct_names (used_names (events_of_items items))) more.items ∙ ap (λ events. distinct_names (used_names events)) (events-push old.items.items item))
 
 -- The same of all offsets.
-offsets-more : (old new : Fields) (item : Item) → HasOneMore old new item → AllByRecursion (HasOffset new.names) old.items.items →
-    HasOffset new.names item → AllByRecursion (HasOffset new.names) new.items.items
+offsets-more : (old new : Fields) (item : Item) → HasOneMore old new item → AllByRecursion (HasOffset new.names.in_block) old.items.items →
+    HasOffset new.names.in_block item → AllByRecursion (HasOffset new.names.in_block) new.items.items
 offsets-more old new item more each has =
-    subst (AllByRecursion (HasOffset new.names)) (sym more.items) (each-append (HasOffset new.names) old.items.items (item ∷ []) each (has, tt))
+    subst (AllByRecursion (HasOffset new.names.in_block)) (sym more.items) (each-append (HasOffset new.names.in_block) old.items.items (item ∷ []) each (has, tt))
 
 -- A node begins.
 pub kept-begun : (old new : Fields) (name : Bor (List ℕ)) → IsConsistentDocument old →
     MayBegin most_open_nodes name.now (stage_of_fields old) → HasOneMore old new (Begin name) → new.depth ≡ old.depth + 1 →
-    new.names ≡ old.names → IsConsistentDocument new
+    new.names.in_block ≡ old.names.in_block → IsConsistentDocument new
 kept-begun old new name kept may more deeper same = record {
   follow = follow-more old new (Begin name) more kept.follow may;
   is_depth = deeper ∙ (omega (arith, kept.is_depth, begun-depth (stage_of_fields old) name.now may)) ∙ ap (λ stage. length (open_nodes stage)) (sym (stage-more old new (Begin name) more));
@@ -76,7 +76,7 @@ kept-begun old new name kept may more deeper same = record {
 
 -- A node ends.
 pub kept-ended : (old new : Fields) → IsConsistentDocument old → MayEnd (stage_of_fields old) → HasOneMore old new End →
-    new.depth + 1 ≡ old.depth → new.names ≡ old.names → IsConsistentDocument new
+    new.depth + 1 ≡ old.depth → new.names.in_block ≡ old.names.in_block → IsConsistentDocument new
 kept-ended old new kept may more less same = record {
   follow = follow-more old new End more kept.follow may;
   is_depth = (omega (arith, less, kept.is_depth, ended-depth (stage_of_fields old) may)) ∙ ap (λ stage. length (open_nodes stage)) (sym (stage-more old new End more));
@@ -91,7 +91,8 @@ kept-ended old new kept may more less same = record {
 -- A node gets a property.
 pub kept-added : (old new : Fields) (property : PropertyItem) → IsConsistentDocument old →
     MayHaveNextProperty property.name.now (stage_of_fields old) → HasOneMore old new (Property property) → new.depth ≡ old.depth →
-    new.names ≡ with_name old.names property.name.now → property.name_offset ≡ saturated_usize (offset_in new.names property.name.now) →
+    new.names.in_block ≡ with_name old.names.in_block property.name.now →
+    property.name_offset ≡ saturated_usize (offset_in new.names.in_block property.name.now) →
     IsConsistentDocument new
 kept-added old new property kept may more same names is_offset = record {
   follow = follow-more old new (Property property) more kept.follow may;
@@ -103,6 +104,6 @@ kept-added old new property kept may more same names is_offset = record {
   names = names-more old new (Property property) more
       (names-push (events_of_items old.items.items) (property.name.now, value_bytes property.value) ∙ ap (λ l. with_name l property.name.now) (sym kept.names) ∙ sym names);
   offsets = offsets-more old new (Property property) more
-      (subst (λ l. AllByRecursion (HasOffset l) old.items.items) (sym names) (each-with_name old.names property.name.now old.items.items kept.offsets))
-      (subst (λ l. Contains l property.name.now) (sym names) (with_name-has old.names property.name.now), is_offset);
+      (subst (λ l. AllByRecursion (HasOffset l) old.items.items) (sym names) (each-with_name old.names.in_block property.name.now old.items.items kept.offsets))
+      (subst (λ l. Contains l property.name.now) (sym names) (with_name-has old.names.in_block property.name.now), is_offset);
 }

@@ -71,10 +71,10 @@ same_items names [] each short = refl
 same_items names (item ∷ later) each short = λ j. same_item names item each.0 short j ++ same_items names later each.1 short j
 
 -- The structure block of items is that of their events.
-same_structure : (doc : Fields) → IsConsistentDocument doc → length (strings_of doc.names) < 2 ^ 32 →
+same_structure : (doc : Fields) → IsConsistentDocument doc → length (strings_of doc.names.in_block) < 2 ^ 32 →
     structure_of_items doc.items.items ≡ structure_block (events_of_items doc.items.items)
 same_structure doc kept short =
-    ap (λ l. l ++ encoding EndToken) (same_items doc.names doc.items.items kept.offsets short ∙ ap (λ names. flat_map encoding (map (token_of names) events)) kept.names)
+    ap (λ l. l ++ encoding EndToken) (same_items doc.names.in_block doc.items.items kept.offsets short ∙ ap (λ names. flat_map encoding (map (token_of names) events)) kept.names)
     ∙ ap (λ l. flat_map encoding (tokens_of events) ++ l) (sym (append-nil (encoding EndToken)))
     ∙ sym (flat_map-append encoding (tokens_of events) (EndToken ∷ []))
   where
@@ -90,7 +90,7 @@ length-reservations (pair ∷ later) = ap suc (length-reservations later)
 is_text_length : (doc : Fields) → IsConsistentDocument doc →
     length (text_of (doc_model doc))
     ≡ up4 (length_before_padding (16 * length doc.reservations.items + 16) (length (structure_of_items doc.items.items))
-    (length (strings_of doc.names)))
+    (length (strings_of doc.names.in_block)))
 is_text_length doc kept =
     law.is_length
     ∙ (λ j. up4 (length_before_padding (same_reserved j) (length-items_structure doc j) (length (strings_of (sym kept.names j)))))
@@ -112,7 +112,7 @@ is_text_length doc kept =
 pub record AreMeasured (doc : Fields) (count : ℕ) (items : List Item) (strings : ℕ) : Type 0 where
   pub is_count : count ≡ vec_len doc.reservations
   pub are_items : items ≡ doc.items.items
-  pub is_strings : strings ≡ saturated_usize (length (strings_of doc.names))
+  pub is_strings : strings ≡ saturated_usize (length (strings_of doc.names.in_block))
 
 -- The length of the text, from what is measured.
 abbrev measured_length : ℕ → List Item → ℕ → ℕ
@@ -120,7 +120,7 @@ measured_length count items strings = up4 (length_before_padding (16 * count + 1
 
 -- Where what is measured is not too long, the strings block is counted to its end.
 strings-exact : (doc : Fields) (count : ℕ) (items : List Item) (strings : ℕ) → AreMeasured doc count items strings →
-    measured_length count items strings ≤ longest_text → strings ≡ length (strings_of doc.names)
+    measured_length count items strings ≤ longest_text → strings ≡ length (strings_of doc.names.in_block)
 strings-exact doc count items strings are short = omega (arith, are.is_strings)
 
 -- These sizes are what was measured.
@@ -137,14 +137,15 @@ measured_length-long doc count items strings kept are long =
 
 -- The text is put together of its blocks.
 pub same_text : (doc : Fields) (pairs : List (ℕ × ℕ)) (items : List Item) (names : List (List ℕ)) → IsConsistentDocument doc →
-    pairs ≡ doc.reservations.items → items ≡ doc.items.items → names ≡ doc.names → length (text_of (doc_model doc)) ≤ longest_text →
+    pairs ≡ doc.reservations.items → items ≡ doc.items.items → names ≡ doc.names.in_block →
+    length (text_of (doc_model doc)) ≤ longest_text →
     text_of_blocks doc.boot_cpu (reservation_block (reservations_of pairs)) (structure_of_items items) (strings_of names)
     ≡ text_of (doc_model doc)
 unfolding text_of_events
 same_text doc pairs items names kept are_pairs are_items are_names short =
     λ j. text_of_blocks doc.boot_cpu (reservation_block (reservations_of (are_pairs j))) ((ap structure_of_items are_items ∙ same_structure doc kept fits) j) (strings_of ((are_names ∙ kept.names) j))
   where
-    fits : length (strings_of doc.names) < 2 ^ 32
+    fits : length (strings_of doc.names.in_block) < 2 ^ 32
     fits = omega (arith, short, is_text_length doc kept)
 
 -- The reservation block has sixteen bytes for each pair and for the end pair.

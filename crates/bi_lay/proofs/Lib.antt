@@ -1,6 +1,7 @@
 pub mod NameOffsets
 pub mod OneMoreItem
 pub mod UsedNames
+pub mod KnownOffsets
 pub mod Consistent
 pub mod Scanning
 pub mod SinkChains

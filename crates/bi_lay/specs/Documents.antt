@@ -18,6 +18,7 @@ doc_model doc = record {
   boot_cpu = doc.boot_cpu;
   reservations = reservations_of doc.reservations.items;
   events = events_of_items doc.items.items;
+  names = doc.names.by_number;
 }
 
 -- The stage that the tree has reached.
@@ -52,5 +53,5 @@ pub record IsConsistentDocument (doc : Fields) : Type 0 where
   pub room : vec_len doc.items + doc.depth ≤ vec_capacity doc.items
   pub newest : IsNewest (last doc.items.items) (stage_of_fields doc)
   pub parents : AllByRecursion (λ node. node.children ≢ []) (outer_nodes (stage_of_fields doc))
-  pub names : doc.names ≡ distinct_names (used_names (events_of_items doc.items.items))
-  pub offsets : AllByRecursion (HasOffset doc.names) doc.items.items
+  pub names : doc.names.in_block ≡ distinct_names (used_names (events_of_items doc.items.items))
+  pub offsets : AllByRecursion (HasOffset doc.names.in_block) doc.items.items

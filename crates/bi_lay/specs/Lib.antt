@@ -1,5 +1,6 @@
 pub mod Contents
 pub mod Names
+pub mod NumberedNames
 pub mod Values
 pub mod Items
 pub mod Documents

@@ -6,7 +6,7 @@ ghost use Rattle.bi_base.specs.Sinks.{Wrote};
 ghost use Rattle.bi_base.specs.declared.fault.Error.TheVariants.{OutOfMemory};
 
 use crate::items::{Item, Property, Value};
-use crate::names::Names;
+use crate::numbered_names::NumberedNames;
 use crate::siblings::is_new_child;
 use crate::sizes::BlockSizes;
 use crate::text::{Parts, put_text};
@@ -22,16 +22,18 @@ const MAX_DEPTH: usize = 64;
 /// a tree, which come in the order of the structure block (Devicetree Specification, 5.4.2). Names
 /// and values are borrowed and not copied.
 ///
-/// Each call but `may_begin`, `property` and `close` takes time linear in the length of its name,
-/// if it has one, apart from allocations. `property` looks its name up among the n names so far,
-/// which takes log n comparisons; only names of the same length are read.
+/// Each call but `with_names`, `may_begin`, `property` and `close` takes time
+/// linear in the length of its name, if it has one, apart from allocations. `property` looks its
+/// name up among the n names so far, which takes log n comparisons; only names of the same length
+/// are read. `property_numbered` does so at the first use of a number, and then takes a constant
+/// number of steps.
 #[derive(Drop)]
 pub struct Doc<'a> {
     boot_cpu: u32,
     reservations: Vec<(u64, u64)>,
     items: Vec<Item<'a>>,
     depth: usize,
-    names: Names<'a>,
+    names: NumberedNames<'a>,
 }
 
 impl<'a> Model for Doc<'a> {
@@ -53,7 +55,10 @@ impl<'a> Doc<'a> {
     ghost use Rattle.bi_blob.specs.Following.{MayBegin, MayHaveNextProperty, MayEnd};
     ghost use Rattle.bi_blob.specs.Layout.{longest_text};
     ghost use Rattle.bi_blob.specs.TextLaws.{HasOneNormalTree};
-    ghost use Rattle.bi_lay.specs.Contents.{empty_content, text_of, with_reservation, with_event};
+    ghost use Rattle.bi_base.specs.Slices.{bytes_of};
+    ghost use Rattle.bi_lay.specs.Contents.{empty_content, empty_with_names, name_numbered};
+    ghost use Rattle.bi_lay.specs.Contents.{text_of, with_reservation, with_event};
+    ghost use Rattle.bi_lay.specs.Contents.{HaveSameContent};
     ghost use Rattle.bi_lay.specs.Sizes.{AreBlockSizes};
     ghost use Rattle.bi_lay.specs.Values.{value_bytes};
 
@@ -63,12 +68,23 @@ impl<'a> Doc<'a> {
         ensures empty { IfOk result (λ doc. doc ≡ empty_content boot_cpu) }
         ensures failed { IfErr result (λ error. error ≡ OutOfMemory) }
     {
+        Doc::with_names(alloc, boot_cpu, Vec::new(alloc))
+    }
+
+    /// The same, where properties may be given the number of their name, which is its index among
+    /// these. The names need be neither distinct nor in byte order. It takes time linear in their
+    /// number. The only error is `OutOfMemory`.
+    pub fn with_names(alloc: Global, boot_cpu: u32, names: Vec<&'a [u8]>) -> Result<Doc<'a>, Error>
+        ensures empty { IfOk result (λ doc.
+            doc ≡ empty_with_names boot_cpu (bytes_of names.entry.items)) }
+        ensures failed { IfErr result (λ error. error ≡ OutOfMemory) }
+    {
         Ok(Doc {
             boot_cpu,
             reservations: Vec::new(alloc),
             items: Vec::new(alloc),
             depth: 0,
-            names: Names::new(alloc),
+            names: NumberedNames::new(alloc, names)?,
         })
     }
 
@@ -111,6 +127,31 @@ impl<'a> Doc<'a> {
     {
         self.items.reserve(self.depth + 1)?;
         let name_offset = self.names.add(name)?;
+        let property = Property {
+            name,
+            name_offset,
+            value,
+        };
+        self.items.push(Item::Property(property)).unwrap();
+        Ok(())
+    }
+
+    /// Adds a property to the innermost open node, as `property` does. Its name is the one with
+    /// this number. It takes a constant number of steps apart from allocations, except at the first
+    /// use of a number, which looks the name up by its bytes.
+    ///
+    /// The only error is `OutOfMemory`, and the document is unchanged then.
+    pub fn property_numbered(&mut self, number: usize, value: Value<'a>) -> Result<(), Error>
+        requires { let name = name_numbered self.old.names number in
+            MayHaveNextProperty name (stage_of_events self.old.events) }
+        ensures added { let name = name_numbered self.old.names number in
+            let event = NodeProperty (name, value_bytes value.entry) in
+            OnOk result (self.new ≡ with_event self.old event) }
+        ensures failed { IfErr result (λ error. (error ≡ OutOfMemory) × (self.new ≡ self.old)) }
+    {
+        self.items.reserve(self.depth + 1)?;
+        let name = self.names.name(number);
+        let name_offset = self.names.add_numbered(number)?;
         let property = Property {
             name,
             name_offset,
@@ -185,7 +226,11 @@ impl<'a> Doc<'a> {
         ensures { MatchOption result (longest_text < length (text_of self.now))
             (λ sizes. AreBlockSizes self.now sizes) }
     {
-        BlockSizes::measure(self.reservations.len(), &self.items, self.names.length())
+        BlockSizes::measure(
+            self.reservations.len(),
+            &self.items,
+            self.names.block_length(),
+        )
     }
 
     /// Appends the document's text, whose blocks have these sizes: the header, the reservation
@@ -201,7 +246,7 @@ impl<'a> Doc<'a> {
             boot_cpu: self.boot_cpu,
             reservations: &self.reservations,
             items: &self.items,
-            names: self.names.as_slice(),
+            names: self.names.block_names(),
         };
         put_text(parts, sizes, sink)
     }

@@ -7,6 +7,7 @@ mod document;
 mod items;
 pub mod laws;
 mod names;
+mod numbered_names;
 mod siblings;
 mod sizes;
 mod structure;

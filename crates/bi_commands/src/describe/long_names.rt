@@ -6,9 +6,9 @@ ghost use Rattle.bi_base.specs.Reading.{too_large};
 ghost use Rattle.bi_base.specs.Sinks.{Wrote};
 ghost use Rattle.bi_blob.specs.Tree.{properties_of};
 ghost use Rattle.bi_fdt.specs.Views.{node_of};
+ghost use Rattle.bi_fit.specs.LongNames.{name_if_long};
 ghost use Rattle.bi_commands.specs.LimitedSinks.{Takes, HasNoRoom};
-ghost use Rattle.bi_commands.specs.LongNames.{name_if_long, long_names};
-ghost use Rattle.bi_commands.specs.LongNames.{long_names_from, long_names_in};
+ghost use Rattle.bi_commands.specs.LongNames.{long_names, long_names_from, long_names_in};
 
 use super::limited_sink::LimitedSink;
 use bi_base::{Error, Sink};

@@ -9,6 +9,8 @@ ghost use Rattle.bi_blob.specs.Stages.{AfterRoot};
 ghost use Rattle.bi_hash.specs.declared.algo.Algo.TheVariants.{Sha256};
 ghost use Rattle.bi_hash.specs.Digests.{digest_of};
 ghost use Rattle.bi_fit.specs.NormalNodes.{MayAdd, with_events, AreWithin, HasCellSize};
+ghost use Rattle.bi_fit.specs.PropertyMapModels.{HaveNumbers};
+
 ghost use Rattle.bi_fit.specs.Documents.{document_of};
 ghost use Rattle.bi_fit.specs.Building.{built_tree};
 ghost use Rattle.bi_fit.specs.NamedImages.{head_model, named_model, named_models};
@@ -167,9 +169,10 @@ fn add_leaf<'a>(
     name: &'a [u8],
     properties: &PropertyMap<'a>,
 ) -> Result<(), Error>
-    requires { MayAdd doc.old (events (leaf name.now properties.now)) }
+    requires numbers { HaveNumbers doc.old.names properties.now }
+    requires may { MayAdd doc.old (events (leaf name.now properties.now.by_name)) }
     ensures added { OnOk result (doc.new ≡ with_events doc.old
-        (events (leaf name.entry.now properties.entry.now))) }
+        (events (leaf name.entry.now properties.entry.now.by_name))) }
     ensures failed { IfErr result (λ error. error ≡ OutOfMemory) }
 {
     begin_with(doc, name, properties)?;

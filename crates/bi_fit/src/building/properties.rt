@@ -15,6 +15,7 @@ ghost use Rattle.bi_fit.specs.Building.{configuration_name, text_value};
 ghost use Rattle.bi_fit.specs.Names.{default_name};
 ghost use Rattle.bi_fit.specs.BuiltNodes.{AreKeyLists, with_cell_property};
 ghost use Rattle.bi_fit.specs.NamedImages.{head_model, named_model};
+ghost use Rattle.bi_fit.specs.PropertyMapModels.{without_numbers};
 
 use crate::building::lists::KeyLists;
 use crate::building::{Head, NamedImage};
@@ -33,7 +34,7 @@ pub(super) fn root_properties<'a>(
     head: Head<'a>,
 ) -> Result<PropertyMap<'a>, AllocError>
     ensures { IfOk result (λ properties. properties
-        ≡ from_entries (root_properties_of (head_model head.entry))) }
+        ≡ without_numbers (from_entries (root_properties_of (head_model head.entry)))) }
 {
     let mut properties = PropertyMap::new(alloc);
     properties.insert(b"timestamp", Value::Cell(head.time))?;
@@ -49,7 +50,8 @@ pub(super) fn image_properties<'a>(
     image: &NamedImage<'a>,
 ) -> Result<PropertyMap<'a>, AllocError>
     ensures { IfOk result (λ properties. properties
-        ≡ from_entries (image_properties_of (head_model head.entry) (named_model image.now))) }
+        ≡ without_numbers (from_entries
+        (image_properties_of (head_model head.entry) (named_model image.now)))) }
 {
     let mut properties = PropertyMap::new(alloc);
     insert_cell(&mut properties, b"entry", image.entry)?;
@@ -68,7 +70,8 @@ pub(super) fn hash_properties(
     digest: &[u8; 32],
 ) -> Result<PropertyMap<'_>, AllocError>
     ensures { (payload : List ℕ) → digest.entry.now ≡ digest_of Sha256 payload →
-        IfOk result (λ properties. properties ≡ from_entries (hash_properties_of payload)) }
+        IfOk result (λ properties. properties
+        ≡ without_numbers (from_entries (hash_properties_of payload))) }
 {
     let mut properties = PropertyMap::new(alloc);
     properties.insert(b"value", Value::Slice(digest))?;
@@ -79,7 +82,7 @@ pub(super) fn hash_properties(
 /// Returns the properties of the node of the configuration.
 pub(super) fn default_properties<'a>(alloc: Global) -> Result<PropertyMap<'a>, AllocError>
     ensures { IfOk result (λ properties. properties
-        ≡ from_entries ((default_name, text_value configuration_name) ∷ [])) }
+        ≡ without_numbers (from_entries ((default_name, text_value configuration_name) ∷ []))) }
 {
     let mut properties = PropertyMap::new(alloc);
     properties.insert(b"default", Value::Text(CONFIGURATION_NAME))?;
@@ -94,7 +97,8 @@ pub(super) fn configuration_properties<'a>(
 ) -> Result<PropertyMap<'a>, AllocError>
     ensures { (images : List ImageSpecModel) → AreKeyLists images lists.entry.now →
         IfOk result (λ properties. properties
-        ≡ from_entries (configuration_properties_of (head_model head.entry) images)) }
+        ≡ without_numbers (from_entries
+        (configuration_properties_of (head_model head.entry) images))) }
 {
     let mut properties = PropertyMap::new(alloc);
     insert_list(&mut properties, Key::Script, &lists.script)?;
@@ -113,8 +117,9 @@ fn insert_cell<'a>(
     name: &'a [u8],
     number: Option<u32>,
 ) -> Result<(), AllocError>
-    ensures { OnOk result
-        (properties.new ≡ with_cell_property name.entry.now number properties.old) }
+    ensures set { OnOk result (properties.new.by_name
+        ≡ with_cell_property name.entry.now number properties.old.by_name) }
+    ensures same_numbers { OnOk result (properties.new.numbers ≡ properties.old.numbers) }
 {
     match number {
         Some(number) => properties.insert(name, Value::Cell(number)),
@@ -129,8 +134,10 @@ fn insert_list<'a>(
     list: &'a [u8],
 ) -> Result<(), AllocError>
     ensures { (names : List (List ℕ)) (rest : List Property)
-        → list.entry.now ≡ strings_of names → properties.old ≡ from_entries rest →
-        OnOk result (properties.new ≡ from_entries (list_property key names ++ rest)) }
+        → list.entry.now ≡ strings_of names
+        → properties.old ≡ without_numbers (from_entries rest) →
+        OnOk result
+        (properties.new ≡ without_numbers (from_entries (list_property key names ++ rest))) }
 {
     if list.is_empty() {
         return Ok(());

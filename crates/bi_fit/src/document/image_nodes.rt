@@ -1,11 +1,10 @@
 //! Adding the image nodes to a document.
 
-ghost use Rattle.std.specs.Prelude.{◌≡◌, OnOk, IfOk, IfErr};
+ghost use Rattle.std.specs.Prelude.{◌≡◌, ℕ, List, OnOk, IfOk, IfErr};
 ghost use Rattle.std.specs.Option.{option_map};
 ghost use Rattle.bi_base.specs.declared.fault.Error.TheVariants.{OutOfMemory};
 ghost use Rattle.bi_blob.specs.Tree.{EachOwn};
 ghost use Rattle.bi_blob.specs.Events.{events};
-ghost use Rattle.bi_fdt.specs.Views.{node_of};
 ghost use Rattle.bi_fit.specs.TakenDigests.{HaveDigests, after_digests};
 ghost use Rattle.bi_fit.specs.TakenDigests.{is_hashed as is_hashed_of};
 ghost use Rattle.bi_fit.specs.NormalNodes.{MayAdd, with_events, HasDistinctNames, HasCellSize};
@@ -13,16 +12,18 @@ ghost use Rattle.bi_fit.specs.NormalNodes.{AreWithin, AreImageNodes, alone, payl
 ghost use Rattle.bi_fit.specs.NormalNodes.{nodes_by_name, image_properties as image_properties_of};
 ghost use Rattle.bi_fit.specs.NormalNodes.{sorted_image, sorted_image_children};
 ghost use Rattle.bi_fit.specs.NormalNodes.{sorted_images, sorted_images_node};
+ghost use Rattle.bi_fit.specs.PropertyMapModels.{HaveNumbers};
+ghost use Rattle.bi_fit.specs.RankedNodes.{sibling_of, HasRanks};
 
 use crate::changes::Changes;
 use crate::document::nodes::{add_children, begin_node, begin_with};
 use crate::document::property_map::PropertyMap;
+use crate::document::ranked_node::RankedNode;
 use crate::form::Form;
 use crate::image::Image;
 use crate::new_digests::hash_algo;
 use crate::payload_area::end_after;
 use bi_base::{Error, up4};
-use bi_fdt::NodeRef;
 use bi_lay::Doc;
 use std::alloc::{AllocError, Global};
 
@@ -31,23 +32,24 @@ use std::alloc::{AllocError, Global};
 pub(super) fn add_images<'a>(
     alloc: Global,
     doc: &mut Doc<'a>,
-    node: NodeRef<'a, '_>,
+    node: RankedNode<'a, '_>,
     changes: Changes,
     digests: &'a [u8],
     form: Form,
     images: &[Image<'a>],
 ) -> Result<(), Error>
+    requires ranks { HasRanks doc.old.names node }
     requires images { AreImageNodes changes.hashes images.now digests.now
-        (node_of node).children }
+        (sibling_of node).children }
     requires within { AreWithin form 0 (payloads_of images.now) }
-    requires distinct { EachOwn HasDistinctNames (alone (node_of node)) }
+    requires distinct { EachOwn HasDistinctNames (alone (sibling_of node)) }
     requires may { let payloads = payloads_of images.now in
         MayAdd doc.old
-        (events (sorted_images_node changes.hashes form payloads digests.now (node_of node))) }
+        (events (sorted_images_node changes.hashes form payloads digests.now (sibling_of node))) }
     ensures added { let payloads = payloads_of images.entry.now in
         let bytes = digests.entry.now in
         OnOk result (doc.new ≡ with_events doc.old
-        (events (sorted_images_node changes.hashes form payloads bytes (node_of node.entry)))) }
+        (events (sorted_images_node changes.hashes form payloads bytes (sibling_of node.entry)))) }
     ensures failed { IfErr result (λ error. error ≡ OutOfMemory) }
 {
     begin_node(alloc, doc, node)?;
@@ -61,22 +63,23 @@ pub(super) fn add_images<'a>(
 fn add_image_nodes<'a>(
     alloc: Global,
     doc: &mut Doc<'a>,
-    node: NodeRef<'a, '_>,
+    node: RankedNode<'a, '_>,
     changes: Changes,
     digests: &'a [u8],
     form: Form,
     images: &[Image<'a>],
 ) -> Result<(), Error>
+    requires ranks { HasRanks doc.old.names node }
     requires images { AreImageNodes changes.hashes images.now digests.now
-        (node_of node).children }
+        (sibling_of node).children }
     requires within { AreWithin form 0 (payloads_of images.now) }
-    requires distinct { EachOwn HasDistinctNames (node_of node).children }
+    requires distinct { EachOwn HasDistinctNames (sibling_of node).children }
     requires may { let payloads = payloads_of images.now in
-        let nodes = (node_of node).children in
+        let nodes = (sibling_of node).children in
         MayAdd doc.old
         (events (sorted_images changes.hashes form 0 payloads digests.now nodes)) }
     ensures added { let payloads = payloads_of images.entry.now in
-        let nodes = (node_of node.entry).children in
+        let nodes = (sibling_of node.entry).children in
         OnOk result (doc.new ≡ with_events doc.old
         (events (sorted_images changes.hashes form 0 payloads digests.entry.now nodes))) }
     ensures failed { IfErr result (λ error. error ≡ OutOfMemory) }
@@ -104,16 +107,19 @@ fn add_image_nodes<'a>(
 /// external payload from the end of the blob.
 fn image_properties<'a>(
     alloc: Global,
-    node: NodeRef<'a, '_>,
+    node: RankedNode<'a, '_>,
     form: Form,
     begin: u32,
     payload: Option<&'a [u8]>,
 ) -> Result<PropertyMap<'a>, AllocError>
     requires sized { HasCellSize form (option_map (λ payload. payload.now) payload) }
-    requires distinct { HasDistinctNames (node_of node).own }
-    ensures { let given = option_map (λ payload. payload.now) payload.entry in
-        IfOk result (λ properties. properties
-        ≡ image_properties_of form begin given (node_of node.entry).own) }
+    requires ranks { (names : List (List ℕ)) × HasRanks names node }
+    requires distinct { HasDistinctNames (sibling_of node).own }
+    ensures properties { let given = option_map (λ payload. payload.now) payload.entry in
+        IfOk result (λ properties. properties.by_name
+        ≡ image_properties_of form begin given (sibling_of node.entry).own) }
+    ensures numbers { (names : List (List ℕ)) → HasRanks names node.entry →
+        IfOk result (HaveNumbers names) }
 {
     let mut properties = PropertyMap::from_node(alloc, node)?;
     properties.set_payload(form, begin, payload)?;
@@ -134,21 +140,23 @@ fn is_hashed(changes: Changes, payload: Option<&[u8]>) -> bool
 fn add_image_node<'a>(
     alloc: Global,
     doc: &mut Doc<'a>,
-    node: NodeRef<'a, '_>,
+    node: RankedNode<'a, '_>,
     properties: &PropertyMap<'a>,
     hashed: bool,
     digests: &'a [u8],
 ) -> Result<&'a [u8], Error>
+    requires ranks { HasRanks doc.old.names node }
+    requires numbers { HaveNumbers doc.old.names properties.now }
     requires digests { HaveDigests hashed digests.now
-        (nodes_by_name (node_of node).children) }
-    requires distinct { EachOwn HasDistinctNames (node_of node).children }
+        (nodes_by_name (sibling_of node).children) }
+    requires distinct { EachOwn HasDistinctNames (sibling_of node).children }
     requires may { MayAdd doc.old
-        (events (sorted_image properties.now hashed digests.now (node_of node))) }
+        (events (sorted_image properties.now.by_name hashed digests.now (sibling_of node))) }
     ensures left { IfOk result (λ left. left.now
-        ≡ after_digests hashed digests.entry.now (nodes_by_name (node_of node.entry).children)) }
+        ≡ after_digests hashed digests.entry.now (nodes_by_name (sibling_of node.entry).children)) }
     ensures added { let bytes = digests.entry.now in
         OnOk result (doc.new ≡ with_events doc.old
-        (events (sorted_image properties.entry.now hashed bytes (node_of node.entry)))) }
+        (events (sorted_image properties.entry.now.by_name hashed bytes (sibling_of node.entry)))) }
     ensures failed { IfErr result (λ error. error ≡ OutOfMemory) }
 {
     begin_with(doc, node.name(), properties)?;
@@ -162,18 +170,19 @@ fn add_image_node<'a>(
 fn add_image_children<'a>(
     alloc: Global,
     doc: &mut Doc<'a>,
-    node: NodeRef<'a, '_>,
+    node: RankedNode<'a, '_>,
     hashed: bool,
     digests: &'a [u8],
 ) -> Result<&'a [u8], Error>
+    requires ranks { HasRanks doc.old.names node }
     requires digests { HaveDigests hashed digests.now
-        (nodes_by_name (node_of node).children) }
-    requires distinct { EachOwn HasDistinctNames (node_of node).children }
-    requires may { let nodes = (node_of node).children in
+        (nodes_by_name (sibling_of node).children) }
+    requires distinct { EachOwn HasDistinctNames (sibling_of node).children }
+    requires may { let nodes = (sibling_of node).children in
         MayAdd doc.old (events (sorted_image_children hashed digests.now nodes)) }
     ensures left { IfOk result (λ left. left.now
-        ≡ after_digests hashed digests.entry.now (nodes_by_name (node_of node.entry).children)) }
-    ensures added { let nodes = (node_of node.entry).children in
+        ≡ after_digests hashed digests.entry.now (nodes_by_name (sibling_of node.entry).children)) }
+    ensures added { let nodes = (sibling_of node.entry).children in
         OnOk result (doc.new ≡ with_events doc.old
         (events (sorted_image_children hashed digests.entry.now nodes))) }
     ensures failed { IfErr result (λ error. error ≡ OutOfMemory) }
@@ -192,22 +201,23 @@ fn add_image_children<'a>(
 fn add_image_child<'a>(
     alloc: Global,
     doc: &mut Doc<'a>,
-    node: NodeRef<'a, '_>,
+    node: RankedNode<'a, '_>,
     hashed: bool,
     digests: &'a [u8],
 ) -> Result<&'a [u8], Error>
-    requires digests { HaveDigests hashed digests.now (nodes_by_name (alone (node_of node))) }
-    requires distinct { EachOwn HasDistinctNames (alone (node_of node)) }
-    requires may { let nodes = alone (node_of node) in
+    requires ranks { HasRanks doc.old.names node }
+    requires digests { HaveDigests hashed digests.now (nodes_by_name (alone (sibling_of node))) }
+    requires distinct { EachOwn HasDistinctNames (alone (sibling_of node)) }
+    requires may { let nodes = alone (sibling_of node) in
         MayAdd doc.old (events (sorted_image_children hashed digests.now nodes)) }
     ensures left { IfOk result (λ left. left.now
-        ≡ after_digests hashed digests.entry.now (nodes_by_name (alone (node_of node.entry)))) }
-    ensures added { let nodes = alone (node_of node.entry) in
+        ≡ after_digests hashed digests.entry.now (nodes_by_name (alone (sibling_of node.entry)))) }
+    ensures added { let nodes = alone (sibling_of node.entry) in
         OnOk result (doc.new ≡ with_events doc.old
         (events (sorted_image_children hashed digests.entry.now nodes))) }
     ensures failed { IfErr result (λ error. error ≡ OutOfMemory) }
 {
-    let algo = if hashed { hash_algo(node) } else { None };
+    let algo = if hashed { hash_algo(node.node) } else { None };
     let mut properties = PropertyMap::from_node(alloc, node)?;
     let left = properties.set_digest(algo, digests)?;
     begin_with(doc, node.name(), &properties)?;

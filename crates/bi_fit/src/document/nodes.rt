@@ -4,13 +4,14 @@ ghost use Rattle.std.specs.Prelude.{◌≡◌, OnOk, IfErr};
 ghost use Rattle.bi_base.specs.declared.fault.Error.TheVariants.{OutOfMemory};
 ghost use Rattle.bi_blob.specs.Tree.{EachOwn};
 ghost use Rattle.bi_blob.specs.Events.{events};
-ghost use Rattle.bi_fdt.specs.Views.{node_of};
 ghost use Rattle.bi_fit.specs.NormalNodes.{MayAdd, with_events, HasDistinctNames, alone};
 ghost use Rattle.bi_fit.specs.NormalNodes.{begin_events, properties_by_name, sorted_nodes};
+ghost use Rattle.bi_fit.specs.PropertyMapModels.{HaveNumbers};
+ghost use Rattle.bi_fit.specs.RankedNodes.{sibling_of, HasRanks};
 
 use crate::document::property_map::PropertyMap;
+use crate::document::ranked_node::RankedNode;
 use bi_base::Error;
-use bi_fdt::NodeRef;
 use bi_lay::Doc;
 use std::alloc::Global;
 
@@ -18,14 +19,15 @@ use std::alloc::Global;
 pub(super) fn begin_node<'a>(
     alloc: Global,
     doc: &mut Doc<'a>,
-    node: NodeRef<'a, '_>,
+    node: RankedNode<'a, '_>,
 ) -> Result<(), Error>
-    requires distinct { HasDistinctNames (node_of node).own }
-    requires may { let properties = properties_by_name (node_of node).own in
-        MayAdd doc.old (begin_events (node_of node).name properties) }
-    ensures added { let properties = properties_by_name (node_of node.entry).own in
+    requires ranks { HasRanks doc.old.names node }
+    requires distinct { HasDistinctNames (sibling_of node).own }
+    requires may { let properties = properties_by_name (sibling_of node).own in
+        MayAdd doc.old (begin_events (sibling_of node).name properties) }
+    ensures added { let properties = properties_by_name (sibling_of node.entry).own in
         OnOk result (doc.new ≡ with_events doc.old
-        (begin_events (node_of node.entry).name properties)) }
+        (begin_events (sibling_of node.entry).name properties)) }
     ensures failed { IfErr result (λ error. error ≡ OutOfMemory) }
 {
     let properties = PropertyMap::from_node(alloc, node)?;
@@ -36,7 +38,8 @@ pub(super) fn begin_node<'a>(
 /// properties to it, in byte order of their names.
 ///
 /// It may only be called if these events may come next in the document: `Doc::may_begin` is true of
-/// the name, and the name of each property has a byte and no zero.
+/// the name, and the name of each property has a byte and no zero. A number in the properties is that
+/// of the name in the document.
 ///
 /// The only error is `OutOfMemory`. It is not specified which of the events the document has then.
 pub(crate) fn begin_with<'a>(
@@ -44,9 +47,10 @@ pub(crate) fn begin_with<'a>(
     name: &'a [u8],
     properties: &PropertyMap<'a>,
 ) -> Result<(), Error>
-    requires { MayAdd doc.old (begin_events name.now properties.now) }
+    requires numbers { HaveNumbers doc.old.names properties.now }
+    requires may { MayAdd doc.old (begin_events name.now properties.now.by_name) }
     ensures added { OnOk result (doc.new ≡ with_events doc.old
-        (begin_events name.entry.now properties.entry.now)) }
+        (begin_events name.entry.now properties.entry.now.by_name)) }
     ensures failed { IfErr result (λ error. error ≡ OutOfMemory) }
 {
     doc.begin(name)?;
@@ -58,12 +62,13 @@ pub(crate) fn begin_with<'a>(
 pub(super) fn add_node<'a>(
     alloc: Global,
     doc: &mut Doc<'a>,
-    node: NodeRef<'a, '_>,
+    node: RankedNode<'a, '_>,
 ) -> Result<(), Error>
-    requires distinct { EachOwn HasDistinctNames (alone (node_of node)) }
-    requires may { MayAdd doc.old (events (sorted_nodes (alone (node_of node)))) }
+    requires ranks { HasRanks doc.old.names node }
+    requires distinct { EachOwn HasDistinctNames (alone (sibling_of node)) }
+    requires may { MayAdd doc.old (events (sorted_nodes (alone (sibling_of node)))) }
     ensures added { OnOk result (doc.new ≡ with_events doc.old
-        (events (sorted_nodes (alone (node_of node.entry))))) }
+        (events (sorted_nodes (alone (sibling_of node.entry))))) }
     ensures failed { IfErr result (λ error. error ≡ OutOfMemory) }
 {
     begin_node(alloc, doc, node)?;
@@ -77,12 +82,13 @@ pub(super) fn add_node<'a>(
 pub(super) fn add_children<'a>(
     alloc: Global,
     doc: &mut Doc<'a>,
-    node: NodeRef<'a, '_>,
+    node: RankedNode<'a, '_>,
 ) -> Result<(), Error>
-    requires distinct { EachOwn HasDistinctNames (node_of node).children }
-    requires may { MayAdd doc.old (events (sorted_nodes (node_of node).children)) }
+    requires ranks { HasRanks doc.old.names node }
+    requires distinct { EachOwn HasDistinctNames (sibling_of node).children }
+    requires may { MayAdd doc.old (events (sorted_nodes (sibling_of node).children)) }
     ensures added { OnOk result (doc.new ≡ with_events doc.old
-        (events (sorted_nodes (node_of node.entry).children))) }
+        (events (sorted_nodes (sibling_of node.entry).children))) }
     ensures failed { IfErr result (λ error. error ≡ OutOfMemory) }
 {
     let mut next = node.first_child();

@@ -1,11 +1,12 @@
 //! The properties of a node, by name.
 
-ghost use Rattle.std.specs.Prelude.{◌≡◌, map, OnOk, IfOk, IfErr};
-ghost use Rattle.std.specs.FinMap.{empty, insert, entries};
+ghost use Rattle.std.specs.Prelude.{◌≡◌, ℕ, List, map, slice_get, OnOk, IfOk, IfErr};
+ghost use Rattle.std.specs.FinMap.{empty, entries};
 ghost use Rattle.std.specs.Option.{option_map};
 ghost use Rattle.bi_base.specs.declared.fault.Error.TheVariants.{OutOfMemory};
 ghost use Rattle.bi_blob.specs.Events.{NodeProperty};
-ghost use Rattle.bi_fdt.specs.Views.{node_of};
+ghost use Rattle.bi_blob.specs.Following.{stage_of_events, MayHaveNextProperty};
+ghost use Rattle.bi_lay.specs.Contents.{with_event};
 ghost use Rattle.bi_lay.specs.Values.{value_bytes};
 ghost use Rattle.bi_fit.specs.Names.{is_payload_name as is_payload_name_of};
 ghost use Rattle.bi_fit.specs.ImageTree.{without_payload};
@@ -14,10 +15,15 @@ ghost use Rattle.bi_fit.specs.Updating.{with_time};
 ghost use Rattle.bi_fit.specs.TakenDigests.{HasDigest, with_first_digest, after_digest};
 ghost use Rattle.bi_fit.specs.NormalNodes.{MayAdd, with_events, HasDistinctNames, HasCellSize};
 ghost use Rattle.bi_fit.specs.NormalNodes.{properties_by_name};
+ghost use Rattle.bi_fit.specs.PropertyMapModels.{without_numbers, with_property, HaveNumbers};
+ghost use Rattle.bi_fit.specs.PropertyMapModels.{AreNumbersIn};
+ghost use Rattle.bi_fit.specs.PropertyMaps.{number_in};
+ghost use Rattle.bi_fit.specs.RankedNodes.{sibling_of, HasRanks};
+ghost use Rattle.bi_fit.specs.PropertyPlaces.{place_in, is_entry_named, AreByRank};
 
+use crate::document::ranked_node::RankedNode;
 use crate::form::Form;
 use bi_base::Error;
-use bi_fdt::NodeRef;
 use bi_hash::Algo;
 use bi_lay::{Doc, Value};
 use std::alloc::{AllocError, Global};
@@ -27,21 +33,29 @@ use std::marker::Model;
 /// The properties of a node, by name. Names and values are borrowed and not copied.
 #[derive(Drop)]
 pub(crate) struct PropertyMap<'a> {
-    values: BTreeMap<&'a [u8], Value<'a>>,
+    // They are in byte order of their names, which are distinct.
+    entries: Vec<MapEntry<'a>>,
+}
+
+/// A property of a node. The number of its name is its index among the names of the document, if it
+/// is known.
+#[derive(Clone, Copy)]
+struct MapEntry<'a> {
+    name: &'a [u8],
+    number: Option<usize>,
+    value: Value<'a>,
 }
 
 impl<'a> Model for PropertyMap<'a> {
-    ghost use Rattle.std.specs.FinMap.{code};
-    ghost use Rattle.std.specs.Coded.{coded_list, coded_ℕ};
-    ghost use Rattle.bi_blob.specs.Tree.{PropertyMap as Properties};
+    ghost use Rattle.bi_fit.specs.PropertyMapModels.{PropertyMapModel, model_code};
 
-    ghost Value = { Properties };
+    ghost Value = { PropertyMapModel };
 
-    ghost coded = { code (coded_list coded_ℕ) (coded_list coded_ℕ) };
+    ghost coded = { model_code };
 
-    ghost use Rattle.bi_fit.specs.PropertyMaps.{map_of_fields, IsConsistentMap};
+    ghost use Rattle.bi_fit.specs.PropertyMaps.{property_map_model, IsConsistentMap};
 
-    ghost view = { map_of_fields };
+    ghost view = { property_map_model };
 
     ghost invariant = { IsConsistentMap };
 }
@@ -49,38 +63,52 @@ impl<'a> Model for PropertyMap<'a> {
 impl<'a> PropertyMap<'a> {
     /// A map without properties. It allocates nothing.
     pub(crate) fn new(alloc: Global) -> PropertyMap<'a>
-        ensures { result ≡ empty }
+        ensures { result ≡ without_numbers empty }
     {
         PropertyMap {
-            values: BTreeMap::new(alloc),
+            entries: Vec::new(alloc),
         }
     }
 
-    /// The properties of a node.
+    /// The properties of a node, with the ranks of their names as numbers. Compares no names.
     pub(super) fn from_node(
         alloc: Global,
-        node: NodeRef<'a, '_>,
+        node: RankedNode<'a, '_>,
     ) -> Result<PropertyMap<'a>, AllocError>
-        requires { HasDistinctNames (node_of node).own }
-        ensures { IfOk result (λ properties. properties
-            ≡ properties_by_name (node_of node.entry).own) }
+        requires ranks { (names : List (List ℕ)) × HasRanks names node }
+        requires distinct { HasDistinctNames (sibling_of node).own }
+        ensures properties { IfOk result (λ properties. properties.by_name
+            ≡ properties_by_name (sibling_of node.entry).own) }
+        ensures numbers { (names : List (List ℕ)) → HasRanks names node.entry →
+            IfOk result (HaveNumbers names) }
     {
-        let mut properties = PropertyMap::new(alloc);
-        for property in node.properties() {
-            properties.insert(property.name, Value::Slice(property.value))?;
+        let by_rank = entries_by_rank(alloc, node)?;
+        let mut entries = Vec::new(alloc);
+        for (_, entry) in &by_rank {
+            entries.push(*entry)?;
         }
-        Ok(properties)
+        Ok(PropertyMap { entries })
     }
 
-    /// Adds a property, or gives the property of this name another value. Takes time log n in the
-    /// number n of properties.
+    /// Adds a property, or gives the property of this name another value. Compares the name with at
+    /// most all of the map.
     ///
     /// It fails if memory runs out. It is not specified which properties the map has then.
     pub(crate) fn insert(&mut self, name: &'a [u8], value: Value<'a>) -> Result<(), AllocError>
-        ensures { OnOk result (self.new ≡ insert self.old name.entry.now
-            (value_bytes value.entry)) }
+        ensures { OnOk result
+            (self.new ≡ with_property name.entry.now (value_bytes value.entry) self.old) }
     {
-        self.values.insert(name, value)?;
+        let place = find_place(&self.entries, name);
+        if has_name_at(&self.entries, place, name) {
+            self.entries[place].value = value;
+            return Ok(());
+        }
+        let entry = MapEntry {
+            name,
+            number: None,
+            value,
+        };
+        self.entries.insert(place, entry)?;
         Ok(())
     }
 
@@ -98,8 +126,11 @@ impl<'a> PropertyMap<'a> {
         payload: Option<&'a [u8]>,
     ) -> Result<(), AllocError>
         requires { HasCellSize form (option_map (λ payload. payload.now) payload) }
-        ensures { let given = option_map (λ payload. payload.now) payload.entry in
-            OnOk result (self.new ≡ with_payload form begin given (without_payload self.old)) }
+        ensures set { let given = option_map (λ payload. payload.now) payload.entry in
+            OnOk result (self.new.by_name
+            ≡ with_payload form begin given (without_payload self.old.by_name)) }
+        ensures numbers { (names : List (List ℕ)) → HaveNumbers names self.old →
+            OnOk result (HaveNumbers names self.new) }
     {
         self.remove_payload();
         let Some(payload) = payload else {
@@ -119,7 +150,8 @@ impl<'a> PropertyMap<'a> {
     ///
     /// It fails if memory runs out. It is not specified which properties the map has then.
     pub(super) fn set_time(&mut self, time: Option<u32>) -> Result<(), AllocError>
-        ensures { OnOk result (self.new ≡ with_time time self.old) }
+        ensures set { OnOk result (self.new.by_name ≡ with_time time self.old.by_name) }
+        ensures same_numbers { OnOk result (self.new.numbers ≡ self.old.numbers) }
     {
         if let Some(time) = time {
             self.insert(b"timestamp", Value::Cell(time))?;
@@ -137,7 +169,9 @@ impl<'a> PropertyMap<'a> {
         digests: &'a [u8],
     ) -> Result<&'a [u8], AllocError>
         requires { HasDigest algo digests.now }
-        ensures set { OnOk result (self.new ≡ with_first_digest algo digests.entry.now self.old) }
+        ensures set { OnOk result (self.new.by_name
+            ≡ with_first_digest algo digests.entry.now self.old.by_name) }
+        ensures same_numbers { OnOk result (self.new.numbers ≡ self.old.numbers) }
         ensures left { IfOk result (λ left. left.now ≡ after_digest algo digests.entry.now) }
     {
         let Some(algo) = algo else {
@@ -150,9 +184,11 @@ impl<'a> PropertyMap<'a> {
 
     /// Removes the four properties that hold a payload or name its region.
     fn remove_payload(&mut self)
-        ensures { self.new ≡ without_payload self.old }
+        ensures properties { self.new.by_name ≡ without_payload self.old.by_name }
+        ensures numbers { (names : List (List ℕ)) → HaveNumbers names self.old →
+            HaveNumbers names self.new }
     {
-        self.values.retain(|name, _| !is_payload_name(name));
+        self.entries.retain(|entry| !is_payload_name(entry.name));
     }
 
     /// Adds the properties to the innermost open node, in byte order of their names.
@@ -163,15 +199,75 @@ impl<'a> PropertyMap<'a> {
     /// The only error is `OutOfMemory`. It is not specified which of the properties the document
     /// has then.
     pub(crate) fn add_to(&self, doc: &mut Doc<'a>) -> Result<(), Error>
-        requires { MayAdd doc.old (map NodeProperty (entries self.now)) }
+        requires numbers { HaveNumbers doc.old.names self.now }
+        requires may { MayAdd doc.old (map NodeProperty (entries self.now.by_name)) }
         ensures added { OnOk result (doc.new ≡ with_events doc.old
-            (map NodeProperty (entries self.now))) }
+            (map NodeProperty (entries self.now.by_name))) }
         ensures failed { IfErr result (λ error. error ≡ OutOfMemory) }
     {
-        for (name, value) in &self.values {
-            doc.property(name, *value)?;
+        for entry in &self.entries {
+            add_entry(doc, *entry)?;
         }
         Ok(())
+    }
+}
+
+/// Adds a property to the innermost open node.
+fn add_entry<'a>(doc: &mut Doc<'a>, entry: MapEntry<'a>) -> Result<(), Error>
+    requires number { AreNumbersIn doc.old.names (number_in entry) }
+    requires may { MayHaveNextProperty entry.name.now (stage_of_events doc.old.events) }
+    ensures added { OnOk result (doc.new ≡ with_event doc.old
+        (NodeProperty (entry.entry.name.now, value_bytes entry.entry.value))) }
+    ensures failed { IfErr result (λ error. error ≡ OutOfMemory) }
+{
+    match entry.number {
+        Some(number) => doc.property_numbered(number, entry.value),
+        None => doc.property(entry.name, entry.value),
+    }
+}
+
+/// The entries of the properties of a node, by the ranks of their names.
+fn entries_by_rank<'a>(
+    alloc: Global,
+    node: RankedNode<'a, '_>,
+) -> Result<BTreeMap<usize, MapEntry<'a>>, AllocError>
+    requires ranks { (names : List (List ℕ)) × HasRanks names node }
+    requires distinct { HasDistinctNames (sibling_of node).own }
+    ensures { (names : List (List ℕ)) → HasRanks names node.entry →
+        IfOk result (λ by_rank. AreByRank names (sibling_of node.entry).own by_rank.entries) }
+{
+    let mut by_rank = BTreeMap::new(alloc);
+    for (property, rank) in node.properties().zip(node.name_ranks()) {
+        let entry = MapEntry {
+            name: property.name,
+            number: Some(*rank),
+            value: Value::Slice(property.value),
+        };
+        by_rank.insert(*rank, entry)?;
+    }
+    Ok(by_rank)
+}
+
+/// The index of the first of these entries, which are in byte order of their names, whose name is
+/// not before this one. Their number if there is none.
+fn find_place(entries: &[MapEntry<'_>], name: &[u8]) -> usize
+    ensures { result ≡ place_in entries.now name.now }
+{
+    for (index, entry) in entries.iter().enumerate() {
+        if !name.cmp(entry.name).is_gt() {
+            return index;
+        }
+    }
+    entries.len()
+}
+
+/// Whether there is an entry at this index, and it has this name.
+fn has_name_at(entries: &[MapEntry<'_>], index: usize, name: &[u8]) -> bool
+    ensures { result ≡ is_entry_named (slice_get entries.now index) name.now }
+{
+    match entries.get(index) {
+        Some(entry) => entry.name == name,
+        None => false,
     }
 }
 

@@ -4,19 +4,19 @@ ghost use Rattle.std.specs.Prelude.{◌≡◌, OnOk, IfErr};
 ghost use Rattle.bi_base.specs.declared.fault.Error.TheVariants.{OutOfMemory};
 ghost use Rattle.bi_blob.specs.Tree.{EachOwn};
 ghost use Rattle.bi_blob.specs.Events.{events};
-ghost use Rattle.bi_fdt.specs.Views.{node_of};
 ghost use Rattle.bi_fit.specs.NormalNodes.{MayAdd, with_events, HasDistinctNames, AreWithin};
 ghost use Rattle.bi_fit.specs.NormalNodes.{HaveImageNodes, AreImageNodes, alone, payloads_of};
 ghost use Rattle.bi_fit.specs.NormalNodes.{sorted_root, sorted_root_children};
+ghost use Rattle.bi_fit.specs.RankedNodes.{sibling_of, HasRanks};
 
 use crate::changes::Changes;
 use crate::document::image_nodes::add_images;
 use crate::document::nodes::{add_node, begin_with};
 use crate::document::property_map::PropertyMap;
+use crate::document::ranked_node::RankedNode;
 use crate::form::Form;
 use crate::image::Image;
 use bi_base::Error;
-use bi_fdt::NodeRef;
 use bi_lay::Doc;
 use std::alloc::Global;
 
@@ -25,22 +25,23 @@ use std::alloc::Global;
 pub(super) fn add_tree<'a>(
     alloc: Global,
     doc: &mut Doc<'a>,
-    root: NodeRef<'a, '_>,
+    root: RankedNode<'a, '_>,
     changes: Changes,
     digests: &'a [u8],
     form: Form,
     images: &[Image<'a>],
 ) -> Result<(), Error>
+    requires ranks { HasRanks doc.old.names root }
     requires images { HaveImageNodes (AreImageNodes changes.hashes images.now digests.now)
-        (node_of root).children }
+        (sibling_of root).children }
     requires within { AreWithin form 0 (payloads_of images.now) }
-    requires distinct { EachOwn HasDistinctNames (alone (node_of root)) }
+    requires distinct { EachOwn HasDistinctNames (alone (sibling_of root)) }
     requires may { let payloads = payloads_of images.now in
-        MayAdd doc.old (events (sorted_root changes form payloads digests.now (node_of root))) }
+        MayAdd doc.old (events (sorted_root changes form payloads digests.now (sibling_of root))) }
     ensures added { let payloads = payloads_of images.entry.now in
         let bytes = digests.entry.now in
         OnOk result (doc.new ≡ with_events doc.old
-        (events (sorted_root changes form payloads bytes (node_of root.entry)))) }
+        (events (sorted_root changes form payloads bytes (sibling_of root.entry)))) }
     ensures failed { IfErr result (λ error. error ≡ OutOfMemory) }
 {
     let mut properties = PropertyMap::from_node(alloc, root)?;
@@ -55,22 +56,23 @@ pub(super) fn add_tree<'a>(
 fn add_root_children<'a>(
     alloc: Global,
     doc: &mut Doc<'a>,
-    root: NodeRef<'a, '_>,
+    root: RankedNode<'a, '_>,
     changes: Changes,
     digests: &'a [u8],
     form: Form,
     images: &[Image<'a>],
 ) -> Result<(), Error>
+    requires ranks { HasRanks doc.old.names root }
     requires images { HaveImageNodes (AreImageNodes changes.hashes images.now digests.now)
-        (node_of root).children }
+        (sibling_of root).children }
     requires within { AreWithin form 0 (payloads_of images.now) }
-    requires distinct { EachOwn HasDistinctNames (node_of root).children }
+    requires distinct { EachOwn HasDistinctNames (sibling_of root).children }
     requires may { let payloads = payloads_of images.now in
-        let nodes = (node_of root).children in
+        let nodes = (sibling_of root).children in
         MayAdd doc.old
         (events (sorted_root_children changes.hashes form payloads digests.now nodes)) }
     ensures added { let payloads = payloads_of images.entry.now in
-        let nodes = (node_of root.entry).children in
+        let nodes = (sibling_of root.entry).children in
         OnOk result (doc.new ≡ with_events doc.old
         (events (sorted_root_children changes.hashes form payloads digests.entry.now nodes))) }
     ensures failed { IfErr result (λ error. error ≡ OutOfMemory) }
@@ -88,22 +90,23 @@ fn add_root_children<'a>(
 fn add_root_child<'a>(
     alloc: Global,
     doc: &mut Doc<'a>,
-    node: NodeRef<'a, '_>,
+    node: RankedNode<'a, '_>,
     changes: Changes,
     digests: &'a [u8],
     form: Form,
     images: &[Image<'a>],
 ) -> Result<(), Error>
+    requires ranks { HasRanks doc.old.names node }
     requires images { HaveImageNodes (AreImageNodes changes.hashes images.now digests.now)
-        (alone (node_of node)) }
+        (alone (sibling_of node)) }
     requires within { AreWithin form 0 (payloads_of images.now) }
-    requires distinct { EachOwn HasDistinctNames (alone (node_of node)) }
+    requires distinct { EachOwn HasDistinctNames (alone (sibling_of node)) }
     requires may { let payloads = payloads_of images.now in
-        let nodes = alone (node_of node) in
+        let nodes = alone (sibling_of node) in
         MayAdd doc.old
         (events (sorted_root_children changes.hashes form payloads digests.now nodes)) }
     ensures added { let payloads = payloads_of images.entry.now in
-        let nodes = alone (node_of node.entry) in
+        let nodes = alone (sibling_of node.entry) in
         OnOk result (doc.new ≡ with_events doc.old
         (events (sorted_root_children changes.hashes form payloads digests.entry.now nodes))) }
     ensures failed { IfErr result (λ error. error ≡ OutOfMemory) }

@@ -1,8 +1,9 @@
 use Rattle.std.proofs.Common.{◌≡◌, ◌∷◌, ◌++◌, map, append_assoc, sym, ap, ◌∙◌}
 use Rattle.bi_blob.specs.Tree.{property_of}
 use Rattle.bi_fdt.specs.Properties.{file_property_of}
+use Rattle.bi_fit.specs.LongNames.{name_if_long}
 use Rattle.bi_commands.specs.LimitedSinks.{takes_in_turn}
-use Rattle.bi_commands.specs.LongNames.{name_if_long, long_names}
+use Rattle.bi_commands.specs.LongNames.{long_names}
 use Rattle.bi_commands.proofs.describe.long_names.put_own_names.Goals as goal
 
 pub loop-property-preserved : goal.loop-property-preserved

@@ -4,19 +4,21 @@ use Rattle.bi_blob.specs.Tree.{EachOwn}
 use Rattle.bi_blob.specs.Lookups.{siblings}
 use Rattle.bi_blob.specs.Events.{events}
 use Rattle.bi_blob.specs.Layout.{longest_text}
-use Rattle.bi_fdt.specs.Views.{node_of}
+use Rattle.bi_fit.specs.RankedNodes.{sibling_of}
 use Rattle.bi_fit.specs.TakenDigests.{HaveImageDigests}
 use Rattle.bi_fit.specs.NormalNodes.{with_events, HasDistinctNames, AreWithin, payloads_of, nodes_by_name, sorted_images}
+use Rattle.bi_fit.proofs.AddedEvents.{HasNextRanks}
 use Rattle.bi_fit.proofs.NodeEvents.{nodes_from, IsAdding}
 use Rattle.bi_fit.proofs.document.image_nodes.add_image_nodes.Given as goal
 
 abbrev pub invariant-loop-image : goal.invariant-loop-image
 invariant-loop-image l = record {
-  adding : IsAdding l.doc (with_events l.fn.doc (events (sorted_images l.changes.hashes l.form 0 (payloads_of l.images) l.digests (node_of l.node).children)))
-      (sorted_images l.changes.hashes l.form l.end (payloads_of (drop l.image-index l.images)) l.left (nodes_from (option_map node_of l.next)));
-  distinct : EachOwn HasDistinctNames (nodes_from (option_map node_of l.next));
-  same_count : l.image-index + length (siblings (nodes_from (option_map node_of l.next))) ≡ length l.images;
-  has_digests : HaveImageDigests l.changes.hashes (payloads_of (drop l.image-index l.images)) l.left (nodes_by_name (nodes_from (option_map node_of l.next)));
+  adding : IsAdding l.doc (with_events l.fn.doc (events (sorted_images l.changes.hashes l.form 0 (payloads_of l.images) l.digests (sibling_of l.node).children)))
+      (sorted_images l.changes.hashes l.form l.end (payloads_of (drop l.image-index l.images)) l.left (nodes_from (option_map sibling_of l.next)));
+  ranks : HasNextRanks l.doc.names l.next;
+  distinct : EachOwn HasDistinctNames (nodes_from (option_map sibling_of l.next));
+  same_count : l.image-index + length (siblings (nodes_from (option_map sibling_of l.next))) ≡ length l.images;
+  has_digests : HaveImageDigests l.changes.hashes (payloads_of (drop l.image-index l.images)) l.left (nodes_by_name (nodes_from (option_map sibling_of l.next)));
   within : AreWithin l.form l.end (payloads_of (drop l.image-index l.images));
   small : l.end ≤ longest_text;
 }

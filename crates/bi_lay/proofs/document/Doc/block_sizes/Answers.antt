@@ -8,5 +8,5 @@ use Rattle.bi_lay.proofs.document.Doc.block_sizes.Goals as goal
 pub returns : goal.returns
 returns c =
     subst (λ content. MatchOption c.measure.result (longest_text < length (text_of content)) (AreBlockSizes content)) c.self.view_is
-    (found_sizes c.self.inside c.len.result c.deref.result.now c.length.result c.measure.result c.self.invariant
-    (record { is_count = c.len.ensures; are_items = c.deref.ensures.value; is_strings = c.length.ensures }) c.measure.ensures)
+    (found_sizes c.self.inside c.len.result c.deref.result.now c.block_length.result c.measure.result c.self.invariant
+    (record { is_count = c.len.ensures; are_items = c.deref.ensures.value; is_strings = c.block_length.ensures }) c.measure.ensures)

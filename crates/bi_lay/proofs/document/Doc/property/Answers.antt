@@ -14,4 +14,4 @@ invariant_of-self-2 c =
     kept-added c.self.inside _ _ c.self.invariant
     (subst (λ content. MayHaveNextProperty c.args.name.now (stage_of_events content.events)) (sym c.self.view_is) c.requires)
     (record { items = items; room = omega (arith, len, c.push.ensures.capacity, c.in_ok-reserve.ensures.ok) })
-    refl c.in_ok-name_offset.ensures.names c.in_ok-name_offset.ensures.offset
+    refl (ap (λ names. names.in_block) c.in_ok-name_offset.ensures.names) c.in_ok-name_offset.ensures.offset

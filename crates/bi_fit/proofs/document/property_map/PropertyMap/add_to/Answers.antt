@@ -1,14 +1,46 @@
-use Rattle.std.proofs.Common.{◌≡◌, refl, sym, ap, ◌∙◌, nat_cmp, rules}
+use Rattle.std.proofs.Common.{◌≡◌, ◌+◌, ◌∷◌, map, drop, get_or, add-one, sym, ap, subst, ◌∙◌, nat_cmp}
 use Rattle.std.specs.Cmp.Lexicographic.{slice_cmp}
 use Rattle.std.specs.FinMap.{entries, entries-from_sorted}
-use Rattle.bi_fit.specs.PropertyMaps.{properties_in}
+use Rattle.bi_fit.specs.PropertyMaps.{properties_in, numbers_in}
+use Rattle.bi_fit.specs.PropertyMapModels.{AreNumbersIn, HaveNumbers}
+use Rattle.std.proofs.Math.Seq.{drop-cons}
+use Rattle.bi_blob.specs.Events.{NodeProperty}
+use Rattle.bi_fit.specs.NormalNodes.{MayAdd, with_events}
+use Rattle.bi_fit.proofs.AddedProperties.{no_entry, IsAddingEntries, entry_number, may_add_entry, adding_more}
 use Rattle.bi_fit.proofs.document.property_map.PropertyMap.add_to.Goals as goal
 
-pub loop-name-init : goal.loop-name-init
-loop-name-init c =
-    let here : c.into_iter-name-iterator.result ≡ c.self.inside.values.entries = search rules in
-    let all : properties_in c.into_iter-name-iterator.result ≡ entries c.args.self.now =
-    ap properties_in here
-    ∙ sym (entries-from_sorted (slice_cmp nat_cmp) (properties_in c.self.inside.values.entries) c.self.invariant)
-    ∙ ap entries c.self.view_is in
-    rw all (record { added = refl; may = c.requires })
+pub loop-entry-init : goal.loop-entry-init
+loop-entry-init c =
+    let all : properties_in c.deref-entry-items.result.now ≡ entries c.args.self.now.by_name =
+    ap properties_in c.deref-entry-items.ensures.value
+    ∙ sym (entries-from_sorted (slice_cmp nat_cmp) (properties_in c.self.inside.entries.items) c.self.invariant)
+    ∙ ap (λ properties. entries properties.by_name) c.self.view_is in
+    let numbers : AreNumbersIn c.args.doc.now.names (numbers_in c.deref-entry-items.result.now) =
+    subst (λ l. AreNumbersIn c.args.doc.now.names (numbers_in l)) (sym c.deref-entry-items.ensures.value) (subst (HaveNumbers c.args.doc.now.names) (sym c.self.view_is) c.requires.numbers) in
+    record {
+      added = ap (λ l. with_events c.args.doc.now (map NodeProperty l)) all;
+      numbers = numbers;
+      may = subst (λ l. MayAdd c.args.doc.now (map NodeProperty l)) (sym all) c.requires.may;
+    }
+
+pub add_entry-requires : goal.add_entry-requires
+add_entry-requires c =
+    let items = c.deref-entry-items.result.now in
+    let target = with_events c.args.doc.now (map NodeProperty (entries c.args.self.now.by_name)) in
+    let entry = get_or items c.loop-entry.entry-index no_entry in
+    let later = drop (c.loop-entry.entry-index + 1) items in
+    let left : drop c.loop-entry.entry-index items ≡ entry ∷ later = rw add-one (drop-cons items c.loop-entry.entry-index no_entry c.loop-entry-test.true) in
+    let adding = subst (IsAddingEntries c.loop-entry.doc target) left c.loop-entry.invariant in
+    record {
+      number = entry_number c.loop-entry.doc target entry later adding;
+      may = may_add_entry c.loop-entry.doc target entry later adding;
+    }
+
+pub loop-entry-preserved : goal.loop-entry-preserved
+loop-entry-preserved c =
+    let items = c.deref-entry-items.result.now in
+    let target = with_events c.args.doc.now (map NodeProperty (entries c.args.self.now.by_name)) in
+    let entry = get_or items c.loop-entry.entry-index no_entry in
+    let later = drop (c.loop-entry.entry-index + 1) items in
+    let left : drop c.loop-entry.entry-index items ≡ entry ∷ later = rw add-one (drop-cons items c.loop-entry.entry-index no_entry c.loop-entry-test.true) in
+    adding_more c.loop-entry.doc target entry later (subst (IsAddingEntries c.loop-entry.doc target) left c.loop-entry.invariant) c.add_entry.new.doc c.in_ok-add_entry.ensures.added

@@ -1,13 +1,11 @@
-use Rattle.std.proofs.Common.{◌≡◌, map, ap, ◌∙◌, rules}
-use Rattle.std.specs.FinMap.{empty}
-use Rattle.bi_blob.specs.Tree.{property_of, properties_of}
-use Rattle.bi_fdt.specs.Views.{node_of}
-use Rattle.bi_fit.proofs.PropertyMaps.{insert_all, inserted-all}
+use Rattle.std.proofs.Common.{◌≡◌, Some, slice_get, sym, ap, subst, ◌∙◌, rules, append-nil}
+use Rattle.std.specs.List.{AllByRecursion}
+use Rattle.bi_fit.specs.PropertyMaps.{numbers_in}
+use Rattle.bi_fit.proofs.Rankings.{ranked_entries, ranks_are_numbers}
 use Rattle.bi_fit.proofs.document.property_map.PropertyMap.from_node.Goals as goal
 
-pub loop-property-init : goal.loop-property-init
-loop-property-init c =
-    let here : c.into_iter-property-iterator.result ≡ (node_of c.args.node).own.properties = search rules in
-    ap (λ m. insert_all m (map property_of c.into_iter-property-iterator.result)) c.new-properties.ensures
-    ∙ ap (λ l. insert_all empty (map property_of l)) here
-    ∙ inserted-all (properties_of (node_of c.args.node).own) c.requires
+pub returns-clause-numbers : goal.returns-clause-numbers
+returns-clause-numbers c names has =
+    let all : c.loop-entry.entries.items ≡ ranked_entries c.in_ok-by_rank.by_rank.entries = search (rules, append-nil) in
+    subst (λ l. AllByRecursion (λ e. slice_get names e.1 ≡ Some e.0) (numbers_in l)) (sym all)
+    (ranks_are_numbers names c.in_ok-by_rank.by_rank.entries (c.in_ok-by_rank.ensures names has).at_ranks)

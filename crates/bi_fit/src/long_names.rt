@@ -1,0 +1,43 @@
+//! The long names of the properties of a file, of which a text has each in full.
+
+ghost use Rattle.std.specs.Prelude.{◌≡◌, ◌<◌, ◌≤◌, length, flat_map, OnOk, IfErr};
+ghost use Rattle.bi_base.specs.Reading.{too_large};
+ghost use Rattle.bi_base.specs.Slices.{bytes_of};
+ghost use Rattle.bi_fit.specs.LongNames.{name_if_long};
+
+use bi_base::{Cause, Fault, refuse};
+
+/// The length from which on a name is long. Names may share bytes, so long ones can have more bytes
+/// together than the file, and their comparisons can take long.
+const LEAST_LENGTH: usize = 64;
+
+/// Checks that the long ones of these names are together no longer than a limit. It reads no byte
+/// of a name, and takes time linear in the number of names.
+///
+/// Error: TooLarge at the limit, exactly if they are longer.
+pub(crate) fn check_long_names(names: &[&[u8]], limit: u32) -> Result<(), Fault>
+    ensures ok { let long = flat_map name_if_long (bytes_of names.now) in
+        OnOk result (length long ≤ limit) }
+    ensures fault { let long = flat_map name_if_long (bytes_of names.now) in
+        IfErr result (λ fault. (fault ≡ too_large limit) × (limit < length long)) }
+{
+    let mut room = limit as usize;
+    for name in names {
+        let length = long_length(name);
+        if length > room {
+            return refuse(Cause::TooLarge, limit);
+        }
+        room -= length;
+    }
+    Ok(())
+}
+
+/// Returns the length of a name, if it is long, and 0 if it is shorter.
+fn long_length(name: &[u8]) -> usize
+    ensures { result ≡ length (name_if_long name.now) }
+{
+    if name.len() < LEAST_LENGTH {
+        return 0;
+    }
+    name.len()
+}
