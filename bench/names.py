@@ -1,7 +1,7 @@
 """Measures the program on hostile files: for each shape and size, the time and the peak memory of each command.
 
     python3 bench/names.py [--program PATH] [--size MIB ..] [--shape NAME ..] [--command WORDS ..] [--stop SECONDS]
-        [--rounds NUMBER] [--unlimited] [--write DIRECTORY]
+        [--rounds NUMBER] [--unlimited] [--write DIRECTORY] [--most RATIO]
 
 Without sizes the files have 1, 4 and 16 MiB, and without shapes or commands all are tried. The option --limit of each command is the
 length of the file, or is left out with --unlimited. A time is that of the processor, the
@@ -9,7 +9,8 @@ least of three runs, or of --rounds. Beside it are three ratios: to the time of 
 the ratio of the sizes, so 1 is linear; to the time of `sha256sum` of the file; and of the memory above the size of the file to
 the size. A command that takes longer than 60 seconds, or than --stop, is ended, and larger files of its shape are left out for
 it. At the end there is a table with the most of each command at each size. With --write, the files are written into a directory
-and nothing is measured. Nothing is judged.
+and nothing is measured. With --most, the status is 1 if a command was ended, or took longer than this many times `sha256sum` of
+each of its files; otherwise nothing is judged.
 """
 import argparse
 import os
@@ -193,10 +194,12 @@ def write(shape, mib, path):
 
 
 class Measured:
-    """What a command took: the status, or None if it was ended, the seconds of the processor, and the MiB of memory."""
+    """What a command took: the status, or None if it was ended, the seconds of the processor, and the MiB of memory. And how many
+    times the seconds of `sha256sum` of its files these are."""
 
     def __init__(self, status, seconds, memory):
         self.status, self.seconds, self.memory = status, seconds, memory
+        self.ratio = None
 
 
 def run(words, path, stop):
@@ -272,6 +275,7 @@ def measure(options, path):
                 if not options.unlimited:
                     words += ["--limit", str(max(64, os.path.getsize(path)))]
                 measured = least(words, path, options.stop, options.rounds)
+                measured.ratio = measured.seconds / (checksum * max(1, command.split().count("FILE")))
                 row(shape, mib, command, measured, before.get(command), checksum)
                 before[command] = (mib, measured)
                 if measured.status is None:
@@ -292,6 +296,18 @@ def most(all_measured):
         print(f"| {command:20} | {mib:4g} | {time_taken} | {largest[1].memory:14.0f} | {largest[0]:18} |")
 
 
+def are_above(all_measured, ratio):
+    """Prints which commands were ended or took longer than this many times `sha256sum`. Returns whether there are any."""
+    above = [
+        f"{command} of {shape}, {mib:g} MiB: {'ended' if measured.status is None else f'{measured.ratio:.1f} times sha256sum'}"
+        for (command, mib), found in all_measured.items()
+        for shape, measured in found
+        if measured.status is None or measured.ratio > ratio
+    ]
+    print("\n".join(above))
+    return above != []
+
+
 def main():
     parser = argparse.ArgumentParser(usage=__doc__)
     parser.add_argument("--program", default=os.path.join(ROOT, "crates/bootimg/out/bootimg"))
@@ -302,6 +318,7 @@ def main():
     parser.add_argument("--rounds", type=int, default=3)
     parser.add_argument("--unlimited", action="store_true")
     parser.add_argument("--write")
+    parser.add_argument("--most", type=float)
     options = parser.parse_args()
     if options.write:
         for shape in options.shape:
@@ -311,7 +328,10 @@ def main():
     print(f"| {'shape':18} | MiB  | {'command':20} | status | seconds | grown | sha256sum | MiB    | above |")
     print(f"|{'-' * 20}|-----:|{'-' * 22}|-------:|--------:|------:|----------:|-------:|------:|")
     with tempfile.TemporaryDirectory() as directory:
-        most(measure(options, os.path.join(directory, "file")))
+        all_measured = measure(options, os.path.join(directory, "file"))
+    most(all_measured)
+    if options.most is not None and are_above(all_measured, options.most):
+        sys.exit(1)
 
 
 main()
