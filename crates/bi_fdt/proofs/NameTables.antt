@@ -5,7 +5,7 @@ use Rattle.std.proofs.Math.Seq.{take-suc}
 use Rattle.std.proofs.lemmas.List.{append_assoc, append-nil, map-append}
 use Rattle.bi_blob.specs.Blob.{tree_blocks}
 use Rattle.bi_blob.specs.Tokens.{name_from}
-use Rattle.bi_blob.proofs.Blobs.BytesBeforeZero.{name_from-IsNameAt}
+use Rattle.bi_blob.proofs.Blobs.BytesBeforeZero.{name_from-IsNameAt, IsNameAt-within}
 use Rattle.bi_base.specs.Cells.{u32_at}
 use Rattle.bi_fdt.specs.declared.name_table.NameTable.{NameTable}
 use Rattle.bi_fdt.specs.declared.table.Entry.{Entry}
@@ -28,6 +28,16 @@ name_at_offset file strings e property at block is has offset =
     let named : IsNamedAt file (property_in file property) = subst (λ other. HasNameOffset file (item_in file other)) is has in
     (λ i. name_from (block i) (offset i))
     ∙ name_from-IsNameAt (tree_blocks file).strings (u32_at file (property.place + 8)) (property_in file property).name named.name
+
+-- It ends within the strings block.
+pub name_ends_within : (file strings : List ℕ) (e : Entry) (property : PropertyEntry) (at : ℕ) → strings ≡ (tree_blocks file).strings →
+    e ≡ entry.Property property → HasNameOffset file (item_in file e) → at ≡ u32_at file (property.place + 8) →
+    at + length (property_in file property).name < length strings
+name_ends_within file strings e property at block is has offset =
+    let named : IsNamedAt file (property_in file property) = subst (λ other. HasNameOffset file (item_in file other)) is has in
+    let within = IsNameAt-within (tree_blocks file).strings (u32_at file (property.place + 8)) (property_in file property).name named.name in
+    subst (λ n. n + length (property_in file property).name < length strings) (sym offset)
+    (subst (λ bytes. u32_at file (property.place + 8) + length (property_in file property).name < length bytes) (sym block) within)
 
 -- What holds of the item of each entry.
 pub item_at : (P : TableItem → Type 0) (file : List ℕ) (entries : List Entry) (index : ℕ) (d : Entry) →

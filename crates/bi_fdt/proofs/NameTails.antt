@@ -7,7 +7,7 @@ use Rattle.std.proofs.lemmas.Option.{some_pair_parts}
 use Rattle.bi_blob.specs.Tokens.{name_from}
 use Rattle.bi_fdt.specs.NameParts.{NamePart, AreOnce}
 use Rattle.bi_fdt.specs.Numbers.{BeginsWith}
-use Rattle.bi_fdt.specs.NameTails.{AreBlocksNumbered, IsTail, IsHead}
+use Rattle.bi_fdt.specs.NameTails.{AreBlocksNumbered, AreAllBlocks, IsTail, IsHead, head_length}
 use Rattle.bi_fdt.proofs.NameEnds.{drop_again}
 use Rattle.bi_fdt.proofs.NameParts.{slice_get-begin}
 
@@ -27,7 +27,11 @@ AreBlocksNumbered-more old new begins (suc count) number name is = (
 
 pub IsTail-kept : (old new : List NamePart) → BeginsWith new old → (number : ℕ) (name : List ℕ) → IsTail old number name →
     IsTail new number name
-IsTail-kept old new begins number name is = AreBlocksNumbered-more old new begins (length name / 64) number name is
+IsTail-kept old new begins number name is = AreBlocksNumbered-more old new begins (length name / 64 - 1) number name is
+
+pub AreAllBlocks-kept : (old new : List NamePart) → BeginsWith new old → (number : ℕ) (name : List ℕ) → AreAllBlocks old number name →
+    AreAllBlocks new number name
+AreAllBlocks-kept old new begins number name is = AreBlocksNumbered-more old new begins (length name / 64) number name is
 
 -- The block that begins this many bytes before the end of a name is that of a later end of it.
 block_later : (skipped size : ℕ) (name : List ℕ) → size + skipped ≤ length name →
@@ -83,73 +87,74 @@ same_blocks tails (suc m) (suc n) number a b m_within n_within is other =
     ∙ (λ i. both.1 i ++ (same_blocks tails m n is.0 a b (omega arith) (omega arith) is.3 (subst (λ k. AreBlocksNumbered tails n k b) (sym both.0) other.3)) i)
     ∙ sym (ap (λ k. drop (length b - 64 * k) b) more_n ∙ longer_end b n (omega arith))
 
--- The head of a name and its tail are the name.
-head_and_tail : (name : List ℕ) → take (length name % 64) name ++ drop (length name - 64 * (length name / 64)) name ≡ name
-head_and_tail name =
-    let at : length name - 64 * (length name / 64) ≡ length name % 64 = omega arith in
-    ap (λ k. take (length name % 64) name ++ drop k name) at ∙ take-append-drop (length name % 64) name
-
 -- Names that have one head, and tails of one number, are one name.
 pub same_name_of_head : (tails : List NamePart) (part : NamePart) (a b : List ℕ) → IsHead tails part a → IsHead tails part b → a ≡ b
 same_name_of_head tails part a b is other =
-    let head : take (length a % 64) a ≡ take (length b % 64) b = sym is.head ∙ other.head in
-    let tail : drop (length a - 64 * (length a / 64)) a ≡ drop (length b - 64 * (length b / 64)) b =
-    same_blocks tails (length a / 64) (length b / 64) part.0 a b (omega arith) (omega arith) is.tail other.tail in
-    sym (head_and_tail a) ∙ (λ i. head i ++ tail i) ∙ head_and_tail b
+    let head : take (head_length a) a ≡ take (head_length b) b = sym is.head ∙ other.head in
+    let tail : drop (head_length a) a ≡ drop (head_length b) b =
+    same_blocks tails (length a / 64 - 1) (length b / 64 - 1) part.0 a b (omega arith) (omega arith) is.tail other.tail in
+    sym (take-append-drop (head_length a) a) ∙ (λ i. head i ++ tail i) ∙ take-append-drop (head_length b) b
 
 -- A name has one head, and its tail one number.
 pub one_head : (tails : List NamePart) → AreOnce tails → (p q : NamePart) (name : List ℕ) → IsHead tails p name → IsHead tails q name →
     p ≡ q
 one_head tails once p q name is other =
-    let tail : p.0 ≡ q.0 = one_number tails once (length name / 64) p.0 q.0 name is.tail other.tail in
+    let tail : p.0 ≡ q.0 = one_number tails once (length name / 64 - 1) p.0 q.0 name is.tail other.tail in
     let head : p.1 ≡ q.1 = is.head ∙ sym other.head in
     λ i. (tail i, head i)
 
--- The tail of a name of less than 64 bytes is empty.
-pub IsTail-short : (tails : List NamePart) (name : List ℕ) → length name < 64 → IsTail tails 0 name
-IsTail-short tails name short = subst (λ count. AreBlocksNumbered tails count 0 name) none refl where
+-- A name of less than 64 bytes ends with no block.
+pub AreAllBlocks-none : (tails : List NamePart) (name : List ℕ) → length name < 64 → AreAllBlocks tails 0 name
+AreAllBlocks-none tails name short = subst (λ count. AreBlocksNumbered tails count 0 name) none refl where
   none : 0 ≡ length name / 64
   none = omega arith
 
--- The tail of a name with as many blocks as a later end of it.
-pub IsTail-same : (tails : List NamePart) (skipped number : ℕ) (name : List ℕ) → skipped ≤ length name →
-    (length name - skipped) / 64 ≡ length name / 64 →
-    IsTail tails number (drop skipped name) → IsTail tails number name
-IsTail-same tails skipped number name within same is =
-    AreBlocksNumbered-later tails (length name / 64) skipped number name (omega arith)
-    (subst (λ count. AreBlocksNumbered tails count number (drop skipped name)) (ap (λ n. n / 64) (length-drop skipped name) ∙ same) is)
+-- The tail of a name of less than 128 bytes is empty.
+pub IsTail-short : (tails : List NamePart) (name : List ℕ) → length name < 128 → IsTail tails 0 name
+IsTail-short tails name short = subst (λ count. AreBlocksNumbered tails count 0 name) none refl where
+  none : 0 ≡ length name / 64 - 1
+  none = omega arith
 
--- The tail of a name with a block more than a later end of it.
-pub IsTail-more : (old new : List NamePart) (skipped begin size later index : ℕ) (name : List ℕ) → 64 ≤ length name → 1 ≤ skipped →
-    skipped ≤ 64 →
-    ¬ ((length name - skipped) / 64 ≡ length name / 64) → begin ≡ length name % 64 → size ≡ 64 → BeginsWith new old →
-    slice_get new index ≡ Some (later, take size (drop begin name)) → IsTail old later (drop skipped name) → IsTail new (index + 1) name
-IsTail-more old new skipped begin size later index name long least most differs at whole begins is_at is =
-    let count : ℕ = (length name - skipped) / 64 in
-    let one_more : suc count ≡ length name / 64 = omega (arith, differs) in
+-- The tail of a name is all blocks of an end of it that has a block less.
+pub IsTail-later : (tails : List NamePart) (skipped number : ℕ) (name : List ℕ) → skipped ≤ length name →
+    (length name - skipped) / 64 ≡ length name / 64 - 1 →
+    AreAllBlocks tails number (drop skipped name) → IsTail tails number name
+IsTail-later tails skipped number name within less is =
+    AreBlocksNumbered-later tails (length name / 64 - 1) skipped number name (omega arith)
+    (subst (λ count. AreBlocksNumbered tails count number (drop skipped name)) (ap (λ n. n / 64) (length-drop skipped name) ∙ less) is)
+
+-- All blocks of a name are the first, and all blocks of the name 64 bytes later.
+pub AreAllBlocks-more : (old new : List NamePart) (begin size later index : ℕ) (name : List ℕ) → 64 ≤ length name →
+    begin ≡ length name % 64 → size ≡ 64 → BeginsWith new old →
+    slice_get new index ≡ Some (later, take size (drop begin name)) → AreAllBlocks old later (drop 64 name) →
+    AreAllBlocks new (index + 1) name
+AreAllBlocks-more old new begin size later index name long at whole begins is_at is =
+    let count : ℕ = length name / 64 - 1 in
+    let one_more : suc count ≡ length name / 64 = omega arith in
+    let fewer : (length name - 64) / 64 ≡ count = omega arith in
     let first : begin ≡ length name - 64 * (count + 1) = omega arith in
     let blocks : AreBlocksNumbered old count later name =
-    AreBlocksNumbered-later old count skipped later name (omega arith)
-    (subst (λ n. AreBlocksNumbered old (n / 64) later (drop skipped name)) (length-drop skipped name) is) in
+    AreBlocksNumbered-later old count 64 later name (omega arith)
+    (subst (λ n. AreBlocksNumbered old n later (drop 64 name)) (ap (λ n. n / 64) (length-drop 64 name) ∙ fewer) is) in
     let index_is : index + 1 - 1 ≡ index = omega arith in
     let block : slice_get new (index + 1 - 1) ≡ Some (later, take 64 (drop (length name - 64 * (count + 1)) name)) =
     ap (slice_get new) index_is ∙ is_at ∙ (λ i. Some (later, take (whole i) (drop (first i) name))) in
     subst (λ n. AreBlocksNumbered new n (index + 1) name) one_more
     (later, omega arith, block, AreBlocksNumbered-more old new begins count later name blocks)
 
--- One more tail, of the name at a lower multiple of 64.
-pub tails_more : (old new : List NamePart) (strings numbers more : List ℕ) (count n number : ℕ) → BeginsWith new old → length numbers ≡ n
-    → ((index : ℕ) (d : ℕ) → index < n → IsTail old (slice_index_or numbers index d) (name_from strings (64 * (count - 1 - index))))
-    → IsTail new number (name_from strings (64 * (count - 1 - n))) → more ≡ numbers ++ number ∷ []
-    → (index : ℕ) (d : ℕ) → index < n + 1 → IsTail new (slice_index_or more index d) (name_from strings (64 * (count - 1 - index)))
-tails_more old new strings numbers more count n number begins long each is pushed index d within =
-    subst (λ l. IsTail new (slice_index_or l index d) (name_from strings (64 * (count - 1 - index)))) (sym pushed)
+-- One more number, of the blocks of the name at a lower multiple of 64.
+pub blocks_more : (old new : List NamePart) (strings numbers more : List ℕ) (count n number : ℕ) → BeginsWith new old → length numbers ≡ n
+    → ((index : ℕ) (d : ℕ) → index < n → AreAllBlocks old (slice_index_or numbers index d) (name_from strings (64 * (count - 1 - index))))
+    → AreAllBlocks new number (name_from strings (64 * (count - 1 - n))) → more ≡ numbers ++ number ∷ []
+    → (index : ℕ) (d : ℕ) → index < n + 1 → AreAllBlocks new (slice_index_or more index d) (name_from strings (64 * (count - 1 - index)))
+blocks_more old new strings numbers more count n number begins long each is pushed index d within =
+    subst (λ l. AreAllBlocks new (slice_index_or l index d) (name_from strings (64 * (count - 1 - index)))) (sym pushed)
     (elim (eq-or-lt_of_le {n = index} {m = n} (omega arith)) [
-      | inl same ↦ subst (λ k. IsTail new k (name_from strings (64 * (count - 1 - index))))
+      | inl same ↦ subst (λ k. AreAllBlocks new k (name_from strings (64 * (count - 1 - index))))
           (sym (get_or-append_right numbers (number ∷ []) n index d long (omega arith) ∙ ap (λ k. slice_index_or (number ∷ []) k d) (first same)))
-          (subst (λ k. IsTail new number (name_from strings (64 * (count - 1 - k)))) (sym same) is)
-      | inr below ↦ subst (λ k. IsTail new k (name_from strings (64 * (count - 1 - index)))) (sym (get_or_append_left numbers (number ∷ []) d index (omega arith)))
-          (IsTail-kept old new begins _ _ (each index d below))
+          (subst (λ k. AreAllBlocks new number (name_from strings (64 * (count - 1 - k)))) (sym same) is)
+      | inr below ↦ subst (λ k. AreAllBlocks new k (name_from strings (64 * (count - 1 - index)))) (sym (get_or_append_left numbers (number ∷ []) d index (omega arith)))
+          (AreAllBlocks-kept old new begins _ _ (each index d below))
     ]) where
       first : index ≡ n → index - n ≡ 0
       first same = omega arith

@@ -4,11 +4,11 @@ use Rattle.std.proofs.lemmas.Option.{none-some, same_Some, slice_get_within}
 use Rattle.bi_blob.specs.Tree.{IsNew}
 use Rattle.bi_blob.proofs.Blobs.OpenNodes.{AreDistinct-push}
 use Rattle.bi_fdt.specs.NameParts.{NamePart, AreOnce, IsNewPart, IsPlaced, AreMoreParts}
-use Rattle.bi_fdt.specs.NameTails.{IsHead, AreHeads, AreTails}
+use Rattle.bi_fdt.specs.NameTails.{IsHead, AreHeads, AreBlockNumbers}
 use Rattle.bi_fdt.specs.Numbers.{BeginsWith, IsNumbered, AreNumbered}
 use Rattle.bi_fdt.specs.Table.{TableItem, NodeItem, PropertyItem}
 use Rattle.bi_fdt.proofs.NameParts.{slice_get-begin, placed_more}
-use Rattle.bi_fdt.proofs.NameTails.{IsTail-kept, same_name_of_head, one_head}
+use Rattle.bi_fdt.proofs.NameTails.{IsTail-kept, AreAllBlocks-kept, same_name_of_head, one_head}
 
 -- Names keep their numbers when more are added.
 
@@ -62,11 +62,11 @@ AreHeads-tails old new heads names more are = record {
   distinct = are.distinct;
 }
 
-pub AreTails-more : (old new : List NamePart) (strings numbers : List ℕ) → BeginsWith new old → AreTails old strings numbers →
-    AreTails new strings numbers
-AreTails-more old new strings numbers begins are = record {
+pub AreBlockNumbers-more : (old new : List NamePart) (strings numbers : List ℕ) → BeginsWith new old → AreBlockNumbers old strings numbers →
+    AreBlockNumbers new strings numbers
+AreBlockNumbers-more old new strings numbers begins are = record {
   count = are.count;
-  each = λ index d within. IsTail-kept old new begins _ _ (are.each index d within);
+  each = λ index d within. AreAllBlocks-kept old new begins _ _ (are.each index d within);
 }
 
 -- As many heads as names.

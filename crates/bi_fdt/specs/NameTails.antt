@@ -1,13 +1,13 @@
-use Rattle.std.specs.Prelude.{◌≡◌, ℕ, zero, suc, ◌+◌, ◌-◌, ◌*◌, ◌/◌, ◌%◌, ◌<◌, ◌≤◌, List, length}
+use Rattle.std.specs.Prelude.{◌≡◌, ℕ, zero, suc, ◌+◌, ◌-◌, ◌*◌, ◌/◌, ◌<◌, ◌≤◌, List, length}
 use Rattle.std.specs.Prelude.{take, drop, Some, slice_get, slice_index_or}
 use Rattle.std.specs.List.{AllZip}
 use Rattle.bi_blob.specs.Tokens.{name_from}
 use Rattle.bi_blob.specs.Tree.{AreDistinct}
 use Rattle.bi_fdt.specs.NameParts.{NamePart, AreOnce}
 
--- Heads and tails of names. The tail of a name is all blocks of 64 bytes that the name ends with,
--- and its head is the bytes before them, less than 64. A tail is a list of parts that have a block
--- each, so that the numbers of two tails are equal exactly if the tails are.
+-- Heads and tails of names. The tail of a name is all blocks of 64 bytes that the name ends with but
+-- the first, and its head is the bytes before them, less than 128. A tail is a list of parts that
+-- have a block each, so that the numbers of two tails are equal exactly if the tails are.
 
 -- The last blocks of a name have this number: 0 if they are none, and else 1 more than the number
 -- of the part that has the first of them.
@@ -19,20 +19,29 @@ AreBlocksNumbered tails (suc count) number name =
     ≡ Some (later, take 64 (drop (length name - 64 * (count + 1)) name)))
     × AreBlocksNumbered tails count later name
 
+-- All blocks that a name ends with have this number.
+abbrev pub AreAllBlocks : List NamePart → ℕ → List ℕ → Type 0
+AreAllBlocks tails number name = AreBlocksNumbered tails (length name / 64) number name
+
 -- The tail of a name has this number.
 abbrev pub IsTail : List NamePart → ℕ → List ℕ → Type 0
-IsTail tails number name = AreBlocksNumbered tails (length name / 64) number name
+IsTail tails number name = AreBlocksNumbered tails (length name / 64 - 1) number name
 
--- These are the numbers of the tails of the names at the first multiples of 64, the last of them
+-- These are the numbers of all blocks of the names at the first multiples of 64, the last of them
 -- first.
-pub record AreTails (tails : List NamePart) (strings : List ℕ) (numbers : List ℕ) : Type 0 where
-  pub count : length numbers ≡ length strings / 64 + 1
-  pub each : (index : ℕ) (d : ℕ) → index < length numbers → IsTail tails
-      (slice_index_or numbers index d) (name_from strings (64 * (length numbers - 1 - index)))
+pub record AreBlockNumbers (tails : List NamePart) (strings : List ℕ) (numbers : List ℕ) : Type 0
+  where
+    pub count : length numbers ≡ length strings / 64 + 1
+    pub each : (index : ℕ) (d : ℕ) → index < length numbers → AreAllBlocks tails
+        (slice_index_or numbers index d) (name_from strings (64 * (length numbers - 1 - index)))
+
+-- The length of the head of a name.
+abbrev pub head_length : List ℕ → ℕ
+head_length name = length name - 64 * (length name / 64 - 1)
 
 -- A part has the head of a name, and the number of its tail.
 pub record IsHead (tails : List NamePart) (part : NamePart) (name : List ℕ) : Type 0 where
-  pub head : part.1 ≡ take (length name % 64) name
+  pub head : part.1 ≡ take (head_length name) name
   pub tail : IsTail tails part.0 name
 
 -- These are the heads of distinct names.

@@ -1,20 +1,21 @@
 //! Digests of names, by which long names of one length are compared without reading them.
 //!
 //! Names of properties may share a run of the strings block that is nearly as long as the file. So
-//! the digest of a name is made from that of a later end of the name, in a fixed time.
+//! digests are made only at the multiples of 64, each from the one after it, and the digest of any
+//! name is one of them.
 
-ghost use Rattle.std.specs.Prelude.{◌≡◌, ◌<◌, ◌≤◌, ◌/◌, ◌+◌, ◌-◌, ◌++◌, ℕ, List, length, drop};
+ghost use Rattle.std.specs.Prelude.{◌≡◌, ◌<◌, ◌≤◌, ◌/◌, ◌+◌, ◌-◌, ◌++◌, ℕ, List, length};
 ghost use Rattle.std.specs.Prelude.{slice_index_or, IfOk};
 ghost use Rattle.sha2.specs.Sha256.{sha256};
 ghost use Rattle.bi_blob.specs.Tokens.{name_from};
-ghost use Rattle.bi_fdt.specs.Digests.{digest_of_name, AreDigests};
+ghost use Rattle.bi_fdt.specs.Digests.{digest_of_all_blocks, AreDigests};
 ghost use Rattle.bi_fdt.specs.Strings.{end_of, AreEnds};
 
 use crate::strings::STRIDE;
 use sha2::{Digest, Sha256};
 use std::alloc::{AllocError, Global};
 
-/// The digest of a name of less than 64 bytes.
+/// The digest of no blocks.
 pub(crate) const NO_DIGEST: [u8; 32] = [0; 32];
 
 /// Returns the digest of a block and of the digest of the blocks after it.
@@ -27,34 +28,21 @@ fn block_digest(block: &[u8], later: [u8; 32]) -> [u8; 32]
     hasher.finalize()
 }
 
-/// Returns the digest of a name, from that of the name without its first 1 to 64 bytes.
-pub(crate) fn longer_digest(name: &[u8], skipped: usize, later: [u8; 32]) -> [u8; 32]
-    requires long { 64 ≤ length name.now }
-    requires least { 1 ≤ skipped }
-    requires most { skipped ≤ 64 }
-    requires later { later ≡ digest_of_name (drop skipped name.now) }
-    ensures { result ≡ digest_of_name name.now }
-{
-    if (name.len() - skipped) / STRIDE == name.len() / STRIDE {
-        return later;
-    }
-    let begin = name.len() % STRIDE;
-    block_digest(&name[begin..begin + STRIDE], later)
-}
-
-/// Returns the digest of the name at offset `at`, which ends at `end`, from that of the name at
-/// 64 bytes later.
+/// Returns the digest of all blocks of the name at offset `at`, which ends at `end`, from that of
+/// the name at 64 bytes later.
 fn digest_before(bytes: &[u8], at: usize, end: usize, later: [u8; 32]) -> [u8; 32]
     requires at { at ≤ length bytes.now }
     requires end { end ≡ end_of bytes.now at }
     requires later { at + 64 ≤ length bytes.now →
-        later ≡ digest_of_name (name_from bytes.now (at + 64)) }
-    ensures { result ≡ digest_of_name (name_from bytes.now at) }
+        later ≡ digest_of_all_blocks (name_from bytes.now (at + 64)) }
+    ensures { result ≡ digest_of_all_blocks (name_from bytes.now at) }
 {
-    if end - at < STRIDE {
+    let name = &bytes[at..end];
+    if name.len() < STRIDE {
         return NO_DIGEST;
     }
-    longer_digest(&bytes[at..end], STRIDE, later)
+    let begin = name.len() % STRIDE;
+    block_digest(&name[begin..begin + STRIDE], later)
 }
 
 /// Returns the last of these digests, if there is one.
@@ -68,8 +56,8 @@ fn last_of(digests: &[[u8; 32]]) -> [u8; 32]
     digests[digests.len() - 1]
 }
 
-/// Returns the digests of the names at the first multiples of 64, which have these ends, the last
-/// of them first. It fails if memory runs out.
+/// Returns the digests of all blocks of the names at the first multiples of 64, which have these
+/// ends, the last of them first. It fails if memory runs out.
 pub(crate) fn digests_of_names(
     alloc: Global,
     bytes: &[u8],

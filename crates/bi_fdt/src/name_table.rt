@@ -1,22 +1,22 @@
 //! A table of the names of properties.
 
-ghost use Rattle.std.specs.Prelude.{◌≡◌, [], IfOk, Some, slice_get};
+ghost use Rattle.std.specs.Prelude.{◌≡◌, [], IfOk, Some, slice_get, take};
 ghost use Rattle.bi_blob.specs.Blob.{tree_blocks};
 ghost use Rattle.bi_fdt.specs.Fields.{HasNameOffset};
 ghost use Rattle.bi_fdt.specs.NameTables.{names_in_table, IsNameTable, HasMoreNames};
-ghost use Rattle.bi_fdt.specs.NameTails.{IsTail, AreTails};
+ghost use Rattle.bi_fdt.specs.NameTails.{IsTail, AreBlockNumbers, head_length};
 ghost use Rattle.bi_fdt.specs.Numbers.{IsNumbered, AreNumbered};
 ghost use Rattle.bi_fdt.specs.Table.{item_in};
 
 use crate::blob::Blob;
 use crate::name_parts::NameParts;
-use crate::name_tails::{tail_at, tails_of_names};
+use crate::name_tails::{block_numbers, tail_at};
 use crate::strings::{STRIDE, ends_of_names};
 use crate::table::Entry;
 use bi_base::cell_at;
 use std::alloc::{AllocError, Global};
 
-/// Names, each once, in the order of their first use. A name is found by its head of less than 64
+/// Names, each once, in the order of their first use. A name is found by its head of less than 128
 /// bytes and the number of its tail, so that no more of it is read.
 #[derive(Drop)]
 pub(crate) struct NameTable<'a> {
@@ -49,25 +49,25 @@ impl<'a> NameTable<'a> {
         ensures more { HasMoreNames self.old self.new }
     {
         self.names.reserve(1)?;
-        let number = self.heads.add(tail, &name[..name.len() % STRIDE])?;
+        let number = self.heads.add(tail, head_of(name))?;
         if number == self.names.len() {
             self.names.push(name).unwrap();
         }
         Ok(number)
     }
 
-    /// Returns the number of the name of a property, and any number for a node. `tails` are the
-    /// numbers of the tails at the multiples of 64. Fails if memory runs out.
+    /// Returns the number of the name of a property, and any number for a node. `blocks` are the
+    /// numbers of all blocks of the names at the multiples of 64. Fails if memory runs out.
     fn number_entry(
         &mut self,
         file: &'a [u8],
         strings: &'a [u8],
-        tails: &[usize],
+        blocks: &[usize],
         entry: Entry,
     ) -> Result<usize, AllocError>
         requires table { IsNameTable self.old }
         requires strings { strings.now ≡ (tree_blocks file.now).strings }
-        requires tails { AreTails self.old.tails strings.now tails.now }
+        requires blocks { AreBlockNumbers self.old.tails strings.now blocks.now }
         requires name { HasNameOffset file.now (item_in file.now entry) }
         ensures number { IfOk result
             (IsNumbered (names_in_table self.new) (item_in file.entry.now entry)) }
@@ -78,7 +78,7 @@ impl<'a> NameTable<'a> {
         };
         let name = property.name_in(file);
         let at = cell_at(file, property.place as usize + 8) as usize;
-        let tail = tail_at(&mut self.tails, strings, tails, at, at + name.len())?;
+        let tail = tail_at(blocks, at, at + name.len());
         self.add(name, tail)
     }
 
@@ -96,12 +96,20 @@ impl<'a> NameTable<'a> {
     {
         let strings = blob.strings();
         let ends = ends_of_names(alloc, strings)?;
-        let tails = tails_of_names(alloc, &mut self.tails, strings, &ends)?;
+        let blocks = block_numbers(alloc, &mut self.tails, strings, &ends)?;
         let entries = blob.entries();
         let mut numbers = Vec::with_capacity(alloc, entries.len())?;
         for entry in entries {
-            numbers.push(self.number_entry(blob.file(), strings, &tails, *entry)?)?;
+            numbers.push(self.number_entry(blob.file(), strings, &blocks, *entry)?)?;
         }
         Ok(numbers)
     }
+}
+
+/// Returns the bytes of a name before its tail.
+fn head_of(name: &[u8]) -> &[u8]
+    ensures { result.now ≡ take (head_length name.entry.now) name.entry.now }
+{
+    let later_blocks = (name.len() / STRIDE).saturating_sub(1);
+    &name[..name.len() - STRIDE * later_blocks]
 }

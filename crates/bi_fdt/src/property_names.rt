@@ -9,13 +9,13 @@ use crate::strings::STRIDE;
 use std::alloc::{AllocError, Global};
 use std::collections::BTreeSet;
 
-/// The names of the properties of a node so far. Only a name that is as long as a block has a
-/// digest, so the others are in a set without digests.
+/// The names of the properties of a node so far. The digest of a name that is shorter than a block
+/// says nothing, so such names are in a set without digests.
 #[derive(Drop)]
 pub(crate) struct PropertyNames<'a> {
     /// The names of less than 64 bytes.
     short: BTreeSet<&'a [u8]>,
-    /// The others, each after its length and its digest, so that no more than 63 bytes of two
+    /// The others, each after its length and its digest, so that no more than 127 bytes of two
     /// different names are read.
     long: BTreeSet<(usize, [u8; 32], &'a [u8])>,
 }

@@ -1,13 +1,14 @@
 //! The strings block of a blob (Devicetree Specification, 5.5).
 
-ghost use Rattle.std.specs.Prelude.{◌≡◌, ◌+◌, ◌/◌, ◌≤◌, ◌↔◌, length, IsSome, IfSome, IfOk};
+ghost use Rattle.std.specs.Prelude.{◌≡◌, ◌+◌, ◌-◌, ◌*◌, ◌/◌, ◌<◌, ◌≤◌, ◌↔◌, length};
+ghost use Rattle.std.specs.Prelude.{IsSome, IfSome, IfOk};
 ghost use Rattle.bi_blob.specs.Tokens.{name_from};
 ghost use Rattle.bi_blob.specs.Tree.{HasNoZero};
 ghost use Rattle.bi_blob.specs.BlobFaults.{HasName};
 ghost use Rattle.bi_fdt.specs.Digests.{digest_of_name};
 ghost use Rattle.bi_fdt.specs.Strings.{AreEnds};
 
-use crate::digests::{NO_DIGEST, digests_of_names, longer_digest};
+use crate::digests::{NO_DIGEST, digests_of_names};
 use crate::names::name_at;
 use std::alloc::{AllocError, Global};
 use std::marker::Model;
@@ -15,8 +16,8 @@ use std::marker::Model;
 /// How far apart the offsets are whose names' ends are kept.
 pub(crate) const STRIDE: usize = 64;
 
-/// A strings block. It keeps where the name at each multiple of `STRIDE` ends, and its digest, so
-/// that a name and its digest are found as fast however long it is.
+/// A strings block. It keeps where the name at each multiple of `STRIDE` ends, and the digest of its
+/// blocks, so that a name and its digest are found as fast however long it is.
 #[derive(Drop)]
 pub(crate) struct Strings<'a> {
     bytes: &'a [u8],
@@ -76,12 +77,23 @@ impl<'a> Strings<'a> {
         requires { name.now ≡ name_from self.now at }
         ensures { result ≡ digest_of_name name.now }
     {
-        if name.len() < STRIDE {
+        if name.len() < 2 * STRIDE {
             return NO_DIGEST;
         }
-        let after = self.digests.len() - 1 - (at / STRIDE + 1);
-        longer_digest(name, STRIDE - at % STRIDE, self.digests[after])
+        let index = index_of_later_blocks(at, name.len());
+        self.digests[self.digests.len() - 1 - index]
     }
+}
+
+/// Returns how many times 64 the offset is at which a name that begins at `at` has one block less, of
+/// those with which it ends.
+pub(crate) fn index_of_later_blocks(at: usize, length: usize) -> usize
+    requires long { 128 ≤ length }
+    ensures after { at < 64 * result }
+    ensures blocks { (length - (64 * result - at)) / 64 ≡ length / 64 - 1 }
+    ensures within { 64 * result + 64 ≤ at + length }
+{
+    at / STRIDE + (at % STRIDE + length % STRIDE) / STRIDE + 1
 }
 
 /// The ends of the names at the first multiples of 64.

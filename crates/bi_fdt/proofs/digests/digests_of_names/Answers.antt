@@ -1,6 +1,6 @@
 use Rattle.std.proofs.Common.{◌≡◌, ℕ, ◌+◌, ◌*◌, ◌-◌, ◌≤◌, [], length, slice_index_or, ap, ◌∙◌, arith, rules}
 use Rattle.bi_blob.specs.Tokens.{name_from}
-use Rattle.bi_fdt.specs.Digests.{digest_of_name}
+use Rattle.bi_fdt.specs.Digests.{digest_of_all_blocks}
 use Rattle.bi_fdt.proofs.NameDigests.{digests_more}
 use Rattle.bi_fdt.proofs.digests.digests_of_names.Goals as goal
 
@@ -18,7 +18,7 @@ digest_before-digest-requires-clause-later c = λ within.
     ∙ ap (λ l. slice_index_or l (length l - 1) []) now
     ∙ ap (λ k. slice_index_or c.loop-turn.digests.items k []) last
     ∙ c.loop-turn.invariant.1 (turn - 1) [] (omega arith)
-    ∙ ap (λ k. digest_of_name (name_from c.args.bytes.now k)) place
+    ∙ ap (λ k. digest_of_all_blocks (name_from c.args.bytes.now k)) place
 
 pub loop-turn-preserved : goal.loop-turn-preserved
 loop-turn-preserved c =

@@ -11,8 +11,8 @@ returns-then-number-len-clause-more c =
     let heads = c.args.self.now.heads in
     let names : List (List ℕ) = map (λ name. name.now) c.args.self.now.names.items in
     let name = c.args.name.now in
-    let part : NamePart = (c.args.tail, take (length name % 64) name) in
-    let is : IsHead tails part name = record { head = refl; tail = c.requires.tail } in
+    let part : NamePart = (c.args.tail, c.head_of.result.now) in
+    let is : IsHead tails part name = record { head = c.head_of.ensures; tail = c.requires.tail } in
     let pushed : c.push.new.self.items ≡ c.args.self.now.names.items ++ c.args.name ∷ [] = search rules in
     let now : map (λ (n : Bor (List ℕ)). n.now) c.push.new.self.items ≡ names ++ name ∷ [] =
     ap (map (λ n. n.now)) pushed ∙ map-append (λ n. n.now) c.args.self.now.names.items (c.args.name ∷ []) in
@@ -27,7 +27,7 @@ returns-then-number-len-clause-more c =
     }
 
 -- The head of the name was there, at the place of the name.
-was_there : (c : goal.Else-number-len) → (slice_get c.args.self.now.heads c.in_ok-number.number ≡ Some (c.args.tail, take (length c.args.name.now % 64) c.args.name.now))
+was_there : (c : goal.Else-number-len) → (slice_get c.args.self.now.heads c.in_ok-number.number ≡ Some (c.args.tail, c.head_of.result.now))
     × (c.add.new.self ≡ c.args.self.now.heads)
 was_there c =
     let names : List (List ℕ) = map (λ name. name.now) c.args.self.now.names.items in
@@ -42,7 +42,7 @@ pub returns-else-number-len-clause-added : goal.returns-else-number-len-clause-a
 returns-else-number-len-clause-added c =
     let kept : c.reserve.new.self.items ≡ c.args.self.now.names.items = search rules in
     ap (λ items. slice_get (map (λ (n : Bor (List ℕ)). n.now) items) c.in_ok-number.number) kept
-    ∙ known_name c.args.self.now.tails c.args.self.now.heads _ _ c.args.name.now c.in_ok-number.number c.requires.table (record { head = refl; tail = c.requires.tail }) (was_there c).0
+    ∙ known_name c.args.self.now.tails c.args.self.now.heads _ _ c.args.name.now c.in_ok-number.number c.requires.table (record { head = c.head_of.ensures; tail = c.requires.tail }) (was_there c).0
 
 pub returns-else-number-len-clause-more : goal.returns-else-number-len-clause-more
 returns-else-number-len-clause-more c =

@@ -1,29 +1,29 @@
 use Rattle.std.proofs.Common.{[], map, sym, subst}
 use Rattle.bi_fdt.specs.Fields.{HasNameOffset, HaveNameOffsets}
 use Rattle.bi_fdt.specs.NameTables.{names_in_table}
-use Rattle.bi_fdt.specs.NameTails.{AreTails}
+use Rattle.bi_fdt.specs.NameTails.{AreBlockNumbers}
 use Rattle.bi_fdt.specs.Numbers.{AreNumbered}
 use Rattle.bi_fdt.specs.Table.{item_in}
-use Rattle.bi_fdt.proofs.NumberedNames.{AreTails-more}
+use Rattle.bi_fdt.proofs.NumberedNames.{AreBlockNumbers-more}
 use Rattle.bi_fdt.proofs.NameTables.{HasMoreNames-tails, HasMoreNames-again, item_at, numbers_more}
 use Rattle.bi_fdt.proofs.name_table.NameTable.number.Goals as goal
 
-pub returns-in_err-tails-clause-more : goal.returns-in_err-tails-clause-more
-returns-in_err-tails-clause-more c = HasMoreNames-tails c.args.self.now c.tails_of_names.new.tails c.requires c.tails_of_names.ensures.more
+pub returns-in_err-blocks-clause-more : goal.returns-in_err-blocks-clause-more
+returns-in_err-blocks-clause-more c = HasMoreNames-tails c.args.self.now c.block_numbers.new.tails c.requires c.block_numbers.ensures.more
 
 pub returns-in_err-numbers-clause-more : goal.returns-in_err-numbers-clause-more
-returns-in_err-numbers-clause-more c = HasMoreNames-tails c.args.self.now c.tails_of_names.new.tails c.requires c.tails_of_names.ensures.more
+returns-in_err-numbers-clause-more c = HasMoreNames-tails c.args.self.now c.block_numbers.new.tails c.requires c.block_numbers.ensures.more
 
 pub loop-entry-init : goal.loop-entry-init
 loop-entry-init c = record {
   numbers = subst (AreNumbered (names_in_table c.args.self.now) []) (sym c.in_ok-numbers.ensures.items) tt;
-  more = HasMoreNames-tails c.args.self.now c.tails_of_names.new.tails c.requires c.tails_of_names.ensures.more;
-  tails = c.in_ok-tails.ensures.tails;
+  more = HasMoreNames-tails c.args.self.now c.block_numbers.new.tails c.requires c.block_numbers.ensures.more;
+  blocks = c.in_ok-blocks.ensures.blocks;
 }
 
-pub number_entry-requires-clause-tails : goal.number_entry-requires-clause-tails
-number_entry-requires-clause-tails c =
-    subst (AreTails c.loop-entry.self.tails c.strings-strings.result.now) (sym c.deref-in-loop-entry.ensures.value) c.loop-entry.invariant.tails
+pub number_entry-requires-clause-blocks : goal.number_entry-requires-clause-blocks
+number_entry-requires-clause-blocks c =
+    subst (AreBlockNumbers c.loop-entry.self.tails c.strings-strings.result.now) (sym c.deref-in-loop-entry.ensures.value) c.loop-entry.invariant.blocks
 
 pub number_entry-requires-clause-name : goal.number_entry-requires-clause-name
 number_entry-requires-clause-name c =
@@ -39,6 +39,6 @@ loop-entry-preserved c = record {
       c.loop-entry.numbers.items c.push.new.self.items c.in_ok-number_entry.field-0 c.loop-entry-test.true c.loop-entry.invariant.numbers
       c.in_ok-number_entry.ensures.number c.in_ok-push.ensures.items;
   more = HasMoreNames-again c.args.self.now c.loop-entry.self c.number_entry.new.self c.loop-entry.invariant.more c.number_entry.ensures.more;
-  tails = AreTails-more c.loop-entry.self.tails c.number_entry.new.self.tails c.strings-strings.result.now c.in_ok-tails.tails.items
-      c.number_entry.ensures.more.tails c.loop-entry.invariant.tails;
+  blocks = AreBlockNumbers-more c.loop-entry.self.tails c.number_entry.new.self.tails c.strings-strings.result.now c.in_ok-blocks.blocks.items
+      c.number_entry.ensures.more.tails c.loop-entry.invariant.blocks;
 }
