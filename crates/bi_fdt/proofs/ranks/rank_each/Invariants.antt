@@ -6,4 +6,4 @@ use Rattle.bi_fdt.proofs.ranks.rank_each.Given as goal
 
 abbrev pub invariant-loop-name : goal.invariant-loop-name
 invariant-loop-name l =
-    AllZip (HasRank (bytes_of l.sorted)) (take l.name-index (bytes_of l.names)) l.ranks.items
+    AllZip (HasRank (bytes_of l.sorted)) (bytes_of (take l.name-index l.names)) l.ranks.items
