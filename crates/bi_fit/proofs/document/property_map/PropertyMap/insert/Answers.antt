@@ -1,4 +1,4 @@
-use Rattle.std.proofs.Common.{◌≡◌, true, false, T, Some, None, slice_get, set, refl, sym, ap, subst, ◌∙◌, nat_cmp, List, ℕ}
+use Rattle.std.proofs.Common.{◌≡◌, true, false, T, None, slice_get, set, refl, sym, ap, subst, ◌∙◌, nat_cmp}
 use Rattle.std.specs.Cmp.Lexicographic.{slice_cmp}
 use Rattle.std.specs.List.{insert as insert_at}
 use Rattle.std.specs.FinMap.{is_sorted, put, from_sorted}
