@@ -14,8 +14,8 @@ use Rattle.bi_fit.proofs.AddedEvents.{with_events-append, MayAdd-back}
 -- Properties that are added to a document in turn.
 
 -- What is read where there is no entry.
-abbrev pub no_entry : MapEntry
-no_entry = record {
+abbrev pub no_map_entry : MapEntry
+no_map_entry = record {
   name = record { ref_ptr = (0, 0); now = [] };
   number = None;
   value = Slice (record { ref_ptr = (0, 0); now = [] });
@@ -27,7 +27,8 @@ pub record IsAddingEntries (document target : Doc) (left : List MapEntry) : Type
   pub numbers : AreNumbersIn document.names (numbers_in left)
   pub may : MayAdd document (map NodeProperty (properties_in left))
 
-module _ (document target : Doc) (entry : MapEntry) (later : List MapEntry) (adding : IsAddingEntries document target (entry ∷ later)) where
+module _ (document target : Doc) (entry : MapEntry) (later : List MapEntry)
+    (adding : IsAddingEntries document target (entry ∷ later)) where
   -- The first of them has its number,
   pub entry_number : AreNumbersIn document.names (number_in entry)
   entry_number = each-front (λ named. slice_get document.names named.1 ≡ Some named.0) (number_in entry) (numbers_in later) adding.numbers
@@ -37,7 +38,8 @@ module _ (document target : Doc) (entry : MapEntry) (later : List MapEntry) (add
   may_add_entry = adding.may.0
 
   -- and then the others are left.
-  pub adding_more : (more : Doc) → more ≡ with_event document (NodeProperty (entry.name.now, value_bytes entry.value)) → IsAddingEntries more target later
+  pub adding_more : (more : Doc) → more ≡ with_event document (NodeProperty (entry.name.now, value_bytes entry.value)) →
+      IsAddingEntries more target later
   adding_more more is = record {
     added = ap (λ document. with_events document (map NodeProperty (properties_in later))) is
         ∙ with_events-append document (NodeProperty (entry.name.now, value_bytes entry.value) ∷ []) (map NodeProperty (properties_in later))

@@ -22,7 +22,7 @@ use Rattle.bi_fit.specs.Names.{is_payload_name}
 use Rattle.bi_fit.specs.ImageTree.{without_payload}
 use Rattle.bi_fit.specs.PropertyMaps.{properties_in, number_in, numbers_in}
 use Rattle.bi_fit.specs.PropertyMapModels.{PropertyMapModel}
-use Rattle.bi_fit.specs.PropertyPlaces.{place_in, is_entry_named}
+use Rattle.bi_fit.specs.PropertyPlaces.{place_of_name, is_entry_named}
 use Rattle.bi_fit.proofs.PayloadProperties.{same, get-without, get-put, get-put_other}
 
 -- The map of a node's properties, and the entries that hold it.
@@ -42,51 +42,59 @@ from_sorted-put properties name value ordered =
     ∙ sym (entries-insert nat_list_cmp_total (from_sorted properties) name value))
 
 -- The place of a name is one of an entry, or the end.
-pub place_within : (es : List MapEntry) (name : List ℕ) → place_in es name ≤ length es
+pub place_within : (es : List MapEntry) (name : List ℕ) → place_of_name es name ≤ length es
 place_within [] name = omega arith
 place_within (e ∷ es) name = by_cmp (slice_cmp nat_cmp name e.name.now) (place_within es name)
   where
-    by_cmp : (o : Ordering) → place_in es name ≤ length es → by_order o 0 0 (suc (place_in es name)) ≤ suc (length es)
+    by_cmp : (o : Ordering) → place_of_name es name ≤ length es → by_order o 0 0 (suc (place_of_name es name)) ≤ suc (length es)
     by_cmp Less within = omega arith
     by_cmp Equal within = omega arith
     by_cmp Greater within = omega arith
 
 -- An entry with a new name in its place is one more property.
-pub properties-insert_at : (es : List MapEntry) (new : MapEntry) → is_entry_named (slice_get es (place_in es new.name.now)) new.name.now ≡ false →
-    properties_in (insert_at es (place_in es new.name.now) new) ≡ put (slice_cmp nat_cmp) new.name.now (value_bytes new.value) (properties_in es)
+pub properties-insert_at : (es : List MapEntry) (new : MapEntry) →
+    is_entry_named (slice_get es (place_of_name es new.name.now)) new.name.now ≡ false →
+    properties_in (insert_at es (place_of_name es new.name.now) new)
+    ≡ put (slice_cmp nat_cmp) new.name.now (value_bytes new.value) (properties_in es)
 properties-insert_at [] new apart = refl
 properties-insert_at (e ∷ es) new apart = by_cmp (slice_cmp nat_cmp new.name.now e.name.now) refl (λ other. properties-insert_at es new other)
   where
     by_cmp : (o : Ordering) → slice_cmp nat_cmp new.name.now e.name.now ≡ o →
-        (is_entry_named (slice_get es (place_in es new.name.now)) new.name.now ≡ false → properties_in (insert_at es (place_in es new.name.now) new) ≡ put (slice_cmp nat_cmp) new.name.now (value_bytes new.value) (properties_in es)) →
-        properties_in (insert_at (e ∷ es) (place_in (e ∷ es) new.name.now) new) ≡ put (slice_cmp nat_cmp) new.name.now (value_bytes new.value) (properties_in (e ∷ es))
+        (is_entry_named (slice_get es (place_of_name es new.name.now)) new.name.now ≡ false →
+        properties_in (insert_at es (place_of_name es new.name.now) new)
+        ≡ put (slice_cmp nat_cmp) new.name.now (value_bytes new.value) (properties_in es)) →
+        properties_in (insert_at (e ∷ es) (place_of_name (e ∷ es) new.name.now) new)
+        ≡ put (slice_cmp nat_cmp) new.name.now (value_bytes new.value) (properties_in (e ∷ es))
     by_cmp Less is later = rw is refl
     by_cmp Equal is later =
-        let here : bytes_eq e.name.now new.name.now ≡ false = subst (λ o. is_entry_named (slice_get (e ∷ es) (by_order o 0 0 (suc (place_in es new.name.now)))) new.name.now ≡ false) is apart in
+        let here : bytes_eq e.name.now new.name.now ≡ false = subst (λ o. is_entry_named (slice_get (e ∷ es) (by_order o 0 0 (suc (place_of_name es new.name.now)))) new.name.now ≡ false) is apart in
         absurd (true≢false (sym ((bytes_eq-Decides e.name.now new.name.now).1 (sym (order_tells new.name.now e.name.now is))) ∙ here))
     by_cmp Greater is later =
-        let other : is_entry_named (slice_get es (place_in es new.name.now)) new.name.now ≡ false =
-        subst (λ o. is_entry_named (slice_get (e ∷ es) (by_order o 0 0 (suc (place_in es new.name.now)))) new.name.now ≡ false) is apart in
+        let other : is_entry_named (slice_get es (place_of_name es new.name.now)) new.name.now ≡ false =
+        subst (λ o. is_entry_named (slice_get (e ∷ es) (by_order o 0 0 (suc (place_of_name es new.name.now)))) new.name.now ≡ false) is apart in
         rw is (ap (λ l. (e.name.now, value_bytes e.value) ∷ l) (later other))
 
 -- An entry that takes the place of one of its name gives its property another value.
-pub properties-set : (es : List MapEntry) (name : List ℕ) (new : MapEntry) → is_entry_named (slice_get es (place_in es name)) name ≡ true → new.name.now ≡ name →
-    properties_in (set es (place_in es name) new) ≡ put (slice_cmp nat_cmp) name (value_bytes new.value) (properties_in es)
+pub properties-set : (es : List MapEntry) (name : List ℕ) (new : MapEntry) →
+    is_entry_named (slice_get es (place_of_name es name)) name ≡ true → new.name.now ≡ name →
+    properties_in (set es (place_of_name es name) new) ≡ put (slice_cmp nat_cmp) name (value_bytes new.value) (properties_in es)
 properties-set [] name new there same_name = absurd (true≢false (sym there))
 properties-set (e ∷ es) name new there same_name = by_cmp (slice_cmp nat_cmp name e.name.now) refl (λ other. properties-set es name new other same_name)
   where
     by_cmp : (o : Ordering) → slice_cmp nat_cmp name e.name.now ≡ o →
-        (is_entry_named (slice_get es (place_in es name)) name ≡ true → properties_in (set es (place_in es name) new) ≡ put (slice_cmp nat_cmp) name (value_bytes new.value) (properties_in es)) →
-        properties_in (set (e ∷ es) (place_in (e ∷ es) name) new) ≡ put (slice_cmp nat_cmp) name (value_bytes new.value) (properties_in (e ∷ es))
+        (is_entry_named (slice_get es (place_of_name es name)) name ≡ true →
+        properties_in (set es (place_of_name es name) new) ≡ put (slice_cmp nat_cmp) name (value_bytes new.value) (properties_in es)) →
+        properties_in (set (e ∷ es) (place_of_name (e ∷ es) name) new)
+        ≡ put (slice_cmp nat_cmp) name (value_bytes new.value) (properties_in (e ∷ es))
     by_cmp Less is later =
-        let here : bytes_eq e.name.now name ≡ true = subst (λ o. is_entry_named (slice_get (e ∷ es) (by_order o 0 0 (suc (place_in es name)))) name ≡ true) is there in
+        let here : bytes_eq e.name.now name ≡ true = subst (λ o. is_entry_named (slice_get (e ∷ es) (by_order o 0 0 (suc (place_of_name es name)))) name ≡ true) is there in
         let tied : slice_cmp nat_cmp name e.name.now ≡ Equal =
         subst (λ n. slice_cmp nat_cmp name n ≡ Equal) (sym ((bytes_eq-Decides e.name.now name).0 here)) (tied_itself nat_list_cmp_total name) in
         absurd (true≢false (ap is_lt (sym is ∙ tied)))
     by_cmp Equal is later = rw is (ap (λ n. (n, value_bytes new.value) ∷ properties_in es) (same_name ∙ order_tells name e.name.now is))
     by_cmp Greater is later =
-        let other : is_entry_named (slice_get es (place_in es name)) name ≡ true =
-        subst (λ o. is_entry_named (slice_get (e ∷ es) (by_order o 0 0 (suc (place_in es name)))) name ≡ true) is there in
+        let other : is_entry_named (slice_get es (place_of_name es name)) name ≡ true =
+        subst (λ o. is_entry_named (slice_get (e ∷ es) (by_order o 0 0 (suc (place_of_name es name)))) name ≡ true) is there in
         rw is (ap (λ l. (e.name.now, value_bytes e.value) ∷ l) (later other))
 
 -- The entry that was found has the name.
@@ -103,7 +111,8 @@ found_name es place name old named is = by_entry (slice_get es place) refl
         )
 
 -- An entry without a number adds none,
-pub numbers-insert_at : (es : List MapEntry) (place : ℕ) (new : MapEntry) → new.number ≡ None → numbers_in (insert_at es place new) ≡ numbers_in es
+pub numbers-insert_at : (es : List MapEntry) (place : ℕ) (new : MapEntry) → new.number ≡ None →
+    numbers_in (insert_at es place new) ≡ numbers_in es
 numbers-insert_at es place new none =
     flat_map-append number_in (take place es) (new ∷ drop place es)
     ∙ ap (λ number. numbers_in (take place es) ++ (map (λ n. (new.name.now, n)) (option_to_list number) ++ numbers_in (drop place es))) none
@@ -123,7 +132,8 @@ numbers-set (e ∷ es) zero old new there same_number =
 numbers-set (e ∷ es) (suc place) old new there same_number = ap (λ l. number_in e ++ l) (numbers-set es place old new there same_number)
 
 -- The map and the numbers make up what is shown.
-pub same_model : (properties other : PropertyMapModel) → properties.by_name ≡ other.by_name → properties.numbers ≡ other.numbers → properties ≡ other
+pub same_model : (properties other : PropertyMapModel) → properties.by_name ≡ other.by_name → properties.numbers ≡ other.numbers →
+    properties ≡ other
 same_model properties other same_map same_numbers = ap₂ (λ by_name numbers. record { by_name = by_name; numbers = numbers }) same_map same_numbers
 
 -- Whether an entry is none of the four that hold a payload or name its region.
@@ -131,12 +141,16 @@ abbrev pub keeps_value : MapEntry → Bool
 keeps_value e = not (is_payload_name e.name.now)
 
 -- The entries that are kept are the properties that are.
-properties-filter : (es : List (MapEntry)) →
+properties-filter : (es : List MapEntry) →
     properties_in (filter keeps_value es) ≡ where_key (slice_cmp nat_cmp) (λ name. not (is_payload_name name)) (properties_in es)
 properties-filter [] = refl
 properties-filter (e ∷ es) = where_kept (not (is_payload_name e.name.now)) (properties-filter es)
   where
-    where_kept : (b : Bool) → properties_in (filter keeps_value es) ≡ where_key (slice_cmp nat_cmp) (λ name. not (is_payload_name name)) (properties_in es) → properties_in (cond b (e ∷ filter keeps_value es) (filter keeps_value es)) ≡ cond b ((e.name.now, value_bytes e.value) ∷ where_key (slice_cmp nat_cmp) (λ name. not (is_payload_name name)) (properties_in es)) (where_key (slice_cmp nat_cmp) (λ name. not (is_payload_name name)) (properties_in es))
+    where_kept : (b : Bool) →
+        properties_in (filter keeps_value es) ≡ where_key (slice_cmp nat_cmp) (λ name. not (is_payload_name name)) (properties_in es) →
+        properties_in (cond b (e ∷ filter keeps_value es) (filter keeps_value es))
+        ≡ cond b ((e.name.now, value_bytes e.value) ∷ where_key (slice_cmp nat_cmp) (λ name. not (is_payload_name name)) (properties_in es))
+        (where_key (slice_cmp nat_cmp) (λ name. not (is_payload_name name)) (properties_in es))
     where_kept true rest = ap (λ l. (e.name.now, value_bytes e.value) ∷ l) rest
     where_kept false rest = rest
 
@@ -147,11 +161,13 @@ sorted-filter es sorted =
     subst (λ l. T (is_sorted (slice_cmp nat_cmp) l)) (sym (properties-filter es)) (is_sorted-where_key (slice_cmp nat_cmp) (λ name. not (is_payload_name name)) (properties_in es) sorted)
 
 -- and keep their numbers.
-pub numbers-filter : (P : List ℕ × ℕ → Type 0) (es : List MapEntry) → AllByRecursion P (numbers_in es) → AllByRecursion P (numbers_in (filter keeps_value es))
+pub numbers-filter : (P : List ℕ × ℕ → Type 0) (es : List MapEntry) → AllByRecursion P (numbers_in es) →
+    AllByRecursion P (numbers_in (filter keeps_value es))
 numbers-filter P [] have = tt
 numbers-filter P (e ∷ es) have = where_kept (not (is_payload_name e.name.now)) (numbers-filter P es (each-back P (number_in e) (numbers_in es) have))
   where
-    where_kept : (b : Bool) → AllByRecursion P (numbers_in (filter keeps_value es)) → AllByRecursion P (numbers_in (cond b (e ∷ filter keeps_value es) (filter keeps_value es)))
+    where_kept : (b : Bool) → AllByRecursion P (numbers_in (filter keeps_value es)) →
+        AllByRecursion P (numbers_in (cond b (e ∷ filter keeps_value es) (filter keeps_value es)))
     where_kept true rest = each-append P (number_in e) (numbers_in (filter keeps_value es)) (each-front P (number_in e) (numbers_in es) have) rest
     where_kept false rest = rest
 
@@ -175,7 +191,9 @@ insert-insert : (properties : PropertyMap) (name value other other_value : List 
     insert (insert properties name value) other other_value ≡ insert (insert properties other other_value) name value
 insert-insert properties name value other other_value differ = same _ _ (λ wanted. by_name wanted (bytes_eq wanted name) refl (bytes_eq wanted other) refl)
   where
-    by_name : (wanted : List ℕ) → (a : Bool) → bytes_eq wanted name ≡ a → (b : Bool) → bytes_eq wanted other ≡ b → get (insert (insert properties name value) other other_value) wanted ≡ get (insert (insert properties other other_value) name value) wanted
+    by_name : (wanted : List ℕ) → (a : Bool) → bytes_eq wanted name ≡ a → (b : Bool) → bytes_eq wanted other ≡ b →
+        get (insert (insert properties name value) other other_value) wanted
+        ≡ get (insert (insert properties other other_value) name value) wanted
     by_name wanted true a true b = absurd (differ (sym ((bytes_eq-Decides wanted other).0 b) ∙ (bytes_eq-Decides wanted name).0 a))
     by_name wanted true a false b =
         let at : wanted ≡ name = (bytes_eq-Decides wanted name).0 a in

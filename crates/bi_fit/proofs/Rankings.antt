@@ -1,4 +1,4 @@
-use Rattle.std.proofs.Common.{◌≡◌, ℕ, zero, suc, ◌<◌, T, List, [], ◌∷◌, ◌++◌, map, Ordering, Less, Equal, Greater, Option, Some, None, slice_get}
+use Rattle.std.proofs.Common.{◌≡◌, ℕ, zero, suc, ◌<◌, T, List, [], ◌∷◌, ◌++◌, map, Ordering, Less, Equal, Greater, Option, Some, None, slice_get, get_or}
 use Rattle.std.proofs.Common.{refl, sym, ap, subst, ◌∙◌, nat_cmp, arith, ◌⊎◌, inl, inr}
 use Rattle.std.specs.Cmp.Lexicographic.{slice_cmp}
 use Rattle.std.specs.Cmp.{tied_itself, nat_cmp_is}
@@ -11,7 +11,9 @@ use Rattle.std.specs.FinMap.{from_sorted, is_sorted, put, nat_cmp-IsAntisymmetri
 use Rattle.std.specs.FinMap.Entries.{by_order}
 use Rattle.std.proofs.lemmas.Cmp.{nat_list_cmp_total}
 use Rattle.std.proofs.lemmas.Map.Keys.{sorted_head, sorted_tail}
-use Rattle.bi_base.proofs.ListMembers.{each-append}
+use Rattle.std.proofs.lemmas.List.Elements.{Contains-get_or}
+use Rattle.std.proofs.lemmas.Option.{get_or_from_slice_get, slice_get_within}
+use Rattle.bi_base.proofs.ListMembers.{each-contains}
 use Rattle.bi_lay.specs.Values.{value_bytes}
 use Rattle.bi_blob.specs.Tree.{FileNode, FileProperty, property_of, Property}
 use Rattle.bi_blob.proofs.Texts.PropertyOrder.{order_tells}
@@ -24,11 +26,13 @@ use Rattle.bi_fit.proofs.PropertyMaps.{insert_all, sorted-put, from_sorted-put}
 
 -- The entries of the properties of a node, by the ranks of their names.
 
--- What holds of each element holds of the one at an index.
-each_at : {X : Type 0} (P : X → Type 0) (xs : List X) (index : ℕ) (x : X) → AllByRecursion P xs → slice_get xs index ≡ Some x → P x
-each_at P [] index x each there = absurd cc
-each_at P (first ∷ others) zero x each there = let same : first ≡ x = cc in subst P same each.0
-each_at P (first ∷ others) (suc index) x each there = each_at P others index x each.1 there
+-- Of names in byte order, the first is before the one at an index.
+first_before : (first : List ℕ) (names : List (List ℕ)) → IsStrictlySortedBy (slice_cmp nat_cmp) (first ∷ names) →
+    (index : ℕ) (name : List ℕ) → slice_get names index ≡ Some name → slice_cmp nat_cmp first name ≡ Less
+first_before first names ordered index name there =
+    subst (λ n. slice_cmp nat_cmp first n ≡ Less) (get_or_from_slice_get names index name name there)
+    (each-contains (λ n. slice_cmp nat_cmp first n ≡ Less) names (get_or names index name) (sorted_head (slice_cmp nat_cmp) first names ordered)
+    (Contains-get_or names index name (slice_get_within names index name there)))
 
 -- Names in byte order are in the order of their ranks.
 ranks_match : (names : List (List ℕ)) → IsStrictlySortedBy (slice_cmp nat_cmp) names → (rank other : ℕ) (name other_name : List ℕ) →
@@ -42,20 +46,21 @@ ranks_match (first ∷ names) ordered zero zero name other_name there other_ther
 ranks_match (first ∷ names) ordered zero (suc other) name other_name there other_there =
     let same : first ≡ name = cc in
     let less : slice_cmp nat_cmp name other_name ≡ Less =
-    subst (λ n. slice_cmp nat_cmp n other_name ≡ Less) same (each_at (λ n. slice_cmp nat_cmp first n ≡ Less) names other other_name (sorted_head (slice_cmp nat_cmp) first names ordered) other_there) in
+    subst (λ n. slice_cmp nat_cmp n other_name ≡ Less) same (first_before first names ordered other other_name other_there) in
     let below : zero < suc other = omega arith in
     rw less below
 ranks_match (first ∷ names) ordered (suc rank) zero name other_name there other_there =
     let same : first ≡ other_name = cc in
     let less : slice_cmp nat_cmp other_name name ≡ Less =
-    subst (λ n. slice_cmp nat_cmp n name ≡ Less) same (each_at (λ n. slice_cmp nat_cmp first n ≡ Less) names rank name (sorted_head (slice_cmp nat_cmp) first names ordered) there) in
+    subst (λ n. slice_cmp nat_cmp n name ≡ Less) same (first_before first names ordered rank name there) in
     let greater : slice_cmp nat_cmp name other_name ≡ Greater = nat_list_cmp_total.antisymm name other_name ∙ ap ordering_reverse less in
     let below : zero < suc rank = omega arith in
     rw greater below
 ranks_match (first ∷ names) ordered (suc rank) (suc other) name other_name there other_there =
     more (slice_cmp nat_cmp name other_name) (ranks_match names (sorted_tail (slice_cmp nat_cmp) first names ordered) rank other name other_name there other_there)
   where
-    more : (o : Ordering) → MatchOrdering o (rank < other) (rank ≡ other) (other < rank) → MatchOrdering o (suc rank < suc other) (suc rank ≡ suc other) (suc other < suc rank)
+    more : (o : Ordering) → MatchOrdering o (rank < other) (rank ≡ other) (other < rank) →
+        MatchOrdering o (suc rank < suc other) (suc rank ≡ suc other) (suc other < suc rank)
     more Less below = omega arith
     more Equal same = ap suc same
     more Greater above = omega arith
@@ -70,15 +75,17 @@ abbrev pub ranked_entries : List (ℕ × MapEntry) → List MapEntry
 ranked_entries es = map (λ e. e.1) es
 
 -- One more entry is one more property,
-properties-insert_ranked : (names : List (List ℕ)) → IsStrictlySortedBy (slice_cmp nat_cmp) names → (es : List (ℕ × MapEntry)) (rank : ℕ) (entry : MapEntry) →
-    AllByRecursion (IsAtRank names) es → IsAtRank names (rank, entry) →
-    properties_in (ranked_entries (insert_entry nat_cmp es rank entry)) ≡ put (slice_cmp nat_cmp) entry.name.now (value_bytes entry.value) (properties_in (ranked_entries es))
+properties-insert_ranked : (names : List (List ℕ)) → IsStrictlySortedBy (slice_cmp nat_cmp) names →
+    (es : List (ℕ × MapEntry)) (rank : ℕ) (entry : MapEntry) → AllByRecursion (IsAtRank names) es → IsAtRank names (rank, entry) →
+    properties_in (ranked_entries (insert_entry nat_cmp es rank entry))
+    ≡ put (slice_cmp nat_cmp) entry.name.now (value_bytes entry.value) (properties_in (ranked_entries es))
 properties-insert_ranked names ordered [] rank entry at_ranks at_rank = refl
 properties-insert_ranked names ordered (e ∷ es) rank entry at_ranks at_rank =
     by_cmp (nat_cmp rank e.0) (rank_cmp names ordered rank e.0 entry.name.now e.1.name.now at_rank.1 at_ranks.0.1) (properties-insert_ranked names ordered es rank entry at_ranks.1 at_rank)
   where
     by_cmp : (o : Ordering) → slice_cmp nat_cmp entry.name.now e.1.name.now ≡ o →
-        properties_in (ranked_entries (insert_entry nat_cmp es rank entry)) ≡ put (slice_cmp nat_cmp) entry.name.now (value_bytes entry.value) (properties_in (ranked_entries es)) →
+        properties_in (ranked_entries (insert_entry nat_cmp es rank entry))
+        ≡ put (slice_cmp nat_cmp) entry.name.now (value_bytes entry.value) (properties_in (ranked_entries es)) →
         properties_in (ranked_entries (match_ordering o ((rank, entry) ∷ e ∷ es) ((e.0, entry) ∷ es) (e ∷ insert_entry nat_cmp es rank entry)))
         ≡ put (slice_cmp nat_cmp) entry.name.now (value_bytes entry.value) (properties_in (ranked_entries (e ∷ es)))
     by_cmp Less is later = rw is refl
@@ -98,16 +105,20 @@ at_ranks-insert names (e ∷ es) rank entry at_ranks at_rank = by_cmp (nat_cmp r
     by_cmp Greater is later = (at_ranks.0, later)
 
 -- Some properties of a node are among the entries, and the others are left, with their ranks.
-pub record IsRanking (names : List (List ℕ)) (own : FileNode) (es : List (ℕ × MapEntry)) (left : List FileProperty) (ranks : List ℕ) : Type 0 where
+pub record IsRanking (names : List (List ℕ)) (own : FileNode) (es : List (ℕ × MapEntry)) (left : List FileProperty) (ranks : List ℕ)
+    : Type 0 where
   pub at_ranks : AllByRecursion (IsAtRank names) es
   pub in_order : T (is_sorted (slice_cmp nat_cmp) (properties_in (ranked_entries es)))
   pub to_come : insert_all (from_sorted (properties_in (ranked_entries es))) (map property_of left) ≡ properties_by_name own
   pub numbered : AllZip (HasNumber names) left ranks
 
 -- The next of them becomes an entry.
-pub ranking_more : (names : List (List ℕ)) → IsStrictlySortedBy (slice_cmp nat_cmp) names → (own : FileNode) (es new : List (ℕ × MapEntry)) (property : FileProperty) (left : List FileProperty) (rank : ℕ) (ranks : List ℕ) (entry : MapEntry) →
+pub ranking_more : (names : List (List ℕ)) → IsStrictlySortedBy (slice_cmp nat_cmp) names →
+    (own : FileNode) (es new : List (ℕ × MapEntry)) (property : FileProperty) (left : List FileProperty) (rank : ℕ) (ranks : List ℕ)
+    (entry : MapEntry) →
     IsRanking names own es (property ∷ left) (rank ∷ ranks) → new ≡ insert_entry nat_cmp es rank entry →
-    entry.number ≡ Some rank → entry.name.now ≡ property.name → value_bytes entry.value ≡ property.value → IsRanking names own new left ranks
+    entry.number ≡ Some rank → entry.name.now ≡ property.name → value_bytes entry.value ≡ property.value →
+    IsRanking names own new left ranks
 ranking_more names ordered own es new property left rank ranks entry ranking is number same_name same_value =
     let at_rank : IsAtRank names (rank, entry) = (number, ranking.numbered.0 ∙ ap (λ n. Some n) (sym same_name)) in
     let properties : properties_in (ranked_entries new) ≡ put (slice_cmp nat_cmp) property.name property.value (properties_in (ranked_entries es)) =

@@ -26,14 +26,15 @@ abbrev pub without_numbers : PropertyMap → PropertyMapModel
 without_numbers properties = record { by_name = properties; numbers = [] }
 
 -- With one more property, or with another value of the property of this name.
-abbrev pub with_property : (name value : List ℕ) → PropertyMapModel → PropertyMapModel
-with_property name value properties = record properties {
+abbrev pub with_property_value : (name value : List ℕ) → PropertyMapModel → PropertyMapModel
+with_property_value name value properties = record properties {
   by_name = insert properties.by_name name value;
 }
 
 -- Each of these numbers is that of its name among these names.
 abbrev pub AreNumbersIn : List (List ℕ) → List (List ℕ × ℕ) → Type 0
-AreNumbersIn names numbers = AllByRecursion (λ entry. slice_get names entry.1 ≡ Some entry.0) numbers
+AreNumbersIn names numbers =
+    AllByRecursion (λ entry. slice_get names entry.1 ≡ Some entry.0) numbers
 
 -- The numbers of the properties are those of their names among these.
 abbrev pub HaveNumbers : List (List ℕ) → PropertyMapModel → Type 0

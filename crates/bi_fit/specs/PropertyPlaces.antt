@@ -1,4 +1,5 @@
-use Rattle.std.specs.Prelude.{◌≡◌, ℕ, suc, List, [], ◌∷◌, map, Bool, false, Option, Some, None, slice_get, T, bytes_eq}
+use Rattle.std.specs.Prelude.{◌≡◌, ℕ, suc, List, [], ◌∷◌, map, Bool, false, Option, Some, None, T}
+use Rattle.std.specs.Prelude.{slice_get, bytes_eq}
 use Rattle.std.specs.Ordering.{nat_cmp}
 use Rattle.std.specs.Cmp.Lexicographic.{slice_cmp}
 use Rattle.std.specs.List.{AllByRecursion}
@@ -12,10 +13,10 @@ use Rattle.bi_fit.specs.PropertyMaps.{properties_in}
 -- Where the entries of a map of properties are.
 
 -- The index of the first entry whose name is not before this one, or the number of the entries.
-abbrev pub place_in : List MapEntry → (name : List ℕ) → ℕ
-place_in [] name = 0
-place_in (entry ∷ entries) name =
-    by_order (slice_cmp nat_cmp name entry.name.now) 0 0 (suc (place_in entries name))
+abbrev pub place_of_name : List MapEntry → (name : List ℕ) → ℕ
+place_of_name [] name = 0
+place_of_name (entry ∷ entries) name =
+    by_order (slice_cmp nat_cmp name entry.name.now) 0 0 (suc (place_of_name entries name))
 
 -- There is an entry, and it has this name.
 abbrev pub is_entry_named : Option MapEntry → (name : List ℕ) → Bool
@@ -32,4 +33,5 @@ pub record AreByRank (names : List (List ℕ)) (own : FileNode) (entries : List 
     : Type 0 where
   pub at_ranks : AllByRecursion (IsAtRank names) entries
   pub in_order : T (is_sorted (slice_cmp nat_cmp) (properties_in (map (λ entry. entry.1) entries)))
-  pub complete : from_sorted (properties_in (map (λ entry. entry.1) entries)) ≡ properties_by_name own
+  pub complete : from_sorted (properties_in (map (λ entry. entry.1) entries))
+      ≡ properties_by_name own

@@ -1,12 +1,8 @@
 use Rattle.std.specs.Prelude.{ℕ, List}
-use Rattle.std.specs.Ordering.{nat_cmp}
-use Rattle.std.specs.Cmp.Lexicographic.{slice_cmp}
-use Rattle.std.specs.List.Sorted.{IsStrictlySortedBy}
 use Rattle.bi_blob.specs.Tree.{FileNode}
 use Rattle.bi_blob.specs.Lookups.{Sibling}
 use Rattle.bi_fdt.specs.Views.{node_of, table_of_node}
-use Rattle.bi_fdt.specs.Table.{TableItem}
-use Rattle.bi_fdt.specs.Numbers.{AreNumbered}
+pub use Rattle.bi_fdt.specs.Numbers.{AreRanks}
 use Rattle.bi_fit.specs.declared.document.ranked_node.RankedNode.{RankedNode}
 
 -- Nodes of a blob with the ranks of the names of its properties.
@@ -15,13 +11,6 @@ use Rattle.bi_fit.specs.declared.document.ranked_node.RankedNode.{RankedNode}
 abbrev pub sibling_of : RankedNode → Sibling FileNode
 sibling_of ranked = node_of ranked.node
 
--- These names are in byte order, and each property of a table has the name of its rank.
-pub record AreRanks (names : List (List ℕ)) (table : List TableItem) (ranks : List ℕ) : Type 0
-  where
-    pub in_order : IsStrictlySortedBy (slice_cmp nat_cmp) names
-    pub numbered : AreNumbered names table ranks
-
 -- The node has the ranks of its blob, by these names.
 abbrev pub HasRanks : List (List ℕ) → RankedNode → Type 0
 HasRanks names ranked = AreRanks names (table_of_node ranked.node) ranked.ranks.now
-

@@ -38,8 +38,8 @@ pub(super) fn begin_node<'a>(
 /// properties to it, in byte order of their names.
 ///
 /// It may only be called if these events may come next in the document: `Doc::may_begin` is true of
-/// the name, and the name of each property has a byte and no zero. A number in the properties is that
-/// of the name in the document.
+/// the name, and the name of each property has a byte and no zero. A number in the properties is
+/// that of the name in the document.
 ///
 /// The only error is `OutOfMemory`. It is not specified which of the events the document has then.
 pub(crate) fn begin_with<'a>(

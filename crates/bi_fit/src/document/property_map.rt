@@ -15,11 +15,11 @@ ghost use Rattle.bi_fit.specs.Updating.{with_time};
 ghost use Rattle.bi_fit.specs.TakenDigests.{HasDigest, with_first_digest, after_digest};
 ghost use Rattle.bi_fit.specs.NormalNodes.{MayAdd, with_events, HasDistinctNames, HasCellSize};
 ghost use Rattle.bi_fit.specs.NormalNodes.{properties_by_name};
-ghost use Rattle.bi_fit.specs.PropertyMapModels.{without_numbers, with_property, HaveNumbers};
+ghost use Rattle.bi_fit.specs.PropertyMapModels.{without_numbers, with_property_value, HaveNumbers};
 ghost use Rattle.bi_fit.specs.PropertyMapModels.{AreNumbersIn};
 ghost use Rattle.bi_fit.specs.PropertyMaps.{number_in};
 ghost use Rattle.bi_fit.specs.RankedNodes.{sibling_of, HasRanks};
-ghost use Rattle.bi_fit.specs.PropertyPlaces.{place_in, is_entry_named, AreByRank};
+ghost use Rattle.bi_fit.specs.PropertyPlaces.{place_of_name, is_entry_named, AreByRank};
 
 use crate::document::ranked_node::RankedNode;
 use crate::form::Form;
@@ -96,7 +96,7 @@ impl<'a> PropertyMap<'a> {
     /// It fails if memory runs out. It is not specified which properties the map has then.
     pub(crate) fn insert(&mut self, name: &'a [u8], value: Value<'a>) -> Result<(), AllocError>
         ensures { OnOk result
-            (self.new ≡ with_property name.entry.now (value_bytes value.entry) self.old) }
+            (self.new ≡ with_property_value name.entry.now (value_bytes value.entry) self.old) }
     {
         let place = find_place(&self.entries, name);
         if has_name_at(&self.entries, place, name) {
@@ -251,7 +251,7 @@ fn entries_by_rank<'a>(
 /// The index of the first of these entries, which are in byte order of their names, whose name is
 /// not before this one. Their number if there is none.
 fn find_place(entries: &[MapEntry<'_>], name: &[u8]) -> usize
-    ensures { result ≡ place_in entries.now name.now }
+    ensures { result ≡ place_of_name entries.now name.now }
 {
     for (index, entry) in entries.iter().enumerate() {
         if !name.cmp(entry.name).is_gt() {

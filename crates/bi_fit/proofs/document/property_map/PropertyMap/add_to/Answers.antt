@@ -6,7 +6,7 @@ use Rattle.bi_fit.specs.PropertyMapModels.{AreNumbersIn, HaveNumbers}
 use Rattle.std.proofs.Math.Seq.{drop-cons}
 use Rattle.bi_blob.specs.Events.{NodeProperty}
 use Rattle.bi_fit.specs.NormalNodes.{MayAdd, with_events}
-use Rattle.bi_fit.proofs.AddedProperties.{no_entry, IsAddingEntries, entry_number, may_add_entry, adding_more}
+use Rattle.bi_fit.proofs.AddedProperties.{no_map_entry, IsAddingEntries, entry_number, may_add_entry, adding_more}
 use Rattle.bi_fit.proofs.document.property_map.PropertyMap.add_to.Goals as goal
 
 pub loop-entry-init : goal.loop-entry-init
@@ -27,9 +27,9 @@ pub add_entry-requires : goal.add_entry-requires
 add_entry-requires c =
     let items = c.deref-entry-items.result.now in
     let target = with_events c.args.doc.now (map NodeProperty (entries c.args.self.now.by_name)) in
-    let entry = get_or items c.loop-entry.entry-index no_entry in
+    let entry = get_or items c.loop-entry.entry-index no_map_entry in
     let later = drop (c.loop-entry.entry-index + 1) items in
-    let left : drop c.loop-entry.entry-index items ≡ entry ∷ later = rw add-one (drop-cons items c.loop-entry.entry-index no_entry c.loop-entry-test.true) in
+    let left : drop c.loop-entry.entry-index items ≡ entry ∷ later = rw add-one (drop-cons items c.loop-entry.entry-index no_map_entry c.loop-entry-test.true) in
     let adding = subst (IsAddingEntries c.loop-entry.doc target) left c.loop-entry.invariant in
     record {
       number = entry_number c.loop-entry.doc target entry later adding;
@@ -40,7 +40,7 @@ pub loop-entry-preserved : goal.loop-entry-preserved
 loop-entry-preserved c =
     let items = c.deref-entry-items.result.now in
     let target = with_events c.args.doc.now (map NodeProperty (entries c.args.self.now.by_name)) in
-    let entry = get_or items c.loop-entry.entry-index no_entry in
+    let entry = get_or items c.loop-entry.entry-index no_map_entry in
     let later = drop (c.loop-entry.entry-index + 1) items in
-    let left : drop c.loop-entry.entry-index items ≡ entry ∷ later = rw add-one (drop-cons items c.loop-entry.entry-index no_entry c.loop-entry-test.true) in
+    let left : drop c.loop-entry.entry-index items ≡ entry ∷ later = rw add-one (drop-cons items c.loop-entry.entry-index no_map_entry c.loop-entry-test.true) in
     adding_more c.loop-entry.doc target entry later (subst (IsAddingEntries c.loop-entry.doc target) left c.loop-entry.invariant) c.add_entry.new.doc c.in_ok-add_entry.ensures.added

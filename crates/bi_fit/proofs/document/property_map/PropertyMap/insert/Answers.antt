@@ -6,8 +6,8 @@ use Rattle.bi_lay.specs.declared.items.Value.{Value}
 use Rattle.bi_lay.specs.Values.{value_bytes}
 use Rattle.bi_fit.specs.declared.document.property_map.MapEntry.{MapEntry}
 use Rattle.bi_fit.specs.PropertyMaps.{properties_in, numbers_in}
-use Rattle.bi_fit.specs.PropertyMapModels.{with_property}
-use Rattle.bi_fit.specs.PropertyPlaces.{place_in, is_entry_named}
+use Rattle.bi_fit.specs.PropertyMapModels.{with_property_value}
+use Rattle.bi_fit.specs.PropertyPlaces.{place_of_name, is_entry_named}
 use Rattle.bi_fit.proofs.PropertyMaps.{sorted-put, from_sorted-put, properties-insert_at, properties-set, found_name, numbers-insert_at, numbers-set, same_model, place_within}
 use Rattle.bi_fit.proofs.document.property_map.PropertyMap.insert.Goals as goal
 use Rattle.bi_fit.proofs.document.property_map.PropertyMap.insert.Goals.{After-index_mut, In_ok-insert}
@@ -21,7 +21,7 @@ replaced c value =
     let entries = c.self.inside.entries.items in
     let name = c.args.name.now in
     let new : MapEntry = record { name = c.index_mut.result.now.name; number = c.index_mut.result.now.number; value = value } in
-    let place : c.find_place-place.result ≡ place_in entries name = c.find_place-place.ensures ∙ ap (λ l. place_in l name) c.deref.ensures.value in
+    let place : c.find_place-place.result ≡ place_of_name entries name = c.find_place-place.ensures ∙ ap (λ l. place_of_name l name) c.deref.ensures.value in
     let named : is_entry_named (slice_get entries c.find_place-place.result) name ≡ true =
     ap (λ l. is_entry_named (slice_get l c.find_place-place.result) name) (sym c.deref-2.ensures.value) ∙ sym c.has_name_at.ensures ∙ c.if-has_name_at.true in
     let found = found_name entries c.find_place-place.result name c.index_mut.result.now named c.index_mut.ensures.value in (
@@ -41,7 +41,7 @@ returns-then-has_name_at c =
     same_model _ _
     (ap (λ l. from_sorted {R = slice_cmp nat_cmp} l) properties.0
     ∙ from_sorted-put (properties_in c.self.inside.entries.items) c.args.name.now (value_bytes c.args.value) c.self.invariant
-    ∙ ap (λ m. (with_property c.args.name.now (value_bytes c.args.value) m).by_name) c.self.view_is)
+    ∙ ap (λ m. (with_property_value c.args.name.now (value_bytes c.args.value) m).by_name) c.self.view_is)
     (properties.1 ∙ ap (λ m. m.numbers) c.self.view_is)
 
 pub insert-requires : goal.insert-requires
@@ -56,13 +56,13 @@ added c =
     let entries = c.self.inside.entries.items in
     let name = c.args.name.now in
     let new : MapEntry = record { name = c.args.name; number = None; value = c.args.value } in
-    let place : c.find_place-place.result ≡ place_in entries name = c.find_place-place.ensures ∙ ap (λ l. place_in l name) c.deref.ensures.value in
-    let apart : is_entry_named (slice_get entries (place_in entries name)) name ≡ false =
+    let place : c.find_place-place.result ≡ place_of_name entries name = c.find_place-place.ensures ∙ ap (λ l. place_of_name l name) c.deref.ensures.value in
+    let apart : is_entry_named (slice_get entries (place_of_name entries name)) name ≡ false =
     subst (λ p. is_entry_named (slice_get entries p) name ≡ false) place
     (ap (λ l. is_entry_named (slice_get l c.find_place-place.result) name) (sym c.deref-2.ensures.value) ∙ sym c.has_name_at.ensures ∙ c.if-has_name_at.false) in
-    let items : c.insert.new.self.items ≡ insert_at entries (place_in entries name) new = c.in_ok-insert.ensures.items ∙ ap (λ p. insert_at entries p new) place in (
+    let items : c.insert.new.self.items ≡ insert_at entries (place_of_name entries name) new = c.in_ok-insert.ensures.items ∙ ap (λ p. insert_at entries p new) place in (
       ap properties_in items ∙ properties-insert_at entries new apart,
-      ap numbers_in items ∙ numbers-insert_at entries (place_in entries name) new refl,
+      ap numbers_in items ∙ numbers-insert_at entries (place_of_name entries name) new refl,
     )
 
 pub invariant_of-self-2 : goal.invariant_of-self-2
@@ -75,5 +75,5 @@ returns c =
     same_model _ _
     (ap (λ l. from_sorted {R = slice_cmp nat_cmp} l) properties.0
     ∙ from_sorted-put (properties_in c.self.inside.entries.items) c.args.name.now (value_bytes c.args.value) c.self.invariant
-    ∙ ap (λ m. (with_property c.args.name.now (value_bytes c.args.value) m).by_name) c.self.view_is)
+    ∙ ap (λ m. (with_property_value c.args.name.now (value_bytes c.args.value) m).by_name) c.self.view_is)
     (properties.1 ∙ ap (λ m. m.numbers) c.self.view_is)
