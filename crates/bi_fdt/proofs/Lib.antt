@@ -20,3 +20,5 @@ pub mod NameTails
 pub mod NumberedNames
 pub mod NameTables
 pub mod KeptNumbers
+pub mod SortedNames
+pub mod NumberedRanks

@@ -13,7 +13,7 @@ use Rattle.bi_fdt.proofs.NameTails.{IsTail-kept, same_name_of_head, one_head}
 -- Names keep their numbers when more are added.
 
 -- What holds of the items of two lists, place by place, holds of them with those of two more lists.
-AllZip-append : {A B : Type 0} (R : A → B → Type 0) (xs : List A) (ys : List B) (zs : List A) (ws : List B) → AllZip R xs ys →
+pub AllZip-append : {A B : Type 0} (R : A → B → Type 0) (xs : List A) (ys : List B) (zs : List A) (ws : List B) → AllZip R xs ys →
     AllZip R zs ws → AllZip R (xs ++ zs) (ys ++ ws)
 AllZip-append R [] [] zs ws all more = more
 AllZip-append R [] (y ∷ ys) zs ws all more = absurd all

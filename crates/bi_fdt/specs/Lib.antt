@@ -16,3 +16,4 @@ pub mod Numbers
 pub mod NameParts
 pub mod NameTails
 pub mod NameTables
+pub mod Ranks

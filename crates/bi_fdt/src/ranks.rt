@@ -1,0 +1,97 @@
+//! The ranks of the names of properties: names with lower ranks are first in byte order.
+
+ghost use Rattle.std.specs.Prelude.{◌≡◌, ℕ, List, Some, length, map, slice_get, slice_index};
+ghost use Rattle.std.specs.Prelude.{IfOk, All, Contains};
+ghost use Rattle.std.specs.List.{AllZip};
+ghost use Rattle.std.specs.List.Sorted.{IsStrictlySortedBy};
+ghost use Rattle.std.specs.Cmp.Lexicographic.{slice_cmp};
+ghost use Rattle.std.specs.Ordering.{nat_cmp};
+ghost use Rattle.bi_base.specs.Slices.{bytes_of};
+ghost use Rattle.bi_fdt.specs.Table.{TableItem};
+ghost use Rattle.bi_fdt.specs.Numbers.{AreNumbered};
+ghost use Rattle.bi_fdt.specs.Ranks.{HasRank};
+
+use std::alloc::{AllocError, Global};
+
+/// Names in byte order, each once, and the rank of the name of each property: its index among
+/// them.
+#[derive(Drop)]
+pub struct NameRanks<'a> {
+    pub names: Vec<&'a [u8]>,
+    pub ranks: Vec<usize>,
+}
+
+/// Returns these names in byte order, each once. It fails if memory runs out.
+fn sort_names<'a>(alloc: Global, names: &[&'a [u8]]) -> Result<Vec<&'a [u8]>, AllocError>
+    ensures ascending { IfOk result (λ sorted.
+        IsStrictlySortedBy (slice_cmp nat_cmp) (bytes_of sorted.items)) }
+    ensures held { IfOk result (λ sorted.
+        All (Contains (bytes_of sorted.items)) (bytes_of names.now)) }
+    ensures taken { IfOk result (λ sorted.
+        All (Contains (bytes_of names.now)) (bytes_of sorted.items)) }
+{
+    let mut sorted: Vec<&'a [u8]> = names.iter().copied().collect(alloc)?;
+    sorted.sort()?;
+    sorted.dedup();
+    Ok(sorted)
+}
+
+/// Returns the rank of a name among names in byte order, which have it.
+fn rank_of(sorted: &[&[u8]], name: &[u8]) -> usize
+    requires ascending { IsStrictlySortedBy (slice_cmp nat_cmp) (bytes_of sorted.now) }
+    requires held { Contains (bytes_of sorted.now) name.now }
+    ensures { HasRank (bytes_of sorted.now) name.now result }
+{
+    sorted.binary_search(&name).unwrap_or(0)
+}
+
+/// Returns the rank of each of these names. It fails if memory runs out.
+fn rank_each(alloc: Global, sorted: &[&[u8]], names: &[&[u8]]) -> Result<Vec<usize>, AllocError>
+    requires ascending { IsStrictlySortedBy (slice_cmp nat_cmp) (bytes_of sorted.now) }
+    requires held { All (Contains (bytes_of sorted.now)) (bytes_of names.now) }
+    ensures { IfOk result (λ ranks.
+        AllZip (HasRank (bytes_of sorted.now)) (bytes_of names.now) ranks.items) }
+{
+    let mut ranks = Vec::with_capacity(alloc, names.len())?;
+    for name in names {
+        ranks.push(rank_of(sorted, name))?;
+    }
+    Ok(ranks)
+}
+
+/// Returns the rank at each of these numbers, or 0 where no name has the number. It fails if memory
+/// runs out.
+fn ranks_at(alloc: Global, ranks: &[usize], numbers: &[usize]) -> Result<Vec<usize>, AllocError>
+    ensures { IfOk result (λ found. found.items ≡ map (slice_index ranks.now) numbers.now) }
+{
+    numbers
+        .iter()
+        .map(|number| ranks.get(*number).copied().unwrap_or(0))
+        .collect(alloc)
+}
+
+/// Returns these names in byte order, each once, and the rank of the name of each property. The
+/// name of a property is given by its number, its index among the names. It fails if memory runs
+/// out. It takes n log n comparisons, for n names.
+pub fn rank_names<'a>(
+    alloc: Global,
+    names: &[&'a [u8]],
+    numbers: &[usize],
+) -> Result<NameRanks<'a>, AllocError>
+    ensures ascending { IfOk result (λ ranked.
+        IsStrictlySortedBy (slice_cmp nat_cmp) (bytes_of ranked.names.items)) }
+    ensures ranks { IfOk result (λ ranked. (table : List TableItem)
+        → AreNumbered (bytes_of names.now) table numbers.now
+        → AreNumbered (bytes_of ranked.names.items) table ranked.ranks.items) }
+    ensures held { IfOk result (λ ranked.
+        All (Contains (bytes_of names.now)) (bytes_of ranked.names.items)) }
+    ensures count { IfOk result (λ ranked. length ranked.ranks.items ≡ length numbers.now) }
+{
+    let sorted = sort_names(alloc, names)?;
+    let ranks_of_names = rank_each(alloc, &sorted, names)?;
+    let ranks = ranks_at(alloc, &ranks_of_names, numbers)?;
+    Ok(NameRanks {
+        names: sorted,
+        ranks,
+    })
+}
