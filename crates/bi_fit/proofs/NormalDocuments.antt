@@ -16,7 +16,7 @@ use Rattle.bi_fit.specs.NewDigests.{new_digests}
 use Rattle.bi_fit.specs.Documents.{document_of}
 use Rattle.bi_fit.specs.NormalNodes.{MayAdd, with_events, with_reservations, HasDistinctNames, HaveImageNodes, AreImageNodes, alone}
 use Rattle.bi_fit.specs.NormalNodes.{payloads_of, sorted_root}
-use Rattle.bi_fit.specs.RankedNodes.{AreRanks}
+use Rattle.bi_fdt.specs.Numbers.{AreRanks}
 use Rattle.bi_fit.proofs.NormalTrees.{held_distinct, held_images, held_events, held_closed}
 
 -- The document of a normal text, as it is built of a blob, its root and its images.

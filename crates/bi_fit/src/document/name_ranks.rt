@@ -6,7 +6,7 @@ ghost use Rattle.bi_base.specs.Reading.{too_large};
 ghost use Rattle.bi_base.specs.Slices.{bytes_of};
 ghost use Rattle.bi_fdt.specs.Content.{root_of};
 ghost use Rattle.bi_fit.specs.LongNames.{HasLongerNames};
-ghost use Rattle.bi_fit.specs.RankedNodes.{AreRanks};
+ghost use Rattle.bi_fdt.specs.Numbers.{AreRanks};
 
 use bi_base::Error;
 use bi_fdt::Blob;
