@@ -18,13 +18,14 @@ held_at P slices index d within all =
     subst P (get_or-map bytes slices index d d.now within) (all index d.now (omega (arith, length-map slices bytes)))
 
 -- The ranks of names with that of the next name.
-pub ranks_more : (sorted : List (List ℕ)) (names : List (Bor (List ℕ))) (index : ℕ) (d : Bor (List ℕ)) (ranks more : List ℕ) (rank : ℕ) →
-    index < length names → AllZip (HasRank sorted) (bytes_of (take index names)) ranks → HasRank sorted (get_or names index d).now rank →
-    more ≡ ranks ++ rank ∷ [] → AllZip (HasRank sorted) (bytes_of (take (index + 1) names)) more
+pub ranks_more : (sorted : List (List ℕ)) (names : List (Bor (List ℕ))) (index : ℕ) (d : Bor (List ℕ)) (ranks more : List ℕ)
+    (rank : ℕ) → index < length names → AllZip (HasRank sorted) (bytes_of (take index names)) ranks →
+    HasRank sorted (get_or names index d).now rank → more ≡ ranks ++ rank ∷ [] → AllZip (HasRank sorted) (bytes_of (take (index + 1) names)) more
 ranks_more sorted names index d ranks more rank within are is pushed =
     subst (AllZip (HasRank sorted) (bytes_of (take (index + 1) names))) (sym pushed)
     (subst (λ l. AllZip (HasRank sorted) l (ranks ++ rank ∷ [])) (sym (map_more (λ (slice : Bor (List ℕ)). slice.now) names index d within))
-      (AllZip-append (HasRank sorted) (bytes_of (take index names)) ranks ((get_or names index d).now ∷ []) (rank ∷ []) are (is, tt)))
+      (AllZip-append (HasRank sorted) (bytes_of (take index names)) ranks ((get_or names index d).now ∷ []) (rank ∷ []) are
+        (is, tt)))
 
 -- The rank at the number of a name is its rank.
 HasRank-number : (sorted names : List (List ℕ)) (ranks : List ℕ) (number : ℕ) (name : List ℕ) → AllZip (HasRank sorted) names ranks →
@@ -32,10 +33,13 @@ HasRank-number : (sorted names : List (List ℕ)) (ranks : List ℕ) (number : �
 HasRank-number sorted [] ranks number name are is = absurd (none-some _ is)
 HasRank-number sorted (first ∷ names) [] number name are is = elim are [ ]
 HasRank-number sorted (first ∷ names) (rank ∷ ranks) zero name are is = are.0 ∙ is
-HasRank-number sorted (first ∷ names) (rank ∷ ranks) (suc number) name are is = HasRank-number sorted names ranks number name are.1 is
+HasRank-number sorted (first ∷ names) (rank ∷ ranks) (suc number) name are is =
+    HasRank-number sorted names ranks number name are.1 is
 
+-- They number the properties by the names in byte order.
 pub AreNumbered-ranks : (sorted names : List (List ℕ)) (ranks : List ℕ) → AllZip (HasRank sorted) names ranks →
-    (table : List TableItem) (numbers : List ℕ) → AreNumbered names table numbers → AreNumbered sorted table (map (slice_index ranks) numbers)
+    (table : List TableItem) (numbers : List ℕ) → AreNumbered names table numbers →
+    AreNumbered sorted table (map (slice_index ranks) numbers)
 AreNumbered-ranks sorted names ranks ranked [] [] are = tt
 AreNumbered-ranks sorted names ranks ranked [] (number ∷ numbers) are = elim are [ ]
 AreNumbered-ranks sorted names ranks ranked (item ∷ table) [] are = elim are [ ]

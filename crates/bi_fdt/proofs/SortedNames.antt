@@ -28,7 +28,8 @@ Slice = Bor (List ℕ)
 abbrev are_equal_slices : Slice → Slice → Bool
 are_equal_slices slice other = bytes_eq slice.now other.now
 
-bytes_of-cond : (test : Bool) (slices others : List Slice) → bytes_of (cond test slices others) ≡ cond test (bytes_of slices) (bytes_of others)
+bytes_of-cond : (test : Bool) (slices others : List Slice) →
+    bytes_of (cond test slices others) ≡ cond test (bytes_of slices) (bytes_of others)
 bytes_of-cond true slices others = refl
 bytes_of-cond false slices others = refl
 
@@ -61,14 +62,15 @@ ascending_once sorted once filtered ascending =
       (IsStrictlySortedBy-dedup nat_list_cmp_total texts_ties (bytes_of sorted) (IsSorted-bytes_of sorted ascending)))
 
 -- They have each name.
-pub held_once : (names sorted once : List Slice) → IsPermutation names sorted → IsFiltered (DiffersFromLast are_equal_slices) [] sorted once →
-    All (Contains (bytes_of once)) (bytes_of names)
+pub held_once : (names sorted once : List Slice) → IsPermutation names sorted →
+    IsFiltered (DiffersFromLast are_equal_slices) [] sorted once → All (Contains (bytes_of once)) (bytes_of names)
 held_once names sorted once moved filtered =
     subst (λ slices. All (Contains (bytes_of slices)) (bytes_of names)) (sym (dedup_is are_equal_slices sorted once filtered))
     (subst (λ kept. All (Contains kept) (bytes_of names)) (sym (bytes_of-dedup sorted))
       (All-weaker (Contains (bytes_of names)) _
         (λ name is_there. Contains-dedup nat_list_eq_equiv (λ x y e. same_text x y (sym e)) (bytes_of sorted) name
-          (Contains-permutation (bytes_of names) (bytes_of sorted) name (IsPermutation-map (λ (slice : Slice). slice.now) names sorted moved) is_there))
+          (Contains-permutation (bytes_of names) (bytes_of sorted) name
+            (IsPermutation-map (λ (slice : Slice). slice.now) names sorted moved) is_there))
         (bytes_of names) (All-contains_itself (bytes_of names))))
 
 -- Each is one of the names that there were.
@@ -89,13 +91,15 @@ taken_once names sorted once moved filtered =
 not_below : (name later : List ℕ) → slice_cmp nat_cmp name later ≡ Less → is_lt (slice_cmp nat_cmp later name) ≡ false
 not_below name later below = ap is_lt (nat_list_cmp_total.antisymm later name ∙ ap ordering_reverse below)
 
-next_not_below : (slices : List Slice) (k : ℕ) (d : Slice) → IsStrictlySortedBy (slice_cmp nat_cmp) (bytes_of slices) → suc k < length slices →
+next_not_below : (slices : List Slice) (k : ℕ) (d : Slice) → IsStrictlySortedBy (slice_cmp nat_cmp) (bytes_of slices) →
+    suc k < length slices →
     is_lt (slice_cmp nat_cmp (get_or slices (suc k) d).now (get_or slices k d).now) ≡ false
 unfolding IsStrictlySortedBy
 next_not_below [] k d ascending within = absurd (omega arith)
 next_not_below (slice ∷ []) k d ascending within = absurd (omega arith)
 next_not_below (slice ∷ other ∷ slices) zero d ascending within = not_below slice.now other.now ascending.0.0
-next_not_below (slice ∷ other ∷ slices) (suc k) d ascending within = next_not_below (other ∷ slices) k d ascending.1 (omega arith)
+next_not_below (slice ∷ other ∷ slices) (suc k) d ascending within =
+    next_not_below (other ∷ slices) k d ascending.1 (omega arith)
 
 IsSortedBy-slices : (slices : List Slice) → IsStrictlySortedBy (slice_cmp nat_cmp) (bytes_of slices) →
     IsSortedBy (λ a b. is_lt (slice_cmp nat_cmp a.now b.now)) slices
@@ -120,7 +124,8 @@ index_of_held slices name held =
 
 -- A name that is there is neither before nor after each other name, so that a search finds it.
 no_place : (slices : List Slice) (name : List ℕ) (place : ℕ) (d : Slice) →
-    IsPartitionPoint (λ (slice : Slice). slice_cmp nat_cmp slice.now name ≡ Less) (λ slice. slice_cmp nat_cmp slice.now name ≡ Greater) slices place →
+    IsPartitionPoint (λ (slice : Slice). slice_cmp nat_cmp slice.now name ≡ Less) (λ slice. slice_cmp nat_cmp slice.now name ≡ Greater)
+    slices place →
     (k : ℕ) → k < length slices → (get_or slices k d).now ≡ name → ⊥
 no_place slices name place d parts k within is =
     let equal : slice_cmp nat_cmp (get_or slices k d).now name ≡ Equal =

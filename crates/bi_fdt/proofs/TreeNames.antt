@@ -1,31 +1,43 @@
-use Rattle.std.proofs.Common.{◌≡◌, ◌⊎◌, ℕ, ◌+◌, ◌-◌, List, [], ◌∷◌, Contains, inl, inr, refl, subst}
+use Rattle.std.proofs.Common.{◌≡◌, ◌⊎◌, ℕ, ◌+◌, ◌-◌, ◌<◌, List, [], ◌∷◌, ◌++◌, length, map, get_or, Contains, inl, inr, refl, sym, subst, arith}
+use Rattle.std.proofs.lemmas.List.{get_or-map, length-map}
 use Rattle.bi_base.proofs.ListMembers.{Contains-none, Contains-cases, Contains-first, Contains-others}
 use Rattle.bi_blob.specs.Tree.{Root, FileNode, FileProperty}
 use Rattle.bi_blob.specs.Events.{FileEvent, FileNodeStart, FileNodeProperty, FileNodeEnd, file_events_of}
+use Rattle.bi_blob.proofs.Blobs.OpenNodes.{All-push}
+use Rattle.bi_fdt.specs.declared.table.Entry.{Entry}
 use Rattle.bi_fdt.specs.Content.{table_of}
-use Rattle.bi_fdt.specs.Table.{NodeItem, PropertyItem, items_of}
-use Rattle.bi_fdt.specs.TreeNames.{IsNameIn}
+use Rattle.bi_fdt.specs.NameTables.{HasAtMostNameOf}
+use Rattle.bi_fdt.specs.Table.{TableItem, NodeItem, PropertyItem, item_in, items_of}
+use Rattle.bi_fdt.specs.TreeNames.{IsNameIn, AreNamesIn}
 
--- The name of a property in the table of a tree is that of a property of the tree.
+-- The name of a property in the table of a tree is that of a property of the tree, so that the names of the table's properties are names
+-- in the tree.
 
 -- A property among the items of events is among the events.
 property_in_events : (depth : ℕ) (events : List FileEvent) (property : FileProperty) →
     Contains (items_of depth events) (PropertyItem property) → Contains events (FileNodeProperty property)
 property_in_events depth [] property has = absurd (Contains-none (PropertyItem property) has)
 property_in_events depth (FileNodeStart place name ∷ later) property has =
-    where_first (Contains-cases (NodeItem depth place name) (items_of (depth + 1) later) (PropertyItem property) has) (λ has. property_in_events (depth + 1) later property has)
+    where_first (Contains-cases (NodeItem depth place name) (items_of (depth + 1) later) (PropertyItem property) has)
+    (λ has. property_in_events (depth + 1) later property has)
   where
-    where_first : (NodeItem depth place name ≡ PropertyItem property) ⊎ Contains (items_of (depth + 1) later) (PropertyItem property) → (Contains (items_of (depth + 1) later) (PropertyItem property) → Contains later (FileNodeProperty property)) → Contains (FileNodeStart place name ∷ later) (FileNodeProperty property)
+    where_first : (NodeItem depth place name ≡ PropertyItem property) ⊎ Contains (items_of (depth + 1) later) (PropertyItem property) →
+        (Contains (items_of (depth + 1) later) (PropertyItem property) → Contains later (FileNodeProperty property)) →
+        Contains (FileNodeStart place name ∷ later) (FileNodeProperty property)
     where_first (inl same) rest = absurd cc
     where_first (inr has) rest = Contains-others (FileNodeStart place name) later (FileNodeProperty property) (rest has)
 property_in_events depth (FileNodeProperty first ∷ later) property has =
-    where_first (Contains-cases (PropertyItem first) (items_of depth later) (PropertyItem property) has) (λ has. property_in_events depth later property has)
+    where_first (Contains-cases (PropertyItem first) (items_of depth later) (PropertyItem property) has)
+    (λ has. property_in_events depth later property has)
   where
-    where_first : (PropertyItem first ≡ PropertyItem property) ⊎ Contains (items_of depth later) (PropertyItem property) → (Contains (items_of depth later) (PropertyItem property) → Contains later (FileNodeProperty property)) → Contains (FileNodeProperty first ∷ later) (FileNodeProperty property)
+    where_first : (PropertyItem first ≡ PropertyItem property) ⊎ Contains (items_of depth later) (PropertyItem property) →
+        (Contains (items_of depth later) (PropertyItem property) → Contains later (FileNodeProperty property)) →
+        Contains (FileNodeProperty first ∷ later) (FileNodeProperty property)
     where_first (inl same) rest =
         let is : first ≡ property = cc in
         subst (λ found. Contains (FileNodeProperty first ∷ later) (FileNodeProperty found)) is (Contains-first (FileNodeProperty first) later)
-    where_first (inr has) rest = Contains-others (FileNodeProperty first) later (FileNodeProperty property) (rest has)
+    where_first (inr has) rest =
+        Contains-others (FileNodeProperty first) later (FileNodeProperty property) (rest has)
 property_in_events depth (FileNodeEnd ∷ later) property has =
     Contains-others FileNodeEnd later (FileNodeProperty property) (property_in_events (depth - 1) later property has)
 
@@ -33,3 +45,23 @@ property_in_events depth (FileNodeEnd ∷ later) property has =
 pub name_in_table : (root : Root FileNode) (property : FileProperty) → Contains (table_of root) (PropertyItem property) →
     IsNameIn property.name root
 name_in_table root property has = (property, property_in_events 0 (file_events_of root) property has, refl)
+
+-- Names in the tree, with at most that of an item of its table.
+AreNamesIn-item : (root : Root FileNode) (item : TableItem) → Contains (table_of root) item → (old new : List (List ℕ)) →
+    HasAtMostNameOf old new item → AreNamesIn old root → AreNamesIn new root
+AreNamesIn-item root (NodeItem depth place name) has old new same are = subst (λ names. AreNamesIn names root) (sym same) are
+AreNamesIn-item root (PropertyItem property) has old new (inl same) are = subst (λ names. AreNamesIn names root) (sym same) are
+AreNamesIn-item root (PropertyItem property) has old new (inr added) are =
+    subst (λ names. AreNamesIn names root) (sym added)
+    (All-push (λ name. IsNameIn name root) old property.name are (name_in_table root property has))
+
+-- The same with that of an entry, where a table has the items of the entries.
+pub AreNamesIn-entry : (file other : List ℕ) → other ≡ file → (entries : List Entry) (root : Root FileNode) →
+    map (item_in file) entries ≡ table_of root → (index : ℕ) (d : Entry) → index < length entries → (old new : List (List ℕ)) →
+    HasAtMostNameOf old new (item_in other (get_or entries index d)) → AreNamesIn old root → AreNamesIn new root
+AreNamesIn-entry file other same entries root items index d within old new more are =
+    let e = get_or entries index d in
+    let among : Contains (map (item_in file) entries) (item_in file e) =
+      (index, omega (arith, length-map entries (item_in file)), get_or-map (item_in file) entries index d (item_in file e) within) in
+    AreNamesIn-item root (item_in file e) (subst (λ table. Contains table (item_in file e)) items among) old new
+    (subst (λ (here : List ℕ). HasAtMostNameOf old new (item_in here e)) same more) are

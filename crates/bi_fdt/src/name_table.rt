@@ -2,11 +2,14 @@
 
 ghost use Rattle.std.specs.Prelude.{◌≡◌, [], IfOk, Some, slice_get};
 ghost use Rattle.bi_blob.specs.Blob.{tree_blocks};
+ghost use Rattle.bi_fdt.specs.Content.{root_of};
 ghost use Rattle.bi_fdt.specs.Fields.{HasNameOffset};
 ghost use Rattle.bi_fdt.specs.NameTables.{names_in_table, IsNameTable, HasMoreNames};
+ghost use Rattle.bi_fdt.specs.NameTables.{HasAtMostMore, HasAtMostNameOf};
 ghost use Rattle.bi_fdt.specs.NameTails.{IsTail, AreTails};
 ghost use Rattle.bi_fdt.specs.Numbers.{IsNumbered, AreNumbered};
 ghost use Rattle.bi_fdt.specs.Table.{item_in};
+ghost use Rattle.bi_fdt.specs.TreeNames.{AreNamesIn};
 
 use crate::blob::Blob;
 use crate::name_parts::NameParts;
@@ -47,6 +50,8 @@ impl<'a> NameTable<'a> {
         ensures added { IfOk result (λ number.
             slice_get (names_in_table self.new) number ≡ Some name.entry.now) }
         ensures more { HasMoreNames self.old self.new }
+        ensures only { HasAtMostMore (names_in_table self.old) (names_in_table self.new)
+            name.entry.now }
     {
         self.names.reserve(1)?;
         let number = self.heads.add(tail, &name[..name.len() % STRIDE])?;
@@ -72,6 +77,8 @@ impl<'a> NameTable<'a> {
         ensures number { IfOk result
             (IsNumbered (names_in_table self.new) (item_in file.entry.now entry)) }
         ensures more { HasMoreNames self.old self.new }
+        ensures only { HasAtMostNameOf (names_in_table self.old) (names_in_table self.new)
+            (item_in file.entry.now entry) }
     {
         let Entry::Property(property) = entry else {
             return Ok(0);
@@ -93,6 +100,8 @@ impl<'a> NameTable<'a> {
         ensures numbers { IfOk result (λ numbers.
             AreNumbered (names_in_table self.new) blob.now.table numbers.items) }
         ensures more { HasMoreNames self.old self.new }
+        ensures held { AreNamesIn (names_in_table self.old) (root_of blob.now)
+            → AreNamesIn (names_in_table self.new) (root_of blob.now) }
     {
         let strings = blob.strings();
         let ends = ends_of_names(alloc, strings)?;

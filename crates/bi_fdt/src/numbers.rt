@@ -2,7 +2,9 @@
 
 ghost use Rattle.std.specs.Prelude.{◌≡◌, [], map, IfOk};
 ghost use Rattle.bi_blob.specs.Tree.{AreDistinct};
+ghost use Rattle.bi_fdt.specs.Content.{root_of};
 ghost use Rattle.bi_fdt.specs.Numbers.{AreNumbered, BeginsWith};
+ghost use Rattle.bi_fdt.specs.TreeNames.{AreNamesIn};
 
 use crate::blob::Blob;
 use crate::name_table::NameTable;
@@ -46,6 +48,8 @@ impl<'a> NameNumbers<'a> {
             AreNumbered self.new blob.now.table numbers.items) }
         ensures names { BeginsWith self.new self.old }
         ensures distinct { AreDistinct self.new }
+        ensures held { AreNamesIn self.old (root_of blob.now)
+            → AreNamesIn self.new (root_of blob.now) }
     {
         self.table.number(alloc, blob)
     }

@@ -9,10 +9,13 @@ was_sorted c =
     subst (λ (names : List (Bor (List ℕ))). IsPermutation names c.sort.new.self.items) same c.in_ok-sort.ensures.permutation
 
 pub returns-clause-ascending : goal.returns-clause-ascending
-returns-clause-ascending c = ascending_once c.sort.new.self.items c.dedup.new.self.items c.dedup.ensures.filtered c.in_ok-sort.ensures.sorted
+returns-clause-ascending c =
+    ascending_once c.sort.new.self.items c.dedup.new.self.items c.dedup.ensures.filtered c.in_ok-sort.ensures.sorted
 
 pub returns-clause-held : goal.returns-clause-held
-returns-clause-held c = held_once c.args.names.now c.sort.new.self.items c.dedup.new.self.items (was_sorted c) c.dedup.ensures.filtered
+returns-clause-held c =
+    held_once c.args.names.now c.sort.new.self.items c.dedup.new.self.items (was_sorted c) c.dedup.ensures.filtered
 
 pub returns-clause-taken : goal.returns-clause-taken
-returns-clause-taken c = taken_once c.args.names.now c.sort.new.self.items c.dedup.new.self.items (was_sorted c) c.dedup.ensures.filtered
+returns-clause-taken c =
+    taken_once c.args.names.now c.sort.new.self.items c.dedup.new.self.items (was_sorted c) c.dedup.ensures.filtered

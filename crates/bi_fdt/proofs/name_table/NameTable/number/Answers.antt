@@ -1,4 +1,5 @@
 use Rattle.std.proofs.Common.{[], map, sym, subst}
+use Rattle.bi_fdt.specs.Content.{root_of}
 use Rattle.bi_fdt.specs.Fields.{HasNameOffset, HaveNameOffsets}
 use Rattle.bi_fdt.specs.NameTables.{names_in_table}
 use Rattle.bi_fdt.specs.NameTails.{AreTails}
@@ -6,6 +7,7 @@ use Rattle.bi_fdt.specs.Numbers.{AreNumbered}
 use Rattle.bi_fdt.specs.Table.{item_in}
 use Rattle.bi_fdt.proofs.NumberedNames.{AreTails-more}
 use Rattle.bi_fdt.proofs.NameTables.{HasMoreNames-tails, HasMoreNames-again, item_at, numbers_more}
+use Rattle.bi_fdt.proofs.TreeNames.{AreNamesIn-entry}
 use Rattle.bi_fdt.proofs.name_table.NameTable.number.Goals as goal
 
 pub returns-in_err-tails-clause-more : goal.returns-in_err-tails-clause-more
@@ -19,6 +21,7 @@ loop-entry-init c = record {
   numbers = subst (AreNumbered (names_in_table c.args.self.now) []) (sym c.in_ok-numbers.ensures.items) tt;
   more = HasMoreNames-tails c.args.self.now c.tails_of_names.new.tails c.requires c.tails_of_names.ensures.more;
   tails = c.in_ok-tails.ensures.tails;
+  held = λ are. are;
 }
 
 pub number_entry-requires-clause-tails : goal.number_entry-requires-clause-tails
@@ -32,6 +35,18 @@ number_entry-requires-clause-name c =
     (subst (HaveNameOffsets c.args.blob.now.file) (sym c.entries-entries.ensures.items) c.strings-strings.ensures.names))
     c.loop-entry-test.true
 
+pub returns-in_err-number_entry-clause-held : goal.returns-in_err-number_entry-clause-held
+returns-in_err-number_entry-clause-held c are =
+    AreNamesIn-entry c.args.blob.now.file c.file.result.now c.file.ensures c.entries-entries.result.now (root_of c.args.blob.now)
+    c.entries-entries.ensures.is_table.items c.loop-entry.entry-index _ c.loop-entry-test.true (names_in_table c.loop-entry.self)
+    (names_in_table c.number_entry.new.self) c.number_entry.ensures.only (c.loop-entry.invariant.held are)
+
+pub returns-in_err-push-clause-held : goal.returns-in_err-push-clause-held
+returns-in_err-push-clause-held c are =
+    AreNamesIn-entry c.args.blob.now.file c.file.result.now c.file.ensures c.entries-entries.result.now (root_of c.args.blob.now)
+    c.entries-entries.ensures.is_table.items c.loop-entry.entry-index _ c.loop-entry-test.true (names_in_table c.loop-entry.self)
+    (names_in_table c.number_entry.new.self) c.number_entry.ensures.only (c.loop-entry.invariant.held are)
+
 pub loop-entry-preserved : goal.loop-entry-preserved
 loop-entry-preserved c = record {
   numbers = numbers_more c.loop-entry.self c.number_entry.new.self c.number_entry.ensures.more c.args.blob.now.file c.file.result.now c.file.ensures c.entries-entries.result.now
@@ -41,4 +56,8 @@ loop-entry-preserved c = record {
   more = HasMoreNames-again c.args.self.now c.loop-entry.self c.number_entry.new.self c.loop-entry.invariant.more c.number_entry.ensures.more;
   tails = AreTails-more c.loop-entry.self.tails c.number_entry.new.self.tails c.strings-strings.result.now c.in_ok-tails.tails.items
       c.number_entry.ensures.more.tails c.loop-entry.invariant.tails;
+  held = λ are.
+      AreNamesIn-entry c.args.blob.now.file c.file.result.now c.file.ensures c.entries-entries.result.now (root_of c.args.blob.now)
+      c.entries-entries.ensures.is_table.items c.loop-entry.entry-index _ c.loop-entry-test.true (names_in_table c.loop-entry.self)
+      (names_in_table c.number_entry.new.self) c.number_entry.ensures.only (c.loop-entry.invariant.held are);
 }

@@ -1,8 +1,10 @@
 use Rattle.std.proofs.Common.{map, take}
+use Rattle.bi_fdt.specs.Content.{root_of}
 use Rattle.bi_fdt.specs.NameTables.{names_in_table, HasMoreNames}
 use Rattle.bi_fdt.specs.NameTails.{AreTails}
 use Rattle.bi_fdt.specs.Numbers.{AreNumbered}
 use Rattle.bi_fdt.specs.Table.{item_in}
+use Rattle.bi_fdt.specs.TreeNames.{AreNamesIn}
 use Rattle.bi_fdt.proofs.name_table.NameTable.number.Given as goal
 
 abbrev pub invariant-loop-entry : goal.invariant-loop-entry
@@ -10,4 +12,5 @@ invariant-loop-entry l = record {
   numbers : AreNumbered (names_in_table l.self) (map (item_in l.blob.file) (take l.entry-index l.entries)) l.numbers.items;
   more : HasMoreNames l.fn.self l.self;
   tails : AreTails l.self.tails l.strings l.tails.items;
+  held : AreNamesIn (names_in_table l.fn.self) (root_of l.blob) → AreNamesIn (names_in_table l.self) (root_of l.blob);
 }
