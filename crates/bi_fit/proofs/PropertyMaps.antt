@@ -1,4 +1,4 @@
-use Rattle.std.proofs.Common.{◌≡◌, ◌≢◌, ℕ, zero, suc, Bool, true, false, cond, not, T, List, [], ◌∷◌, ◌++◌, map, flat_map, ◌++◌, take, drop, set, filter, bytes_eq}
+use Rattle.std.proofs.Common.{◌≡◌, ◌≢◌, ℕ, zero, suc, Bool, true, false, cond, not, T, List, [], ◌∷◌, ◌++◌, map, ◌++◌, take, drop, set, filter, bytes_eq}
 use Rattle.std.proofs.Common.{Ordering, Less, Equal, Greater, is_lt, Option, Some, None, slice_get, slice_index_or, refl, sym, ap, ap₂, subst, ◌∙◌, nat_cmp, true≢false, length, ◌≤◌, arith}
 use Rattle.std.specs.Cmp.Lexicographic.{slice_cmp}
 use Rattle.std.specs.List.{AllByRecursion, insert as insert_at}
@@ -12,7 +12,6 @@ use Rattle.std.proofs.lemmas.Slice.Eq.{bytes_eq-Decides}
 use Rattle.std.proofs.lemmas.List.{take-append-drop}
 use Rattle.std.proofs.lemmas.Grind.{flat_map-append}
 use Rattle.std.proofs.lemmas.Option.{get_or_from_slice_get}
-use Rattle.bi_lay.specs.declared.items.Value.{Value}
 use Rattle.bi_lay.specs.Values.{value_bytes}
 use Rattle.bi_base.proofs.ListMembers.{each-append, each-front, each-back}
 use Rattle.bi_blob.specs.Tree.{Property, PropertyMap, IsNew, AreDistinct}

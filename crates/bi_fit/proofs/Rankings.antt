@@ -1,4 +1,4 @@
-use Rattle.std.proofs.Common.{◌≡◌, ℕ, zero, suc, ◌<◌, T, List, [], ◌∷◌, ◌++◌, map, Ordering, Less, Equal, Greater, Option, Some, None, slice_get, get_or}
+use Rattle.std.proofs.Common.{◌≡◌, ℕ, zero, suc, ◌<◌, T, List, [], ◌∷◌, ◌++◌, map, Ordering, Less, Equal, Greater, Some, slice_get, get_or}
 use Rattle.std.proofs.Common.{refl, sym, ap, subst, ◌∙◌, nat_cmp, arith, ◌⊎◌, inl, inr}
 use Rattle.std.specs.Cmp.Lexicographic.{slice_cmp}
 use Rattle.std.specs.Cmp.{tied_itself, nat_cmp_is}
@@ -8,19 +8,18 @@ use Rattle.std.specs.List.{AllByRecursion, AllZip}
 use Rattle.std.specs.List.Sorted.{IsStrictlySortedBy}
 use Rattle.std.specs.Option.{option_to_list}
 use Rattle.std.specs.FinMap.{from_sorted, is_sorted, put, nat_cmp-IsAntisymmetric}
-use Rattle.std.specs.FinMap.Entries.{by_order}
 use Rattle.std.proofs.lemmas.Cmp.{nat_list_cmp_total}
 use Rattle.std.proofs.lemmas.Map.Keys.{sorted_head, sorted_tail}
 use Rattle.std.proofs.lemmas.List.Elements.{Contains-get_or}
 use Rattle.std.proofs.lemmas.Option.{get_or_from_slice_get, slice_get_within}
 use Rattle.bi_base.proofs.ListMembers.{each-contains}
 use Rattle.bi_lay.specs.Values.{value_bytes}
-use Rattle.bi_blob.specs.Tree.{FileNode, FileProperty, property_of, Property}
+use Rattle.bi_blob.specs.Tree.{FileNode, FileProperty, property_of}
 use Rattle.bi_blob.proofs.Texts.PropertyOrder.{order_tells}
 use Rattle.bi_fdt.specs.Numbers.{HasNumber}
 use Rattle.bi_fit.specs.declared.document.property_map.MapEntry.{MapEntry}
 use Rattle.bi_fit.specs.NormalNodes.{properties_by_name}
-use Rattle.bi_fit.specs.PropertyMaps.{properties_in, number_in, numbers_in}
+use Rattle.bi_fit.specs.PropertyMaps.{properties_in, numbers_in}
 use Rattle.bi_fit.specs.PropertyPlaces.{IsAtRank, AreByRank}
 use Rattle.bi_fit.proofs.PropertyMaps.{insert_all, sorted-put, from_sorted-put}
 

@@ -20,8 +20,8 @@ begins c =
     ] in
     child_begins c.args.hashed c.args.digests.now s c.if-hashed.algo c.name.result.now c.in_ok-properties.properties.by_name c.set_digest.new.self.by_name algo c.name.ensures c.in_ok-properties.ensures.properties c.in_ok-left.ensures.set
 
-pub from_node-properties-requires-clause-ranks : goal.from_node-properties-requires-clause-ranks
-from_node-properties-requires-clause-ranks c = (c.args.doc.now.names, c.requires.ranks)
+pub from_node-requires-clause-ranks : goal.from_node-requires-clause-ranks
+from_node-requires-clause-ranks c = (c.args.doc.now.names, c.requires.ranks)
 
 pub begin_with-requires-clause-numbers : goal.begin_with-requires-clause-numbers
 begin_with-requires-clause-numbers c =

@@ -33,8 +33,10 @@ add_children-add_node-requires t c =
       omega arith,
       (
         subst (HasNextRanks c.loop-next.doc.names) c.in-Some.is c.loop-next.invariant.ranks,
-        (distinct.0, distinct.1, tt),
-        may_add_first c.loop-next.doc target s.name (entries (properties_by_name s.own)) (sorted_nodes s.children) (sorted_nodes s.later) adding,
+        (
+          (distinct.0, distinct.1, tt),
+          may_add_first c.loop-next.doc target s.name (entries (properties_by_name s.own)) (sorted_nodes s.children) (sorted_nodes s.later) adding,
+        ),
       ),
     )
 
@@ -76,8 +78,10 @@ add_node-add_children-requires t c =
       omega arith,
       (
         still_ranked c.args.node c.args.doc.now c.begin_node.new.doc (begin_events s.name (properties_by_name s.own)) c.in_ok-begin_node.ensures.added c.requires.ranks,
-        c.requires.distinct.1,
-        may_have_children c.args.doc.now (begin_events s.name (properties_by_name s.own)) (events (sorted_nodes s.children)) c.begin_node.new.doc c.in_ok-begin_node.ensures.added c.requires.may,
+        (
+          c.requires.distinct.1,
+          may_have_children c.args.doc.now (begin_events s.name (properties_by_name s.own)) (events (sorted_nodes s.children)) c.begin_node.new.doc c.in_ok-begin_node.ensures.added c.requires.may,
+        ),
       ),
     )
 

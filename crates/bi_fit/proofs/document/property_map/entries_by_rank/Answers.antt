@@ -1,9 +1,7 @@
-use Rattle.std.proofs.Common.{◌≡◌, ◌⊎◌, inl, inr, [], ◌∷◌, Some, refl, sym, ap, subst, ◌∙◌, rules, map}
+use Rattle.std.proofs.Common.{◌≡◌, ◌⊎◌, inl, inr, [], ◌∷◌, Some, refl, ap, subst, ◌∙◌, rules}
 use Rattle.std.proofs.lemmas.List.{nil_from_length}
-use Rattle.std.specs.List.{AllZip}
 use Rattle.std.specs.Slice.Iter.{iter_rest}
-use Rattle.bi_blob.specs.Tree.{property_of, properties_of}
-use Rattle.bi_fdt.specs.Numbers.{HasNumber}
+use Rattle.bi_blob.specs.Tree.{properties_of}
 use Rattle.bi_fdt.specs.Properties.{file_property_of}
 use Rattle.bi_lay.specs.declared.items.Value.TheVariants.{Slice}
 use Rattle.bi_fit.specs.declared.document.property_map.MapEntry.{MapEntry}

@@ -16,8 +16,8 @@ begins c =
     begin_events-same c.name.result.now s.name c.set_time.new.self.by_name (with_time c.args.changes.time (properties_by_name s.own)) c.name.ensures
     (c.in_ok-set_time.ensures.set ∙ ap (with_time c.args.changes.time) c.in_ok-properties.ensures.properties)
 
-pub from_node-properties-requires-clause-ranks : goal.from_node-properties-requires-clause-ranks
-from_node-properties-requires-clause-ranks c = (c.args.doc.now.names, c.requires.ranks)
+pub from_node-requires-clause-ranks : goal.from_node-requires-clause-ranks
+from_node-requires-clause-ranks c = (c.args.doc.now.names, c.requires.ranks)
 
 pub begin_with-requires-clause-numbers : goal.begin_with-requires-clause-numbers
 begin_with-requires-clause-numbers c =

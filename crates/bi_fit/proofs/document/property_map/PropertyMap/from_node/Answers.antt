@@ -1,4 +1,4 @@
-use Rattle.std.proofs.Common.{◌≡◌, Some, slice_get, sym, ap, subst, ◌∙◌, rules, append-nil}
+use Rattle.std.proofs.Common.{◌≡◌, Some, slice_get, sym, subst, rules, append-nil}
 use Rattle.std.specs.List.{AllByRecursion}
 use Rattle.bi_fit.specs.PropertyMaps.{numbers_in}
 use Rattle.bi_fit.proofs.Rankings.{ranked_entries, ranks_are_numbers}

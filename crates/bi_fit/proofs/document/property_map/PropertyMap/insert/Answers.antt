@@ -1,4 +1,4 @@
-use Rattle.std.proofs.Common.{◌≡◌, true, false, T, Some, None, slice_get, set, refl, sym, ap, subst, ◌∙◌, nat_cmp, List, ℕ}
+use Rattle.std.proofs.Common.{◌≡◌, true, false, T, None, slice_get, set, refl, sym, ap, subst, ◌∙◌, nat_cmp}
 use Rattle.std.specs.Cmp.Lexicographic.{slice_cmp}
 use Rattle.std.specs.List.{insert as insert_at}
 use Rattle.std.specs.FinMap.{is_sorted, put, from_sorted}
@@ -26,7 +26,7 @@ replaced c value =
     ap (λ l. is_entry_named (slice_get l c.find_place-place.result) name) (sym c.deref-2.ensures.value) ∙ sym c.has_name_at.ensures ∙ c.if-has_name_at.true in
     let found = found_name entries c.find_place-place.result name c.index_mut.result.now named c.index_mut.ensures.value in (
       subst (λ p. properties_in (set entries p new) ≡ put (slice_cmp nat_cmp) name (value_bytes value) (properties_in entries)) (sym place)
-      (properties-set entries name new (subst (λ p. is_entry_named (slice_get entries p) name ≡ true) place named) found.1),
+          (properties-set entries name new (subst (λ p. is_entry_named (slice_get entries p) name ≡ true) place named) found.1),
       numbers-set entries c.find_place-place.result c.index_mut.result.now new found.0 refl,
     )
 

@@ -16,7 +16,7 @@ returns-in-Embedded-clause-numbers c names have =
 pub returns-in_ok-insert-in-External-clause-set : goal.returns-in_ok-insert-in-External-clause-set
 returns-in_ok-insert-in-External-clause-set c =
     let shown : insert (insert (without_payload c.args.self.now.by_name) data_offset_name (cell c.args.begin)) data_size_name (cell (length c.in-Some.payload.now))
-        ≡ with_payload c.args.form c.args.begin (option_map (λ (payload : Bor (List ℕ)). payload.now) c.args.payload) (without_payload c.args.self.now.by_name) =
+    ≡ with_payload c.args.form c.args.begin (option_map (λ (payload : Bor (List ℕ)). payload.now) c.args.payload) (without_payload c.args.self.now.by_name) =
     rw (c.in-External.is, c.in-Some.is) refl in
     on_ok_weaker c.insert-in-External-2.result (λ is.
     ap (λ m. m.by_name) is
