@@ -387,7 +387,7 @@ module _ (content : FitModel) (form : Form) (changes : Changes) where
       (blob : Blob) → blob ≡ content.blob → (fault : Fault) →
       (fault ≡ too_large limit) × HasLongerNames limit (root_of blob) →
       IsTextFault limits form (with_changes changes (tree_of content)) fault
-  too_long_names limits limit is_limit blob is_blob fault (is, (names, (distinct, (are, longer)))) =
+  too_long_names limits limit is_limit blob is_blob fault (is, (names, distinct, are, longer)) =
       let there = subst (λ blob. AreNamesIn names (root_of blob)) is_blob are in
       (
         is ∙ ap too_large is_limit,

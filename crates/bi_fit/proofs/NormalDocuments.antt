@@ -84,4 +84,4 @@ pub document_closed : (content : FitModel) → IsHeld content → (changes : Cha
     (filled : Doc) → HaveSameContent filled (document_of form (with_changes changes (tree_of content))) →
     stage_of_events filled.events ≡ AfterRoot
 document_closed content held changes form digests is_digests filled is =
-    subst (λ events. stage_of_events events ≡ AfterRoot) (sym is.1.1) (held_closed content held changes digests is_digests form).closed
+    subst (λ events. stage_of_events events ≡ AfterRoot) (sym is.2) (held_closed content held changes digests is_digests form).closed

@@ -45,8 +45,8 @@ same_content one other is =
 same_text : (one other : Doc) → HaveSameContent one other → text_of one ≡ text_of other
 same_text one other same =
     ap (λ boot_cpu. text_of_events boot_cpu one.reservations one.events) same.0
-    ∙ ap (λ reservations. text_of_events other.boot_cpu reservations one.events) same.1.0
-    ∙ ap (text_of_events other.boot_cpu other.reservations) same.1.1
+    ∙ ap (λ reservations. text_of_events other.boot_cpu reservations one.events) same.1
+    ∙ ap (text_of_events other.boot_cpu other.reservations) same.2
 
 module _ (form : Form) (tree : ImageTree) (payloads : List (Option (List ℕ))) (same : payloads ≡ tree.payloads) where
   -- The document of a tree, with its payloads, has the tree's text.

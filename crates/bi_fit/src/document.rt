@@ -23,7 +23,7 @@ mod tree;
 
 use crate::changes::Changes;
 pub(crate) use crate::document::nodes::begin_with;
-use crate::document::name_ranks::{NameRanks, rank_names_of};
+use crate::document::name_ranks::rank_names_of;
 pub(crate) use crate::document::property_map::{PropertyMap, is_payload_name};
 use crate::document::ranked_node::RankedNode;
 use crate::document::tree::add_tree;
@@ -33,7 +33,7 @@ use crate::image::Image;
 use crate::payload_area::length_after_blob;
 use crate::text::FitText;
 use bi_base::{Error, Limits};
-use bi_fdt::Blob;
+use bi_fdt::{Blob, NameRanks};
 use bi_lay::Doc;
 use std::alloc::Global;
 

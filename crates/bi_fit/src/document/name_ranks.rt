@@ -8,16 +8,10 @@ ghost use Rattle.bi_fdt.specs.Content.{root_of};
 ghost use Rattle.bi_fit.specs.LongNames.{HasLongerNames};
 ghost use Rattle.bi_fdt.specs.Numbers.{AreRanks};
 
+use crate::long_names::check_long_names;
 use bi_base::Error;
-use bi_fdt::Blob;
+use bi_fdt::{Blob, NameNumbers, NameRanks, rank_names};
 use std::alloc::Global;
-
-/// The names of the properties of a blob in byte order, and the rank of the name of each property.
-#[derive(Drop)]
-pub(super) struct NameRanks<'a> {
-    pub(super) names: Vec<&'a [u8]>,
-    pub(super) ranks: Vec<usize>,
-}
 
 /// Returns the names of the properties of a blob in byte order, each once, and the rank of the name
 /// of each property. For n different names it compares names n log n times, and the names that are
@@ -35,8 +29,8 @@ pub(super) fn rank_names_of<'a>(
     ensures failed { IfErr result (IsFaultOrNoMemory
         (λ fault. (fault ≡ too_large limit) × HasLongerNames limit (root_of blob.now))) }
 {
-    let _ = alloc;
-    let _ = blob;
-    let _ = limit;
-    Err(Error::OutOfMemory)
+    let mut numbers = NameNumbers::new(alloc);
+    let numbered = numbers.number(alloc, blob)?;
+    check_long_names(numbers.names(), limit)?;
+    Ok(rank_names(alloc, numbers.names(), &numbered)?)
 }
