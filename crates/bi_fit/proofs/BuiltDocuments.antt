@@ -15,6 +15,7 @@ use Rattle.bi_lay.specs.Contents.{Doc, empty_content, with_event}
 use Rattle.bi_fit.specs.declared.form.Form.{Form}
 use Rattle.bi_fit.specs.declared.form.Form.TheVariants.{Embedded, External}
 use Rattle.bi_fit.specs.NormalNodes.{MayAdd, with_events, begin_events}
+use Rattle.bi_fit.specs.PropertyMapModels.{PropertyMapModel, without_numbers, HaveNumbers}
 use Rattle.bi_fit.specs.Building.{HeadModel, ImageSpecModel, CanBeBuilt, built_tree, cell_property, built_image_properties, root_properties}
 use Rattle.bi_fit.specs.Documents.{document_of}
 use Rattle.bi_fit.specs.ImageTree.{with_image_nodes, without_payload}
@@ -34,6 +35,11 @@ use Rattle.bi_fit.specs.NamedImages.{named_model, named_models}
 use Rattle.bi_fit.specs.BuiltNodes.{built_payloads, hash_node, placed_properties, built_image_nodes, images_node, configurations_node}
 
 -- The document of a tree to be built.
+
+-- No name of the properties of a node to be built has a number.
+pub have_no_numbers : (names : List (List ℕ)) (properties : PropertyMapModel) (own : PropertyMap) → properties ≡ without_numbers own →
+    HaveNumbers names properties
+have_no_numbers names properties own is = subst (HaveNumbers names) (sym is) tt
 
 -- The properties of an image node to be built give no payload.
 pub properties_apart : (head : HeadModel) (image : ImageSpecModel) →

@@ -1,4 +1,4 @@
-use Rattle.std.proofs.Common.{◌≡◌, ◌⊎◌, ℕ, ◌+◌, ◌≤◌, ◌||◌, Bool, true, false, cond, not, nat_le, inl, inr, List, [], ◌∷◌, ◌++◌, Option, Some, None, length, map}
+use Rattle.std.proofs.Common.{◌≡◌, ◌⊎◌, ℕ, ◌+◌, ◌<◌, ◌≤◌, ◌||◌, Bool, true, false, cond, not, nat_le, inl, inr, List, [], ◌∷◌, ◌++◌, Option, Some, None, length, map}
 use Rattle.std.proofs.Common.{Contains, filter, flat_map, bytes_eq, nat_cmp, refl, sym, ap, subst, ◌∙◌, arith}
 use Rattle.std.specs.Prelude.{if◌then◌else◌}
 use Rattle.std.specs.Cmp.Lexicographic.{slice_cmp}
@@ -23,7 +23,7 @@ use Rattle.bi_blob.specs.Events.{FileEvent, FileNodeStart, FileNodeProperty, Fil
 use Rattle.bi_blob.specs.Layout.{event_names, used_names, distinct_names}
 use Rattle.bi_blob.proofs.Texts.EventLengths.{text_of_events_has_length}
 use Rattle.bi_blob.proofs.Texts.NamesOnce.{distinct_names-all}
-use Rattle.bi_fdt.specs.Content.{root_of}
+use Rattle.bi_fdt.specs.Content.{Blob, root_of}
 use Rattle.bi_fdt.specs.TreeNames.{AreNamesIn}
 use Rattle.bi_hash.specs.declared.algo.Algo.{Algo}
 use Rattle.bi_hash.specs.Digests.{digest_of}
@@ -32,7 +32,8 @@ use Rattle.bi_fit.specs.declared.form.Form.{Form}
 use Rattle.bi_fit.specs.declared.form.Form.TheVariants.{Embedded, External}
 use Rattle.bi_fit.specs.Content.{FitModel, tree_of}
 use Rattle.bi_fit.specs.ImageTree.{with_children_of, without_payload, without_payloads}
-use Rattle.bi_fit.specs.LongNames.{name_if_long}
+use Rattle.bi_fit.specs.Documents.{IsTextFault}
+use Rattle.bi_fit.specs.LongNames.{name_if_long, HasLongerNames}
 use Rattle.bi_fit.specs.Names.{images_name, timestamp_name, value_name, is_hash_name, is_payload_name, payload_names}
 use Rattle.bi_fit.specs.Text.{with_payload, with_payloads, end_after, normal_tree, fit_text}
 use Rattle.bi_fit.specs.Updating.{with_time, known_algorithm, with_digest_by, with_digest, with_digests, with_digests_of}
@@ -40,6 +41,9 @@ use Rattle.bi_fit.specs.Updating.{images_with_digests, with_new_digests, with_ch
 use Rattle.bi_fit.proofs.NormalTrees.{length-fit_text}
 use Rattle.bi_fit.proofs.PayloadProperties.{get-without}
 use Rattle.bi_base.specs.Cells.{cell, up4}
+use Rattle.bi_base.specs.declared.fault.Fault.{Fault}
+use Rattle.bi_base.specs.Limits.{Limits}
+use Rattle.bi_base.specs.Reading.{too_large}
 
 -- The text of a file's tree is at least as long as the different long names of the file's properties together.
 
@@ -377,3 +381,15 @@ module _ (content : FitModel) (form : Form) (changes : Changes) where
       let lengths = text_of_events_has_length tree.cpu tree.reservations text_events in
       let long_ones = no_longer_than_others names text_names distinct (short_or_in_text names are) in
       omega (arith, length-flat_map name_if_long names, long_ones, no_longer_than_all text_names, lengths.strings, lengths.is_length, length-fit_text form tree)
+
+  -- So the text is too long where such names have more bytes than the limit.
+  pub too_long_names : (limits : Limits) (limit : ℕ) → limit ≡ limits.file →
+      (blob : Blob) → blob ≡ content.blob → (fault : Fault) →
+      (fault ≡ too_large limit) × HasLongerNames limit (root_of blob) →
+      IsTextFault limits form (with_changes changes (tree_of content)) fault
+  too_long_names limits limit is_limit blob is_blob fault (is, (names, distinct, are, longer)) =
+      let there = subst (λ blob. AreNamesIn names (root_of blob)) is_blob are in
+      (
+        is ∙ ap too_large is_limit,
+        omega (arith, is_limit, longer, long_names_within names distinct there),
+      )

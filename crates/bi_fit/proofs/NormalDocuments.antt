@@ -5,7 +5,7 @@ use Rattle.bi_blob.specs.Events.{Event, events, events_of}
 use Rattle.bi_blob.specs.Stages.{AfterRoot}
 use Rattle.bi_blob.specs.Following.{stage_of_events}
 use Rattle.bi_fdt.specs.Content.{Blob, root_of}
-use Rattle.bi_lay.specs.Contents.{Doc, empty_content}
+use Rattle.bi_lay.specs.Contents.{Doc, empty_with_names, HaveSameContent}
 use Rattle.bi_fit.specs.declared.changes.Changes.{Changes}
 use Rattle.bi_fit.specs.declared.form.Form.{Form}
 use Rattle.bi_fit.specs.declared.image.Image.{Image}
@@ -16,6 +16,7 @@ use Rattle.bi_fit.specs.NewDigests.{new_digests}
 use Rattle.bi_fit.specs.Documents.{document_of}
 use Rattle.bi_fit.specs.NormalNodes.{MayAdd, with_events, with_reservations, HasDistinctNames, HaveImageNodes, AreImageNodes, alone}
 use Rattle.bi_fit.specs.NormalNodes.{payloads_of, sorted_root}
+use Rattle.bi_fdt.specs.Numbers.{AreRanks}
 use Rattle.bi_fit.proofs.NormalTrees.{held_distinct, held_images, held_events, held_closed}
 
 -- The document of a normal text, as it is built of a blob, its root and its images.
@@ -48,10 +49,15 @@ module _ (content : FitModel) (held : IsHeld content) (changes : Changes) (form 
       ∙ ap (λ root. events (sorted_root changes form (tree_of content).payloads digests root)) same_root
       ∙ held_events content held changes digests is_digests form
 
-  module _ (cpu : ℕ) (is_cpu : cpu ≡ blob.cpu)
-      (started reserved : Doc) (is_started : started ≡ empty_content cpu) (is_reserved : reserved ≡ with_reservations started blob.reservations) where
-    same_reserved : reserved ≡ with_reservations (empty_content cpu) blob.reservations
+  module _ (cpu : ℕ) (is_cpu : cpu ≡ blob.cpu) (names : List (List ℕ))
+      (started reserved : Doc) (is_started : started ≡ empty_with_names cpu names)
+      (is_reserved : reserved ≡ with_reservations started blob.reservations) where
+    same_reserved : reserved ≡ with_reservations (empty_with_names cpu names) blob.reservations
     same_reserved = is_reserved ∙ ap (λ document. with_reservations document blob.reservations) is_started
+
+    -- The names have the numbers that the ranks of the blob are.
+    pub ranks_there : (ranks : List ℕ) → AreRanks names blob.table ranks → AreRanks reserved.names blob.table ranks
+    ranks_there ranks are = subst (λ names. AreRanks names blob.table ranks) (sym (ap (λ document. document.names) same_reserved)) are
 
     -- The tree may be added.
     pub may_add_tree : MayAdd reserved tree_events
@@ -61,17 +67,21 @@ module _ (content : FitModel) (held : IsHeld content) (changes : Changes) (form 
         (held_closed content held changes digests is_digests form).follow)
 
     -- Then the document is the one of the normal text.
-    pub is_document_of : (filled : Doc) → filled ≡ with_events reserved tree_events → filled ≡ document_of form (with_changes changes (tree_of content))
+    pub is_document_of : (filled : Doc) → filled ≡ with_events reserved tree_events →
+        HaveSameContent filled (document_of form (with_changes changes (tree_of content)))
     is_document_of filled is_filled =
-        is_filled
-        ∙ ap (λ document. with_events document tree_events) same_reserved
-        ∙ ap (with_events (with_reservations (empty_content cpu) blob.reservations)) same_events
-        ∙ ap (λ cpu. record { boot_cpu = cpu; reservations = blob.reservations; events = events_of (normal_tree form (with_changes changes (tree_of content))); names = [] }) (is_cpu ∙ ap (λ blob. blob.cpu) is_blob)
-        ∙ ap (λ reservations. record { boot_cpu = content.blob.cpu; reservations = reservations; events = events_of (normal_tree form (with_changes changes (tree_of content))); names = [] }) (ap (λ blob. blob.reservations) is_blob)
+        let is : filled ≡ with_events (with_reservations (empty_with_names cpu names) blob.reservations) tree_events =
+        is_filled ∙ ap (λ document. with_events document tree_events) same_reserved in
+        (
+          ap (λ document. document.boot_cpu) is ∙ is_cpu ∙ ap (λ blob. blob.cpu) is_blob,
+          ap (λ document. document.reservations) is ∙ ap (λ blob. blob.reservations) is_blob,
+          ap (λ document. document.events) is ∙ same_events,
+        )
 
 -- The root of the document has ended.
 pub document_closed : (content : FitModel) → IsHeld content → (changes : Changes) (form : Form) (digests : List ℕ) →
-    digests ≡ new_digests changes (tree_of content) → (filled : Doc) → filled ≡ document_of form (with_changes changes (tree_of content)) →
+    digests ≡ new_digests changes (tree_of content) →
+    (filled : Doc) → HaveSameContent filled (document_of form (with_changes changes (tree_of content))) →
     stage_of_events filled.events ≡ AfterRoot
 document_closed content held changes form digests is_digests filled is =
-    subst (λ document. stage_of_events document.events ≡ AfterRoot) (sym is) (held_closed content held changes digests is_digests form).closed
+    subst (λ events. stage_of_events events ≡ AfterRoot) (sym is.2) (held_closed content held changes digests is_digests form).closed

@@ -1,12 +1,14 @@
 use Rattle.std.proofs.Common.{◌≡◌, ℕ, ◌+◌, ◌<◌, ◌≤◌, List, ◌++◌, length, Option, Result, refl, ap, subst, ◌∙◌, arith, length-append}
 use Rattle.std.specs.Result.{IfErr, IsErrAnd}
 use Rattle.bi_base.specs.declared.fault.Error.{Error}
-use Rattle.bi_base.specs.declared.fault.Error.TheVariants.{Refused}
+use Rattle.bi_base.specs.Errors.{IsFaultOrNoMemory}
+use Rattle.bi_base.specs.declared.fault.Error.TheVariants.{Refused, OutOfMemory, ReadFailed, WriteFailed}
 use Rattle.bi_base.specs.declared.fault.Fault.{Fault}
 use Rattle.bi_base.specs.Limits.{Limits}
 use Rattle.bi_base.specs.Reading.{too_large}
 use Rattle.bi_base.proofs.Refusals.{error_passed_on}
-use Rattle.bi_lay.specs.Contents.{Doc, text_of}
+use Rattle.bi_blob.specs.Layout.{text_of_events}
+use Rattle.bi_lay.specs.Contents.{Doc, text_of, HaveSameContent}
 use Rattle.bi_fit.specs.declared.form.Form.{Form}
 use Rattle.bi_fit.specs.declared.form.Form.TheVariants.{Embedded, External}
 use Rattle.bi_fit.specs.Documents.{document_of, length_after_blob, payloads_after, whole_text, IsTextOfTree, IsTextFault, IsTextError}
@@ -34,11 +36,24 @@ after_of : (form : Form) (tree : ImageTree) → payloads_after form tree.payload
 after_of Embedded tree = refl
 after_of External tree = refl
 
+-- A document that is another has the same content as it.
+pub same_content : (one other : Doc) → one ≡ other → HaveSameContent one other
+same_content one other is =
+    (ap (λ document. document.boot_cpu) is, ap (λ document. document.reservations) is, ap (λ document. document.events) is)
+
+-- Documents with the same content have the same text.
+same_text : (one other : Doc) → HaveSameContent one other → text_of one ≡ text_of other
+same_text one other same =
+    ap (λ boot_cpu. text_of_events boot_cpu one.reservations one.events) same.0
+    ∙ ap (λ reservations. text_of_events other.boot_cpu reservations one.events) same.1
+    ∙ ap (text_of_events other.boot_cpu other.reservations) same.2
+
 module _ (form : Form) (tree : ImageTree) (payloads : List (Option (List ℕ))) (same : payloads ≡ tree.payloads) where
   -- The document of a tree, with its payloads, has the tree's text.
-  pub whole_text_of_tree : (document : Doc) → document ≡ document_of form tree → whole_text form document payloads ≡ fit_text form tree
+  pub whole_text_of_tree : (document : Doc) → HaveSameContent document (document_of form tree) →
+      whole_text form document payloads ≡ fit_text form tree
   whole_text_of_tree document is =
-      ap (λ document. whole_text form document payloads) is
+      ap (λ text. text ++ payloads_after form payloads) (same_text document (document_of form tree) is)
       ∙ ap (whole_text form (document_of form tree)) same
       ∙ ap (λ l. blob_of form tree ++ l) (after_of form tree)
 
@@ -55,20 +70,34 @@ module _ (form : Form) (tree : ImageTree) (payloads : List (Option (List ℕ))) 
         (is_fault ∙ ap too_large is_limit, subst (λ n. n < length (fit_text form tree)) is_limit (late_payloads limit late))
 
     -- and where the whole is.
-    pub too_long_text : (document : Doc) → document ≡ document_of form tree → limit < length (whole_text form document payloads) →
-        IsTextFault limits form tree fault
+    pub too_long_text : (document : Doc) → HaveSameContent document (document_of form tree) →
+        limit < length (whole_text form document payloads) → IsTextFault limits form tree fault
     too_long_text document is late = (
       is_fault ∙ ap too_large is_limit,
       subst (λ n. n < length (fit_text form tree)) is_limit (subst (λ text. limit < length text) (whole_text_of_tree document is) late),
     )
 
   -- A text within the limit is that of the tree.
-  pub is_text_of_tree : (limits : Limits) (limit : ℕ) → limit ≡ limits.file → (document : Doc) → document ≡ document_of form tree →
+  pub is_text_of_tree : (limits : Limits) (limit : ℕ) → limit ≡ limits.file →
+      (document : Doc) → HaveSameContent document (document_of form tree) →
       (text : List ℕ) → text ≡ whole_text form document payloads → length text ≤ limit → IsTextOfTree limits form tree text
   is_text_of_tree limits limit is_limit document is text is_whole short = record {
     is_text = is_whole ∙ whole_text_of_tree document is;
     short = subst (λ n. length text ≤ n) is_limit short;
   }
+
+-- An error of building the document of a tree is passed on as one of laying out its text, if what follows the blob is not too long.
+pub document_error_passed_on : {A : Type 0} (r : Result A Error) (error : Error) (limits : Limits) (form : Form) (tree : ImageTree) →
+    IsErrAnd r (λ other. other ≡ error) → IsFaultOrNoMemory (IsTextFault limits form tree) error →
+    length_after_blob form tree.payloads ≤ limits.file → IfErr r (IsTextError limits form tree)
+document_error_passed_on r error limits form tree is fails within =
+    error_passed_on r error (IsTextError limits form tree) is (by_error error fails)
+  where
+    by_error : (error : Error) → IsFaultOrNoMemory (IsTextFault limits form tree) error → IsTextError limits form tree error
+    by_error (Refused fault) fails = fails
+    by_error OutOfMemory fails = within
+    by_error ReadFailed fails = absurd fails
+    by_error WriteFailed fails = absurd fails
 
 -- Such a fault is passed on as an error.
 pub too_long_passed_on : {A : Type 0} (r : Result A Error) (limits : Limits) (form : Form) (tree : ImageTree) (fault : Fault) →

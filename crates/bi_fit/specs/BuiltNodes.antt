@@ -18,6 +18,7 @@ use Rattle.bi_fit.specs.Text.{with_payload, with_payloads}
 use Rattle.bi_fit.specs.declared.building.document.Parts.{Parts}
 use Rattle.bi_fit.specs.declared.building.lists.KeyLists.{KeyLists}
 use Rattle.bi_fit.specs.NamedImages.{head_model, named_models}
+use Rattle.bi_fit.specs.PropertyMapModels.{PropertyMapModel}
 
 -- What is added to the document of a tree to be built, node by node.
 
@@ -76,9 +77,11 @@ configurations_node head images =
     (configuration_node head images) none
 
 -- Properties with one of one cell, if its number is given.
-abbrev pub with_cell_property : List ℕ → Option ℕ → PropertyMap → PropertyMap
+abbrev pub with_cell_property : List ℕ → Option ℕ → PropertyMapModel → PropertyMapModel
 with_cell_property name None properties = properties
-with_cell_property name (Some number) properties = insert properties name (cell number)
+with_cell_property name (Some number) properties = record properties {
+  by_name = insert properties.by_name name (cell number);
+}
 
 -- A node of this name with these properties and no children, without its siblings.
 abbrev pub leaf : List ℕ → PropertyMap → Nodes (List Property)

@@ -2,26 +2,28 @@
 
 ghost use Rattle.std.specs.Prelude.{◌≡◌, OnOk, IfOk, IfErr};
 ghost use Rattle.std.specs.List.{AllByRecursion};
+ghost use Rattle.bi_base.specs.Errors.{IsFaultOrNoMemory};
 ghost use Rattle.bi_base.specs.declared.fault.Error.TheVariants.{OutOfMemory};
 ghost use Rattle.bi_blob.specs.Blob.{IsReservation};
 ghost use Rattle.bi_blob.specs.Stages.{AfterRoot};
 ghost use Rattle.bi_blob.specs.Following.{stage_of_events};
+ghost use Rattle.bi_lay.specs.Contents.{HaveSameContent};
 ghost use Rattle.bi_fit.specs.Content.{tree_of};
 ghost use Rattle.bi_fit.specs.Updating.{with_changes};
 ghost use Rattle.bi_fit.specs.NewDigests.{new_digests};
-ghost use Rattle.bi_fit.specs.Documents.{document_of, IsTextOfTree, IsTextError};
+ghost use Rattle.bi_fit.specs.Documents.{document_of, IsTextOfTree, IsTextFault, IsTextError};
 ghost use Rattle.bi_fit.specs.NormalNodes.{with_reservations, AreWithin};
 
 mod image_nodes;
-mod nodes;
 mod name_ranks;
+mod nodes;
 mod property_map;
 mod ranked_node;
 mod tree;
 
 use crate::changes::Changes;
 pub(crate) use crate::document::nodes::begin_with;
-use crate::document::name_ranks::{NameRanks, rank_names};
+use crate::document::name_ranks::rank_names_of;
 pub(crate) use crate::document::property_map::{PropertyMap, is_payload_name};
 use crate::document::ranked_node::RankedNode;
 use crate::document::tree::add_tree;
@@ -31,7 +33,7 @@ use crate::image::Image;
 use crate::payload_area::length_after_blob;
 use crate::text::FitText;
 use bi_base::{Error, Limits};
-use bi_fdt::Blob;
+use bi_fdt::{Blob, NameRanks};
 use bi_lay::Doc;
 use std::alloc::Global;
 
@@ -45,8 +47,10 @@ impl<'a> Fit<'a> {
     /// the form External the payloads follow the blob. The text borrows names, values and payloads,
     /// and copies none.
     ///
-    /// Makes n log n comparisons of names, for n nodes and properties. A comparison takes time
-    /// linear in what the two names share.
+    /// Takes n log n steps for n nodes and properties. The different names of properties are
+    /// compared n log n times, with log n comparisons of each byte of them, and no others are
+    /// compared. Those of 64 bytes and more are compared only if they are together no longer than
+    /// `limits.file()`.
     ///
     /// Errors: TooLarge at `limits.file()`, exactly if the text is longer than that, unless memory
     /// runs out; OutOfMemory, which never comes if the payloads after the blob are longer than that
@@ -84,32 +88,37 @@ impl<'a> Fit<'a> {
         let limit = limits.file();
         let images: &'b [Image<'b>] = self.images();
         let after = length_after_blob(images, form, limit)?;
-        let document = self.build_updated_doc(alloc, changes, digests, form)?;
+        let document = self.build_updated_doc(alloc, changes, digests, form, limits)?;
         Ok(FitText::new(document, form, images, after, limit)?)
     }
 
-    /// Builds the document of the normal text of the updated tree, however long the text is.
+    /// Builds the document of the normal text of the updated tree. The text may be longer than the
+    /// limit.
+    ///
+    /// Errors: TooLarge at `limits.file()`, only if the text is longer than that; OutOfMemory.
     fn build_updated_doc<'b>(
         &self,
         alloc: Global,
         changes: Changes,
         digests: &'b [u8],
         form: Form,
+        limits: Limits,
     ) -> Result<Doc<'b>, Error>
     where
         'a: 'b,
         requires digests { digests.now ≡ new_digests changes (tree_of self.now) }
         requires within { AreWithin form 0 (tree_of self.now).payloads }
-        ensures document { IfOk result (λ doc. doc
-            ≡ document_of form (with_changes changes (tree_of self.now))) }
+        ensures document { IfOk result (λ doc. HaveSameContent doc
+            (document_of form (with_changes changes (tree_of self.now)))) }
         ensures closed { IfOk result (λ doc. stage_of_events doc.events ≡ AfterRoot) }
-        ensures failed { IfErr result (λ error. error ≡ OutOfMemory) }
+        ensures failed { IfErr result (IsFaultOrNoMemory
+            (IsTextFault limits form (with_changes changes (tree_of self.now)))) }
     {
         self.give_invariant();
         let blob: &Blob<'b> = self.blob();
         let images: &[Image<'b>] = self.images();
-        let NameRanks { names: _names, ranks } = rank_names(alloc, blob)?;
-        let mut doc: Doc<'b> = Doc::new(alloc, blob.boot_cpu())?;
+        let NameRanks { names, ranks } = rank_names_of(alloc, blob, limits.file())?;
+        let mut doc: Doc<'b> = Doc::with_names(alloc, blob.boot_cpu(), names)?;
         add_reservations(&mut doc, blob)?;
         let root = RankedNode {
             node: blob.root(),

@@ -8,9 +8,9 @@ ghost use Rattle.bi_blob.specs.Following.{stage_of_events};
 ghost use Rattle.bi_blob.specs.Stages.{AfterRoot};
 ghost use Rattle.bi_hash.specs.declared.algo.Algo.TheVariants.{Sha256};
 ghost use Rattle.bi_hash.specs.Digests.{digest_of};
+ghost use Rattle.bi_lay.specs.Contents.{HaveSameContent};
 ghost use Rattle.bi_fit.specs.NormalNodes.{MayAdd, with_events, AreWithin, HasCellSize};
 ghost use Rattle.bi_fit.specs.PropertyMapModels.{HaveNumbers};
-
 ghost use Rattle.bi_fit.specs.Documents.{document_of};
 ghost use Rattle.bi_fit.specs.Building.{built_tree};
 ghost use Rattle.bi_fit.specs.NamedImages.{head_model, named_model, named_models};
@@ -50,8 +50,8 @@ pub(super) fn build_doc<'a>(alloc: Global, parts: Parts<'a>, form: Form) -> Resu
     requires prepared { ArePrepared parts }
     requires within { AreWithin form 0 (built_payloads (named_models parts.images.now)) }
     ensures document { let images = named_models parts.entry.images.now in
-        IfOk result (λ doc.
-        doc ≡ document_of form (built_tree (head_model parts.entry.head) images)) }
+        IfOk result (λ doc. HaveSameContent doc
+        (document_of form (built_tree (head_model parts.entry.head) images))) }
     ensures closed { IfOk result (λ doc. stage_of_events doc.events ≡ AfterRoot) }
     ensures failed { IfErr result (λ error. error ≡ OutOfMemory) }
 {

@@ -117,9 +117,8 @@ fn insert_cell<'a>(
     name: &'a [u8],
     number: Option<u32>,
 ) -> Result<(), AllocError>
-    ensures set { OnOk result (properties.new.by_name
-        ≡ with_cell_property name.entry.now number properties.old.by_name) }
-    ensures same_numbers { OnOk result (properties.new.numbers ≡ properties.old.numbers) }
+    ensures { OnOk result
+        (properties.new ≡ with_cell_property name.entry.now number properties.old) }
 {
     match number {
         Some(number) => properties.insert(name, Value::Cell(number)),

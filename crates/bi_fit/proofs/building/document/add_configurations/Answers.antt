@@ -3,50 +3,60 @@ use Rattle.std.specs.FinMap.{from_entries}
 use Rattle.bi_blob.specs.Events.{events}
 use Rattle.bi_blob.specs.Tree.{PropertyMap}
 use Rattle.bi_fit.specs.NormalNodes.{MayAdd, with_events, begin_events}
-use Rattle.bi_fit.specs.Building.{configuration_name, text_value}
+use Rattle.bi_fit.specs.Building.{configuration_name, configuration_properties, text_value}
 use Rattle.bi_fit.specs.Names.{configurations_name, default_name}
 use Rattle.bi_fit.proofs.AddedEvents.{may_begin, may_have_children, may_end, whole_added}
 use Rattle.bi_fit.specs.NamedImages.{head_model, named_models}
 use Rattle.bi_fit.specs.BuiltNodes.{configuration_node, leaf}
+use Rattle.bi_fit.proofs.BuiltDocuments.{have_no_numbers}
 use Rattle.bi_fit.proofs.building.document.add_configurations.Goals as goal
 
 -- The properties of the node of the configuration.
 abbrev own : PropertyMap
 own = from_entries ((default_name, text_value configuration_name) ∷ [])
 
-pub begin_with-requires : goal.begin_with-requires
-begin_with-requires c =
+pub begin_with-requires-clause-numbers : goal.begin_with-requires-clause-numbers
+begin_with-requires-clause-numbers c = have_no_numbers c.args.doc.now.names c.in_ok-properties.properties own c.in_ok-properties.ensures
+
+pub begin_with-requires-clause-may : goal.begin_with-requires-clause-may
+begin_with-requires-clause-may c =
     let images = named_models c.args.parts.images.now in
     let head = head_model c.args.parts.head in
-    let begins : begin_events configurations_name c.in_ok-properties.properties ≡ begin_events configurations_name own =
-    ap (begin_events configurations_name) c.in_ok-properties.ensures in
+    let begins : begin_events configurations_name c.in_ok-properties.properties.by_name ≡ begin_events configurations_name own =
+    ap (λ properties. begin_events configurations_name properties.by_name) c.in_ok-properties.ensures in
     let children = events (configuration_node head images) in
     subst (MayAdd c.args.doc.now) (sym begins) (may_begin c.args.doc.now (begin_events configurations_name own) children c.requires.may)
 
-pub add_leaf-requires : goal.add_leaf-requires
-add_leaf-requires c =
+pub add_leaf-requires-clause-numbers : goal.add_leaf-requires-clause-numbers
+add_leaf-requires-clause-numbers c =
+    let images = named_models c.args.parts.images.now in
+    have_no_numbers c.begin_with.new.doc.names c.in_ok-properties-2.properties (from_entries (configuration_properties (head_model c.args.parts.head) images))
+    (c.in_ok-properties-2.ensures images c.requires.prepared.lists)
+
+pub add_leaf-requires-clause-may : goal.add_leaf-requires-clause-may
+add_leaf-requires-clause-may c =
     let images = named_models c.args.parts.images.now in
     let head = head_model c.args.parts.head in
-    let begins : begin_events configurations_name c.in_ok-properties.properties ≡ begin_events configurations_name own =
-    ap (begin_events configurations_name) c.in_ok-properties.ensures in
+    let begins : begin_events configurations_name c.in_ok-properties.properties.by_name ≡ begin_events configurations_name own =
+    ap (λ properties. begin_events configurations_name properties.by_name) c.in_ok-properties.ensures in
     let children = events (configuration_node head images) in
     let begun : c.begin_with.new.doc ≡ with_events c.args.doc.now (begin_events configurations_name own) =
     c.in_ok-begin_with.ensures.added ∙ ap (with_events c.args.doc.now) begins in
-    let leaf_is : events (leaf configuration_name c.in_ok-properties-2.properties) ≡ children =
-    ap (λ properties. events (leaf configuration_name properties)) (c.in_ok-properties-2.ensures images c.requires.prepared.lists) in
+    let leaf_is : events (leaf configuration_name c.in_ok-properties-2.properties.by_name) ≡ children =
+    ap (λ properties. events (leaf configuration_name properties.by_name)) (c.in_ok-properties-2.ensures images c.requires.prepared.lists) in
     subst (MayAdd c.begin_with.new.doc) (sym leaf_is) (may_have_children c.args.doc.now (begin_events configurations_name own) children c.begin_with.new.doc begun c.requires.may)
 
 pub end-requires : goal.end-requires
 end-requires c =
     let images = named_models c.args.parts.images.now in
     let head = head_model c.args.parts.head in
-    let begins : begin_events configurations_name c.in_ok-properties.properties ≡ begin_events configurations_name own =
-    ap (begin_events configurations_name) c.in_ok-properties.ensures in
+    let begins : begin_events configurations_name c.in_ok-properties.properties.by_name ≡ begin_events configurations_name own =
+    ap (λ properties. begin_events configurations_name properties.by_name) c.in_ok-properties.ensures in
     let children = events (configuration_node head images) in
     let begun : c.begin_with.new.doc ≡ with_events c.args.doc.now (begin_events configurations_name own) =
     c.in_ok-begin_with.ensures.added ∙ ap (with_events c.args.doc.now) begins in
-    let leaf_is : events (leaf configuration_name c.in_ok-properties-2.properties) ≡ children =
-    ap (λ properties. events (leaf configuration_name properties)) (c.in_ok-properties-2.ensures images c.requires.prepared.lists) in
+    let leaf_is : events (leaf configuration_name c.in_ok-properties-2.properties.by_name) ≡ children =
+    ap (λ properties. events (leaf configuration_name properties.by_name)) (c.in_ok-properties-2.ensures images c.requires.prepared.lists) in
     let filled : c.add_leaf.new.doc ≡ with_events c.begin_with.new.doc children =
     c.in_ok-add_leaf.ensures.added ∙ ap (with_events c.begin_with.new.doc) leaf_is in
     may_end c.args.doc.now (begin_events configurations_name own) children c.begin_with.new.doc c.add_leaf.new.doc begun filled c.requires.may
@@ -55,13 +65,13 @@ pub returns-clause-added : goal.returns-clause-added
 returns-clause-added c =
     let images = named_models c.args.parts.images.now in
     let head = head_model c.args.parts.head in
-    let begins : begin_events configurations_name c.in_ok-properties.properties ≡ begin_events configurations_name own =
-    ap (begin_events configurations_name) c.in_ok-properties.ensures in
+    let begins : begin_events configurations_name c.in_ok-properties.properties.by_name ≡ begin_events configurations_name own =
+    ap (λ properties. begin_events configurations_name properties.by_name) c.in_ok-properties.ensures in
     let children = events (configuration_node head images) in
     let begun : c.begin_with.new.doc ≡ with_events c.args.doc.now (begin_events configurations_name own) =
     c.in_ok-begin_with.ensures.added ∙ ap (with_events c.args.doc.now) begins in
-    let leaf_is : events (leaf configuration_name c.in_ok-properties-2.properties) ≡ children =
-    ap (λ properties. events (leaf configuration_name properties)) (c.in_ok-properties-2.ensures images c.requires.prepared.lists) in
+    let leaf_is : events (leaf configuration_name c.in_ok-properties-2.properties.by_name) ≡ children =
+    ap (λ properties. events (leaf configuration_name properties.by_name)) (c.in_ok-properties-2.ensures images c.requires.prepared.lists) in
     let filled : c.add_leaf.new.doc ≡ with_events c.begin_with.new.doc children =
     c.in_ok-add_leaf.ensures.added ∙ ap (with_events c.begin_with.new.doc) leaf_is in
     c.end.ensures ∙ whole_added c.args.doc.now (begin_events configurations_name own) children c.begin_with.new.doc c.add_leaf.new.doc begun filled

@@ -2,7 +2,7 @@ use Rattle.std.proofs.Common.{map, ap}
 use Rattle.bi_fit.specs.Content.{tree_of}
 use Rattle.bi_fit.specs.Updating.{with_changes}
 use Rattle.bi_fit.specs.NormalNodes.{payloads_of}
-use Rattle.bi_fit.proofs.WholeTexts.{too_long_after, is_text_of_tree, too_long_passed_on}
+use Rattle.bi_fit.proofs.WholeTexts.{too_long_after, document_error_passed_on, is_text_of_tree, too_long_passed_on}
 use Rattle.bi_fit.proofs.fit.Fit.updated_text.Goals as goal
 
 pub returns-in_err-after-clause-failed : goal.returns-in_err-after-clause-failed
@@ -12,6 +12,12 @@ returns-in_err-after-clause-failed c =
     too_long_passed_on c.from_residual.result c.args.limits c.args.form tree c.in_err-after.field-0.0 c.from_residual.ensures.1
     (too_long_after c.args.form tree (payloads_of c.images-images.result.now) (ap (map (λ image. image.payload)) c.images-images.ensures)
     c.args.limits c.file-limit.result c.file-limit.ensures.value c.in_err-after.field-0.0 refused.0 refused.1)
+
+pub returns-in_err-document-clause-failed : goal.returns-in_err-document-clause-failed
+returns-in_err-document-clause-failed c =
+    let tree = with_changes c.args.changes (tree_of c.args.self.now) in
+    document_error_passed_on c.from_residual.result c.in_err-document.field-0 c.args.limits c.args.form tree c.from_residual.ensures.1 c.in_err-document.ensures.failed
+    ?
 
 pub returns-clause-text : goal.returns-clause-text
 returns-clause-text c =
