@@ -4,8 +4,7 @@ ghost use Rattle.std.specs.Prelude.{IfOk, IfErr};
 ghost use Rattle.bi_norm.specs.NormalForm.{IsOpenError};
 ghost use Rattle.bi_norm.specs.Opening.{IsReadBootImage};
 
-use crate::kind::{Kind, kind_of};
-use bi_base::{Error, Limits};
+use bi_base::{Cause, Error, Fault, Limits};
 use bi_fit::Fit;
 use bi_legacy::Legacy;
 use std::alloc::Global;
@@ -30,10 +29,15 @@ impl<'a> BootImage<'a> {
         ensures read { IfOk result (IsReadBootImage limits file.entry.now) }
         ensures failed { IfErr result (IsOpenError limits file.entry.now) }
     {
-        if kind_of(file) == Ok(Kind::Legacy) {
-            return Ok(BootImage::Legacy(Legacy::read(file, limits)?));
+        match Fit::read(alloc, file, limits) {
+            Ok(fit) => Ok(BootImage::Fit(fit)),
+            // The file does not begin as a tree. `Legacy::read` looks at the magic number itself,
+            // and a file of no kind fails there with the same fault.
+            Err(Error::Refused(Fault {
+                cause: Cause::BadMagic,
+                offset: 0,
+            })) => Ok(BootImage::Legacy(Legacy::read(file, limits)?)),
+            Err(error) => Err(error),
         }
-        // The fault of a file of no kind is that of a blob without a magic number.
-        Ok(BootImage::Fit(Fit::read(alloc, file, limits)?))
     }
 }
