@@ -80,7 +80,8 @@ name_within bytes at =
 
 -- One more digest, of the name at a lower multiple of 64.
 pub digests_more : (bytes : List ℕ) (digests more : List (List ℕ)) (count n : ℕ) (digest : List ℕ) → length digests ≡ n
-    → ((index : ℕ) (d : List ℕ) → index < n → slice_index_or digests index d ≡ digest_of_all_blocks (name_from bytes (64 * (count - 1 - index))))
+    → ((index : ℕ) (d : List ℕ) → index < n →
+    slice_index_or digests index d ≡ digest_of_all_blocks (name_from bytes (64 * (count - 1 - index))))
     → digest ≡ digest_of_all_blocks (name_from bytes (64 * (count - 1 - n))) → more ≡ digests ++ digest ∷ []
     → (index : ℕ) (d : List ℕ) → index < n + 1 → slice_index_or more index d ≡ digest_of_all_blocks (name_from bytes (64 * (count - 1 - index)))
 digests_more bytes digests more count n digest long each is pushed index d within =

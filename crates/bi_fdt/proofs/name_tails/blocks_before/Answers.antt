@@ -28,8 +28,8 @@ returns-clause-blocks c =
     subst (AreAllBlocks c.args.tails.now c.args.later) (name_from-later strings at 64 (omega arith) ∙ ap (drop 64) (sym is)) (c.requires.later (omega arith)) in
     subst (AreAllBlocks c.add.new.self (c.in_ok-index.index + 1)) is
     (AreAllBlocks-more c.args.tails.now c.add.new.self _ _ c.args.later c.in_ok-index.index name most refl (omega arith)
-      (placed_more c.args.tails.now _ c.in_ok-index.index c.add.new.self c.in_ok-index.ensures.added).begin
-      (placed_at c.args.tails.now _ c.in_ok-index.index c.add.new.self c.in_ok-index.ensures.added) later)
+    (placed_more c.args.tails.now _ c.in_ok-index.index c.add.new.self c.in_ok-index.ensures.added).begin
+    (placed_at c.args.tails.now _ c.in_ok-index.index c.add.new.self c.in_ok-index.ensures.added) later)
 
 pub returns-clause-more : goal.returns-clause-more
 returns-clause-more c = placed_more c.args.tails.now _ c.in_ok-index.index c.add.new.self c.in_ok-index.ensures.added

@@ -1,4 +1,4 @@
-use Rattle.std.proofs.Common.{◌≡◌, ℕ, ◌+◌, ◌-◌, ◌*◌, ◌/◌, List, length, sym, ap, subst, ◌∙◌, arith}
+use Rattle.std.proofs.Common.{◌≡◌, ℕ, ◌+◌, ◌-◌, ◌*◌, ◌/◌, List, length, ap, subst, ◌∙◌, arith}
 use Rattle.bi_blob.specs.Tokens.{name_from}
 use Rattle.bi_fdt.specs.NameTails.{AreAllBlocks}
 use Rattle.bi_fdt.proofs.NameDigests.{name_from-later}
@@ -21,4 +21,4 @@ returns c = λ tails strings are is.
     subst (λ n. (n - skipped) / 64 ≡ n / 64 - 1) long c.index_of_later_blocks.ensures.blocks in
     IsTail-later tails skipped _ name (omega arith) less
     (subst (AreAllBlocks tails _) (ap (name_from strings) place ∙ name_from-later strings at skipped (omega arith))
-      (are.each (count - 1 - index) 0 (omega arith)))
+    (are.each (count - 1 - index) 0 (omega arith)))

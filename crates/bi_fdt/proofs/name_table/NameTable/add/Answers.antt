@@ -1,4 +1,4 @@
-use Rattle.std.proofs.Common.{◌≡◌, ◌++◌, ◌∷◌, [], ℕ, ◌%◌, List, Some, Bor, map, length, take, slice_get, refl, sym, ap, subst, ◌∙◌, arith, rules}
+use Rattle.std.proofs.Common.{◌≡◌, ◌++◌, ◌∷◌, [], ℕ, List, Some, Bor, map, length, slice_get, sym, ap, subst, ◌∙◌, arith, rules}
 use Rattle.std.proofs.lemmas.List.{map-append, append-nil, length-map}
 use Rattle.bi_fdt.specs.NameParts.{NamePart}
 use Rattle.bi_fdt.specs.NameTails.{IsHead, AreHeads}

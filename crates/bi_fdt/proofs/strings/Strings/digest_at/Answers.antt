@@ -1,4 +1,4 @@
-use Rattle.std.proofs.Common.{◌≡◌, ℕ, ◌+◌, ◌-◌, ◌*◌, ◌/◌, ◌≤◌, [], length, drop, sym, ap, subst, ◌∙◌, arith, rules}
+use Rattle.std.proofs.Common.{◌≡◌, ℕ, ◌+◌, ◌-◌, ◌*◌, ◌/◌, ◌≤◌, length, drop, sym, ap, ◌∙◌, arith, rules}
 use Rattle.bi_blob.specs.Tokens.{name_from}
 use Rattle.bi_fdt.specs.Digests.{digest_of_all_blocks}
 use Rattle.bi_fdt.proofs.NameDigests.{digest_of-later, name_from-later, name_within}
