@@ -83,7 +83,8 @@ pub digests_more : (bytes : List ℕ) (digests more : List (List ℕ)) (count n 
     → ((index : ℕ) (d : List ℕ) → index < n →
     slice_index_or digests index d ≡ digest_of_all_blocks (name_from bytes (64 * (count - 1 - index))))
     → digest ≡ digest_of_all_blocks (name_from bytes (64 * (count - 1 - n))) → more ≡ digests ++ digest ∷ []
-    → (index : ℕ) (d : List ℕ) → index < n + 1 → slice_index_or more index d ≡ digest_of_all_blocks (name_from bytes (64 * (count - 1 - index)))
+    → (index : ℕ) (d : List ℕ) → index < n + 1 →
+    slice_index_or more index d ≡ digest_of_all_blocks (name_from bytes (64 * (count - 1 - index)))
 digests_more bytes digests more count n digest long each is pushed index d within =
     ap (λ l. slice_index_or l index d) pushed ∙ elim (eq-or-lt_of_le {n = index} {m = n} (omega arith)) [
       | inl same ↦ get_or-append_right digests (digest ∷ []) n index d long (omega arith)
