@@ -20,12 +20,13 @@ held_at P slices index d within all =
 -- The ranks of names with that of the next name.
 pub ranks_more : (sorted : List (List ℕ)) (names : List (Bor (List ℕ))) (index : ℕ) (d : Bor (List ℕ)) (ranks more : List ℕ)
     (rank : ℕ) → index < length names → AllZip (HasRank sorted) (bytes_of (take index names)) ranks →
-    HasRank sorted (get_or names index d).now rank → more ≡ ranks ++ rank ∷ [] → AllZip (HasRank sorted) (bytes_of (take (index + 1) names)) more
+    HasRank sorted (get_or names index d).now rank → more ≡ ranks ++ rank ∷ [] →
+    AllZip (HasRank sorted) (bytes_of (take (index + 1) names)) more
 ranks_more sorted names index d ranks more rank within are is pushed =
     subst (AllZip (HasRank sorted) (bytes_of (take (index + 1) names))) (sym pushed)
     (subst (λ l. AllZip (HasRank sorted) l (ranks ++ rank ∷ [])) (sym (map_more (λ (slice : Bor (List ℕ)). slice.now) names index d within))
-      (AllZip-append (HasRank sorted) (bytes_of (take index names)) ranks ((get_or names index d).now ∷ []) (rank ∷ []) are
-        (is, tt)))
+    (AllZip-append (HasRank sorted) (bytes_of (take index names)) ranks ((get_or names index d).now ∷ []) (rank ∷ []) are
+    (is, tt)))
 
 -- The rank at the number of a name is its rank.
 HasRank-number : (sorted names : List (List ℕ)) (ranks : List ℕ) (number : ℕ) (name : List ℕ) → AllZip (HasRank sorted) names ranks →

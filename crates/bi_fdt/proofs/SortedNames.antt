@@ -1,5 +1,5 @@
-use Rattle.std.proofs.Common.{◌≡◌, ℕ, zero, suc, ◌+◌, ◌<◌, ◌≤◌, Bool, true, false, cond, List, [], ◌∷◌, length, map, get_or, slice_get, Some, Result, Ok, Err, All, Contains, Bor, refl, sym, ap, subst, ◌∙◌, arith, bytes_eq, add-one, ◌⊎◌, inl, inr, IsPermutation, IsSortedBy, true≢false}
-use Rattle.std.specs.Cmp.Lexicographic.{slice_cmp, nat_list_cmp_total, nat_list_eq_equiv, on_texts, texts_ties, same_text}
+use Rattle.std.proofs.Common.{◌≡◌, ℕ, zero, suc, ◌+◌, ◌<◌, Bool, true, false, cond, List, [], ◌∷◌, length, get_or, Some, Result, Ok, Err, All, Contains, Bor, refl, sym, ap, subst, ◌∙◌, arith, bytes_eq, add-one, inl, inr, IsPermutation, IsSortedBy, true≢false}
+use Rattle.std.specs.Cmp.Lexicographic.{slice_cmp, nat_list_cmp_total, nat_list_eq_equiv, texts_ties, same_text}
 use Rattle.std.specs.Ordering.{nat_cmp, is_lt, is_eq, ordering_reverse}
 use Rattle.std.specs.declared.cmp.Ordering.TheVariants.{Less, Equal, Greater}
 use Rattle.std.specs.List.{dedup, dedup_from}
@@ -50,7 +50,7 @@ IsSorted-bytes_of (slice ∷ slices) ascending k d least within =
     let all = slice ∷ slices in
     let long : k + 1 < length all = omega (arith, length-map all (λ (slice : Slice). slice.now)) in
     (λ i. is_lt (slice_cmp nat_cmp (get_or-map (λ (slice : Slice). slice.now) all (k + 1) slice d long i)
-      (get_or-map (λ (slice : Slice). slice.now) all k slice d (omega arith) i)))
+    (get_or-map (λ (slice : Slice). slice.now) all k slice d (omega arith) i)))
     ∙ ascending k slice least long
 
 -- The names that `sort` and `dedup` leave are in byte order.
@@ -59,31 +59,31 @@ pub ascending_once : (sorted once : List Slice) → IsFiltered (DiffersFromLast 
 ascending_once sorted once filtered ascending =
     subst (λ slices. IsStrictlySortedBy (slice_cmp nat_cmp) (bytes_of slices)) (sym (dedup_is are_equal_slices sorted once filtered))
     (subst (IsStrictlySortedBy (slice_cmp nat_cmp)) (sym (bytes_of-dedup sorted))
-      (IsStrictlySortedBy-dedup nat_list_cmp_total texts_ties (bytes_of sorted) (IsSorted-bytes_of sorted ascending)))
+    (IsStrictlySortedBy-dedup nat_list_cmp_total texts_ties (bytes_of sorted) (IsSorted-bytes_of sorted ascending)))
 
 -- They have each name.
-pub held_once : (names sorted once : List Slice) → IsPermutation names sorted →
+pub complete_once : (names sorted once : List Slice) → IsPermutation names sorted →
     IsFiltered (DiffersFromLast are_equal_slices) [] sorted once → All (Contains (bytes_of once)) (bytes_of names)
-held_once names sorted once moved filtered =
+complete_once names sorted once moved filtered =
     subst (λ slices. All (Contains (bytes_of slices)) (bytes_of names)) (sym (dedup_is are_equal_slices sorted once filtered))
     (subst (λ kept. All (Contains kept) (bytes_of names)) (sym (bytes_of-dedup sorted))
-      (All-weaker (Contains (bytes_of names)) _
-        (λ name is_there. Contains-dedup nat_list_eq_equiv (λ x y e. same_text x y (sym e)) (bytes_of sorted) name
-          (Contains-permutation (bytes_of names) (bytes_of sorted) name
-            (IsPermutation-map (λ (slice : Slice). slice.now) names sorted moved) is_there))
-        (bytes_of names) (All-contains_itself (bytes_of names))))
+    (All-weaker (Contains (bytes_of names)) _
+    (λ name is_there. Contains-dedup nat_list_eq_equiv (λ x y e. same_text x y (sym e)) (bytes_of sorted) name
+    (Contains-permutation (bytes_of names) (bytes_of sorted) name
+    (IsPermutation-map (λ (slice : Slice). slice.now) names sorted moved) is_there))
+    (bytes_of names) (All-contains_itself (bytes_of names))))
 
 -- Each is one of the names that there were.
-pub taken_once : (names sorted once : List Slice) → IsPermutation names sorted →
+pub held_once : (names sorted once : List Slice) → IsPermutation names sorted →
     IsFiltered (DiffersFromLast are_equal_slices) [] sorted once → All (Contains (bytes_of names)) (bytes_of once)
-taken_once names sorted once moved filtered =
+held_once names sorted once moved filtered =
     subst (λ slices. All (Contains (bytes_of names)) (bytes_of slices)) (sym (dedup_is are_equal_slices sorted once filtered))
     (subst (All (Contains (bytes_of names))) (sym (bytes_of-dedup sorted))
-      (All-weaker (Contains (dedup bytes_eq (bytes_of sorted))) _
-        (λ name is_there. Contains-permutation (bytes_of sorted) (bytes_of names) name
-          (IsPermutation-sym (bytes_of names) (bytes_of sorted) (IsPermutation-map (λ (slice : Slice). slice.now) names sorted moved))
-          (Contains-from_dedup bytes_eq (bytes_of sorted) name is_there))
-        (dedup bytes_eq (bytes_of sorted)) (All-contains_itself (dedup bytes_eq (bytes_of sorted)))))
+    (All-weaker (Contains (dedup bytes_eq (bytes_of sorted))) _
+    (λ name is_there. Contains-permutation (bytes_of sorted) (bytes_of names) name
+    (IsPermutation-sym (bytes_of names) (bytes_of sorted) (IsPermutation-map (λ (slice : Slice). slice.now) names sorted moved))
+    (Contains-from_dedup bytes_eq (bytes_of sorted) name is_there))
+    (dedup bytes_eq (bytes_of sorted)) (All-contains_itself (dedup bytes_eq (bytes_of sorted)))))
 
 -- ---- the search of a name
 
@@ -129,10 +129,10 @@ no_place : (slices : List Slice) (name : List ℕ) (place : ℕ) (d : Slice) →
     (k : ℕ) → k < length slices → (get_or slices k d).now ≡ name → ⊥
 no_place slices name place d parts k within is =
     let equal : slice_cmp nat_cmp (get_or slices k d).now name ≡ Equal =
-      ap (λ other. slice_cmp nat_cmp other name) is ∙ tied_itself nat_list_cmp_total name in
+    ap (λ other. slice_cmp nat_cmp other name) is ∙ tied_itself nat_list_cmp_total name in
     elim (cases_lt k place) [
-    | inl before ↦ let less = parts.0 k d (omega arith) before in absurd (true≢false (ap is_eq (sym equal ∙ less)))
-    | inr after ↦ let greater = parts.1 k d after within in absurd (true≢false (ap is_eq (sym equal ∙ greater)))
+      | inl before ↦ let less = parts.0 k d (omega arith) before in absurd (true≢false (ap is_eq (sym equal ∙ less)))
+      | inr after ↦ let greater = parts.1 k d after within in absurd (true≢false (ap is_eq (sym equal ∙ greater)))
     ]
 
 -- The index that a binary search finds for a name that is there is its rank.
@@ -146,5 +146,5 @@ rank_of_search (slice ∷ slices) name (Err place) within is ascending held =
     let all = slice ∷ slices in
     let at = index_of_held all name held in
     absurd (no_place all name place slice
-      (is (searchable_from_sorted nat_list_cmp_total (λ (slice : Slice). slice.now) all name (IsSortedBy-slices all ascending)))
-      at.0 at.1 (at.2 slice))
+    (is (searchable_from_sorted nat_list_cmp_total (λ (slice : Slice). slice.now) all name (IsSortedBy-slices all ascending)))
+    at.0 at.1 (at.2 slice))

@@ -1,4 +1,4 @@
-use Rattle.std.proofs.Common.{◌≡◌, ◌⊎◌, ℕ, ◌+◌, ◌-◌, ◌<◌, List, [], ◌∷◌, ◌++◌, length, map, get_or, Contains, inl, inr, refl, sym, subst, arith}
+use Rattle.std.proofs.Common.{◌≡◌, ◌⊎◌, ℕ, ◌+◌, ◌-◌, ◌<◌, List, [], ◌∷◌, length, map, get_or, Contains, inl, inr, refl, sym, subst, arith}
 use Rattle.std.proofs.lemmas.List.{get_or-map, length-map}
 use Rattle.bi_base.proofs.ListMembers.{Contains-none, Contains-cases, Contains-first, Contains-others}
 use Rattle.bi_blob.specs.Tree.{Root, FileNode, FileProperty}
@@ -62,6 +62,6 @@ pub AreNamesIn-entry : (file other : List ℕ) → other ≡ file → (entries :
 AreNamesIn-entry file other same entries root items index d within old new more are =
     let e = get_or entries index d in
     let among : Contains (map (item_in file) entries) (item_in file e) =
-      (index, omega (arith, length-map entries (item_in file)), get_or-map (item_in file) entries index d (item_in file e) within) in
+    (index, omega (arith, length-map entries (item_in file)), get_or-map (item_in file) entries index d (item_in file e) within) in
     AreNamesIn-item root (item_in file e) (subst (λ table. Contains table (item_in file e)) items among) old new
     (subst (λ (here : List ℕ). HasAtMostNameOf old new (item_in here e)) same more) are

@@ -25,9 +25,9 @@ pub struct NameRanks<'a> {
 fn sort_names<'a>(alloc: Global, names: &[&'a [u8]]) -> Result<Vec<&'a [u8]>, AllocError>
     ensures ascending { IfOk result (λ sorted.
         IsStrictlySortedBy (slice_cmp nat_cmp) (bytes_of sorted.items)) }
-    ensures held { IfOk result (λ sorted.
+    ensures complete { IfOk result (λ sorted.
         All (Contains (bytes_of sorted.items)) (bytes_of names.now)) }
-    ensures taken { IfOk result (λ sorted.
+    ensures held { IfOk result (λ sorted.
         All (Contains (bytes_of names.now)) (bytes_of sorted.items)) }
 {
     let mut sorted: Vec<&'a [u8]> = names.iter().copied().collect(alloc)?;
@@ -83,6 +83,8 @@ pub fn rank_names<'a>(
     ensures ranks { IfOk result (λ ranked. (table : List TableItem)
         → AreNumbered (bytes_of names.now) table numbers.now
         → AreNumbered (bytes_of ranked.names.items) table ranked.ranks.items) }
+    ensures complete { IfOk result (λ ranked.
+        All (Contains (bytes_of ranked.names.items)) (bytes_of names.now)) }
     ensures held { IfOk result (λ ranked.
         All (Contains (bytes_of names.now)) (bytes_of ranked.names.items)) }
     ensures count { IfOk result (λ ranked. length ranked.ranks.items ≡ length numbers.now) }

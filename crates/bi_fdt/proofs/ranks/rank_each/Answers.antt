@@ -19,6 +19,6 @@ loop-name-preserved c =
 pub returns : goal.returns
 returns c =
     let last : c.loop-name.name-index ≡ length c.args.names.now =
-      omega (arith, c.loop-name-test.false, c.loop-name.auto.name-index-end) in
+    omega (arith, c.loop-name-test.false, c.loop-name.auto.name-index-end) in
     let whole = ap (λ index. take index c.args.names.now) last ∙ take-length c.args.names.now in
     subst (λ names. AllZip (HasRank (bytes_of c.args.sorted.now)) (bytes_of names) c.loop-name.ranks.items) whole c.loop-name.invariant

@@ -8,4 +8,4 @@ pub returns : goal.returns
 returns c =
     subst (HasRank (bytes_of c.args.sorted.now) c.args.name.now) (sym c.unwrap_or.ensures)
     (rank_of_search c.args.sorted.now c.args.name.now c.binary_search.result c.binary_search.ensures.bound c.binary_search.ensures.position
-      c.requires.ascending c.requires.held)
+    c.requires.ascending c.requires.held)

@@ -1,5 +1,5 @@
 use Rattle.std.proofs.Common.{◌≡◌, Bor, List, ℕ, IsPermutation, subst, rules}
-use Rattle.bi_fdt.proofs.SortedNames.{ascending_once, held_once, taken_once}
+use Rattle.bi_fdt.proofs.SortedNames.{ascending_once, complete_once, held_once}
 use Rattle.bi_fdt.proofs.ranks.sort_names.Goals as goal
 
 -- The names that are sorted are those that are given.
@@ -12,10 +12,10 @@ pub returns-clause-ascending : goal.returns-clause-ascending
 returns-clause-ascending c =
     ascending_once c.sort.new.self.items c.dedup.new.self.items c.dedup.ensures.filtered c.in_ok-sort.ensures.sorted
 
+pub returns-clause-complete : goal.returns-clause-complete
+returns-clause-complete c =
+    complete_once c.args.names.now c.sort.new.self.items c.dedup.new.self.items (was_sorted c) c.dedup.ensures.filtered
+
 pub returns-clause-held : goal.returns-clause-held
 returns-clause-held c =
     held_once c.args.names.now c.sort.new.self.items c.dedup.new.self.items (was_sorted c) c.dedup.ensures.filtered
-
-pub returns-clause-taken : goal.returns-clause-taken
-returns-clause-taken c =
-    taken_once c.args.names.now c.sort.new.self.items c.dedup.new.self.items (was_sorted c) c.dedup.ensures.filtered
