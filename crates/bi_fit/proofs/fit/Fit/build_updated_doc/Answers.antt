@@ -18,14 +18,14 @@ pub returns-in_err-names-clause-failed : goal.returns-in_err-names-clause-failed
 returns-in_err-names-clause-failed c =
     let longer : Fault → Type 0 = λ fault. (fault ≡ too_large c.file.result) × HasLongerNames c.file.result (root_of c.blob-blob.result.now) in
     let late = IsTextFault c.args.limits c.args.form (with_changes c.args.changes (tree_of c.args.self.now)) in
-    refusal_passed_on c.from_residual.result c.in_err-names.field-0 longer longer late c.from_residual.ensures.1 c.in_err-names.ensures.failed c.in_err-names.ensures.failed
+    refusal_passed_on c.from_residual.result c.in_err-names.field-0.0 longer longer late c.from_residual.ensures.1 c.in_err-names.ensures.failed c.in_err-names.ensures.failed
     (λ fault one other. too_long_names c.args.self.now c.args.form c.args.changes c.args.limits c.file.result c.file.ensures.value c.blob-blob.result.now c.blob-blob.ensures fault one)
 
 pub add_tree-requires-clause-ranks : goal.add_tree-requires-clause-ranks
 add_tree-requires-clause-ranks c =
     let ranks = ranks_there c.args.self.now c.give_invariant.ensures c.args.changes c.args.form c.args.digests.now c.requires.digests c.blob-blob.result.now c.blob-blob.ensures c.images-images.result.now c.images-images.ensures (node_of c.root.result) c.root.ensures.root
-        c.boot_cpu.result c.boot_cpu.ensures (bytes_of c.in_ok-names.names.items) c.in_ok-doc.doc c.add_reservations.new.doc c.in_ok-doc.ensures.empty c.in_ok-add_reservations.ensures.added
-        c.in_ok-names.ranks.items c.in_ok-names.ensures.ranks in
+        c.boot_cpu.result c.boot_cpu.ensures (bytes_of c.in_ok-names.field-0.names.items) c.in_ok-doc.doc c.add_reservations.new.doc c.in_ok-doc.ensures.empty c.in_ok-add_reservations.ensures.added
+        c.in_ok-names.field-0.ranks.items c.in_ok-names.ensures.ranks in
     subst (λ table. AreRanks c.add_reservations.new.doc.names table c.deref.result.now) (sym c.root.ensures.same_table)
     (subst (AreRanks c.add_reservations.new.doc.names c.blob-blob.result.now.table) (sym c.deref.ensures.value) ranks)
 
@@ -40,17 +40,17 @@ add_tree-requires-clause-distinct c =
 pub add_tree-requires-clause-may : goal.add_tree-requires-clause-may
 add_tree-requires-clause-may c =
     may_add_tree c.args.self.now c.give_invariant.ensures c.args.changes c.args.form c.args.digests.now c.requires.digests c.blob-blob.result.now c.blob-blob.ensures c.images-images.result.now c.images-images.ensures (node_of c.root.result) c.root.ensures.root
-    c.boot_cpu.result c.boot_cpu.ensures (bytes_of c.in_ok-names.names.items) c.in_ok-doc.doc c.add_reservations.new.doc c.in_ok-doc.ensures.empty c.in_ok-add_reservations.ensures.added
+    c.boot_cpu.result c.boot_cpu.ensures (bytes_of c.in_ok-names.field-0.names.items) c.in_ok-doc.doc c.add_reservations.new.doc c.in_ok-doc.ensures.empty c.in_ok-add_reservations.ensures.added
 
 pub returns-clause-document : goal.returns-clause-document
 returns-clause-document c =
     is_document_of c.args.self.now c.give_invariant.ensures c.args.changes c.args.form c.args.digests.now c.requires.digests c.blob-blob.result.now c.blob-blob.ensures c.images-images.result.now c.images-images.ensures (node_of c.root.result) c.root.ensures.root
-    c.boot_cpu.result c.boot_cpu.ensures (bytes_of c.in_ok-names.names.items) c.in_ok-doc.doc c.add_reservations.new.doc c.in_ok-doc.ensures.empty c.in_ok-add_reservations.ensures.added
+    c.boot_cpu.result c.boot_cpu.ensures (bytes_of c.in_ok-names.field-0.names.items) c.in_ok-doc.doc c.add_reservations.new.doc c.in_ok-doc.ensures.empty c.in_ok-add_reservations.ensures.added
     c.add_tree.new.doc c.in_ok-add_tree.ensures.added
 
 pub returns-clause-closed : goal.returns-clause-closed
 returns-clause-closed c =
     document_closed c.args.self.now c.give_invariant.ensures c.args.changes c.args.form c.args.digests.now c.requires.digests c.add_tree.new.doc
     (is_document_of c.args.self.now c.give_invariant.ensures c.args.changes c.args.form c.args.digests.now c.requires.digests c.blob-blob.result.now c.blob-blob.ensures c.images-images.result.now c.images-images.ensures (node_of c.root.result) c.root.ensures.root
-    c.boot_cpu.result c.boot_cpu.ensures (bytes_of c.in_ok-names.names.items) c.in_ok-doc.doc c.add_reservations.new.doc c.in_ok-doc.ensures.empty c.in_ok-add_reservations.ensures.added
+    c.boot_cpu.result c.boot_cpu.ensures (bytes_of c.in_ok-names.field-0.names.items) c.in_ok-doc.doc c.add_reservations.new.doc c.in_ok-doc.ensures.empty c.in_ok-add_reservations.ensures.added
     c.add_tree.new.doc c.in_ok-add_tree.ensures.added)
