@@ -1,15 +1,19 @@
-use Rattle.std.proofs.Common.{◌≡◌, ◌⊎◌, ℕ, ◌+◌, ◌<◌, ◌≤◌, ◌||◌, Bool, true, false, cond, not, nat_le, inl, inr, List, [], ◌∷◌, ◌++◌, Option, Some, None, length, map}
+use Rattle.std.proofs.Common.{◌≡◌, ◌⊎◌, ℕ, ◌+◌, ◌≤◌, ◌||◌, Bool, true, false, cond, not, nat_le, inl, inr, List, [], ◌∷◌, ◌++◌, Option, Some, None, length, map}
 use Rattle.std.proofs.Common.{Contains, filter, flat_map, bytes_eq, nat_cmp, refl, sym, ap, subst, ◌∙◌, arith}
 use Rattle.std.specs.Prelude.{if◌then◌else◌}
+use Rattle.std.proofs.Common.{All, Less, Equal, true≢false}
+use Rattle.std.specs.List.Sorted.{IsStrictlySortedBy}
+use Rattle.std.specs.Cmp.{tied_itself}
+use Rattle.std.proofs.lemmas.Map.Keys.{sorted_head, sorted_tail}
 use Rattle.std.specs.Cmp.Lexicographic.{slice_cmp}
 use Rattle.std.specs.FinMap.{get, insert, entries, from_entries, get-insert, get-entries, get-from_entries}
 use Rattle.std.specs.FinMap.Entries.{is_some-find}
 use Rattle.std.specs.List.{AllByRecursion, list_any, sum_by}
 use Rattle.std.specs.Option.{is_some}
-use Rattle.std.specs.Ordering.{eq_by_cmp}
+use Rattle.std.specs.Ordering.{eq_by_cmp, is_lt}
 use Rattle.std.proofs.lemmas.Cmp.{eq_by_cmp_equiv, nat_list_cmp_total}
 use Rattle.std.proofs.lemmas.List.Concat.{flat_map-append, length-flat_map}
-use Rattle.std.proofs.lemmas.List.Elements.{Contains-append_left, Contains-append_right, Contains-append_cases}
+use Rattle.std.proofs.lemmas.List.Elements.{All-head, All-tail, Contains-append_left, Contains-append_right, Contains-append_cases}
 use Rattle.std.proofs.lemmas.List.Filters.{sum_by-filter_both}
 use Rattle.std.proofs.lemmas.List.Sums.{sum_by-cons, get_or-le-sum_by}
 use Rattle.std.proofs.lemmas.Map.Text.{is_eq-slice_cmp}
@@ -116,6 +120,39 @@ no_longer_than_others (name ∷ later) others distinct are =
     where_short (inr has) rest =
         let left = rest (filter (λ other. not (bytes_eq name other)) others) (short_or_left name others later distinct.0 are.1) in
         omega (arith, sum_by-cons long_length name later, one_and_others name others has, left)
+
+-- A name is none of those that it is before in byte order,
+new_before : (name : List ℕ) (names : List (List ℕ)) → AllByRecursion (λ other. slice_cmp nat_cmp name other ≡ Less) names →
+    IsNew name names
+new_before name [] before = tt
+new_before name (other ∷ later) before = (differs, new_before name later before.1)
+  where
+    differs : other ≡ name → ⊥
+    differs same =
+        let tied : slice_cmp nat_cmp name other ≡ Equal =
+        subst (λ other. slice_cmp nat_cmp name other ≡ Equal) (sym same) (tied_itself nat_list_cmp_total name) in
+        true≢false (ap is_lt (sym before.0 ∙ tied))
+
+-- so names in byte order are distinct.
+distinct_in_order : (names : List (List ℕ)) → IsStrictlySortedBy (slice_cmp nat_cmp) names → AreDistinct names
+distinct_in_order [] ordered = tt
+distinct_in_order (name ∷ later) ordered = (
+  new_before name later (sorted_head (slice_cmp nat_cmp) name later ordered),
+  distinct_in_order later (sorted_tail (slice_cmp nat_cmp) name later ordered),
+)
+
+-- Each name that is among others is short or among them.
+all_among : (names others : List (List ℕ)) → All (Contains others) names → AreShortOrAmong others names
+all_among [] others among = tt
+all_among (name ∷ later) others among =
+    (inr (All-head (Contains others) name later among), all_among later others (All-tail (Contains others) name later among))
+
+-- Long names in byte order, which are among others, are together no longer than those.
+pub long_names_in_order : (sorted names : List (List ℕ)) → IsStrictlySortedBy (slice_cmp nat_cmp) sorted → All (Contains names) sorted →
+    length (flat_map name_if_long sorted) ≤ length (flat_map name_if_long names)
+long_names_in_order sorted names ordered among =
+    let no_longer = no_longer_than_others sorted names (distinct_in_order sorted ordered) (all_among sorted names among) in
+    omega (arith, length-flat_map name_if_long sorted, length-flat_map name_if_long names, no_longer)
 
 -- One of these nodes or of all nodes below them has what meets a condition.
 abbrev SomeOwn : {Own : Type 0} → (Own → Type 0) → Nodes Own → Type 0
@@ -388,8 +425,7 @@ module _ (content : FitModel) (form : Form) (changes : Changes) where
       (fault ≡ too_large limit) × HasLongerNames limit (root_of blob) →
       IsTextFault limits form (with_changes changes (tree_of content)) fault
   too_long_names limits limit is_limit blob is_blob fault (is, (names, distinct, are, longer)) =
-      let there = subst (λ blob. AreNamesIn names (root_of blob)) is_blob are in
-      (
+      let there = subst (λ blob. AreNamesIn names (root_of blob)) is_blob are in (
         is ∙ ap too_large is_limit,
         omega (arith, is_limit, longer, long_names_within names distinct there),
       )

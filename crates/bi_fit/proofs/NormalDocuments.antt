@@ -71,8 +71,7 @@ module _ (content : FitModel) (held : IsHeld content) (changes : Changes) (form 
         HaveSameContent filled (document_of form (with_changes changes (tree_of content)))
     is_document_of filled is_filled =
         let is : filled ≡ with_events (with_reservations (empty_with_names cpu names) blob.reservations) tree_events =
-        is_filled ∙ ap (λ document. with_events document tree_events) same_reserved in
-        (
+        is_filled ∙ ap (λ document. with_events document tree_events) same_reserved in (
           ap (λ document. document.boot_cpu) is ∙ is_cpu ∙ ap (λ blob. blob.cpu) is_blob,
           ap (λ document. document.reservations) is ∙ ap (λ blob. blob.reservations) is_blob,
           ap (λ document. document.events) is ∙ same_events,

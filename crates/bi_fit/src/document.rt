@@ -22,8 +22,8 @@ mod ranked_node;
 mod tree;
 
 use crate::changes::Changes;
-pub(crate) use crate::document::nodes::begin_with;
 use crate::document::name_ranks::rank_names_of;
+pub(crate) use crate::document::nodes::begin_with;
 pub(crate) use crate::document::property_map::{PropertyMap, is_payload_name};
 use crate::document::ranked_node::RankedNode;
 use crate::document::tree::add_tree;

@@ -24,8 +24,8 @@ returns-in_err-names-clause-failed c =
 pub add_tree-requires-clause-ranks : goal.add_tree-requires-clause-ranks
 add_tree-requires-clause-ranks c =
     let ranks = ranks_there c.args.self.now c.give_invariant.ensures c.args.changes c.args.form c.args.digests.now c.requires.digests c.blob-blob.result.now c.blob-blob.ensures c.images-images.result.now c.images-images.ensures (node_of c.root.result) c.root.ensures.root
-        c.boot_cpu.result c.boot_cpu.ensures (bytes_of c.in_ok-names.field-0.names.items) c.in_ok-doc.doc c.add_reservations.new.doc c.in_ok-doc.ensures.empty c.in_ok-add_reservations.ensures.added
-        c.in_ok-names.field-0.ranks.items c.in_ok-names.ensures.ranks in
+    c.boot_cpu.result c.boot_cpu.ensures (bytes_of c.in_ok-names.field-0.names.items) c.in_ok-doc.doc c.add_reservations.new.doc c.in_ok-doc.ensures.empty c.in_ok-add_reservations.ensures.added
+    c.in_ok-names.field-0.ranks.items c.in_ok-names.ensures.ranks in
     subst (λ table. AreRanks c.add_reservations.new.doc.names table c.deref.result.now) (sym c.root.ensures.same_table)
     (subst (AreRanks c.add_reservations.new.doc.names c.blob-blob.result.now.table) (sym c.deref.ensures.value) ranks)
 
