@@ -1,11 +1,12 @@
 //! Opening a boot image of any kind.
 
-ghost use Rattle.std.specs.Prelude.{IfOk, IfErr};
+ghost use Rattle.std.specs.Prelude.{◌≡◌, ◌↔◌, IfOk, IfErr, IsTrue};
+ghost use Rattle.bi_base.specs.declared.fault.Cause.TheVariants.{BadMagic};
+ghost use Rattle.bi_base.specs.declared.fault.Error.TheVariants.{Refused};
 ghost use Rattle.bi_norm.specs.NormalForm.{IsOpenError};
 ghost use Rattle.bi_norm.specs.Opening.{IsReadBootImage};
 
-use crate::kind::{Kind, kind_of};
-use bi_base::{Error, Limits};
+use bi_base::{Cause, Error, Limits};
 use bi_fit::Fit;
 use bi_legacy::Legacy;
 use std::alloc::Global;
@@ -30,10 +31,25 @@ impl<'a> BootImage<'a> {
         ensures read { IfOk result (IsReadBootImage limits file.entry.now) }
         ensures failed { IfErr result (IsOpenError limits file.entry.now) }
     {
-        if kind_of(file) == Ok(Kind::Legacy) {
-            return Ok(BootImage::Legacy(Legacy::read(file, limits)?));
+        match Fit::read(alloc, file, limits) {
+            Ok(fit) => Ok(BootImage::Fit(fit)),
+            Err(error) => {
+                // A legacy image has another magic number, and a file of no kind the same fault.
+                if is_no_tree(error) {
+                    return Ok(BootImage::Legacy(Legacy::read(file, limits)?));
+                }
+                Err(error)
+            }
         }
-        // The fault of a file of no kind is that of a blob without a magic number.
-        Ok(BootImage::Fit(Fit::read(alloc, file, limits)?))
+    }
+}
+
+/// Whether this is the error of a file that does not begin with the magic number of a tree.
+fn is_no_tree(error: Error) -> bool
+    ensures { IsTrue result ↔ (error ≡ Refused (record { cause = BadMagic; offset = 0 })) }
+{
+    match error {
+        Error::Refused(fault) => fault.cause == Cause::BadMagic && fault.offset == 0,
+        _ => false,
     }
 }
