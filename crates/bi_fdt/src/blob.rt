@@ -62,7 +62,7 @@ impl<'a> Model for Blob<'a> {
 }
 
 impl<'a> Blob<'a> {
-    ghost use Rattle.bi_fdt.specs.Views.{node_of, table_of_node};
+    ghost use Rattle.bi_fdt.specs.Views.{HasNodeAt, node_in, node_of, table_of_node};
 
     /// Reads a blob of version 16 or 17, or of a later version that is compatible with 17. The file
     /// may be longer than the blob.
@@ -147,6 +147,15 @@ impl<'a> Blob<'a> {
         ensures same_table { table_of_node result ≡ self.now.table }
     {
         NodeRef::new(self)
+    }
+
+    /// The node at an index that `NodeRef::index` returned for this blob. Takes constant time.
+    pub fn node<'b>(&'b self, index: usize) -> NodeRef<'a, 'b>
+        requires { HasNodeAt self.now.table index }
+        ensures node { node_of result ≡ node_in self.now.table index }
+        ensures same_table { table_of_node result ≡ self.now.table }
+    {
+        NodeRef::at(self, index)
     }
 
     /// The bytes of the strings block (5.5).

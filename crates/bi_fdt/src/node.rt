@@ -28,7 +28,7 @@ pub struct NodeRef<'a, 'b> {
 }
 
 impl<'a, 'b> NodeRef<'a, 'b> {
-    ghost use Rattle.bi_fdt.specs.Views.{node_of, table_of_node};
+    ghost use Rattle.bi_fdt.specs.Views.{HasNodeAt, node_in, node_of, table_of_node};
     ghost use Rattle.bi_fdt.specs.Fields.{IsNodeOf};
 
     /// The root of a blob.
@@ -39,6 +39,25 @@ impl<'a, 'b> NodeRef<'a, 'b> {
         // The call gives the proof the invariant of the blob: its table begins with the root.
         let _ = blob.entries();
         NodeRef { blob, index: 0 }
+    }
+
+    /// The node at an index of the table of a blob.
+    pub(crate) fn at(blob: &'b Blob<'a>, index: usize) -> NodeRef<'a, 'b>
+        requires { HasNodeAt blob.now.table index }
+        ensures node { node_of result ≡ node_in blob.entry.now.table index }
+        ensures same_table { table_of_node result ≡ blob.entry.now.table }
+    {
+        // The call gives the proof the invariant of the blob: its table is short.
+        let _ = blob.entries();
+        NodeRef { blob, index }
+    }
+
+    /// The index of the node's entry in the table of its blob. `Blob::node` returns the node again.
+    pub fn index(self) -> usize
+        ensures there { HasNodeAt (table_of_node self.entry) result }
+        ensures node { node_in (table_of_node self.entry) result ≡ node_of self.entry }
+    {
+        self.index
     }
 
     /// The node's entry.
@@ -218,7 +237,10 @@ impl<'a, 'b> NodeRef<'a, 'b> {
     /// The child of this name. None exactly if there is no such child. Takes time linear in the
     /// children before it.
     pub fn child(self, name: &[u8]) -> Option<NodeRef<'a, 'b>>
-        ensures { option_map node_of result ≡ node_named (node_of self.entry).children name.now }
+        ensures child { option_map node_of result
+            ≡ node_named (node_of self.entry).children name.now }
+        ensures same_table { IfSome result
+            (λ child. table_of_node child ≡ table_of_node self.entry) }
     {
         let mut next = self.first_child();
         while let Some(child) = next {

@@ -18,13 +18,13 @@ use Rattle.bi_blob.proofs.Blobs.OneBlob.{one_blob}
 use Rattle.bi_blob.proofs.Blobs.Faults.{blob_has_no_fault}
 use Rattle.bi_fdt.specs.declared.node.NodeRef.{NodeRef}
 use Rattle.bi_fdt.specs.Content.{Blob, root_of}
-use Rattle.bi_fdt.specs.Views.{node_of}
+use Rattle.bi_fdt.specs.Views.{HasNodeAt, node_in, node_of, table_of_node}
 use Rattle.bi_fit.specs.Names.{images_name, data_name}
 use Rattle.bi_fit.specs.ImageTree.{image_nodes, nodes_or_none, each_own}
 use Rattle.bi_fit.specs.Payloads.{HasPayload}
 use Rattle.bi_fit.specs.File.{FitMeans}
 use Rattle.bi_fit.specs.Faults.{FitPasses, fit_fault, image_checks, images_checks, InTree}
-use Rattle.bi_fit.specs.Content.{ImageModel, FitModel, tree_of, IsReadImage, IsHeld}
+use Rattle.bi_fit.specs.Content.{ImageModel, FitModel, tree_of, IsReadImage, IsHeld, HasImagesAt}
 use Rattle.bi_fit.specs.Reading.{IsReadFit, IsFitReadError, IsOnlyFitFault}
 use Rattle.bi_fit.specs.Images.{HasDataInFile}
 use Rattle.bi_fit.proofs.Faults.{fit_has_no_fault}
@@ -46,6 +46,25 @@ found_images root blob child is_root is_child =
     by : (child : Option NodeRef) → option_map (λ (images : Sibling FileNode). images.children) (option_map node_of child) ≡ option_map (λ images. (node_of images).children) child
     by None = refl
     by (Some child) = refl
+
+-- The index of the node `images` is that of the child of the root.
+pub images_at : (blob : Blob) (root : NodeRef) (child : Option NodeRef) (images : NodeRef) (index : ℕ) →
+    node_of root ≡ root_node (root_of blob) → table_of_node root ≡ blob.table →
+    option_map node_of child ≡ node_named (node_of root).children images_name →
+    IfSome child (λ child. table_of_node child ≡ table_of_node root) → child ≡ Some images →
+    HasNodeAt (table_of_node images) index → node_in (table_of_node images) index ≡ node_of images → HasImagesAt blob index
+images_at blob root child images index is_root root_table is_child child_table found there is_node =
+    let same : table_of_node images ≡ blob.table =
+    subst (λ o. IfSome o (λ child. table_of_node child ≡ table_of_node root)) found child_table ∙ root_table in
+    record {
+      there = subst (λ table. HasNodeAt table index) same there;
+      is_images =
+          ap (λ table. Some (node_in table index)) (sym same)
+          ∙ ap (λ (node : Sibling FileNode). Some node) is_node
+          ∙ sym (ap (option_map node_of) found)
+          ∙ is_child
+          ∙ ap (λ (node : Sibling FileNode). node_named node.children images_name) is_root;
+    }
 
 -- Nodes that have the values of their properties in the file begin their `data` there.
 have_data : (file : List ℕ) (nodes : Nodes FileNode) → HaveValues file nodes →

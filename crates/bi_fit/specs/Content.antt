@@ -6,14 +6,16 @@ use Rattle.std.specs.Cmp.Lexicographic.{slice_cmp}
 use Rattle.std.specs.BTreeMap.{BTreeMap, get_by}
 use denote.Ref.{Bor}
 use Rattle.bi_blob.specs.Tree.{FileNode, depth_of, tree_without_places, tree_without_order}
-use Rattle.bi_blob.specs.Lookups.{Sibling, siblings}
+use Rattle.bi_blob.specs.Lookups.{Sibling, siblings, node_named}
 use Rattle.bi_blob.specs.Blob.{IsBlob, totalsize}
 use Rattle.bi_blob.specs.Layout.{longest_text}
 use Rattle.bi_blob.specs.Following.{most_open_nodes}
 use Rattle.bi_fdt.specs.Content.{Blob, root_of}
+use Rattle.bi_fdt.specs.Views.{HasNodeAt, node_in}
 use Rattle.bi_fit.specs.declared.image.Image.{Image}
 use Rattle.bi_fit.specs.declared.image.Place.{Place}
 use Rattle.bi_fit.specs.declared.image.Place.TheVariants as place
+use Rattle.bi_fit.specs.Names.{images_name}
 use Rattle.bi_fit.specs.ImageTree.{ImageTree, image_nodes, nodes_or_none, tree_without_payloads}
 use Rattle.bi_fit.specs.Payloads.{PayloadSource, NoSource, Data, DataOffset, DataPosition}
 use Rattle.bi_fit.specs.Payloads.{source_of, cell_number, external_base, HasPayload, IsAtPlace}
@@ -88,6 +90,11 @@ pub record HasIndices (indices : BTreeMap (Bor (List ℕ)) ℕ) (images : List I
     : Type 0 where
   pub each : (name : List ℕ) → get_by (λ other. slice_cmp nat_cmp name other.now) indices
       ≡ index_of name images
+
+-- The node at an index of the table of a blob is the child `images` of the root.
+pub record HasImagesAt (blob : Blob) (index : ℕ) : Type 0 where
+  pub there : HasNodeAt blob.table index
+  pub is_images : Some (node_in blob.table index) ≡ node_named (root_of blob).children images_name
 
 -- The place of the image at an index, where there is one.
 abbrev pub place_or_absent : Option ImageModel → Place

@@ -3,6 +3,10 @@
 ghost use Rattle.std.specs.Prelude.{◌≡◌, length, map, slice_get, IfOk, IfErr};
 ghost use Rattle.std.specs.Option.{option_map, option_and_then};
 ghost use Rattle.bi_base.specs.declared.fault.Error.TheVariants.{OutOfMemory};
+ghost use Rattle.bi_blob.specs.Lookups.{node_named};
+ghost use Rattle.bi_fdt.specs.Content.{root_of};
+ghost use Rattle.bi_fdt.specs.Views.{node_of};
+ghost use Rattle.bi_fit.specs.Names.{images_name};
 ghost use Rattle.bi_fit.specs.Content.{index_of, place_or_absent, image_model};
 ghost use Rattle.bi_fit.specs.Content.{HasIndices, IsHeld};
 ghost use Rattle.bi_fit.specs.Reading.{IsReadFit, IsFitReadError};
@@ -10,7 +14,7 @@ ghost use Rattle.bi_fit.specs.Reading.{IsReadFit, IsFitReadError};
 use crate::image::{Image, Place};
 use crate::images::read_images;
 use bi_base::{Cause, Error, Fault, Limits};
-use bi_fdt::Blob;
+use bi_fdt::{Blob, NodeRef};
 use std::alloc::{AllocError, Global};
 use std::collections::BTreeMap;
 use std::marker::Model;
@@ -19,6 +23,8 @@ use std::marker::Model;
 #[derive(Drop)]
 pub struct Fit<'a> {
     blob: Blob<'a>,
+    /// The index of the node `/images` in the table of the blob.
+    images_index: usize,
     images: Vec<Image<'a>>,
     /// The index of each image by its name.
     indices: BTreeMap<&'a [u8], usize>,
@@ -60,10 +66,12 @@ impl<'a> Fit<'a> {
                 offset: root.place(),
             }));
         };
+        let images_index = node.index();
         let images = read_images(alloc, file, blob.total_size(), node)?;
         let indices = index_by_name(alloc, &images)?;
         Ok(Fit {
             blob,
+            images_index,
             images,
             indices,
         })
@@ -74,6 +82,14 @@ impl<'a> Fit<'a> {
         ensures { result.now ≡ self.now.blob }
     {
         &self.blob
+    }
+
+    /// The node `/images`, which each flattened image tree has. Takes constant time.
+    pub fn images_node<'b>(&'b self) -> NodeRef<'a, 'b>
+        ensures { Some (node_of result)
+            ≡ node_named (root_of self.now.blob).children images_name }
+    {
+        self.blob.node(self.images_index)
     }
 
     /// The images, in their order in the file.

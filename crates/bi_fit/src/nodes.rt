@@ -54,10 +54,7 @@ impl<'a> Fit<'a> {
     pub(crate) fn image_nodes<'b>(&'b self) -> Siblings<'a, 'b>
         ensures { siblings_left result ≡ siblings (file_images self.now.blob) }
     {
-        match self.blob().root().child(b"images") {
-            Some(node) => Siblings::children(node),
-            None => Siblings { next: None },
-        }
+        Siblings::children(self.images_node())
     }
 
     /// The node `/configurations`. None exactly if there is no such node.

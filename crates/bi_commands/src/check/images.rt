@@ -27,10 +27,14 @@ pub(super) fn put_images(
         (read_images_concerns (file_images fit.now.blob) fit.now.images
         (map checked_hash_of hashes.now))) }
 {
-    match fit.blob().root().child(b"images") {
-        Some(node) => put_image_nodes(alloc, text, allowed, node, fit.images(), hashes),
-        None => Ok(()),
-    }
+    put_image_nodes(
+        alloc,
+        text,
+        allowed,
+        fit.images_node(),
+        fit.images(),
+        hashes,
+    )
 }
 
 /// Appends the lines of the concerns about the images whose nodes are the children of a node, by

@@ -15,7 +15,7 @@ use Rattle.bi_commands.proofs.list.configurations.put_configurations.Goals as go
 pub returns-in-Some : goal.returns-in-Some
 returns-in-Some g c =
     let content = c.args.fit.now in
-    let found = c.child.ensures
+    let found = c.child.ensures.child
     ∙ ap (λ (parent : Sibling FileNode). node_named parent.children configurations_name) (c.root.ensures.root ∙ ap (λ (blob : Blob). root_node (root_of blob)) c.blob.ensures) in
     let lines = lines_of_children content (option_map node_of c.child.result) c.requires.held found
     ∙ ap (λ (parent : Option NodeRef). flat_map (configuration_node_lines content.images) (siblings (nodes_or_none (option_map (λ (entry : Sibling FileNode). entry.children) (option_map node_of parent))))) c.in-Some.is in
@@ -24,7 +24,7 @@ returns-in-Some g c =
 pub returns-in-None : goal.returns-in-None
 returns-in-None g c =
     let content = c.args.fit.now in
-    let found = c.child.ensures
+    let found = c.child.ensures.child
     ∙ ap (λ (parent : Sibling FileNode). node_named parent.children configurations_name) (c.root.ensures.root ∙ ap (λ (blob : Blob). root_node (root_of blob)) c.blob.ensures) in
     let lines = lines_of_children content (option_map node_of c.child.result) c.requires.held found
     ∙ ap (λ (parent : Option NodeRef). flat_map (configuration_node_lines content.images) (siblings (nodes_or_none (option_map (λ (entry : Sibling FileNode). entry.children) (option_map node_of parent))))) c.in-None.is in
