@@ -1,10 +1,12 @@
 //! Opening a boot image of any kind.
 
-ghost use Rattle.std.specs.Prelude.{IfOk, IfErr};
+ghost use Rattle.std.specs.Prelude.{◌≡◌, ◌↔◌, IfOk, IfErr, IsTrue};
+ghost use Rattle.bi_base.specs.declared.fault.Cause.TheVariants.{BadMagic};
+ghost use Rattle.bi_base.specs.declared.fault.Error.TheVariants.{Refused};
 ghost use Rattle.bi_norm.specs.NormalForm.{IsOpenError};
 ghost use Rattle.bi_norm.specs.Opening.{IsReadBootImage};
 
-use bi_base::{Cause, Error, Fault, Limits};
+use bi_base::{Cause, Error, Limits};
 use bi_fit::Fit;
 use bi_legacy::Legacy;
 use std::alloc::Global;
@@ -31,13 +33,23 @@ impl<'a> BootImage<'a> {
     {
         match Fit::read(alloc, file, limits) {
             Ok(fit) => Ok(BootImage::Fit(fit)),
-            // The file does not begin as a tree. `Legacy::read` looks at the magic number itself,
-            // and a file of no kind fails there with the same fault.
-            Err(Error::Refused(Fault {
-                cause: Cause::BadMagic,
-                offset: 0,
-            })) => Ok(BootImage::Legacy(Legacy::read(file, limits)?)),
-            Err(error) => Err(error),
+            Err(error) => {
+                // A legacy image has another magic number, and a file of no kind the same fault.
+                if is_no_tree(error) {
+                    return Ok(BootImage::Legacy(Legacy::read(file, limits)?));
+                }
+                Err(error)
+            }
         }
+    }
+}
+
+/// Whether this is the error of a file that does not begin with the magic number of a tree.
+fn is_no_tree(error: Error) -> bool
+    ensures { IsTrue result ↔ (error ≡ Refused (record { cause = BadMagic; offset = 0 })) }
+{
+    match error {
+        Error::Refused(fault) => fault.cause == Cause::BadMagic && fault.offset == 0,
+        _ => false,
     }
 }

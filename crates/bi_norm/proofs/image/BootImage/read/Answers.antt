@@ -1,18 +1,17 @@
-use Rattle.std.proofs.Common.{arith, refl}
-use Rattle.std.proofs.lemmas.Grind.{common_steps}
-use Rattle.std.proofs.lemmas.Result.{err_from_is_err_and}
-use Rattle.bi_norm.specs.Faults.{OfLegacyImage}
-use Rattle.bi_norm.specs.declared.kind.Kind.TheVariants.{Legacy}
-use Rattle.bi_norm.proofs.Opening.{equal_kind, refused_means_nothing, tree_error}
+use Rattle.std.proofs.Common.{◌≡◌, false, true, refl, subst}
+use Rattle.bi_base.specs.declared.fault.Error.TheVariants.{Refused}
+use Rattle.bi_base.proofs.Refusals.{error_passed_on}
+use Rattle.bi_fit.specs.Reading.{IsFitReadError}
+use Rattle.bi_norm.proofs.Opening.{no_tree_fault, tree_error, legacy_fault}
 use Rattle.bi_norm.proofs.image.BootImage.read.Goals as goal
 
-pub returns-in_err-read-clause-failed : goal.returns-in_err-read-clause-failed
-returns-in_err-read-clause-failed c =
-    let e = err_from_is_err_and c.from_residual.result c.from_residual.ensures.1 in
-    let begins = equal_kind _ _ _ _ refl c.kind_of.ensures.ok c.if-eq.ensures in
-    rw (e.1, e.2) (OfLegacyImage begins c.in_err-read.ensures.fault.is_fault, refused_means_nothing _ _ begins c.in_err-read.ensures.fault.means_nothing)
+pub returns-in_err-read-in-Err-clause-failed : goal.returns-in_err-read-in-Err-clause-failed
+returns-in_err-read-in-Err-clause-failed c =
+    let is : c.in-Err.error ≡ Refused no_tree_fault = c.if-is_no_tree.ensures.0 refl in
+    error_passed_on _ (Refused c.in_err-read-in-Err.field-0.0) _ c.from_residual.ensures.1
+    (legacy_fault c.args.limits c.args.file.now c.in_err-read-in-Err.field-0.0
+    (subst (IsFitReadError c.args.limits c.args.file.now) is c.in-Err.ensures.failed) c.in_err-read-in-Err.ensures.fault)
 
-pub returns-in_err-read-2-clause-failed : goal.returns-in_err-read-2-clause-failed
-returns-in_err-read-2-clause-failed c =
-    let e = err_from_is_err_and c.from_residual-in_err-read-2.result c.from_residual-in_err-read-2.ensures.1 in
-    rw (e.1, e.2) (tree_error _ _ _ (λ begins. grind (arith, common_steps, c.kind_of.ensures.exactly Legacy begins, c.if-eq.ensures)) c.in_err-read-2.ensures.failed)
+pub returns-else-is_no_tree-clause-failed : goal.returns-else-is_no_tree-clause-failed
+returns-else-is_no_tree-clause-failed c =
+    tree_error c.args.limits c.args.file.now c.in-Err.error (λ same. let e : false ≡ true = c.if-is_no_tree.ensures.1 same in cc) c.in-Err.ensures.failed
