@@ -7,6 +7,7 @@ is one:
 - TESTING.md has each script of tests/ in the table of its group, and PERFORMANCE.md each of bench/, and no other;
 - the code in PROOFS.md after a paragraph that names a source and ends with a colon is in that source;
 - each check in a table of FORMATS.md has the name of a definition;
+- no line is left from a merge;
 - README.md has at most 180 lines.
 """
 
@@ -111,12 +112,17 @@ def wrong_checks(root, text):
                 yield f"no check {name}"
 
 
+def lines_of_merges(text):
+    for line in re.findall(r"^(?:<{7}|>{7})(?: .*)?$", text, re.M):
+        yield f"this line is left from a merge: {line}"
+
+
 def main(root):
-    pages = ["README.md", "examples/README.md"] + sorted(os.path.relpath(path, root) for path in glob.glob(os.path.join(root, "docs/*.md")))
+    pages = ["README.md", "CHANGELOG.md", "examples/README.md"] + sorted(os.path.relpath(path, root) for path in glob.glob(os.path.join(root, "docs/*.md")))
     wrong = []
     for page in pages:
         text = read(os.path.join(root, page))
-        for reason in [*wrong_links(root, page, text), *wrong_paths(root, text)]:
+        for reason in [*wrong_links(root, page, text), *wrong_paths(root, text), *lines_of_merges(text)]:
             wrong.append(f"{page}: {reason}")
     for page, pattern, others in ("docs/TESTING.md", "tests/*/*.sh", ()), ("docs/PERFORMANCE.md", "bench/*.sh", ("bench/names.py",)):
         scripts = {os.path.relpath(path, root) for path in glob.glob(os.path.join(root, pattern))}.union(others)

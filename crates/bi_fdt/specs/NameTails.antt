@@ -5,9 +5,9 @@ use Rattle.bi_blob.specs.Tokens.{name_from}
 use Rattle.bi_blob.specs.Tree.{AreDistinct}
 use Rattle.bi_fdt.specs.NameParts.{NamePart, AreOnce}
 
--- Heads and tails of names. The tail of a name is all blocks of 64 bytes that the name ends with but
--- the first, and its head is the bytes before them, less than 128. A tail is a list of parts that
--- have a block each, so that the numbers of two tails are equal exactly if the tails are.
+-- Heads and tails of names. The tail of a name is all blocks of 64 bytes that the name ends with
+-- but the first, and its head is the bytes before them, less than 128. A tail is a list of parts
+-- that have a block each, so that the numbers of two tails are equal exactly if the tails are.
 
 -- The last blocks of a name have this number: 0 if they are none, and else 1 more than the number
 -- of the part that has the first of them.
@@ -19,7 +19,7 @@ AreBlocksNumbered tails (suc count) number name =
     ≡ Some (later, take 64 (drop (length name - 64 * (count + 1)) name)))
     × AreBlocksNumbered tails count later name
 
--- All blocks that a name ends with have this number.
+-- The blocks that a name ends with have this number together.
 abbrev pub AreAllBlocks : List NamePart → ℕ → List ℕ → Type 0
 AreAllBlocks tails number name = AreBlocksNumbered tails (length name / 64) number name
 
@@ -27,8 +27,8 @@ AreAllBlocks tails number name = AreBlocksNumbered tails (length name / 64) numb
 abbrev pub IsTail : List NamePart → ℕ → List ℕ → Type 0
 IsTail tails number name = AreBlocksNumbered tails (length name / 64 - 1) number name
 
--- These are the numbers of all blocks of the names at the first multiples of 64, the last of them
--- first.
+-- The name at each of the first multiples of 64 has one of these numbers, which is that of its
+-- blocks together. The last of them comes first.
 pub record AreBlockNumbers (tails : List NamePart) (strings : List ℕ) (numbers : List ℕ) : Type 0
   where
     pub count : length numbers ≡ length strings / 64 + 1

@@ -23,7 +23,7 @@ use std::alloc::{AllocError, Global};
 /// bytes and the number of its tail, so that no more of it is read.
 #[derive(Drop)]
 pub(crate) struct NameTable<'a> {
-    /// The blocks of the tails of the names.
+    /// The blocks of the names at the multiples of 64, each with the number of those after it.
     tails: NameParts<'a>,
     /// The head of each name, with the number of its tail.
     heads: NameParts<'a>,
@@ -62,7 +62,7 @@ impl<'a> NameTable<'a> {
     }
 
     /// Returns the number of the name of a property, and any number for a node. `blocks` are the
-    /// numbers of all blocks of the names at the multiples of 64. Fails if memory runs out.
+    /// numbers of the blocks of the names at the multiples of 64. Fails if memory runs out.
     fn number_entry(
         &mut self,
         file: &'a [u8],

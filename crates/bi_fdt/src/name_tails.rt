@@ -17,8 +17,8 @@ use std::alloc::{AllocError, Global};
 /// The number of no blocks.
 const NO_BLOCKS: usize = 0;
 
-/// Returns the number of all blocks of the name at offset `at`, which ends at `end`, from that of
-/// the name at 64 bytes later. Fails if memory runs out.
+/// Returns the number that the blocks of the name at offset `at` have together, which ends at `end`,
+/// from that of the name at 64 bytes later. Fails if memory runs out.
 fn blocks_before<'a>(
     tails: &mut NameParts<'a>,
     strings: &'a [u8],
@@ -43,8 +43,8 @@ fn blocks_before<'a>(
     Ok(index + 1)
 }
 
-/// Returns the numbers of all blocks of the names at the first multiples of 64, which have these
-/// ends, the last of them first. Fails if memory runs out.
+/// Returns the number that the blocks of each name at the first multiples of 64 have together. The
+/// names have these ends. The last of them comes first. Fails if memory runs out.
 pub(crate) fn block_numbers<'a>(
     alloc: Global,
     tails: &mut NameParts<'a>,
@@ -68,7 +68,7 @@ pub(crate) fn block_numbers<'a>(
 }
 
 /// Returns the number of the tail of the name at offset `at`, which ends at `end`. `numbers` are
-/// those of all blocks of the names at the multiples of 64.
+/// those of the blocks of the names at the multiples of 64.
 pub(crate) fn tail_at(numbers: &[usize], at: usize, end: usize) -> usize
     requires order { at ≤ end }
     requires within { end / 64 < length numbers.now }

@@ -42,7 +42,9 @@ impl<'a> NameNumbers<'a> {
     /// Returns the number of the name of each property of a blob, and any number for each node, in
     /// the order of the file. Names that are new are added; the others keep their numbers. The time
     /// is n log n in the length of the blob and the number of the names, however long the names
-    /// are and however many of them share bytes. Fails if memory runs out.
+    /// are and however many of them share bytes.
+    ///
+    /// Fails if memory runs out. Some names of the blob may have been added then.
     pub fn number(&mut self, alloc: Global, blob: &Blob<'a>) -> Result<Vec<usize>, AllocError>
         ensures numbers { IfOk result (λ numbers.
             AreNumbered self.new blob.now.table numbers.items) }

@@ -9,8 +9,8 @@ use crate::strings::STRIDE;
 use std::alloc::{AllocError, Global};
 use std::collections::BTreeSet;
 
-/// The names of the properties of a node so far. The digest of a name that is shorter than a block
-/// says nothing, so such names are in a set without digests.
+/// The names of the properties of a node so far. Names of less than 64 bytes are compared by their
+/// bytes alone. The digest of a name of less than 128 bytes covers no block.
 #[derive(Drop)]
 pub(crate) struct PropertyNames<'a> {
     /// The names of less than 64 bytes.

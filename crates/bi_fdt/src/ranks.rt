@@ -13,11 +13,12 @@ ghost use Rattle.bi_fdt.specs.Ranks.{HasRank};
 
 use std::alloc::{AllocError, Global};
 
-/// Names in byte order, each once, and the rank of the name of each property: its index among
-/// them.
+/// The ranks of names: their indices among names in byte order.
 #[derive(Drop)]
 pub struct NameRanks<'a> {
+    /// The names in byte order, each once.
     pub names: Vec<&'a [u8]>,
+    /// The rank of the name of each property.
     pub ranks: Vec<usize>,
 }
 
@@ -71,8 +72,8 @@ fn ranks_at(alloc: Global, ranks: &[usize], numbers: &[usize]) -> Result<Vec<usi
 }
 
 /// Returns these names in byte order, each once, and the rank of the name of each property. The
-/// name of a property is given by its number, its index among the names. It fails if memory runs
-/// out. It takes n log n comparisons, for n names.
+/// name of a property is given by its number, which is its index among the names. For a number that
+/// no name has, the rank is 0. Fails if memory runs out. Takes n log n comparisons, for n names.
 pub fn rank_names<'a>(
     alloc: Global,
     names: &[&'a [u8]],

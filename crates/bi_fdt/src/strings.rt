@@ -16,8 +16,8 @@ use std::marker::Model;
 /// How far apart the offsets are whose names' ends are kept.
 pub(crate) const STRIDE: usize = 64;
 
-/// A strings block. It keeps where the name at each multiple of `STRIDE` ends, and the digest of its
-/// blocks, so that a name and its digest are found as fast however long it is.
+/// A strings block. It keeps where the name at each multiple of `STRIDE` ends, and the digest of
+/// its blocks, so that a name and its digest are found as fast however long it is.
 #[derive(Drop)]
 pub(crate) struct Strings<'a> {
     bytes: &'a [u8],
@@ -85,8 +85,8 @@ impl<'a> Strings<'a> {
     }
 }
 
-/// Returns how many times 64 the offset is at which a name that begins at `at` has one block less, of
-/// those with which it ends.
+/// A name of this length begins at offset `at`. Returns the index of the first multiple of 64 from
+/// which on the name has one whole block less.
 pub(crate) fn index_of_later_blocks(at: usize, length: usize) -> usize
     requires long { 128 ≤ length }
     ensures after { at < 64 * result }

@@ -1,7 +1,7 @@
 use Rattle.std.specs.Prelude.{◌≡◌, ℕ, List, [], ◌∷◌, map, Option, None, Some}
 use Rattle.std.specs.Ordering.{nat_cmp}
 use Rattle.std.specs.Cmp.Lexicographic.{slice_cmp}
-use Rattle.std.specs.FinMap.{insert, entries, from_entries}
+use Rattle.std.specs.FinMap.{entries, from_entries}
 use Rattle.bi_base.specs.Cells.{cell}
 use Rattle.bi_blob.specs.Tree.{Nodes, none, node, Property, PropertyMap, with_each}
 use Rattle.bi_blob.specs.Layout.{strings_of}
@@ -18,7 +18,7 @@ use Rattle.bi_fit.specs.Text.{with_payload, with_payloads}
 use Rattle.bi_fit.specs.declared.building.document.Parts.{Parts}
 use Rattle.bi_fit.specs.declared.building.lists.KeyLists.{KeyLists}
 use Rattle.bi_fit.specs.NamedImages.{head_model, named_models}
-use Rattle.bi_fit.specs.PropertyMapModels.{PropertyMapModel}
+use Rattle.bi_fit.specs.PropertyMapModels.{PropertyMapModel, with_property_value}
 
 -- What is added to the document of a tree to be built, node by node.
 
@@ -79,9 +79,7 @@ configurations_node head images =
 -- Properties with one of one cell, if its number is given.
 abbrev pub with_cell_property : List ℕ → Option ℕ → PropertyMapModel → PropertyMapModel
 with_cell_property name None properties = properties
-with_cell_property name (Some number) properties = record properties {
-  by_name = insert properties.by_name name (cell number);
-}
+with_cell_property name (Some number) properties = with_property_value name (cell number) properties
 
 -- A node of this name with these properties and no children, without its siblings.
 abbrev pub leaf : List ℕ → PropertyMap → Nodes (List Property)

@@ -2,7 +2,7 @@ use Rattle.std.specs.Prelude.{ℕ, List}
 use Rattle.bi_blob.specs.Tree.{FileNode}
 use Rattle.bi_blob.specs.Lookups.{Sibling}
 use Rattle.bi_fdt.specs.Views.{node_of, table_of_node}
-pub use Rattle.bi_fdt.specs.Numbers.{AreRanks}
+use Rattle.bi_fdt.specs.Numbers.{AreRanks}
 use Rattle.bi_fit.specs.declared.document.ranked_node.RankedNode.{RankedNode}
 
 -- Nodes of a blob with the ranks of the names of its properties.

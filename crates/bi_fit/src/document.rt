@@ -47,10 +47,10 @@ impl<'a> Fit<'a> {
     /// the form External the payloads follow the blob. The text borrows names, values and payloads,
     /// and copies none.
     ///
-    /// Takes n log n steps for n nodes and properties. The different names of properties are
-    /// compared n log n times, with log n comparisons of each byte of them, and no others are
-    /// compared. Those of 64 bytes and more are compared only if they are together no longer than
-    /// `limits.file()`.
+    /// Takes n log n steps for n nodes and properties. The different names of properties are put in
+    /// byte order once, which takes m log m comparisons for m names; names of 64 bytes or more are
+    /// compared only if they are together no longer than `limits.file()`. The names in the root, in
+    /// image nodes and in hash nodes are also compared with those of the properties that change.
     ///
     /// Errors: TooLarge at `limits.file()`, exactly if the text is longer than that, unless memory
     /// runs out; OutOfMemory, which never comes if the payloads after the blob are longer than that

@@ -5,7 +5,7 @@ ghost use Rattle.std.specs.Option.{option_map, option_and_then};
 ghost use Rattle.bi_base.specs.declared.fault.Error.TheVariants.{OutOfMemory};
 ghost use Rattle.bi_blob.specs.Lookups.{node_named};
 ghost use Rattle.bi_fdt.specs.Content.{root_of};
-ghost use Rattle.bi_fdt.specs.Views.{node_of};
+ghost use Rattle.bi_fdt.specs.Views.{node_of, table_of_node};
 ghost use Rattle.bi_fit.specs.Names.{images_name};
 ghost use Rattle.bi_fit.specs.Content.{index_of, place_or_absent, image_model};
 ghost use Rattle.bi_fit.specs.Content.{HasIndices, IsHeld};
@@ -86,8 +86,9 @@ impl<'a> Fit<'a> {
 
     /// The node `/images`, which each flattened image tree has. Takes constant time.
     pub fn images_node<'b>(&'b self) -> NodeRef<'a, 'b>
-        ensures { Some (node_of result)
+        ensures node { Some (node_of result)
             ≡ node_named (root_of self.now.blob).children images_name }
+        ensures same_table { table_of_node result ≡ self.now.blob.table }
     {
         self.blob.node(self.images_index)
     }

@@ -58,7 +58,6 @@ impl<'a> Doc<'a> {
     ghost use Rattle.bi_base.specs.Slices.{bytes_of};
     ghost use Rattle.bi_lay.specs.Contents.{empty_content, empty_with_names, name_numbered};
     ghost use Rattle.bi_lay.specs.Contents.{text_of, with_reservation, with_event};
-    ghost use Rattle.bi_lay.specs.Contents.{HaveSameContent};
     ghost use Rattle.bi_lay.specs.Sizes.{AreBlockSizes};
     ghost use Rattle.bi_lay.specs.Values.{value_bytes};
 
@@ -71,9 +70,10 @@ impl<'a> Doc<'a> {
         Doc::with_names(alloc, boot_cpu, Vec::new(alloc))
     }
 
-    /// The same, where properties may be given the number of their name, which is its index among
-    /// these. The names need be neither distinct nor in byte order. It takes time linear in their
-    /// number. The only error is `OutOfMemory`.
+    /// A document for this boot processor, without reservations, in which no node was begun. The
+    /// name of a property may be given by its number, which is its index among these names. They
+    /// need be neither distinct nor in byte order. Takes time linear in their number. The only error
+    /// is `OutOfMemory`.
     pub fn with_names(alloc: Global, boot_cpu: u32, names: Vec<&'a [u8]>) -> Result<Doc<'a>, Error>
         ensures empty { IfOk result (λ doc.
             doc ≡ empty_with_names boot_cpu (bytes_of names.entry.items)) }
@@ -136,9 +136,10 @@ impl<'a> Doc<'a> {
         Ok(())
     }
 
-    /// Adds a property to the innermost open node, as `property` does. Its name is the one with
-    /// this number. It takes a constant number of steps apart from allocations, except at the first
-    /// use of a number, which looks the name up by its bytes.
+    /// Adds a property to the innermost open node, by the number of its name: the index among the
+    /// names that `with_names` got. It may only be called if `may_property` is true of this name. It
+    /// takes constant time apart from allocations, except at the first use of a number, which looks
+    /// the name up by its bytes.
     ///
     /// The only error is `OutOfMemory`, and the document is unchanged then.
     pub fn property_numbered(&mut self, number: usize, value: Value<'a>) -> Result<(), Error>

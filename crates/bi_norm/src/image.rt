@@ -34,7 +34,7 @@ impl<'a> BootImage<'a> {
         match Fit::read(alloc, file, limits) {
             Ok(fit) => Ok(BootImage::Fit(fit)),
             Err(error) => {
-                // A legacy image has another magic number, and a file of no kind the same fault.
+                // It may be a legacy image. A file of no kind fails with the same fault there.
                 if is_no_tree(error) {
                     return Ok(BootImage::Legacy(Legacy::read(file, limits)?));
                 }
