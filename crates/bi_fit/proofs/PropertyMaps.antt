@@ -21,7 +21,7 @@ use Rattle.bi_fit.specs.Names.{is_payload_name}
 use Rattle.bi_fit.specs.ImageTree.{without_payload}
 use Rattle.bi_fit.specs.PropertyMaps.{properties_in, number_in, numbers_in}
 use Rattle.bi_fit.specs.PropertyMapModels.{PropertyMapModel}
-use Rattle.bi_fit.specs.PropertyPlaces.{place_of_name, is_entry_named}
+use Rattle.bi_fit.specs.EntryOrder.{index_of_name, is_entry_named}
 use Rattle.bi_fit.proofs.PayloadProperties.{same, get-without, get-put, get-put_other}
 
 -- The map of a node's properties, and the entries that hold it.
@@ -41,59 +41,59 @@ from_sorted-put properties name value ordered =
     ∙ sym (entries-insert nat_list_cmp_total (from_sorted properties) name value))
 
 -- The place of a name is one of an entry, or the end.
-pub place_within : (es : List MapEntry) (name : List ℕ) → place_of_name es name ≤ length es
-place_within [] name = omega arith
-place_within (e ∷ es) name = by_cmp (slice_cmp nat_cmp name e.name.now) (place_within es name)
+pub index_within : (es : List MapEntry) (name : List ℕ) → index_of_name es name ≤ length es
+index_within [] name = omega arith
+index_within (e ∷ es) name = by_cmp (slice_cmp nat_cmp name e.name.now) (index_within es name)
   where
-    by_cmp : (o : Ordering) → place_of_name es name ≤ length es → by_order o 0 0 (suc (place_of_name es name)) ≤ suc (length es)
+    by_cmp : (o : Ordering) → index_of_name es name ≤ length es → by_order o 0 0 (suc (index_of_name es name)) ≤ suc (length es)
     by_cmp Less within = omega arith
     by_cmp Equal within = omega arith
     by_cmp Greater within = omega arith
 
 -- An entry with a new name in its place is one more property.
 pub properties-insert_at : (es : List MapEntry) (new : MapEntry) →
-    is_entry_named (slice_get es (place_of_name es new.name.now)) new.name.now ≡ false →
-    properties_in (insert_at es (place_of_name es new.name.now) new)
+    is_entry_named (slice_get es (index_of_name es new.name.now)) new.name.now ≡ false →
+    properties_in (insert_at es (index_of_name es new.name.now) new)
     ≡ put (slice_cmp nat_cmp) new.name.now (value_bytes new.value) (properties_in es)
 properties-insert_at [] new apart = refl
 properties-insert_at (e ∷ es) new apart = by_cmp (slice_cmp nat_cmp new.name.now e.name.now) refl (λ other. properties-insert_at es new other)
   where
     by_cmp : (o : Ordering) → slice_cmp nat_cmp new.name.now e.name.now ≡ o →
-        (is_entry_named (slice_get es (place_of_name es new.name.now)) new.name.now ≡ false →
-        properties_in (insert_at es (place_of_name es new.name.now) new)
+        (is_entry_named (slice_get es (index_of_name es new.name.now)) new.name.now ≡ false →
+        properties_in (insert_at es (index_of_name es new.name.now) new)
         ≡ put (slice_cmp nat_cmp) new.name.now (value_bytes new.value) (properties_in es)) →
-        properties_in (insert_at (e ∷ es) (place_of_name (e ∷ es) new.name.now) new)
+        properties_in (insert_at (e ∷ es) (index_of_name (e ∷ es) new.name.now) new)
         ≡ put (slice_cmp nat_cmp) new.name.now (value_bytes new.value) (properties_in (e ∷ es))
     by_cmp Less is later = rw is refl
     by_cmp Equal is later =
-        let here : bytes_eq e.name.now new.name.now ≡ false = subst (λ o. is_entry_named (slice_get (e ∷ es) (by_order o 0 0 (suc (place_of_name es new.name.now)))) new.name.now ≡ false) is apart in
+        let here : bytes_eq e.name.now new.name.now ≡ false = subst (λ o. is_entry_named (slice_get (e ∷ es) (by_order o 0 0 (suc (index_of_name es new.name.now)))) new.name.now ≡ false) is apart in
         absurd (true≢false (sym ((bytes_eq-Decides e.name.now new.name.now).1 (sym (order_tells new.name.now e.name.now is))) ∙ here))
     by_cmp Greater is later =
-        let other : is_entry_named (slice_get es (place_of_name es new.name.now)) new.name.now ≡ false =
-        subst (λ o. is_entry_named (slice_get (e ∷ es) (by_order o 0 0 (suc (place_of_name es new.name.now)))) new.name.now ≡ false) is apart in
+        let other : is_entry_named (slice_get es (index_of_name es new.name.now)) new.name.now ≡ false =
+        subst (λ o. is_entry_named (slice_get (e ∷ es) (by_order o 0 0 (suc (index_of_name es new.name.now)))) new.name.now ≡ false) is apart in
         rw is (ap (λ l. (e.name.now, value_bytes e.value) ∷ l) (later other))
 
 -- An entry that takes the place of one of its name gives its property another value.
 pub properties-set : (es : List MapEntry) (name : List ℕ) (new : MapEntry) →
-    is_entry_named (slice_get es (place_of_name es name)) name ≡ true → new.name.now ≡ name →
-    properties_in (set es (place_of_name es name) new) ≡ put (slice_cmp nat_cmp) name (value_bytes new.value) (properties_in es)
+    is_entry_named (slice_get es (index_of_name es name)) name ≡ true → new.name.now ≡ name →
+    properties_in (set es (index_of_name es name) new) ≡ put (slice_cmp nat_cmp) name (value_bytes new.value) (properties_in es)
 properties-set [] name new there same_name = absurd (true≢false (sym there))
 properties-set (e ∷ es) name new there same_name = by_cmp (slice_cmp nat_cmp name e.name.now) refl (λ other. properties-set es name new other same_name)
   where
     by_cmp : (o : Ordering) → slice_cmp nat_cmp name e.name.now ≡ o →
-        (is_entry_named (slice_get es (place_of_name es name)) name ≡ true →
-        properties_in (set es (place_of_name es name) new) ≡ put (slice_cmp nat_cmp) name (value_bytes new.value) (properties_in es)) →
-        properties_in (set (e ∷ es) (place_of_name (e ∷ es) name) new)
+        (is_entry_named (slice_get es (index_of_name es name)) name ≡ true →
+        properties_in (set es (index_of_name es name) new) ≡ put (slice_cmp nat_cmp) name (value_bytes new.value) (properties_in es)) →
+        properties_in (set (e ∷ es) (index_of_name (e ∷ es) name) new)
         ≡ put (slice_cmp nat_cmp) name (value_bytes new.value) (properties_in (e ∷ es))
     by_cmp Less is later =
-        let here : bytes_eq e.name.now name ≡ true = subst (λ o. is_entry_named (slice_get (e ∷ es) (by_order o 0 0 (suc (place_of_name es name)))) name ≡ true) is there in
+        let here : bytes_eq e.name.now name ≡ true = subst (λ o. is_entry_named (slice_get (e ∷ es) (by_order o 0 0 (suc (index_of_name es name)))) name ≡ true) is there in
         let tied : slice_cmp nat_cmp name e.name.now ≡ Equal =
         subst (λ n. slice_cmp nat_cmp name n ≡ Equal) (sym ((bytes_eq-Decides e.name.now name).0 here)) (tied_itself nat_list_cmp_total name) in
         absurd (true≢false (ap is_lt (sym is ∙ tied)))
     by_cmp Equal is later = rw is (ap (λ n. (n, value_bytes new.value) ∷ properties_in es) (same_name ∙ order_tells name e.name.now is))
     by_cmp Greater is later =
-        let other : is_entry_named (slice_get es (place_of_name es name)) name ≡ true =
-        subst (λ o. is_entry_named (slice_get (e ∷ es) (by_order o 0 0 (suc (place_of_name es name)))) name ≡ true) is there in
+        let other : is_entry_named (slice_get es (index_of_name es name)) name ≡ true =
+        subst (λ o. is_entry_named (slice_get (e ∷ es) (by_order o 0 0 (suc (index_of_name es name)))) name ≡ true) is there in
         rw is (ap (λ l. (e.name.now, value_bytes e.value) ∷ l) (later other))
 
 -- The entry that was found has the name.

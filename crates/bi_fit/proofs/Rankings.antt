@@ -20,7 +20,7 @@ use Rattle.bi_fdt.specs.Numbers.{HasNumber}
 use Rattle.bi_fit.specs.declared.document.property_map.MapEntry.{MapEntry}
 use Rattle.bi_fit.specs.NormalNodes.{properties_by_name}
 use Rattle.bi_fit.specs.PropertyMaps.{properties_in, numbers_in}
-use Rattle.bi_fit.specs.PropertyPlaces.{IsAtRank, AreByRank}
+use Rattle.bi_fit.specs.EntryOrder.{IsAtRank, AreByRank}
 use Rattle.bi_fit.proofs.PropertyMaps.{insert_all, sorted-put, from_sorted-put}
 
 -- The entries of the properties of a node, by the ranks of their names.

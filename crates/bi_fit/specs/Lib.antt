@@ -28,7 +28,7 @@ pub mod FitTexts
 pub mod PropertyMapModels
 pub mod PropertyMaps
 pub mod RankedNodes
-pub mod PropertyPlaces
+pub mod EntryOrder
 pub mod Laws
 pub mod KnownFiles
 pub mod KnownFaults

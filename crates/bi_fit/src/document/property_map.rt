@@ -19,7 +19,7 @@ ghost use Rattle.bi_fit.specs.PropertyMapModels.{without_numbers, with_property_
 ghost use Rattle.bi_fit.specs.PropertyMapModels.{AreNumbersIn};
 ghost use Rattle.bi_fit.specs.PropertyMaps.{number_in};
 ghost use Rattle.bi_fit.specs.RankedNodes.{sibling_of, HasRanks};
-ghost use Rattle.bi_fit.specs.PropertyPlaces.{place_of_name, is_entry_named, AreByRank};
+ghost use Rattle.bi_fit.specs.EntryOrder.{index_of_name, is_entry_named, AreByRank};
 
 use crate::document::ranked_node::RankedNode;
 use crate::form::Form;
@@ -90,17 +90,17 @@ impl<'a> PropertyMap<'a> {
         Ok(PropertyMap { entries })
     }
 
-    /// Adds a property, or gives the property of this name another value. Compares the name with at
-    /// most all of the map.
+    /// Adds a property, or gives the property of this name another value. Compares the name with
+    /// those before it in byte order, and with its own.
     ///
     /// It fails if memory runs out. It is not specified which properties the map has then.
     pub(crate) fn insert(&mut self, name: &'a [u8], value: Value<'a>) -> Result<(), AllocError>
         ensures { OnOk result
             (self.new ≡ with_property_value name.entry.now (value_bytes value.entry) self.old) }
     {
-        let place = find_place(&self.entries, name);
-        if has_name_at(&self.entries, place, name) {
-            self.entries[place].value = value;
+        let index = find_index(&self.entries, name);
+        if has_name_at(&self.entries, index, name) {
+            self.entries[index].value = value;
             return Ok(());
         }
         let entry = MapEntry {
@@ -108,7 +108,7 @@ impl<'a> PropertyMap<'a> {
             number: None,
             value,
         };
-        self.entries.insert(place, entry)?;
+        self.entries.insert(index, entry)?;
         Ok(())
     }
 
@@ -250,8 +250,8 @@ fn entries_by_rank<'a>(
 
 /// The index of the first of these entries, which are in byte order of their names, whose name is
 /// not before this one. Their number if there is none.
-fn find_place(entries: &[MapEntry<'_>], name: &[u8]) -> usize
-    ensures { result ≡ place_of_name entries.now name.now }
+fn find_index(entries: &[MapEntry<'_>], name: &[u8]) -> usize
+    ensures { result ≡ index_of_name entries.now name.now }
 {
     for (index, entry) in entries.iter().enumerate() {
         if !name.cmp(entry.name).is_gt() {

@@ -10,13 +10,13 @@ use Rattle.bi_fit.specs.declared.document.property_map.MapEntry.{MapEntry}
 use Rattle.bi_fit.specs.NormalNodes.{properties_by_name}
 use Rattle.bi_fit.specs.PropertyMaps.{properties_in}
 
--- Where the entries of a map of properties are.
+-- The order of the entries of a map of properties.
 
 -- The index of the first entry whose name is not before this one, or the number of the entries.
-abbrev pub place_of_name : List MapEntry → (name : List ℕ) → ℕ
-place_of_name [] name = 0
-place_of_name (entry ∷ entries) name =
-    by_order (slice_cmp nat_cmp name entry.name.now) 0 0 (suc (place_of_name entries name))
+abbrev pub index_of_name : List MapEntry → (name : List ℕ) → ℕ
+index_of_name [] name = 0
+index_of_name (entry ∷ entries) name =
+    by_order (slice_cmp nat_cmp name entry.name.now) 0 0 (suc (index_of_name entries name))
 
 -- There is an entry, and it has this name.
 abbrev pub is_entry_named : Option MapEntry → (name : List ℕ) → Bool

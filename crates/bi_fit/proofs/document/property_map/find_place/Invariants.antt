@@ -1,6 +1,0 @@
-use Rattle.std.proofs.Common.{◌≡◌, ◌+◌, drop}
-use Rattle.bi_fit.specs.PropertyPlaces.{place_of_name}
-use Rattle.bi_fit.proofs.document.property_map.find_place.Given as goal
-
-abbrev pub invariant-loop-index : goal.invariant-loop-index
-invariant-loop-index l = l.index + place_of_name (drop l.index l.entries) l.name ≡ place_of_name l.entries l.name
