@@ -2,15 +2,21 @@
 
 ghost use Rattle.std.specs.Prelude.{◌≡◌, ◌+◌, ◌<◌, ◌^◌, [], IfOk, IfErr, length};
 
+use bi_base::crc32;
 use std::alloc::{AllocError, Global};
 use std::collections::BTreeMap;
 use std::marker::Model;
 
-/// Parts of names, each once. The number of a part is its index in the order of their first use.
+/// Parts of names, each once. The number of a part is its index in the order of their first use. A
+/// part is found by its checksum before its bytes, so that nearly all comparisons are of numbers.
 #[derive(Drop)]
 pub(crate) struct NameParts<'a> {
+    /// The number of the tail after each part, and the bytes of the part.
     parts: Vec<(usize, &'a [u8])>,
-    numbers: BTreeMap<(usize, &'a [u8]), usize>,
+    /// The number of each part, by the number of its tail, the CRC-32 of its bytes, and its bytes.
+    /// Two parts with one tail nearly always differ in their CRC-32, so that their bytes need not
+    /// be compared. If they do not, the bytes decide: nothing rests on different CRC-32.
+    numbers: BTreeMap<(usize, u32, &'a [u8]), usize>,
 }
 
 impl<'a> Model for NameParts<'a> {
@@ -46,12 +52,13 @@ impl<'a> NameParts<'a> {
         ensures small { length self.new < 2 ^ 63 }
         ensures failed { IfErr result (λ _. self.new ≡ self.old) }
     {
-        if let Some(number) = self.numbers.get(&(tail, bytes)) {
+        let key = (tail, crc32(bytes), bytes);
+        if let Some(number) = self.numbers.get(&key) {
             return Ok(*number);
         }
         self.parts.reserve(1)?;
         let number = self.parts.len();
-        self.numbers.insert((tail, bytes), number)?;
+        self.numbers.insert(key, number)?;
         self.parts.push((tail, bytes)).unwrap();
         Ok(number)
     }
