@@ -130,6 +130,6 @@ pub legacy_fault : (limits : Limits) (file : List ℕ) (fault : Fault) → IsOnl
     IsOnlyLegacyFault limits file fault → IsFileFault limits file fault × MeansNothing limits file
 legacy_fault limits file fault no_tree is =
     (by (legacy_or_not file), neither_means_nothing limits file is.means_nothing no_tree.means_nothing) where
-  by : BeginsAs file Legacy ⊎ ¬ (BeginsAs file Legacy) → IsFileFault limits file fault
-  by (inl begins) = OfLegacyImage begins is.is_fault
-  by (inr no_legacy) = OfTree no_legacy (both_faults limits file fault no_legacy no_tree.is_fault is.is_fault)
+      by : BeginsAs file Legacy ⊎ ¬ (BeginsAs file Legacy) → IsFileFault limits file fault
+      by (inl begins) = OfLegacyImage begins is.is_fault
+      by (inr no_legacy) = OfTree no_legacy (both_faults limits file fault no_legacy no_tree.is_fault is.is_fault)
