@@ -2,14 +2,20 @@ use Rattle.std.proofs.Common.{◌≡◌, ℕ, ◌+◌, Bool, true, false, cond, 
 use Rattle.std.proofs.Common.{subst, ◌∙◌, arith, length-append, append-nil, true≢false}
 use Rattle.std.specs.Prelude.{◌||◌}
 use Rattle.std.specs.BTreeMap.{BTreeMap, get, Updates}
+use Rattle.std.specs.declared.cmp.Ordering.{Ordering}
+use Rattle.std.specs.declared.cmp.Ordering.TheVariants.{Less, Equal, Greater}
+use Rattle.std.specs.Ordering.{nat_cmp, ordering_then, is_eq}
+use Rattle.std.specs.Cmp.Lexicographic.{slice_cmp}
+use Rattle.std.proofs.lemmas.Cmp.{tied_itself, nat_cmp_total}
+use Rattle.std.proofs.lemmas.Map.Lookups.{exact_bytes}
+use Rattle.std.proofs.lemmas.Map.Text.{is_eq-slice_cmp}
 use Rattle.std.proofs.lemmas.Slice.Eq.{bytes_eq-Decides}
 use Rattle.std.proofs.lemmas.List.Folds.{list_any-append}
 use Rattle.std.proofs.lemmas.List.Concat.{flat_map-append}
 use Rattle.std.proofs.lemmas.Option.{none-some, same_Some}
 use Rattle.bi_blob.specs.Layout.{offset_in, strings_of, is_among}
-use Rattle.bi_blob.specs.NamesByLength.{by_length}
-use Rattle.bi_blob.proofs.NamesByLength.{is_eq-by_length}
-use Rattle.bi_lay.specs.Names.{offset_among, saturated_usize, with_name}
+use Rattle.bi_base.specs.Crc.{crc32}
+use Rattle.bi_lay.specs.Names.{offset_among, saturated_usize, with_name, by_length_and_checksum, key_of_name}
 
 -- The offsets of names in the strings block, and what a look-up of a name finds.
 
@@ -86,14 +92,44 @@ offset_among-push names key name new = by (bytes_eq key name) refl
             ∙ ap (λ b. b || (bytes_eq key key || false)) new ∙ ap (λ b. b || false) ((bytes_eq-Decides key key).1 refl)
     by false is = other (is_among name names) refl is
 
+-- The order of what comes before two names.
+abbrev before_bytes : List ℕ → List ℕ → Ordering
+before_bytes a b = ordering_then (nat_cmp (length a) (length b)) (nat_cmp (crc32 a) (crc32 b))
+
+before_itself : (name : List ℕ) → before_bytes name name ≡ Equal
+before_itself name =
+    ap (λ o. ordering_then o (nat_cmp (crc32 name) (crc32 name))) (tied_itself nat_cmp_total (length name))
+    ∙ tied_itself nat_cmp_total (crc32 name)
+
+-- Names with their lengths and checksums are the same where the names are.
+is_eq-by_length_and_checksum : (m n : Bor (List ℕ)) →
+    is_eq (by_length_and_checksum (key_of_name m) (key_of_name n)) ≡ bytes_eq m.now n.now
+is_eq-by_length_and_checksum m n = by_order (slice_cmp nat_cmp m.now n.now) refl ∙ is_eq-slice_cmp m.now n.now where
+  unequal : (a : Ordering) → is_eq (ordering_then a Less) ≡ false
+  unequal Less = refl
+  unequal Equal = refl
+  unequal Greater = refl
+
+  unequal_greater : (a : Ordering) → is_eq (ordering_then a Greater) ≡ false
+  unequal_greater Less = refl
+  unequal_greater Equal = refl
+  unequal_greater Greater = refl
+
+  by_order : (o : Ordering) → slice_cmp nat_cmp m.now n.now ≡ o → is_eq (ordering_then (before_bytes m.now n.now) o) ≡ is_eq o
+  by_order Less e = unequal (before_bytes m.now n.now)
+  by_order Equal e =
+      ap (λ a. is_eq (ordering_then a Equal)) (ap (λ l. before_bytes m.now l) (sym (exact_bytes m.now n.now e)) ∙ before_itself m.now)
+  by_order Greater e = unequal_greater (before_bytes m.now n.now)
+
 -- The map of offsets, when a name that it lacks comes behind the others.
-pub placed-push : (old new : BTreeMap (ℕ × Bor (List ℕ)) ℕ) (names : List (List ℕ)) (key : Bor (List ℕ))
-    → ((name : Bor (List ℕ)) → get by_length old (length name.now, name) ≡ offset_among names name.now)
-    → Updates by_length old new (length key.now, key) (Some (saturated_usize (length (strings_of names)))) → is_among key.now names ≡ false
-    → (name : Bor (List ℕ)) → get by_length new (length name.now, name) ≡ offset_among (names ++ key.now ∷ []) name.now
+pub placed-push : (old new : BTreeMap (ℕ × ℕ × Bor (List ℕ)) ℕ) (names : List (List ℕ)) (key : Bor (List ℕ))
+    → ((name : Bor (List ℕ)) → get by_length_and_checksum old (key_of_name name) ≡ offset_among names name.now)
+    → Updates by_length_and_checksum old new (key_of_name key) (Some (saturated_usize (length (strings_of names))))
+    → is_among key.now names ≡ false
+    → (name : Bor (List ℕ)) → get by_length_and_checksum new (key_of_name name) ≡ offset_among (names ++ key.now ∷ []) name.now
 placed-push old new names key placed updates lacks name =
-    updates.0 (length name.now, name)
-    ∙ ap (λ b. cond b (Some (saturated_usize (length (strings_of names)))) (get by_length old (length name.now, name))) (is_eq-by_length key name)
+    updates.0 (key_of_name name)
+    ∙ ap (λ b. cond b (Some (saturated_usize (length (strings_of names)))) (get by_length_and_checksum old (key_of_name name))) (is_eq-by_length_and_checksum key name)
     ∙ ap (cond (bytes_eq key.now name.now) (Some (saturated_usize (length (strings_of names))))) (placed name)
     ∙ offset_among-push names key.now name.now lacks
 

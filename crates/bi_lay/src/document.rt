@@ -25,8 +25,8 @@ const MAX_DEPTH: usize = 64;
 /// Each call but `with_names`, `may_begin`, `property` and `close` takes time
 /// linear in the length of its name, if it has one, apart from allocations. `property` looks its
 /// name up among the n names so far, which takes log n comparisons; only names of the same length
-/// are read. `property_numbered` does so at the first use of a number, and then takes a constant
-/// number of steps.
+/// and checksum are read. `property_numbered` does so at the first use of a number, and then takes
+/// a constant number of steps.
 #[derive(Drop)]
 pub struct Doc<'a> {
     boot_cpu: u32,

@@ -4,7 +4,7 @@ ghost use Rattle.std.specs.Prelude.{◌≡◌, [], IfOk, OnOk, IfErr, length};
 ghost use Rattle.bi_base.specs.declared.fault.Error.TheVariants.{OutOfMemory};
 ghost use Rattle.bi_blob.specs.Layout.{offset_in, strings_of};
 
-use bi_base::Error;
+use bi_base::{Error, crc32};
 use std::alloc::Global;
 use std::collections::BTreeMap;
 use std::marker::Model;
@@ -14,9 +14,10 @@ use std::marker::Model;
 #[derive(Drop)]
 pub(crate) struct Names<'a> {
     names: Vec<&'a [u8]>,
-    /// The offset of each name. A name comes after its length, so that names of two lengths are
-    /// compared without reading them.
-    offsets: BTreeMap<(usize, &'a [u8]), usize>,
+    /// The offset of each name. A name comes after its length and its CRC-32, so that names that
+    /// differ in one of these are compared without reading them. Names that do not are compared by
+    /// their bytes.
+    offsets: BTreeMap<(usize, u32, &'a [u8]), usize>,
     length: usize,
 }
 
@@ -63,8 +64,9 @@ impl<'a> Names<'a> {
     }
 
     /// Adds a name if it is not there yet, and returns its offset in the strings block, or the
-    /// greatest `usize` if it is greater than that. It takes log n comparisons, for n names, and
-    /// only names of the same length are read.
+    /// greatest `usize` if it is greater than that. It reads the name once for its CRC-32. Then it
+    /// takes log n comparisons, for n names, and only names of the same length and checksum are
+    /// read.
     ///
     /// The only error is `OutOfMemory`, and the names are unchanged then.
     pub(crate) fn add(&mut self, name: &'a [u8]) -> Result<usize, Error>
@@ -73,12 +75,13 @@ impl<'a> Names<'a> {
         ensures names { OnOk result (self.new ≡ with_name self.old name.entry.now) }
         ensures failed { IfErr result (λ error. (error ≡ OutOfMemory) × (self.new ≡ self.old)) }
     {
-        if let Some(offset) = self.offsets.get(&(name.len(), name)) {
+        let key = (name.len(), crc32(name), name);
+        if let Some(offset) = self.offsets.get(&key) {
             return Ok(*offset);
         }
         self.names.reserve(1)?;
         let offset = self.length;
-        self.offsets.insert((name.len(), name), offset)?;
+        self.offsets.insert(key, offset)?;
         self.names.push(name).unwrap();
         self.length = offset.saturating_add(name.len()).saturating_add(1);
         Ok(offset)
