@@ -9,4 +9,3 @@ pub mod StructureFacts
 pub mod Blobs
 pub mod Texts
 pub mod NameSets
-pub mod NamesByLength

@@ -12,7 +12,8 @@ use Rattle.std.proofs.lemmas.List.{append_assoc, append-nil}
 use Rattle.std.proofs.lemmas.Map.Lookups.{exact_pairs, exact_unsigned, exact_bytes}
 use Rattle.std.proofs.lemmas.Option.{none-some, same_Some}
 use Rattle.bi_base.specs.Crc.{crc32}
-use Rattle.bi_fdt.specs.NameParts.{NamePart, AreOnce, IsNewPart, IsPlaced, AreMoreParts, key_of_part, by_checksum}
+use Rattle.bi_blob.specs.NamesByChecksum.{by_checksum}
+use Rattle.bi_fdt.specs.NameParts.{NamePart, AreOnce, IsNewPart, IsPlaced, AreMoreParts, key_of_part}
 use Rattle.bi_fdt.specs.Numbers.{BeginsWith}
 
 -- Parts of names keep their numbers, and a map has the numbers of exactly these parts.
@@ -44,7 +45,7 @@ pub slice_get-begin : {Item : Type 0} (all front : List Item) → BeginsWith all
     slice_get all index ≡ Some x
 slice_get-begin all front begins index x is = ap (λ l. slice_get l index) begins.1 ∙ slice_get-longer front begins.0 index x is
 
--- A part whose bytes are behind a reference.
+-- A part of borrowed bytes.
 abbrev part_of : ℕ × Bor (List ℕ) → NamePart
 part_of part = (part.0, part.1.now)
 

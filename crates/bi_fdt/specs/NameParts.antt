@@ -1,16 +1,14 @@
 use Rattle.std.specs.Prelude.{◌≡◌, ◌⊎◌, ℕ, List, [], ◌∷◌, ◌++◌, length, map, Some, slice_get}
-use Rattle.std.specs.declared.cmp.Ordering.{Ordering}
-use Rattle.std.specs.Ordering.{nat_cmp, ordering_then}
-use Rattle.std.specs.Cmp.Lexicographic.{slice_cmp}
 use Rattle.std.specs.BTreeMap.{get}
 use Rattle.std.specs.Borrow.{Bor}
 use Rattle.bi_base.specs.Crc.{crc32}
+use Rattle.bi_blob.specs.NamesByChecksum.{by_checksum}
 use Rattle.bi_fdt.specs.Numbers.{BeginsWith}
 use Rattle.bi_fdt.specs.declared.name_parts.NameParts.TheInside.{Inside}
 
 -- Parts of names, each with a number: its index in the order of their first use.
 
--- A part of a name: the number of the tail after it, and its bytes.
+-- A part of a name: the number of the blocks after it, and its bytes.
 abbrev pub NamePart : Type 0
 NamePart = ℕ × List ℕ
 
@@ -37,15 +35,10 @@ pub record AreMoreParts (old new : List NamePart) : Type 0 where
 abbrev pub name_parts_of : Inside → List NamePart
 name_parts_of inside = map (λ part. (part.0, part.1.now)) inside.parts.items
 
--- The key of a part in the map: the number of its tail, the CRC-32 of its bytes, and its bytes.
+-- The key of a part in the map: the number of the blocks after it, the CRC-32 of its bytes, and its
+-- bytes.
 abbrev pub key_of_part : ℕ × Bor (List ℕ) → ℕ × ℕ × Bor (List ℕ)
 key_of_part part = (part.0, crc32 part.1.now, part.1)
-
--- The order of keys by the number of the tail, then by checksum, and of those with one checksum by
--- their bytes.
-abbrev pub by_checksum : ℕ × ℕ × Bor (List ℕ) → ℕ × ℕ × Bor (List ℕ) → Ordering
-by_checksum x y = ordering_then (ordering_then (nat_cmp x.0 y.0) (nat_cmp x.1 y.1))
-    (slice_cmp nat_cmp x.2.now y.2.now)
 
 -- What is true of the fields: the map has exactly the numbers of the parts.
 pub record AreNameParts (inside : Inside) : Type 0 where

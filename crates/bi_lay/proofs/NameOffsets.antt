@@ -15,7 +15,8 @@ use Rattle.std.proofs.lemmas.List.Concat.{flat_map-append}
 use Rattle.std.proofs.lemmas.Option.{none-some, same_Some}
 use Rattle.bi_blob.specs.Layout.{offset_in, strings_of, is_among}
 use Rattle.bi_base.specs.Crc.{crc32}
-use Rattle.bi_lay.specs.Names.{offset_among, saturated_usize, with_name, by_length_and_checksum, key_of_name}
+use Rattle.bi_blob.specs.NamesByChecksum.{by_checksum}
+use Rattle.bi_lay.specs.Names.{offset_among, saturated_usize, with_name, key_of_name}
 
 -- The offsets of names in the strings block, and what a look-up of a name finds.
 
@@ -102,9 +103,9 @@ before_itself name =
     ∙ tied_itself nat_cmp_total (crc32 name)
 
 -- Names with their lengths and checksums are the same where the names are.
-is_eq-by_length_and_checksum : (m n : Bor (List ℕ)) →
-    is_eq (by_length_and_checksum (key_of_name m) (key_of_name n)) ≡ bytes_eq m.now n.now
-is_eq-by_length_and_checksum m n = by_order (slice_cmp nat_cmp m.now n.now) refl ∙ is_eq-slice_cmp m.now n.now where
+is_eq-key_of_name : (m n : Bor (List ℕ)) →
+    is_eq (by_checksum (key_of_name m) (key_of_name n)) ≡ bytes_eq m.now n.now
+is_eq-key_of_name m n = by_order (slice_cmp nat_cmp m.now n.now) refl ∙ is_eq-slice_cmp m.now n.now where
   unequal : (a : Ordering) → is_eq (ordering_then a Less) ≡ false
   unequal Less = refl
   unequal Equal = refl
@@ -123,13 +124,13 @@ is_eq-by_length_and_checksum m n = by_order (slice_cmp nat_cmp m.now n.now) refl
 
 -- The map of offsets, when a name that it lacks comes behind the others.
 pub placed-push : (old new : BTreeMap (ℕ × ℕ × Bor (List ℕ)) ℕ) (names : List (List ℕ)) (key : Bor (List ℕ))
-    → ((name : Bor (List ℕ)) → get by_length_and_checksum old (key_of_name name) ≡ offset_among names name.now)
-    → Updates by_length_and_checksum old new (key_of_name key) (Some (saturated_usize (length (strings_of names))))
+    → ((name : Bor (List ℕ)) → get by_checksum old (key_of_name name) ≡ offset_among names name.now)
+    → Updates by_checksum old new (key_of_name key) (Some (saturated_usize (length (strings_of names))))
     → is_among key.now names ≡ false
-    → (name : Bor (List ℕ)) → get by_length_and_checksum new (key_of_name name) ≡ offset_among (names ++ key.now ∷ []) name.now
+    → (name : Bor (List ℕ)) → get by_checksum new (key_of_name name) ≡ offset_among (names ++ key.now ∷ []) name.now
 placed-push old new names key placed updates lacks name =
     updates.0 (key_of_name name)
-    ∙ ap (λ b. cond b (Some (saturated_usize (length (strings_of names)))) (get by_length_and_checksum old (key_of_name name))) (is_eq-by_length_and_checksum key name)
+    ∙ ap (λ b. cond b (Some (saturated_usize (length (strings_of names)))) (get by_checksum old (key_of_name name))) (is_eq-key_of_name key name)
     ∙ ap (cond (bytes_eq key.now name.now) (Some (saturated_usize (length (strings_of names))))) (placed name)
     ∙ offset_among-push names key.now name.now lacks
 

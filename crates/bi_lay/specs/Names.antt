@@ -1,11 +1,9 @@
 use Rattle.std.specs.Prelude.{◌≡◌, ℕ, ◌-◌, ◌^◌, min, List, [], ◌∷◌, ◌++◌, map, length}
 use Rattle.std.specs.Prelude.{Option, Some, None, if◌then◌else◌}
 use Rattle.std.specs.BTreeMap.{get}
-use Rattle.std.specs.declared.cmp.Ordering.{Ordering}
-use Rattle.std.specs.Ordering.{nat_cmp, ordering_then}
-use Rattle.std.specs.Cmp.Lexicographic.{slice_cmp}
 use Rattle.std.specs.Borrow.{Bor}
 use Rattle.bi_base.specs.Crc.{crc32}
+use Rattle.bi_blob.specs.NamesByChecksum.{by_checksum}
 use Rattle.bi_blob.specs.Layout.{is_among, offset_in, strings_of}
 use Rattle.bi_lay.specs.declared.names.Names.TheInside.{Inside}
 
@@ -29,11 +27,6 @@ offset_among names name =
 abbrev pub names_of : Inside → List (List ℕ)
 names_of names = map (λ name. name.now) names.names.items
 
--- The order of names by length, then by CRC-32, and of those with both the same by their bytes.
-abbrev pub by_length_and_checksum : ℕ × ℕ × Bor (List ℕ) → ℕ × ℕ × Bor (List ℕ) → Ordering
-by_length_and_checksum x y = ordering_then (ordering_then (nat_cmp x.0 y.0) (nat_cmp x.1 y.1))
-    (slice_cmp nat_cmp x.2.now y.2.now)
-
 -- A name after its length and CRC-32.
 abbrev pub key_of_name : Bor (List ℕ) → ℕ × ℕ × Bor (List ℕ)
 key_of_name name = (length name.now, crc32 name.now, name)
@@ -41,6 +34,6 @@ key_of_name name = (length name.now, crc32 name.now, name)
 -- What is true of the fields: the map has the offset of each name, and the length is that of the
 -- strings block.
 pub record AreNames (names : Inside) : Type 0 where
-  pub placed : (name : Bor (List ℕ)) → get by_length_and_checksum names.offsets (key_of_name name)
+  pub placed : (name : Bor (List ℕ)) → get by_checksum names.offsets (key_of_name name)
       ≡ offset_among (names_of names) name.now
   pub is_length : names.length ≡ saturated_usize (length (strings_of (names_of names)))

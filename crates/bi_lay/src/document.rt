@@ -22,11 +22,11 @@ const MAX_DEPTH: usize = 64;
 /// a tree, which come in the order of the structure block (Devicetree Specification, 5.4.2). Names
 /// and values are borrowed and not copied.
 ///
-/// Each call but `with_names`, `may_begin`, `property` and `close` takes time
+/// Each call but `with_names`, `may_begin`, `property`, `property_numbered` and `close` takes time
 /// linear in the length of its name, if it has one, apart from allocations. `property` looks its
 /// name up among the n names so far, which takes log n comparisons; only names of the same length
-/// and checksum are read. `property_numbered` does so at the first use of a number, and then takes
-/// a constant number of steps.
+/// and checksum are read. `property_numbered` does so at the first use of a number, and takes
+/// constant time at each later one.
 #[derive(Drop)]
 pub struct Doc<'a> {
     boot_cpu: u32,

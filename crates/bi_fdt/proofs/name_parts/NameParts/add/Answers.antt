@@ -1,7 +1,8 @@
 use Rattle.std.proofs.Common.{◌≡◌, ◌++◌, ◌∷◌, [], List, Some, None, map, length, slice_get, inl, inr, refl, sym, ap, subst, ◌∙◌, rules}
 use Rattle.std.specs.BTreeMap.{get, Updates}
 use Rattle.std.proofs.lemmas.List.{map-append, length-map}
-use Rattle.bi_fdt.specs.NameParts.{NamePart, IsPlaced, name_parts_of, key_of_part, by_checksum}
+use Rattle.bi_blob.specs.NamesByChecksum.{by_checksum}
+use Rattle.bi_fdt.specs.NameParts.{NamePart, IsPlaced, name_parts_of, key_of_part}
 use Rattle.bi_fdt.proofs.NameParts.{found_more, listed_more, lacks_part}
 use Rattle.bi_fdt.proofs.name_parts.NameParts.add.Goals as goal
 
