@@ -9,7 +9,7 @@ pub returns-in-Some-clause-added : goal.returns-in-Some-clause-added
 returns-in-Some-clause-added c =
     inl (
       ap (λ l. slice_get l c.in-Some.number.now) (sym c.self.view_is)
-      ∙ c.self.invariant.found (c.args.tail, c.args.bytes) c.in-Some.number.now is_there,
+          ∙ c.self.invariant.found (c.args.tail, c.args.bytes) c.in-Some.number.now is_there,
       refl,
     ) where
       is_there : get by_checksum c.self.inside.numbers (key_of_part (c.args.tail, c.args.bytes)) ≡ Some c.in-Some.number.now
@@ -43,7 +43,8 @@ number_is c =
 updated : (c : goal.After-unwrap)
     → Updates by_checksum c.self.inside.numbers c.insert.new.self (key_of_part (c.args.tail, c.args.bytes)) (Some (length (before c)))
 updated c =
-    subst (λ n. Updates by_checksum c.self.inside.numbers c.insert.new.self (key_of_part (c.args.tail, c.args.bytes)) (Some n)) (number_is c)
+    subst (λ n. Updates by_checksum c.self.inside.numbers c.insert.new.self (key_of_part (c.args.tail, c.args.bytes)) (Some n))
+    (number_is c)
     (subst (λ sum. Updates by_checksum c.self.inside.numbers c.insert.new.self (c.args.tail, sum, c.args.bytes) (Some c.len-number.result))
     c.crc32.ensures c.in_ok-insert.ensures.updates)
 
