@@ -44,7 +44,8 @@ number_is c =
 updated : (c : goal.After-unwrap)
     → Updates by_checksum c.self.inside.numbers c.insert.new.self (key_of_part (c.args.tail, c.args.bytes)) (Some (length (before c)))
 updated c =
-    subst (λ n. Updates by_checksum c.self.inside.numbers c.insert.new.self (key_of_part (c.args.tail, c.args.bytes)) (Some n)) (number_is c)
+    subst (λ n. Updates by_checksum c.self.inside.numbers c.insert.new.self (key_of_part (c.args.tail, c.args.bytes)) (Some n))
+    (number_is c)
     (subst (λ sum. Updates by_checksum c.self.inside.numbers c.insert.new.self (c.args.tail, sum, c.args.bytes) (Some c.len-number.result))
     c.crc32.ensures c.in_ok-insert.ensures.updates)
 
