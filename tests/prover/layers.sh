@@ -107,7 +107,7 @@ boundary bi_lay closed::ClosedDoc::size bi_fit text::FitText::new returns-then-s
 edit src/closed.rt '{ result ≡ length (text_of self.now) }' '{ result ≡ result }'
 unprove closed/ClosedDoc/size
 
-boundary bi_legacy legacy::Legacy::read bi_norm image::BootImage::read returns-then-eq-clause-read
+boundary bi_legacy legacy::Legacy::read bi_norm image::BootImage::read returns-then-is_no_tree-clause-read
 edit src/legacy.rt '{ IfOk result (IsReadLegacy limits file.entry.now) }' '{ result ≡ result }'
 unprove legacy/Legacy/read returns-clause-read
 
