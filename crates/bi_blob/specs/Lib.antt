@@ -14,4 +14,4 @@ pub mod KnownTexts
 pub mod KnownBlobs
 pub mod KnownFaults
 pub mod NameSets
-pub mod NamesByChecksum
+pub mod NamesByPrefix

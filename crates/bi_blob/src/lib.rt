@@ -11,4 +11,4 @@ pub mod format;
 mod names;
 pub mod text_laws;
 
-pub use names::{is_child_name, is_property_name};
+pub use names::{is_child_name, is_property_name, name_prefix};

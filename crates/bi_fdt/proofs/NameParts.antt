@@ -11,8 +11,7 @@ use Rattle.std.proofs.lemmas.Cmp.{tied_itself, nat_cmp_total}
 use Rattle.std.proofs.lemmas.List.{append_assoc, append-nil}
 use Rattle.std.proofs.lemmas.Map.Lookups.{exact_pairs, exact_unsigned, exact_bytes}
 use Rattle.std.proofs.lemmas.Option.{none-some, same_Some}
-use Rattle.bi_base.specs.Crc.{crc32}
-use Rattle.bi_blob.specs.NamesByChecksum.{by_checksum}
+use Rattle.bi_blob.specs.NamesByPrefix.{prefix_of_name, by_prefix}
 use Rattle.bi_fdt.specs.NameParts.{NamePart, AreOnce, IsNewPart, IsPlaced, AreMoreParts, key_of_part}
 use Rattle.bi_fdt.specs.Numbers.{BeginsWith}
 
@@ -51,11 +50,11 @@ part_of part = (part.0, part.1.now)
 
 -- The number in the map for a part, if there is one.
 abbrev number_in : BTreeMap (ℕ × ℕ × Bor (List ℕ)) ℕ → ℕ × Bor (List ℕ) → Option ℕ
-number_in numbers part = get by_checksum numbers (key_of_part part)
+number_in numbers part = get by_prefix numbers (key_of_part part)
 
 -- Whether the keys of two parts are equal in the order of the map.
 abbrev one_key : ℕ × Bor (List ℕ) → ℕ × Bor (List ℕ) → Bool
-one_key a b = is_eq (by_checksum (key_of_part a) (key_of_part b))
+one_key a b = is_eq (by_prefix (key_of_part a) (key_of_part b))
 
 -- Keys are equal in the order of the map exactly if the parts are.
 same_part : (a b : ℕ × Bor (List ℕ)) → one_key a b ≡ true → part_of a ≡ part_of b
@@ -63,7 +62,7 @@ same_part a b is =
     ap (λ (key : (ℕ × ℕ) × List ℕ). (key.0.0, key.1))
     (exact_pairs (λ x y. ordering_then (nat_cmp x.0 y.0) (nat_cmp x.1 y.1)) (slice_cmp nat_cmp)
     (exact_pairs nat_cmp nat_cmp exact_unsigned exact_unsigned) exact_bytes
-    ((a.0, crc32 a.1.now), a.1.now) ((b.0, crc32 b.1.now), b.1.now) (equal (by_checksum (key_of_part a) (key_of_part b)) is)) where
+    ((a.0, prefix_of_name a.1.now), a.1.now) ((b.0, prefix_of_name b.1.now), b.1.now) (equal (by_prefix (key_of_part a) (key_of_part b)) is)) where
       equal : (o : Ordering) → is_eq o ≡ true → o ≡ Equal
       equal Less is = absurd (true≢false (sym is))
       equal Equal is = refl
@@ -72,20 +71,20 @@ same_part a b is =
 equal_part : (a b : ℕ × Bor (List ℕ)) → part_of a ≡ part_of b → one_key a b ≡ true
 equal_part a b same =
     ap (λ (part : NamePart). is_eq (to part)) (sym same)
-    ∙ ap (λ o. is_eq (ordering_then (ordering_then o (nat_cmp (crc32 a.1.now) (crc32 a.1.now))) (slice_cmp nat_cmp a.1.now a.1.now)))
+    ∙ ap (λ o. is_eq (ordering_then (ordering_then o (nat_cmp (prefix_of_name a.1.now) (prefix_of_name a.1.now))) (slice_cmp nat_cmp a.1.now a.1.now)))
     (tied_itself nat_cmp_total a.0)
-    ∙ ap (λ o. is_eq (ordering_then o (slice_cmp nat_cmp a.1.now a.1.now))) (tied_itself nat_cmp_total (crc32 a.1.now))
+    ∙ ap (λ o. is_eq (ordering_then o (slice_cmp nat_cmp a.1.now a.1.now))) (tied_itself nat_cmp_total (prefix_of_name a.1.now))
     ∙ ap is_eq (tied_itself (lists_total nat_cmp_total) a.1.now) where
       to : NamePart → Ordering
       to part =
-          ordering_then (ordering_then (nat_cmp a.0 part.0) (nat_cmp (crc32 a.1.now) (crc32 part.1))) (slice_cmp nat_cmp a.1.now part.1)
+          ordering_then (ordering_then (nat_cmp a.0 part.0) (nat_cmp (prefix_of_name a.1.now) (prefix_of_name part.1))) (slice_cmp nat_cmp a.1.now part.1)
 
 -- The map with one more part has the numbers of no others.
 pub found_more : (old new : BTreeMap (ℕ × ℕ × Bor (List ℕ)) ℕ) (parts : List NamePart) (added : ℕ × Bor (List ℕ))
-    → ((part : ℕ × Bor (List ℕ)) (number : ℕ) → get by_checksum old (key_of_part part) ≡ Some number →
+    → ((part : ℕ × Bor (List ℕ)) (number : ℕ) → get by_prefix old (key_of_part part) ≡ Some number →
     slice_get parts number ≡ Some (part.0, part.1.now))
-    → Updates by_checksum old new (key_of_part added) (Some (length parts)) → (part : ℕ × Bor (List ℕ)) (number : ℕ)
-    → get by_checksum new (key_of_part part) ≡ Some number
+    → Updates by_prefix old new (key_of_part added) (Some (length parts)) → (part : ℕ × Bor (List ℕ)) (number : ℕ)
+    → get by_prefix new (key_of_part part) ≡ Some number
     → slice_get (parts ++ (added.0, added.1.now) ∷ []) number ≡ Some (part.0, part.1.now)
 found_more old new parts added found updates part number is = by (one_key added part) refl where
   now : cond (one_key added part) (Some (length parts)) (number_in old part) ≡ Some number
@@ -102,10 +101,10 @@ found_more old new parts added found updates part number is = by (one_key added 
 -- The map with one more part, which it lacked, has the numbers of all.
 pub listed_more : (old new : BTreeMap (ℕ × ℕ × Bor (List ℕ)) ℕ) (parts : List NamePart) (added : ℕ × Bor (List ℕ))
     → ((part : ℕ × Bor (List ℕ)) (number : ℕ) → slice_get parts number ≡ Some (part.0, part.1.now) →
-    get by_checksum old (key_of_part part) ≡ Some number)
-    → Updates by_checksum old new (key_of_part added) (Some (length parts)) → get by_checksum old (key_of_part added) ≡ None
+    get by_prefix old (key_of_part part) ≡ Some number)
+    → Updates by_prefix old new (key_of_part added) (Some (length parts)) → get by_prefix old (key_of_part added) ≡ None
     → (part : ℕ × Bor (List ℕ)) (number : ℕ) → slice_get (parts ++ (added.0, added.1.now) ∷ []) number ≡ Some (part.0, part.1.now)
-    → get by_checksum new (key_of_part part) ≡ Some number
+    → get by_prefix new (key_of_part part) ≡ Some number
 listed_more old new parts added listed updates lacks part number is =
     updates.0 (key_of_part part) ∙ elim (slice_get-pushed parts (part_of added) number (part_of part) is) [
       | inl there ↦ other there (one_key added part) refl
@@ -120,8 +119,8 @@ listed_more old new parts added listed updates lacks part number is =
 -- A part that the map lacks is new.
 pub lacks_part : (numbers : BTreeMap (ℕ × ℕ × Bor (List ℕ)) ℕ) (parts : List NamePart) (part : ℕ × Bor (List ℕ))
     → ((part : ℕ × Bor (List ℕ)) (number : ℕ) → slice_get parts number ≡ Some (part.0, part.1.now) →
-    get by_checksum numbers (key_of_part part) ≡ Some number)
-    → get by_checksum numbers (key_of_part part) ≡ None → IsNewPart (part.0, part.1.now) parts
+    get by_prefix numbers (key_of_part part) ≡ Some number)
+    → get by_prefix numbers (key_of_part part) ≡ None → IsNewPart (part.0, part.1.now) parts
 lacks_part numbers parts part listed lacks index there = none-some index (sym lacks ∙ listed part index there)
 
 -- The same parts.

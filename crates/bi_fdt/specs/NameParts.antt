@@ -1,8 +1,7 @@
 use Rattle.std.specs.Prelude.{◌≡◌, ◌⊎◌, ℕ, List, [], ◌∷◌, ◌++◌, length, map, Some, slice_get}
 use Rattle.std.specs.BTreeMap.{get}
 use Rattle.std.specs.Borrow.{Bor}
-use Rattle.bi_base.specs.Crc.{crc32}
-use Rattle.bi_blob.specs.NamesByChecksum.{by_checksum}
+use Rattle.bi_blob.specs.NamesByPrefix.{prefix_of_name, by_prefix}
 use Rattle.bi_fdt.specs.Numbers.{BeginsWith}
 use Rattle.bi_fdt.specs.declared.name_parts.NameParts.TheInside.{Inside}
 
@@ -35,16 +34,16 @@ pub record AreMoreParts (old new : List NamePart) : Type 0 where
 abbrev pub name_parts_of : Inside → List NamePart
 name_parts_of inside = map (λ part. (part.0, part.1.now)) inside.parts.items
 
--- The key of a part in the map: the number of the blocks after it, the CRC-32 of its bytes, and its
--- bytes.
+-- The key of a part in the map: the number of the blocks after it, its first bytes as a number, and
+-- its bytes.
 abbrev pub key_of_part : ℕ × Bor (List ℕ) → ℕ × ℕ × Bor (List ℕ)
-key_of_part part = (part.0, crc32 part.1.now, part.1)
+key_of_part part = (part.0, prefix_of_name part.1.now, part.1)
 
 -- What is true of the fields: the map has exactly the numbers of the parts.
 pub record AreNameParts (inside : Inside) : Type 0 where
   pub found : (part : ℕ × Bor (List ℕ)) (number : ℕ)
-      → get by_checksum inside.numbers (key_of_part part) ≡ Some number
+      → get by_prefix inside.numbers (key_of_part part) ≡ Some number
       → slice_get (name_parts_of inside) number ≡ Some (part.0, part.1.now)
   pub listed : (part : ℕ × Bor (List ℕ)) (number : ℕ)
       → slice_get (name_parts_of inside) number ≡ Some (part.0, part.1.now)
-      → get by_checksum inside.numbers (key_of_part part) ≡ Some number
+      → get by_prefix inside.numbers (key_of_part part) ≡ Some number

@@ -2,21 +2,21 @@
 
 ghost use Rattle.std.specs.Prelude.{◌≡◌, ◌+◌, ◌<◌, ◌^◌, [], IfOk, IfErr, length};
 
-use bi_base::crc32;
+use bi_blob::name_prefix;
 use std::alloc::{AllocError, Global};
 use std::collections::BTreeMap;
 use std::marker::Model;
 
 /// Parts of names, each once. The number of a part is its index in the order of their first use. A
-/// part is found by its checksum before its bytes, so that nearly all comparisons are of numbers.
+/// part is found by its first eight bytes, as a number, before all of its bytes, so that most
+/// comparisons are of numbers.
 #[derive(Drop)]
 pub(crate) struct NameParts<'a> {
     /// The number of the tail after each part, and the bytes of the part.
     parts: Vec<(usize, &'a [u8])>,
-    /// The number of each part, by the number of its tail, the CRC-32 of its bytes, and its bytes.
-    /// Two parts with one tail nearly always differ in their CRC-32, so that their bytes need not
-    /// be compared. If they do not, the bytes decide: nothing rests on different CRC-32.
-    numbers: BTreeMap<(usize, u32, &'a [u8]), usize>,
+    /// The number of each part, by the number of its tail, its first bytes as a number, and all of
+    /// its bytes, which are compared only if both numbers are the same.
+    numbers: BTreeMap<(usize, u64, &'a [u8]), usize>,
 }
 
 impl<'a> Model for NameParts<'a> {
@@ -52,7 +52,7 @@ impl<'a> NameParts<'a> {
         ensures small { length self.new < 2 ^ 63 }
         ensures failed { IfErr result (λ _. self.new ≡ self.old) }
     {
-        let key = (tail, crc32(bytes), bytes);
+        let key = (tail, name_prefix(bytes), bytes);
         if let Some(number) = self.numbers.get(&key) {
             return Ok(*number);
         }

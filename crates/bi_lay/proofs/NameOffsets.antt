@@ -14,8 +14,7 @@ use Rattle.std.proofs.lemmas.List.Folds.{list_any-append}
 use Rattle.std.proofs.lemmas.List.Concat.{flat_map-append}
 use Rattle.std.proofs.lemmas.Option.{none-some, same_Some}
 use Rattle.bi_blob.specs.Layout.{offset_in, strings_of, is_among}
-use Rattle.bi_base.specs.Crc.{crc32}
-use Rattle.bi_blob.specs.NamesByChecksum.{by_checksum}
+use Rattle.bi_blob.specs.NamesByPrefix.{prefix_of_name, by_prefix}
 use Rattle.bi_lay.specs.Names.{offset_among, saturated_usize, with_name, key_of_name}
 
 -- The offsets of names in the strings block, and what a look-up of a name finds.
@@ -95,16 +94,16 @@ offset_among-push names key name new = by (bytes_eq key name) refl
 
 -- The order of what comes before two names.
 abbrev before_bytes : List ℕ → List ℕ → Ordering
-before_bytes a b = ordering_then (nat_cmp (length a) (length b)) (nat_cmp (crc32 a) (crc32 b))
+before_bytes a b = ordering_then (nat_cmp (length a) (length b)) (nat_cmp (prefix_of_name a) (prefix_of_name b))
 
 before_itself : (name : List ℕ) → before_bytes name name ≡ Equal
 before_itself name =
-    ap (λ o. ordering_then o (nat_cmp (crc32 name) (crc32 name))) (tied_itself nat_cmp_total (length name))
-    ∙ tied_itself nat_cmp_total (crc32 name)
+    ap (λ o. ordering_then o (nat_cmp (prefix_of_name name) (prefix_of_name name))) (tied_itself nat_cmp_total (length name))
+    ∙ tied_itself nat_cmp_total (prefix_of_name name)
 
--- Names with their lengths and checksums are the same where the names are.
+-- Names with their lengths and first bytes are the same where the names are.
 is_eq-key_of_name : (m n : Bor (List ℕ)) →
-    is_eq (by_checksum (key_of_name m) (key_of_name n)) ≡ bytes_eq m.now n.now
+    is_eq (by_prefix (key_of_name m) (key_of_name n)) ≡ bytes_eq m.now n.now
 is_eq-key_of_name m n = by_order (slice_cmp nat_cmp m.now n.now) refl ∙ is_eq-slice_cmp m.now n.now where
   unequal : (a : Ordering) → is_eq (ordering_then a Less) ≡ false
   unequal Less = refl
@@ -124,13 +123,13 @@ is_eq-key_of_name m n = by_order (slice_cmp nat_cmp m.now n.now) refl ∙ is_eq-
 
 -- The map of offsets, when a name that it lacks comes behind the others.
 pub placed-push : (old new : BTreeMap (ℕ × ℕ × Bor (List ℕ)) ℕ) (names : List (List ℕ)) (key : Bor (List ℕ))
-    → ((name : Bor (List ℕ)) → get by_checksum old (key_of_name name) ≡ offset_among names name.now)
-    → Updates by_checksum old new (key_of_name key) (Some (saturated_usize (length (strings_of names))))
+    → ((name : Bor (List ℕ)) → get by_prefix old (key_of_name name) ≡ offset_among names name.now)
+    → Updates by_prefix old new (key_of_name key) (Some (saturated_usize (length (strings_of names))))
     → is_among key.now names ≡ false
-    → (name : Bor (List ℕ)) → get by_checksum new (key_of_name name) ≡ offset_among (names ++ key.now ∷ []) name.now
+    → (name : Bor (List ℕ)) → get by_prefix new (key_of_name name) ≡ offset_among (names ++ key.now ∷ []) name.now
 placed-push old new names key placed updates lacks name =
     updates.0 (key_of_name name)
-    ∙ ap (λ b. cond b (Some (saturated_usize (length (strings_of names)))) (get by_checksum old (key_of_name name))) (is_eq-key_of_name key name)
+    ∙ ap (λ b. cond b (Some (saturated_usize (length (strings_of names)))) (get by_prefix old (key_of_name name))) (is_eq-key_of_name key name)
     ∙ ap (cond (bytes_eq key.now name.now) (Some (saturated_usize (length (strings_of names))))) (placed name)
     ∙ offset_among-push names key.now name.now lacks
 

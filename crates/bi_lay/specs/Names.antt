@@ -2,8 +2,7 @@ use Rattle.std.specs.Prelude.{◌≡◌, ℕ, ◌-◌, ◌^◌, min, List, [], �
 use Rattle.std.specs.Prelude.{Option, Some, None, if◌then◌else◌}
 use Rattle.std.specs.BTreeMap.{get}
 use Rattle.std.specs.Borrow.{Bor}
-use Rattle.bi_base.specs.Crc.{crc32}
-use Rattle.bi_blob.specs.NamesByChecksum.{by_checksum}
+use Rattle.bi_blob.specs.NamesByPrefix.{prefix_of_name, by_prefix}
 use Rattle.bi_blob.specs.Layout.{is_among, offset_in, strings_of}
 use Rattle.bi_lay.specs.declared.names.Names.TheInside.{Inside}
 
@@ -27,13 +26,13 @@ offset_among names name =
 abbrev pub names_of : Inside → List (List ℕ)
 names_of names = map (λ name. name.now) names.names.items
 
--- A name after its length and CRC-32.
+-- A name after its length and its first bytes as a number.
 abbrev pub key_of_name : Bor (List ℕ) → ℕ × ℕ × Bor (List ℕ)
-key_of_name name = (length name.now, crc32 name.now, name)
+key_of_name name = (length name.now, prefix_of_name name.now, name)
 
 -- What is true of the fields: the map has the offset of each name, and the length is that of the
 -- strings block.
 pub record AreNames (names : Inside) : Type 0 where
-  pub placed : (name : Bor (List ℕ)) → get by_checksum names.offsets (key_of_name name)
+  pub placed : (name : Bor (List ℕ)) → get by_prefix names.offsets (key_of_name name)
       ≡ offset_among (names_of names) name.now
   pub is_length : names.length ≡ saturated_usize (length (strings_of (names_of names)))

@@ -24,9 +24,9 @@ const MAX_DEPTH: usize = 64;
 ///
 /// Each call but `with_names`, `may_begin`, `property`, `property_numbered` and `close` takes time
 /// linear in the length of its name, if it has one, apart from allocations. `property` looks its
-/// name up among the n names so far, which takes log n comparisons; only names of the same length
-/// and checksum are read. `property_numbered` does so at the first use of a number, and takes
-/// constant time at each later one.
+/// name up among the n names so far, which takes log n comparisons; only names with the same
+/// length and the same first eight bytes are read. `property_numbered` does so at the first use of
+/// a number, and takes constant time at each later one.
 #[derive(Drop)]
 pub struct Doc<'a> {
     boot_cpu: u32,

@@ -4,7 +4,8 @@ ghost use Rattle.std.specs.Prelude.{◌≡◌, [], IfOk, OnOk, IfErr, length};
 ghost use Rattle.bi_base.specs.declared.fault.Error.TheVariants.{OutOfMemory};
 ghost use Rattle.bi_blob.specs.Layout.{offset_in, strings_of};
 
-use bi_base::{Error, crc32};
+use bi_base::Error;
+use bi_blob::name_prefix;
 use std::alloc::Global;
 use std::collections::BTreeMap;
 use std::marker::Model;
@@ -14,10 +15,9 @@ use std::marker::Model;
 #[derive(Drop)]
 pub(crate) struct Names<'a> {
     names: Vec<&'a [u8]>,
-    /// The offset of each name. A name comes after its length and its CRC-32, so that names that
-    /// differ in one of these are compared without reading them. Names that do not are compared by
-    /// their bytes.
-    offsets: BTreeMap<(usize, u32, &'a [u8]), usize>,
+    /// The offset of each name. A name comes after its length and its first bytes as a number, so
+    /// that names that differ in one of these are compared without reading them.
+    offsets: BTreeMap<(usize, u64, &'a [u8]), usize>,
     length: usize,
 }
 
@@ -64,9 +64,8 @@ impl<'a> Names<'a> {
     }
 
     /// Adds a name if it is not there yet, and returns its offset in the strings block, or the
-    /// greatest `usize` if it is greater than that. It reads the name once for its CRC-32. Then it
-    /// takes log n comparisons, for n names, and only names of the same length and checksum are
-    /// read.
+    /// greatest `usize` if it is greater than that. It takes log n comparisons, for n names, and
+    /// only names with the same length and the same first eight bytes are read.
     ///
     /// The only error is `OutOfMemory`, and the names are unchanged then.
     pub(crate) fn add(&mut self, name: &'a [u8]) -> Result<usize, Error>
@@ -75,7 +74,7 @@ impl<'a> Names<'a> {
         ensures names { OnOk result (self.new ≡ with_name self.old name.entry.now) }
         ensures failed { IfErr result (λ error. (error ≡ OutOfMemory) × (self.new ≡ self.old)) }
     {
-        let key = (name.len(), crc32(name), name);
+        let key = (name.len(), name_prefix(name), name);
         if let Some(offset) = self.offsets.get(&key) {
             return Ok(*offset);
         }

@@ -1,7 +1,7 @@
 use Rattle.std.proofs.Common.{◌≡◌, ◌++◌, ◌∷◌, [], List, Some, None, map, length, slice_get, inl, inr, refl, sym, ap, subst, ◌∙◌, rules}
 use Rattle.std.specs.BTreeMap.{get, Updates}
 use Rattle.std.proofs.lemmas.List.{map-append, length-map}
-use Rattle.bi_blob.specs.NamesByChecksum.{by_checksum}
+use Rattle.bi_blob.specs.NamesByPrefix.{by_prefix}
 use Rattle.bi_fdt.specs.NameParts.{NamePart, IsPlaced, name_parts_of, key_of_part}
 use Rattle.bi_fdt.proofs.NameParts.{found_more, listed_more, lacks_part}
 use Rattle.bi_fdt.proofs.name_parts.NameParts.add.Goals as goal
@@ -13,10 +13,10 @@ returns-in-Some-clause-added c =
           ∙ c.self.invariant.found (c.args.tail, c.args.bytes) c.in-Some.number.now is_there,
       refl,
     ) where
-      is_there : get by_checksum c.self.inside.numbers (key_of_part (c.args.tail, c.args.bytes)) ≡ Some c.in-Some.number.now
+      is_there : get by_prefix c.self.inside.numbers (key_of_part (c.args.tail, c.args.bytes)) ≡ Some c.in-Some.number.now
       is_there =
-          subst (λ checksum. get by_checksum c.self.inside.numbers (c.args.tail, checksum, c.args.bytes) ≡ Some c.in-Some.number.now)
-          c.crc32.ensures (sym c.in-Some.ensures.value)
+          subst (λ prefix. get by_prefix c.self.inside.numbers (c.args.tail, prefix, c.args.bytes) ≡ Some c.in-Some.number.now)
+          c.name_prefix.ensures (sym c.in-Some.ensures.value)
 
 -- The parts that there were, and those with one more.
 abbrev before : goal.After-unwrap → List NamePart
@@ -30,9 +30,9 @@ is_appended c =
     let pushed : c.push.new.self.items ≡ c.self.inside.parts.items ++ (c.args.tail, c.args.bytes) ∷ [] = search rules in
     ap (map (λ part. (part.0, part.1.now))) pushed ∙ map-append (λ part. (part.0, part.1.now)) c.self.inside.parts.items ((c.args.tail, c.args.bytes) ∷ [])
 
-was_none : (c : goal.After-unwrap) → get by_checksum c.self.inside.numbers (key_of_part (c.args.tail, c.args.bytes)) ≡ None
+was_none : (c : goal.After-unwrap) → get by_prefix c.self.inside.numbers (key_of_part (c.args.tail, c.args.bytes)) ≡ None
 was_none c =
-    subst (λ checksum. get by_checksum c.self.inside.numbers (c.args.tail, checksum, c.args.bytes) ≡ None) c.crc32.ensures
+    subst (λ prefix. get by_prefix c.self.inside.numbers (c.args.tail, prefix, c.args.bytes) ≡ None) c.name_prefix.ensures
     (sym c.in_default.ensures.value)
 
 number_is : (c : goal.After-unwrap) → c.len-number.result ≡ length (before c)
@@ -42,12 +42,12 @@ number_is c =
     counted ∙ sym mapped
 
 updated : (c : goal.After-unwrap)
-    → Updates by_checksum c.self.inside.numbers c.insert.new.self (key_of_part (c.args.tail, c.args.bytes)) (Some (length (before c)))
+    → Updates by_prefix c.self.inside.numbers c.insert.new.self (key_of_part (c.args.tail, c.args.bytes)) (Some (length (before c)))
 updated c =
-    subst (λ n. Updates by_checksum c.self.inside.numbers c.insert.new.self (key_of_part (c.args.tail, c.args.bytes)) (Some n))
+    subst (λ n. Updates by_prefix c.self.inside.numbers c.insert.new.self (key_of_part (c.args.tail, c.args.bytes)) (Some n))
     (number_is c)
-    (subst (λ sum. Updates by_checksum c.self.inside.numbers c.insert.new.self (c.args.tail, sum, c.args.bytes) (Some c.len-number.result))
-    c.crc32.ensures c.in_ok-insert.ensures.updates)
+    (subst (λ sum. Updates by_prefix c.self.inside.numbers c.insert.new.self (c.args.tail, sum, c.args.bytes) (Some c.len-number.result))
+    c.name_prefix.ensures c.in_ok-insert.ensures.updates)
 
 pub invariant_of-self-2 : goal.invariant_of-self-2
 invariant_of-self-2 c = record {

@@ -2,7 +2,7 @@ use Rattle.std.proofs.Common.{◌≡◌, ◌++◌, ◌∷◌, ℕ, true, false, 
 use Rattle.std.specs.BTreeMap.{get, Updates}
 use Rattle.std.proofs.lemmas.List.{map-append}
 use Rattle.bi_blob.specs.Layout.{offset_in, strings_of, is_among}
-use Rattle.bi_blob.specs.NamesByChecksum.{by_checksum}
+use Rattle.bi_blob.specs.NamesByPrefix.{by_prefix}
 use Rattle.bi_lay.specs.Names.{saturated_usize, offset_among, key_of_name, with_name}
 use Rattle.bi_lay.proofs.NameOffsets.{look_up-some, look_up-none, with_name-known, with_name-new, placed-push, strings-push, offset_in-new}
 use Rattle.bi_lay.proofs.names.Names.add.Goals as goal
@@ -24,21 +24,21 @@ was_new : (c : goal.After-self-1) → is_among c.args.name.now (before c) ≡ fa
 was_new c =
     look_up-none (before c) c.args.name.now
     (sym (c.self.invariant.placed c.args.name)
-    ∙ ap (λ n. get by_checksum c.self.inside.offsets (length c.args.name.now, n, c.args.name)) (sym c.crc32.ensures)
+    ∙ ap (λ n. get by_prefix c.self.inside.offsets (length c.args.name.now, n, c.args.name)) (sym c.name_prefix.ensures)
     ∙ sym c.in_default.ensures.value)
 
 -- The map has one more offset: that after the strings block.
 updated : (c : goal.After-self-1) →
-    Updates by_checksum c.self.inside.offsets c.insert.new.self (key_of_name c.args.name)
+    Updates by_prefix c.self.inside.offsets c.insert.new.self (key_of_name c.args.name)
     (Some (saturated_usize (length (strings_of (before c)))))
 updated c =
-    subst (λ n. Updates by_checksum c.self.inside.offsets c.insert.new.self (key_of_name c.args.name) (Some n)) c.self.invariant.is_length
-    (subst (λ n. Updates by_checksum c.self.inside.offsets c.insert.new.self (length c.args.name.now, n, c.args.name) (Some c.self.inside.length)) c.crc32.ensures c.in_ok-insert.ensures.updates)
+    subst (λ n. Updates by_prefix c.self.inside.offsets c.insert.new.self (key_of_name c.args.name) (Some n)) c.self.invariant.is_length
+    (subst (λ n. Updates by_prefix c.self.inside.offsets c.insert.new.self (length c.args.name.now, n, c.args.name) (Some c.self.inside.length)) c.name_prefix.ensures c.in_ok-insert.ensures.updates)
 
 pub invariant_of-self-2 : goal.invariant_of-self-2
 invariant_of-self-2 c = record {
   placed =
-      subst (λ names. (name : Bor (List ℕ)) → get by_checksum c.insert.new.self (key_of_name name) ≡ offset_among names name.now) (sym (is_appended c))
+      subst (λ names. (name : Bor (List ℕ)) → get by_prefix c.insert.new.self (key_of_name name) ≡ offset_among names name.now) (sym (is_appended c))
       (placed-push c.self.inside.offsets c.insert.new.self (before c) c.args.name c.self.invariant.placed (updated c) (was_new c));
   is_length =
       omega (arith, c.self.invariant.is_length, c.saturating_add.ensures, c.saturating_add-self-inside.ensures, ap (λ l. length (strings_of l)) (is_appended c), strings-push (before c) c.args.name.now);
@@ -51,7 +51,7 @@ known c =
     look_up-some c.args.self.now c.args.name.now c.in-Some.offset.now
     (ap (λ names. offset_among names c.args.name.now) (sym c.self.view_is)
     ∙ sym (c.self.invariant.placed c.args.name)
-    ∙ ap (λ n. get by_checksum c.self.inside.offsets (length c.args.name.now, n, c.args.name)) (sym c.crc32.ensures)
+    ∙ ap (λ n. get by_prefix c.self.inside.offsets (length c.args.name.now, n, c.args.name)) (sym c.name_prefix.ensures)
     ∙ sym c.in-Some.ensures.value)
 
 pub returns-in-Some-clause-offset : goal.returns-in-Some-clause-offset
