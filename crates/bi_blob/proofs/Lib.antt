@@ -9,3 +9,4 @@ pub mod StructureFacts
 pub mod Blobs
 pub mod Texts
 pub mod NameSets
+pub mod NamePrefixes

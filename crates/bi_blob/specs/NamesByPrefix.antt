@@ -1,16 +1,17 @@
-use Rattle.std.specs.Prelude.{ℕ, nat_le, List, length, if◌then◌else◌}
+use Rattle.std.specs.Prelude.{ℕ, List, ◌++◌, take, replicate}
+use Rattle.std.specs.Int.{from_be_bytes, w64}
 use Rattle.std.specs.declared.cmp.Ordering.{Ordering}
 use Rattle.std.specs.Ordering.{nat_cmp, ordering_then}
 use Rattle.std.specs.Cmp.Lexicographic.{slice_cmp}
 use denote.Ref.{Bor}
-use Rattle.bi_base.specs.Cells.{u64_at}
 
 -- Names with a number and with their first bytes as another, so that names that differ in one of
 -- these are compared without reading them.
 
--- The first eight bytes of a name as a number, the highest first, or 0 if it has fewer.
-abbrev pub prefix_of_name : List ℕ → ℕ
-prefix_of_name name = if nat_le 8 (length name) then u64_at name 0 else 0
+-- The first eight bytes of a name as a number, the highest first. A shorter name has zeros after it
+-- there.
+unfoldable pub prefix_of_name : List ℕ → ℕ
+prefix_of_name name = from_be_bytes w64 (take 8 (name ++ replicate 8 0))
 
 -- The order of names by a number, then by their first bytes, and of those with both the same by all
 -- their bytes.

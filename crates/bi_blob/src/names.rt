@@ -4,8 +4,6 @@ ghost use Rattle.std.specs.Prelude.{◌≡◌, ◌↔◌, IsTrue};
 ghost use Rattle.bi_blob.specs.NamesByPrefix.{prefix_of_name};
 ghost use Rattle.bi_blob.specs.Tree.{IsChildName, IsPropertyName};
 
-use bi_base::be64_at;
-
 /// Whether a node other than the root may have this name: it has a byte, and none is zero or `/`
 /// (Devicetree Specification, 2.2.1).
 pub fn is_child_name(name: &[u8]) -> bool
@@ -22,10 +20,13 @@ pub fn is_property_name(name: &[u8]) -> bool
     !name.is_empty() && !name.contains(&0)
 }
 
-/// The first eight bytes of a name as a number, the highest first, or 0 if it has fewer. Names that
-/// differ in it need not be read to find that they do, and it keeps byte order.
+/// The first eight bytes of a name as a number, the highest first, with zeros after a shorter name.
+/// Two names with different prefixes are different, so they need not be read.
 pub fn name_prefix(name: &[u8]) -> u64
     ensures { result ≡ prefix_of_name name.now }
 {
-    be64_at(name, 0).unwrap_or(0)
+    let mut bytes = [0; 8];
+    let length = name.len().min(8);
+    bytes[..length].copy_from_slice(&name[..length]);
+    u64::from_be_bytes(bytes)
 }

@@ -9,9 +9,9 @@ use Rattle.bi_commands.specs.declared.compare.CompareError.{CompareError}
 use Rattle.bi_commands.specs.declared.compare.CompareError.TheVariants as compare
 use Rattle.bi_c.specs.declared.answer.Answer.{Answer}
 use Rattle.bi_c.specs.declared.failure.Failure.{Failure}
-use Rattle.bi_c.specs.Answers.{answer_of, done, no_room, Fills, Filled, HadNoRoom, IsFailure, failure_of}
+use Rattle.bi_c.specs.Answers.{answer_of, done, no_room, Fills, Filled, HadNoRoom, IsFailure, failure_of_error}
 use Rattle.bi_c.specs.Arguments.{bounds}
-use Rattle.bi_c.specs.Calls.{flag, IsTextOnly, IsTextWithFlag, IsFailureOfOne, IsFailureOfTwo, failure_of_two}
+use Rattle.bi_c.specs.Calls.{flag, IsTextOnly, IsTextWithFlag, IsFailureOfOne, IsFailureOfTwo, failure_of_compare_error}
 
 -- What calls from C return.
 
@@ -47,11 +47,11 @@ buffer_is_filled IsOutput HasFailed text before after value answer status is tol
 
 -- The failure of a call on one file in memory, by its error.
 pub failed_by : (AreValid : Type 0) (HasError : Error → Type 0) (cause : Error) (failure : Failure) → AreValid →
-    failure ≡ failure_of cause → ¬ (HasError error.ReadFailed) → ¬ (HasError error.WriteFailed) → HasError cause
+    failure ≡ failure_of_error cause → ¬ (HasError error.ReadFailed) → ¬ (HasError error.WriteFailed) → HasError cause
     → IsFailure AreValid HasError failure
 failed_by AreValid HasError cause failure valid same no_read no_write is = subst (IsFailure AreValid HasError) (sym same) (by cause is)
   where
-    by : (cause : Error) → HasError cause → IsFailure AreValid HasError (failure_of cause)
+    by : (cause : Error) → HasError cause → IsFailure AreValid HasError (failure_of_error cause)
     by (error.Refused fault) is = (valid, refl, is)
     by error.OutOfMemory is = (valid, is)
     by error.ReadFailed is = absurd (no_read is)
@@ -59,7 +59,7 @@ failed_by AreValid HasError cause failure valid same no_read no_write is = subst
 
 -- The same of a call that has limits and no other numbers.
 pub failed_of_one : (limit depth : ℕ) (HasError : Limits → Error → Type 0) (limits : Limits) (cause : Error) (failure : Failure) →
-    IsInRange limit depth → limits ≡ bounds limit depth → failure ≡ failure_of cause
+    IsInRange limit depth → limits ≡ bounds limit depth → failure ≡ failure_of_error cause
     → ((other : Limits) → ¬ (HasError other error.ReadFailed)) → ((other : Limits) → ¬ (HasError other error.WriteFailed)) →
     HasError limits cause → IsFailureOfOne limit depth HasError failure
 failed_of_one limit depth HasError limits cause failure in_range same is_failure no_read no_write is =
@@ -68,12 +68,12 @@ failed_of_one limit depth HasError limits cause failure in_range same is_failure
 
 -- The failure of a call on two files, by its error.
 pub failed_of_two : (limit depth : ℕ) (HasError : Limits → CompareError → Type 0) (limits : Limits) (cause : CompareError)
-    (failure : Failure) → IsInRange limit depth → limits ≡ bounds limit depth → failure ≡ failure_of_two cause
+    (failure : Failure) → IsInRange limit depth → limits ≡ bounds limit depth → failure ≡ failure_of_compare_error cause
     → HasError limits cause → IsFailureOfTwo limit depth (HasError (bounds limit depth)) failure
 failed_of_two limit depth HasError limits cause failure in_range same is_failure is =
     subst (IsFailureOfTwo limit depth (HasError (bounds limit depth))) (sym is_failure) (by cause (subst (λ (l : Limits). HasError l cause) same is))
   where
-    by : (cause : CompareError) → HasError (bounds limit depth) cause → IsFailureOfTwo limit depth (HasError (bounds limit depth)) (failure_of_two cause)
+    by : (cause : CompareError) → HasError (bounds limit depth) cause → IsFailureOfTwo limit depth (HasError (bounds limit depth)) (failure_of_compare_error cause)
     by (compare.One fault) is = (in_range, inl (refl, is))
     by (compare.Other fault) is = (in_range, inr (refl, is))
     by compare.OutOfMemory is = (in_range, is)

@@ -17,7 +17,7 @@ use Rattle.bi_c.specs.declared.failure.Failure.TheVariants.{WrongArgument, Refus
 use Rattle.bi_c.specs.declared.regions.Region.{Region}
 use Rattle.bi_c.specs.Answers.{Answers, Returned, Failed as HasFailed}
 use Rattle.bi_c.specs.Extracting.{IsChosenAt, IsFound, IsOffset, IsPayloadOffset, IsReasonNumber, IsSelectFailure, IsExtracted, IsExtractCallFailure}
-use Rattle.bi_c.specs.Extracting.{failure_of_extraction}
+use Rattle.bi_c.specs.Extracting.{failure_of_extract_error}
 
 -- What calls from C that extract return.
 
@@ -56,10 +56,10 @@ numbered select limits file choice reason index is numbers = record {
 
 -- The failure for an error of extracting.
 pub select_failure : (select : Select) (limits : Limits) (file : List ℕ) (cause : ExtractError) (failure : Failure) →
-    failure ≡ failure_of_extraction cause → IsExtractError select limits file cause → IsSelectFailure limits select file failure
+    failure ≡ failure_of_extract_error cause → IsExtractError select limits file cause → IsSelectFailure limits select file failure
 select_failure select limits file cause failure same is = subst (IsSelectFailure limits select file) (sym same) (by cause is)
   where
-    by : (cause : ExtractError) → IsExtractError select limits file cause → IsSelectFailure limits select file (failure_of_extraction cause)
+    by : (cause : ExtractError) → IsExtractError select limits file cause → IsSelectFailure limits select file (failure_of_extract_error cause)
     by (Failed (error.Refused fault)) is = (refl, is)
     by (Failed error.OutOfMemory) is = is
     by (Failed error.ReadFailed) is = absurd is

@@ -8,7 +8,7 @@ use Rattle.bi_legacy.specs.Text.{legacy_text}
 use Rattle.bi_legacy.proofs.NormalLength.{length-legacy_text}
 use Rattle.bi_c.specs.declared.failure.Failure.{Failure}
 use Rattle.bi_c.specs.declared.answer.Answer.{Answer}
-use Rattle.bi_c.specs.Answers.{Fills, Filled, HadNoRoom, FilledNothing, IsJust, answer_of, answer_of_failure, status_of}
+use Rattle.bi_c.specs.Answers.{Fills, Filled, HadNoRoom, FilledNothing, IsJust, answer_of, answer_of_failure, status_of_failure}
 
 -- Texts that are written to a slice.
 
@@ -29,7 +29,7 @@ pub fills_nothing : (IsOutput : List ℕ → ℕ → Type 0) (HasFailed : Failur
     (before after : List ℕ) (name : ℕ) (answer : Answer) (status : ℕ) → HasFailed failure → (slice_of old).now ≡ before →
     (slice_of old).ghost_name ≡ name
     → new ≡ old → (name ≡ (slice_of new).ghost_name → after ≡ (slice_of new).now) → answer ≡ answer_of_failure failure →
-    status ≡ status_of failure → Fills IsOutput HasFailed before after answer status
+    status ≡ status_of_failure failure → Fills IsOutput HasFailed before after answer status
 fills_nothing IsOutput HasFailed failure old new before after name answer status is is_before is_name same is_after told is_status =
     FilledNothing failure is
     (is_after (sym (ap (λ (sink : SliceSink). (slice_of sink).ghost_name) same ∙ is_name)) ∙ ap (λ (sink : SliceSink). (slice_of sink).now) same ∙ is_before)

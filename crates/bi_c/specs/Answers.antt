@@ -50,11 +50,11 @@ answer_of_failure OutOfMemory = answer_of 0 0
 answer_of_failure WrongArgument = answer_of 0 0
 
 -- The status of a failure.
-abbrev pub status_of : Failure → ℕ
-status_of WrongArgument = wrong_argument
-status_of (Refused file fault) = refused
-status_of OutOfMemory = out_of_memory
-status_of (NotFound reason index) = not_found
+abbrev pub status_of_failure : Failure → ℕ
+status_of_failure WrongArgument = wrong_argument
+status_of_failure (Refused file fault) = refused
+status_of_failure OutOfMemory = out_of_memory
+status_of_failure (NotFound reason index) = not_found
 
 -- A call without a buffer: it has an output of some size and returns some number, or it fails.
 pub data Answers (IsOutput : (size value : ℕ) → Type 0) (HasFailed : Failure → Type 0)
@@ -63,7 +63,7 @@ pub data Answers (IsOutput : (size value : ℕ) → Type 0) (HasFailed : Failure
     Returned : (size value : ℕ) → IsOutput size value → answer ≡ answer_of size value
         → status ≡ done → Answers IsOutput HasFailed answer status
     Failed : (failure : Failure) → HasFailed failure → answer ≡ answer_of_failure failure
-        → status ≡ status_of failure → Answers IsOutput HasFailed answer status
+        → status ≡ status_of_failure failure → Answers IsOutput HasFailed answer status
 
 -- A call that writes its output to the beginning of a buffer. The bytes after it stay. If the
 -- buffer has no room for the output, or the call fails, the buffer is as it was; without room, the
@@ -78,7 +78,7 @@ pub data Fills (IsOutput : (text : List ℕ) → (value : ℕ) → Type 0) (HasF
         → after ≡ before → answer ≡ answer_of (length text) value → status ≡ no_room
         → Fills IsOutput HasFailed before after answer status
     FilledNothing : (failure : Failure) → HasFailed failure → after ≡ before
-        → answer ≡ answer_of_failure failure → status ≡ status_of failure
+        → answer ≡ answer_of_failure failure → status ≡ status_of_failure failure
         → Fills IsOutput HasFailed before after answer status
 
 -- The failure of a call on one file whose arguments have to be valid, and whose error is one of
@@ -91,9 +91,9 @@ IsFailure AreValid HasError OutOfMemory = AreValid × HasError error.OutOfMemory
 IsFailure AreValid HasError (NotFound reason index) = ⊥
 
 -- The failure for an error of a call on one file in memory, which neither reads nor writes.
-abbrev pub failure_of : Error → Failure
-failure_of (error.Refused fault) = Refused 1 fault
-failure_of other = OutOfMemory
+abbrev pub failure_of_error : Error → Failure
+failure_of_error (error.Refused fault) = Refused 1 fault
+failure_of_error other = OutOfMemory
 
 -- The output is this text, and the call returns this number.
 pub record IsJust (wanted : List ℕ) (number : ℕ) (text : List ℕ) (value : ℕ) : Type 0 where
@@ -103,5 +103,5 @@ pub record IsJust (wanted : List ℕ) (number : ℕ) (text : List ℕ) (value : 
 -- The failure for an error that a call on one file in memory can have.
 pub record IsFailureBy (HasError : Error → Type 0) (failure : Failure) : Type 0 where
   pub cause : Error
-  pub is_failure : failure ≡ failure_of cause
+  pub is_failure : failure ≡ failure_of_error cause
   pub is_error : HasError cause

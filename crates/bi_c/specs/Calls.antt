@@ -99,10 +99,10 @@ IsFailureOfTwo limit depth HasError OutOfMemory =
 IsFailureOfTwo limit depth HasError (NotFound reason index) = ⊥
 
 -- The failure for an error of a call on two files.
-abbrev pub failure_of_two : CompareError → Failure
-failure_of_two (compare.One fault) = Refused 1 fault
-failure_of_two (compare.Other fault) = Refused 2 fault
-failure_of_two compare.OutOfMemory = OutOfMemory
+abbrev pub failure_of_compare_error : CompareError → Failure
+failure_of_compare_error (compare.One fault) = Refused 1 fault
+failure_of_compare_error (compare.Other fault) = Refused 2 fault
+failure_of_compare_error compare.OutOfMemory = OutOfMemory
 
 -- The version of the library, which is that of the program.
 pub record IsVersion (text : List ℕ) (value : ℕ) : Type 0 where

@@ -15,7 +15,7 @@ use Rattle.bi_commands.specs.Extracting.{Choice, OfOtherKind, NoSuchPart, NoSuch
 use Rattle.bi_commands.specs.Extracting.{NoSuchConfiguration, NoSuchKey, HasBadList}
 use Rattle.bi_commands.specs.Extracting.{HasMissingImage, NoSuchEntry, HasNoPayload, Chosen}
 use Rattle.bi_commands.specs.Extracting.{MeansSuch, choice_of}
-use Rattle.bi_c.specs.Answers.{failure_of}
+use Rattle.bi_c.specs.Answers.{failure_of_error}
 use Rattle.bi_c.specs.declared.failure.Failure.{Failure}
 use Rattle.bi_c.specs.declared.failure.Failure.TheVariants.{WrongArgument, Refused, OutOfMemory}
 use Rattle.bi_c.specs.declared.failure.Failure.TheVariants.{NotFound}
@@ -101,15 +101,15 @@ IsExtractCallFailure AreValid limits select file failure =
     AreValid × IsSelectFailure limits select file failure
 
 -- The failure for an error of extracting.
-abbrev pub failure_of_extraction : ExtractError → Failure
-failure_of_extraction (extract.Failed cause) = failure_of cause
-failure_of_extraction extract.WrongKind = NotFound 1 0
-failure_of_extraction extract.NoPart = NotFound 2 0
-failure_of_extraction extract.NoImage = NotFound 3 0
-failure_of_extraction (extract.Config list.NoConfig) = NotFound 4 0
-failure_of_extraction (extract.Config list.NoKey) = NotFound 5 0
-failure_of_extraction (extract.Config list.BadList) = NotFound 6 0
-failure_of_extraction (extract.Config (list.Missing index)) = NotFound 7 index
-failure_of_extraction (extract.Config list.OutOfMemory) = OutOfMemory
-failure_of_extraction extract.NoIndex = NotFound 8 0
-failure_of_extraction extract.NoPayload = NotFound 9 0
+abbrev pub failure_of_extract_error : ExtractError → Failure
+failure_of_extract_error (extract.Failed cause) = failure_of_error cause
+failure_of_extract_error extract.WrongKind = NotFound 1 0
+failure_of_extract_error extract.NoPart = NotFound 2 0
+failure_of_extract_error extract.NoImage = NotFound 3 0
+failure_of_extract_error (extract.Config list.NoConfig) = NotFound 4 0
+failure_of_extract_error (extract.Config list.NoKey) = NotFound 5 0
+failure_of_extract_error (extract.Config list.BadList) = NotFound 6 0
+failure_of_extract_error (extract.Config (list.Missing index)) = NotFound 7 index
+failure_of_extract_error (extract.Config list.OutOfMemory) = OutOfMemory
+failure_of_extract_error extract.NoIndex = NotFound 8 0
+failure_of_extract_error extract.NoPayload = NotFound 9 0

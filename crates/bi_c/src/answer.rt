@@ -1,7 +1,7 @@
 //! What a call returns to C.
 
 ghost use Rattle.std.specs.Prelude.{◌≡◌, ◌⊎◌, ◌++◌, ◌<◌, ◌≤◌, length, drop};
-ghost use Rattle.bi_c.specs.Answers.{answer_of, answer_of_failure, status_of, done, no_room};
+ghost use Rattle.bi_c.specs.Answers.{answer_of, answer_of_failure, status_of_failure, done, no_room};
 
 use crate::failure::Failure;
 
@@ -67,7 +67,7 @@ pub(crate) fn succeed(size: usize, value: usize, answer: &mut Answer) -> u32
 /// Writes the answer of a call that failed, and returns the status.
 pub(crate) fn fail(failure: Failure, answer: &mut Answer) -> u32
     ensures answer { answer.new ≡ answer_of_failure failure }
-    ensures status { result ≡ status_of failure }
+    ensures status { result ≡ status_of_failure failure }
 {
     *answer = answer_with(0, 0);
     match failure {

@@ -4,7 +4,7 @@ ghost use Rattle.std.specs.Prelude.{◌≡◌};
 ghost use Rattle.bi_c.specs.Answers.{Answers, Fills};
 ghost use Rattle.bi_c.specs.Arguments.{bounds};
 ghost use Rattle.bi_c.specs.Calls.{IsSame, IsTextWithFlag, IsFailureOfTwo};
-ghost use Rattle.bi_c.specs.Calls.{failure_of_two as failure_of_error};
+ghost use Rattle.bi_c.specs.Calls.{failure_of_compare_error};
 ghost use Rattle.bi_commands.specs.Comparing.{IsComparison, IsComparisonError, IsReadingError};
 
 use crate::answer::{Answer, fail, fill, succeed};
@@ -69,7 +69,7 @@ pub extern "C" fn bootimg_compare(
 
 /// Returns the failure for an error of a call on two files.
 fn failure_of_two(error: CompareError) -> Failure
-    ensures { result ≡ failure_of_error error }
+    ensures { result ≡ failure_of_compare_error error }
 {
     match error {
         CompareError::One(fault) => Failure::Refused(1, fault),

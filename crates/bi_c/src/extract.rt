@@ -8,7 +8,7 @@ ghost use Rattle.bi_c.specs.Answers.{Answers};
 ghost use Rattle.bi_c.specs.Arguments.{bounds, HasKey, key_of as key_of_number};
 ghost use Rattle.bi_c.specs.Extracting.{IsExtracted, IsExtractCallFailure, IsFound};
 ghost use Rattle.bi_c.specs.Extracting.{IsSelectFailure};
-ghost use Rattle.bi_c.specs.Extracting.{failure_of_extraction as failure_of_error};
+ghost use Rattle.bi_c.specs.Extracting.{failure_of_extract_error};
 
 use crate::answer::{Answer, fail, succeed};
 use crate::arguments::{key_of, limits_of};
@@ -135,7 +135,7 @@ fn extract(alloc: Global, file: &[u8], select: Select, limits: Limits, answer: &
 
 /// Returns the failure for an error of extracting.
 fn failure_of_extraction(error: ExtractError) -> Failure
-    ensures { result ≡ failure_of_error error }
+    ensures { result ≡ failure_of_extract_error error }
 {
     match error {
         ExtractError::Failed(error) => failure_of(error),

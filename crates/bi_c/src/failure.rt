@@ -1,7 +1,7 @@
 //! Why a call fails.
 
 ghost use Rattle.std.specs.Prelude.{◌≡◌};
-ghost use Rattle.bi_c.specs.Answers.{failure_of as failure_of_error};
+ghost use Rattle.bi_c.specs.Answers.{failure_of_error};
 
 use bi_base::{Error, Fault};
 

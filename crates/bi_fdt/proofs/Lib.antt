@@ -19,6 +19,5 @@ pub mod NameParts
 pub mod NameTails
 pub mod NumberedNames
 pub mod NameTables
-pub mod KeptNumbers
 pub mod SortedNames
 pub mod NumberedRanks

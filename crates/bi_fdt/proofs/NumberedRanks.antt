@@ -5,7 +5,7 @@ use Rattle.std.proofs.lemmas.Option.{none-some}
 use Rattle.bi_base.specs.Slices.{bytes_of}
 use Rattle.bi_fdt.specs.Table.{TableItem, NodeItem, PropertyItem}
 use Rattle.bi_fdt.specs.Numbers.{AreNumbered}
-use Rattle.bi_fdt.specs.Ranks.{HasRank}
+use Rattle.bi_fdt.specs.Numbers.{IsNumberOf}
 use Rattle.bi_fdt.proofs.NumberedNames.{AllZip-append}
 
 -- The ranks of names, and those at the numbers of properties, which number them by the names in byte order.
@@ -19,26 +19,26 @@ held_at P slices index d within all =
 
 -- The ranks of names with that of the next name.
 pub ranks_more : (sorted : List (List ℕ)) (names : List (Bor (List ℕ))) (index : ℕ) (d : Bor (List ℕ)) (ranks more : List ℕ)
-    (rank : ℕ) → index < length names → AllZip (HasRank sorted) (bytes_of (take index names)) ranks →
-    HasRank sorted (get_or names index d).now rank → more ≡ ranks ++ rank ∷ [] →
-    AllZip (HasRank sorted) (bytes_of (take (index + 1) names)) more
+    (rank : ℕ) → index < length names → AllZip (IsNumberOf sorted) (bytes_of (take index names)) ranks →
+    IsNumberOf sorted (get_or names index d).now rank → more ≡ ranks ++ rank ∷ [] →
+    AllZip (IsNumberOf sorted) (bytes_of (take (index + 1) names)) more
 ranks_more sorted names index d ranks more rank within are is pushed =
-    subst (AllZip (HasRank sorted) (bytes_of (take (index + 1) names))) (sym pushed)
-    (subst (λ l. AllZip (HasRank sorted) l (ranks ++ rank ∷ [])) (sym (map_more (λ (slice : Bor (List ℕ)). slice.now) names index d within))
-    (AllZip-append (HasRank sorted) (bytes_of (take index names)) ranks ((get_or names index d).now ∷ []) (rank ∷ []) are
+    subst (AllZip (IsNumberOf sorted) (bytes_of (take (index + 1) names))) (sym pushed)
+    (subst (λ l. AllZip (IsNumberOf sorted) l (ranks ++ rank ∷ [])) (sym (map_more (λ (slice : Bor (List ℕ)). slice.now) names index d within))
+    (AllZip-append (IsNumberOf sorted) (bytes_of (take index names)) ranks ((get_or names index d).now ∷ []) (rank ∷ []) are
     (is, tt)))
 
 -- The rank at the number of a name is its rank.
-HasRank-number : (sorted names : List (List ℕ)) (ranks : List ℕ) (number : ℕ) (name : List ℕ) → AllZip (HasRank sorted) names ranks →
-    slice_get names number ≡ Some name → HasRank sorted name (slice_index ranks number)
-HasRank-number sorted [] ranks number name are is = absurd (none-some _ is)
-HasRank-number sorted (first ∷ names) [] number name are is = elim are [ ]
-HasRank-number sorted (first ∷ names) (rank ∷ ranks) zero name are is = are.0 ∙ is
-HasRank-number sorted (first ∷ names) (rank ∷ ranks) (suc number) name are is =
-    HasRank-number sorted names ranks number name are.1 is
+IsNumberOf-again : (sorted names : List (List ℕ)) (ranks : List ℕ) (number : ℕ) (name : List ℕ) → AllZip (IsNumberOf sorted) names ranks →
+    slice_get names number ≡ Some name → IsNumberOf sorted name (slice_index ranks number)
+IsNumberOf-again sorted [] ranks number name are is = absurd (none-some _ is)
+IsNumberOf-again sorted (first ∷ names) [] number name are is = elim are [ ]
+IsNumberOf-again sorted (first ∷ names) (rank ∷ ranks) zero name are is = are.0 ∙ is
+IsNumberOf-again sorted (first ∷ names) (rank ∷ ranks) (suc number) name are is =
+    IsNumberOf-again sorted names ranks number name are.1 is
 
 -- They number the properties by the names in byte order.
-pub AreNumbered-ranks : (sorted names : List (List ℕ)) (ranks : List ℕ) → AllZip (HasRank sorted) names ranks →
+pub AreNumbered-ranks : (sorted names : List (List ℕ)) (ranks : List ℕ) → AllZip (IsNumberOf sorted) names ranks →
     (table : List TableItem) (numbers : List ℕ) → AreNumbered names table numbers →
     AreNumbered sorted table (map (slice_index ranks) numbers)
 AreNumbered-ranks sorted names ranks ranked [] [] are = tt
@@ -47,4 +47,4 @@ AreNumbered-ranks sorted names ranks ranked (item ∷ table) [] are = elim are [
 AreNumbered-ranks sorted names ranks ranked (NodeItem depth place name ∷ table) (number ∷ numbers) are =
     (tt, AreNumbered-ranks sorted names ranks ranked table numbers are.1)
 AreNumbered-ranks sorted names ranks ranked (PropertyItem property ∷ table) (number ∷ numbers) are =
-    (HasRank-number sorted names ranks number property.name ranked are.0, AreNumbered-ranks sorted names ranks ranked table numbers are.1)
+    (IsNumberOf-again sorted names ranks number property.name ranked are.0, AreNumbered-ranks sorted names ranks ranked table numbers are.1)

@@ -16,7 +16,7 @@ use Rattle.std.proofs.lemmas.List.Sorted.{Contains-permutation, IsPermutation-ma
 use Rattle.std.proofs.lemmas.Map.Lookups.{exact_bytes}
 use Rattle.bi_base.specs.Slices.{bytes_of}
 use Rattle.bi_base.proofs.ListMembers.{Contains-none}
-use Rattle.bi_fdt.specs.Ranks.{HasRank}
+use Rattle.bi_fdt.specs.Numbers.{IsNumberOf}
 
 -- Names that were sorted, and then kept once each, are in byte order, and none is lost. A binary search among them finds the rank of each.
 
@@ -108,11 +108,12 @@ IsSortedBy-slices slices ascending = λ k d least within.
     (next_not_below slices k d ascending (omega arith))
 
 -- The rank of a name is the index at which its bytes are.
-HasRank-at : (slices : List Slice) (name : List ℕ) (rank : ℕ) → rank < length slices → ((d : Slice) → (get_or slices rank d).now ≡ name) →
-    HasRank (bytes_of slices) name rank
-HasRank-at [] name rank within is = absurd (omega arith)
-HasRank-at (slice ∷ slices) name zero within is = ap Some (is slice)
-HasRank-at (slice ∷ slices) name (suc rank) within is = HasRank-at slices name rank (omega arith) is
+IsNumberOf-at : (slices : List Slice) (name : List ℕ) (rank : ℕ) → rank < length slices →
+    ((d : Slice) → (get_or slices rank d).now ≡ name) →
+    IsNumberOf (bytes_of slices) name rank
+IsNumberOf-at [] name rank within is = absurd (omega arith)
+IsNumberOf-at (slice ∷ slices) name zero within is = ap Some (is slice)
+IsNumberOf-at (slice ∷ slices) name (suc rank) within is = IsNumberOf-at slices name rank (omega arith) is
 
 -- A name that is there has an index.
 index_of_held : (slices : List Slice) (name : List ℕ) → Contains (bytes_of slices) name →
@@ -138,9 +139,9 @@ no_place slices name place d parts k within is =
 -- The index that a binary search finds for a name that is there is its rank.
 pub rank_of_search : (slices : List Slice) (name : List ℕ) (r : Result ℕ ℕ) → IsSearchInRange r (length slices) →
     IsBinarySearchResult (λ slice. slice_cmp nat_cmp slice.now name) slices r → IsStrictlySortedBy (slice_cmp nat_cmp) (bytes_of slices) →
-    Contains (bytes_of slices) name → HasRank (bytes_of slices) name (result_unwrap_or r 0)
+    Contains (bytes_of slices) name → IsNumberOf (bytes_of slices) name (result_unwrap_or r 0)
 rank_of_search slices name (Ok rank) within is ascending held =
-    HasRank-at slices name rank within (λ d. exact_bytes (get_or slices rank d).now name (is d))
+    IsNumberOf-at slices name rank within (λ d. exact_bytes (get_or slices rank d).now name (is d))
 rank_of_search [] name (Err place) within is ascending held = absurd (Contains-none name held)
 rank_of_search (slice ∷ slices) name (Err place) within is ascending held =
     let all = slice ∷ slices in

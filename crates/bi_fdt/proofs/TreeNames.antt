@@ -1,5 +1,5 @@
-use Rattle.std.proofs.Common.{◌≡◌, ◌⊎◌, ℕ, ◌+◌, ◌-◌, ◌<◌, List, [], ◌∷◌, length, map, get_or, Contains, inl, inr, refl, sym, subst, arith}
-use Rattle.std.proofs.lemmas.List.{get_or-map, length-map}
+use Rattle.std.proofs.Common.{◌≡◌, ◌⊎◌, ℕ, ◌+◌, ◌-◌, ◌<◌, List, [], ◌∷◌, ◌++◌, length, map, get_or, Contains, inl, inr, refl, sym, ap, subst, ◌∙◌, arith, append-nil}
+use Rattle.std.proofs.lemmas.List.{get_or-map, length-map, append_assoc}
 use Rattle.bi_base.proofs.ListMembers.{Contains-none, Contains-cases, Contains-first, Contains-others}
 use Rattle.bi_blob.specs.Tree.{Root, FileNode, FileProperty}
 use Rattle.bi_blob.specs.Events.{FileEvent, FileNodeStart, FileNodeProperty, FileNodeEnd, file_events_of}
@@ -8,7 +8,7 @@ use Rattle.bi_fdt.specs.declared.table.Entry.{Entry}
 use Rattle.bi_fdt.specs.Content.{table_of}
 use Rattle.bi_fdt.specs.NameTables.{HasAtMostNameOf}
 use Rattle.bi_fdt.specs.Table.{TableItem, NodeItem, PropertyItem, item_in, items_of}
-use Rattle.bi_fdt.specs.TreeNames.{IsNameIn, AreNamesIn}
+use Rattle.bi_fdt.specs.TreeNames.{IsNameIn, HasMoreNamesOf}
 
 -- The name of a property in the table of a tree is that of a property of the tree, so that the names of the table's properties are names
 -- in the tree.
@@ -46,22 +46,28 @@ pub name_in_table : (root : Root FileNode) (property : FileProperty) → Contain
     IsNameIn property.name root
 name_in_table root property has = (property, property_in_events 0 (file_events_of root) property has, refl)
 
--- Names in the tree, with at most that of an item of its table.
-AreNamesIn-item : (root : Root FileNode) (item : TableItem) → Contains (table_of root) item → (old new : List (List ℕ)) →
-    HasAtMostNameOf old new item → AreNamesIn old root → AreNamesIn new root
-AreNamesIn-item root (NodeItem depth place name) has old new same are = subst (λ names. AreNamesIn names root) (sym same) are
-AreNamesIn-item root (PropertyItem property) has old new (inl same) are = subst (λ names. AreNamesIn names root) (sym same) are
-AreNamesIn-item root (PropertyItem property) has old new (inr added) are =
-    subst (λ names. AreNamesIn names root) (sym added)
-    (All-push (λ name. IsNameIn name root) old property.name are (name_in_table root property has))
+-- No names more.
+pub HasMoreNamesOf-none : (names : List (List ℕ)) (root : Root FileNode) → HasMoreNamesOf names names root
+HasMoreNamesOf-none names root = ([], sym (append-nil names), tt)
+
+-- More names of the tree, with at most that of an item of its table.
+HasMoreNamesOf-item : (root : Root FileNode) (item : TableItem) → Contains (table_of root) item → (start old new : List (List ℕ)) →
+    HasAtMostNameOf old new item → HasMoreNamesOf start old root → HasMoreNamesOf start new root
+HasMoreNamesOf-item root (NodeItem depth place name) has start old new same (more, is, are) = (more, same ∙ is, are)
+HasMoreNamesOf-item root (PropertyItem property) has start old new (inl same) (more, is, are) = (more, same ∙ is, are)
+HasMoreNamesOf-item root (PropertyItem property) has start old new (inr added) (more, is, are) = (
+  more ++ property.name ∷ [],
+  added ∙ ap (λ l. l ++ property.name ∷ []) is ∙ append_assoc start more (property.name ∷ []),
+  All-push (λ name. IsNameIn name root) more property.name are (name_in_table root property has),
+)
 
 -- The same with that of an entry, where a table has the items of the entries.
-pub AreNamesIn-entry : (file other : List ℕ) → other ≡ file → (entries : List Entry) (root : Root FileNode) →
-    map (item_in file) entries ≡ table_of root → (index : ℕ) (d : Entry) → index < length entries → (old new : List (List ℕ)) →
-    HasAtMostNameOf old new (item_in other (get_or entries index d)) → AreNamesIn old root → AreNamesIn new root
-AreNamesIn-entry file other same entries root items index d within old new more are =
+pub HasMoreNamesOf-entry : (file other : List ℕ) → other ≡ file → (entries : List Entry) (root : Root FileNode) →
+    map (item_in file) entries ≡ table_of root → (index : ℕ) (d : Entry) → index < length entries → (start old new : List (List ℕ)) →
+    HasAtMostNameOf old new (item_in other (get_or entries index d)) → HasMoreNamesOf start old root → HasMoreNamesOf start new root
+HasMoreNamesOf-entry file other same entries root items index d within start old new more are =
     let e = get_or entries index d in
     let among : Contains (map (item_in file) entries) (item_in file e) =
     (index, omega (arith, length-map entries (item_in file)), get_or-map (item_in file) entries index d (item_in file e) within) in
-    AreNamesIn-item root (item_in file e) (subst (λ table. Contains table (item_in file e)) items among) old new
+    HasMoreNamesOf-item root (item_in file e) (subst (λ table. Contains table (item_in file e)) items among) start old new
     (subst (λ (here : List ℕ). HasAtMostNameOf old new (item_in here e)) same more) are

@@ -16,4 +16,3 @@ pub mod Numbers
 pub mod NameParts
 pub mod NameTails
 pub mod NameTables
-pub mod Ranks

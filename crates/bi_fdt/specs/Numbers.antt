@@ -9,9 +9,13 @@ use Rattle.bi_fdt.specs.Table.{TableItem, NodeItem, PropertyItem}
 -- The numbers of the names of properties, by which names are compared without reading them. The
 -- number of a name is its index in a list that has each name once.
 
+-- A name has this number.
+abbrev pub IsNumberOf : List (List ℕ) → List ℕ → ℕ → Type 0
+IsNumberOf names name number = slice_get names number ≡ Some name
+
 -- A property has the name of this number.
 abbrev pub HasNumber : List (List ℕ) → FileProperty → ℕ → Type 0
-HasNumber names property number = slice_get names number ≡ Some property.name
+HasNumber names property number = IsNumberOf names property.name number
 
 -- If an item of a table is a property, it has the name of this number.
 abbrev pub IsNumbered : List (List ℕ) → TableItem → ℕ → Type 0

@@ -12,7 +12,7 @@ use std::marker::Model;
 /// comparisons are of numbers.
 #[derive(Drop)]
 pub(crate) struct NameParts<'a> {
-    /// The number of the tail after each part, and the bytes of the part.
+    /// The number of the blocks after each part, and the bytes of the part.
     parts: Vec<(usize, &'a [u8])>,
     /// The number of each part, by the number of its tail, its first bytes as a number, and all of
     /// its bytes, which are compared only if both numbers are the same.
@@ -44,8 +44,8 @@ impl<'a> NameParts<'a> {
     }
 
     /// Adds a part if it is not there yet, and returns its number. The part has these bytes, and
-    /// the tail after it has the number `tail`. It takes log n comparisons, for n parts. If memory
-    /// runs out, the parts are unchanged.
+    /// the blocks after it have the number `tail`. It takes log n comparisons, for n parts. If
+    /// memory runs out, the parts are unchanged.
     pub(crate) fn add(&mut self, tail: usize, bytes: &'a [u8]) -> Result<usize, AllocError>
         ensures added { IfOk result (λ number.
             IsPlaced self.old (tail, bytes.entry.now) number self.new) }

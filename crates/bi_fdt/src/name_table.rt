@@ -9,7 +9,7 @@ ghost use Rattle.bi_fdt.specs.NameTables.{HasAtMostMore, HasAtMostNameOf};
 ghost use Rattle.bi_fdt.specs.NameTails.{IsTail, AreBlockNumbers, head_length};
 ghost use Rattle.bi_fdt.specs.Numbers.{IsNumbered, AreNumbered};
 ghost use Rattle.bi_fdt.specs.Table.{item_in};
-ghost use Rattle.bi_fdt.specs.TreeNames.{AreNamesIn};
+ghost use Rattle.bi_fdt.specs.TreeNames.{HasMoreNamesOf};
 
 use crate::blob::Blob;
 use crate::name_parts::NameParts;
@@ -100,8 +100,8 @@ impl<'a> NameTable<'a> {
         ensures numbers { IfOk result (λ numbers.
             AreNumbered (names_in_table self.new) blob.now.table numbers.items) }
         ensures more { HasMoreNames self.old self.new }
-        ensures held { AreNamesIn (names_in_table self.old) (root_of blob.now)
-            → AreNamesIn (names_in_table self.new) (root_of blob.now) }
+        ensures only { HasMoreNamesOf (names_in_table self.old) (names_in_table self.new)
+            (root_of blob.now) }
     {
         let strings = blob.strings();
         let ends = ends_of_names(alloc, strings)?;

@@ -17,8 +17,8 @@ use std::alloc::{AllocError, Global};
 /// The number of no blocks.
 const NO_BLOCKS: usize = 0;
 
-/// Returns the number that the blocks of the name at offset `at` have together, which ends at `end`,
-/// from that of the name at 64 bytes later. Fails if memory runs out.
+/// Returns the number that the blocks of the name at offset `at` have together, which ends at
+/// `end`, from that of the name at 64 bytes later. Fails if memory runs out.
 fn blocks_before<'a>(
     tails: &mut NameParts<'a>,
     strings: &'a [u8],

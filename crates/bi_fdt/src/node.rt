@@ -52,8 +52,8 @@ impl<'a, 'b> NodeRef<'a, 'b> {
         NodeRef { blob, index }
     }
 
-    /// The index of the node's entry in the table of its blob, by which `Blob::node` returns the same
-    /// node. Takes constant time.
+    /// The index of the node's entry in the table of its blob, by which `Blob::node` returns the
+    /// same node. Takes constant time.
     pub fn index(self) -> usize
         ensures there { HasNodeAt (table_of_node self.entry) result }
         ensures node { node_in (table_of_node self.entry) result ≡ node_of self.entry }

@@ -3,8 +3,8 @@
 ghost use Rattle.std.specs.Prelude.{◌≡◌, [], map, IfOk};
 ghost use Rattle.bi_blob.specs.Tree.{AreDistinct};
 ghost use Rattle.bi_fdt.specs.Content.{root_of};
-ghost use Rattle.bi_fdt.specs.Numbers.{AreNumbered, BeginsWith};
-ghost use Rattle.bi_fdt.specs.TreeNames.{AreNamesIn};
+ghost use Rattle.bi_fdt.specs.Numbers.{AreNumbered};
+ghost use Rattle.bi_fdt.specs.TreeNames.{HasMoreNamesOf};
 
 use crate::blob::Blob;
 use crate::name_table::NameTable;
@@ -48,10 +48,8 @@ impl<'a> NameNumbers<'a> {
     pub fn number(&mut self, alloc: Global, blob: &Blob<'a>) -> Result<Vec<usize>, AllocError>
         ensures numbers { IfOk result (λ numbers.
             AreNumbered self.new blob.now.table numbers.items) }
-        ensures names { BeginsWith self.new self.old }
+        ensures names { HasMoreNamesOf self.old self.new (root_of blob.now) }
         ensures distinct { AreDistinct self.new }
-        ensures held { AreNamesIn self.old (root_of blob.now)
-            → AreNamesIn self.new (root_of blob.now) }
     {
         self.table.number(alloc, blob)
     }

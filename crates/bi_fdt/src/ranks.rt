@@ -8,8 +8,7 @@ ghost use Rattle.std.specs.Cmp.Lexicographic.{slice_cmp};
 ghost use Rattle.std.specs.Ordering.{nat_cmp};
 ghost use Rattle.bi_base.specs.Slices.{bytes_of};
 ghost use Rattle.bi_fdt.specs.Table.{TableItem};
-ghost use Rattle.bi_fdt.specs.Numbers.{AreNumbered};
-ghost use Rattle.bi_fdt.specs.Ranks.{HasRank};
+ghost use Rattle.bi_fdt.specs.Numbers.{AreNumbered, IsNumberOf};
 
 use std::alloc::{AllocError, Global};
 
@@ -41,7 +40,7 @@ fn sort_names<'a>(alloc: Global, names: &[&'a [u8]]) -> Result<Vec<&'a [u8]>, Al
 fn rank_of(sorted: &[&[u8]], name: &[u8]) -> usize
     requires ascending { IsStrictlySortedBy (slice_cmp nat_cmp) (bytes_of sorted.now) }
     requires held { Contains (bytes_of sorted.now) name.now }
-    ensures { HasRank (bytes_of sorted.now) name.now result }
+    ensures { IsNumberOf (bytes_of sorted.now) name.now result }
 {
     sorted.binary_search(&name).unwrap_or(0)
 }
@@ -51,7 +50,7 @@ fn rank_each(alloc: Global, sorted: &[&[u8]], names: &[&[u8]]) -> Result<Vec<usi
     requires ascending { IsStrictlySortedBy (slice_cmp nat_cmp) (bytes_of sorted.now) }
     requires held { All (Contains (bytes_of sorted.now)) (bytes_of names.now) }
     ensures { IfOk result (λ ranks.
-        AllZip (HasRank (bytes_of sorted.now)) (bytes_of names.now) ranks.items) }
+        AllZip (IsNumberOf (bytes_of sorted.now)) (bytes_of names.now) ranks.items) }
 {
     let mut ranks = Vec::with_capacity(alloc, names.len())?;
     for name in names {
@@ -73,7 +72,8 @@ fn ranks_at(alloc: Global, ranks: &[usize], numbers: &[usize]) -> Result<Vec<usi
 
 /// Returns these names in byte order, each once, and the rank of the name of each property. The
 /// name of a property is given by its number, which is its index among the names. For a number that
-/// no name has, the rank is 0. Fails if memory runs out. Takes n log n comparisons, for n names.
+/// no name has, the rank is any number. Fails if memory runs out. Takes n log n comparisons, for n
+/// names.
 pub fn rank_names<'a>(
     alloc: Global,
     names: &[&'a [u8]],

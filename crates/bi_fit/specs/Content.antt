@@ -113,8 +113,12 @@ abbrev pub IsAtItsPlace : List ℕ → ImageModel → Type 0
 IsAtItsPlace file image = IsAtPlace file (offset_of_place image.place) image.payload
 
 -- The payload of each image is in the file at its place.
+abbrev pub AreAtTheirPlaces : List ℕ → List ImageModel → Type 0
+AreAtTheirPlaces file images = AllByRecursion (IsAtItsPlace file) images
+
+-- So are those of a flattened image tree.
 abbrev pub ArePlaced : FitModel → Type 0
-ArePlaced content = AllByRecursion (IsAtItsPlace content.blob.file) content.images
+ArePlaced content = AreAtTheirPlaces content.blob.file content.images
 
 -- The payloads of images, by their order.
 abbrev pub payloads_of_models : List ImageModel → List (Option (List ℕ))

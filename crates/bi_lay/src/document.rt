@@ -72,8 +72,8 @@ impl<'a> Doc<'a> {
 
     /// A document for this boot processor, without reservations, in which no node was begun. The
     /// name of a property may be given by its number, which is its index among these names. They
-    /// need be neither distinct nor in byte order. Takes time linear in their number. The only error
-    /// is `OutOfMemory`.
+    /// need be neither distinct nor in byte order. Takes time linear in their number. The only
+    /// error is `OutOfMemory`.
     pub fn with_names(alloc: Global, boot_cpu: u32, names: Vec<&'a [u8]>) -> Result<Doc<'a>, Error>
         ensures empty { IfOk result (λ doc.
             doc ≡ empty_with_names boot_cpu (bytes_of names.entry.items)) }
@@ -137,9 +137,9 @@ impl<'a> Doc<'a> {
     }
 
     /// Adds a property to the innermost open node, by the number of its name: the index among the
-    /// names that `with_names` got. It may only be called if `may_property` is true of this name. It
-    /// takes constant time apart from allocations, except at the first use of a number, which looks
-    /// the name up by its bytes.
+    /// names that `with_names` got. It may only be called if `may_property` is true of this name.
+    /// It takes constant time apart from allocations, except at the first use of a number, which
+    /// looks the name up by its bytes.
     ///
     /// The only error is `OutOfMemory`, and the document is unchanged then.
     pub fn property_numbered(&mut self, number: usize, value: Value<'a>) -> Result<(), Error>

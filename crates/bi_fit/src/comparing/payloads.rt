@@ -2,9 +2,8 @@
 
 ghost use Rattle.std.specs.Prelude.{◌≡◌, ◌≢◌, ◌↔◌, ◌+◌, ◌<◌, ◌^◌, ℕ, Some, length, map};
 ghost use Rattle.std.specs.Prelude.{IfOk, IsTrue, MatchOption};
-ghost use Rattle.std.specs.List.{AllByRecursion};
 ghost use Rattle.bi_fit.specs.Content.{image_model, offset_of_place, payloads_of_models};
-ghost use Rattle.bi_fit.specs.Content.{IsAtItsPlace};
+ghost use Rattle.bi_fit.specs.Content.{IsAtItsPlace, AreAtTheirPlaces};
 ghost use Rattle.bi_fit.specs.RegionPairs.{ArePairsOfPayloads, IsPairOfPayloads};
 
 use crate::comparing::region_pairs::{RegionPair, have_same_bytes};
@@ -47,8 +46,8 @@ fn pair_payloads(
     others: &[Image<'_>],
 ) -> Result<Option<Vec<RegionPair>>, AllocError>
     requires small { length file.now < 2 ^ 32 }
-    requires placed { AllByRecursion (IsAtItsPlace file.now) (map image_model images.now) }
-    requires others_placed { AllByRecursion (IsAtItsPlace other_file.now) (map image_model others.now) }
+    requires placed { AreAtTheirPlaces file.now (map image_model images.now) }
+    requires others_placed { AreAtTheirPlaces other_file.now (map image_model others.now) }
     ensures { let payloads = payloads_of_models (map image_model images.now) in
         let other_payloads = payloads_of_models (map image_model others.now) in
         IfOk result (λ pairs. MatchOption pairs (payloads ≢ other_payloads)

@@ -2,7 +2,7 @@ use Rattle.std.proofs.Common.{◌≡◌, length, take, Contains, ap, subst, ◌�
 use Rattle.std.proofs.Math.Seq.{take-length}
 use Rattle.std.specs.List.{AllZip}
 use Rattle.bi_base.specs.Slices.{bytes_of}
-use Rattle.bi_fdt.specs.Ranks.{HasRank}
+use Rattle.bi_fdt.specs.Numbers.{IsNumberOf}
 use Rattle.bi_fdt.proofs.NumberedRanks.{held_at, ranks_more}
 use Rattle.bi_fdt.proofs.ranks.rank_each.Goals as goal
 
@@ -21,4 +21,4 @@ returns c =
     let last : c.loop-name.name-index ≡ length c.args.names.now =
     omega (arith, c.loop-name-test.false, c.loop-name.auto.name-index-end) in
     let whole = ap (λ index. take index c.args.names.now) last ∙ take-length c.args.names.now in
-    subst (λ names. AllZip (HasRank (bytes_of c.args.sorted.now)) (bytes_of names) c.loop-name.ranks.items) whole c.loop-name.invariant
+    subst (λ names. AllZip (IsNumberOf (bytes_of c.args.sorted.now)) (bytes_of names) c.loop-name.ranks.items) whole c.loop-name.invariant

@@ -2,7 +2,7 @@ use Rattle.std.proofs.Common.{◌≡◌, Bor, List, ℕ, All, Contains, map, sli
 use Rattle.std.specs.List.{AllZip}
 use Rattle.bi_base.specs.Slices.{bytes_of}
 use Rattle.bi_fdt.specs.Numbers.{AreNumbered}
-use Rattle.bi_fdt.specs.Ranks.{HasRank}
+use Rattle.bi_fdt.specs.Numbers.{IsNumberOf}
 use Rattle.bi_fdt.proofs.NumberedRanks.{AreNumbered-ranks}
 use Rattle.bi_fdt.proofs.ranks.rank_names.Goals as goal
 
@@ -14,9 +14,9 @@ rank_each-requires-clause-held c =
 pub returns-clause-ranks : goal.returns-clause-ranks
 returns-clause-ranks c table are =
     let sorted = bytes_of c.in_ok-sorted.sorted.items in
-    let ranked : AllZip (HasRank sorted) (bytes_of c.args.names.now) c.in_ok-ranks_of_names.ranks_of_names.items =
+    let ranked : AllZip (IsNumberOf sorted) (bytes_of c.args.names.now) c.in_ok-ranks_of_names.ranks_of_names.items =
     subst (λ (slices : List (Bor (List ℕ))).
-    AllZip (HasRank (bytes_of slices)) (bytes_of c.args.names.now) c.in_ok-ranks_of_names.ranks_of_names.items)
+    AllZip (IsNumberOf (bytes_of slices)) (bytes_of c.args.names.now) c.in_ok-ranks_of_names.ranks_of_names.items)
     c.deref.ensures.value c.in_ok-ranks_of_names.ensures in
     let there : c.in_ok-ranks.ranks.items ≡ map (slice_index c.in_ok-ranks_of_names.ranks_of_names.items) c.args.numbers.now =
     c.in_ok-ranks.ensures ∙ ap (λ ranks. map (slice_index ranks) c.args.numbers.now) c.deref-2.ensures.value in

@@ -7,7 +7,7 @@ use Rattle.bi_fdt.specs.Numbers.{AreNumbered}
 use Rattle.bi_fdt.specs.Table.{item_in}
 use Rattle.bi_fdt.proofs.NumberedNames.{AreBlockNumbers-more}
 use Rattle.bi_fdt.proofs.NameTables.{HasMoreNames-tails, HasMoreNames-again, item_at, numbers_more}
-use Rattle.bi_fdt.proofs.TreeNames.{AreNamesIn-entry}
+use Rattle.bi_fdt.proofs.TreeNames.{HasMoreNamesOf-none, HasMoreNamesOf-entry}
 use Rattle.bi_fdt.proofs.name_table.NameTable.number.Goals as goal
 
 pub returns-in_err-blocks-clause-more : goal.returns-in_err-blocks-clause-more
@@ -21,7 +21,7 @@ loop-entry-init c = record {
   numbers = subst (AreNumbered (names_in_table c.args.self.now) []) (sym c.in_ok-numbers.ensures.items) tt;
   more = HasMoreNames-tails c.args.self.now c.block_numbers.new.tails c.requires c.block_numbers.ensures.more;
   blocks = c.in_ok-blocks.ensures.blocks;
-  held = λ are. are;
+  only = HasMoreNamesOf-none (names_in_table c.args.self.now) (root_of c.args.blob.now);
 }
 
 pub number_entry-requires-clause-blocks : goal.number_entry-requires-clause-blocks
@@ -35,17 +35,17 @@ number_entry-requires-clause-name c =
     (subst (HaveNameOffsets c.args.blob.now.file) (sym c.entries-entries.ensures.items) c.strings-strings.ensures.names))
     c.loop-entry-test.true
 
-pub returns-in_err-number_entry-clause-held : goal.returns-in_err-number_entry-clause-held
-returns-in_err-number_entry-clause-held c are =
-    AreNamesIn-entry c.args.blob.now.file c.file.result.now c.file.ensures c.entries-entries.result.now (root_of c.args.blob.now)
-    c.entries-entries.ensures.is_table.items c.loop-entry.entry-index _ c.loop-entry-test.true (names_in_table c.loop-entry.self)
-    (names_in_table c.number_entry.new.self) c.number_entry.ensures.only (c.loop-entry.invariant.held are)
+pub returns-in_err-number_entry-clause-only : goal.returns-in_err-number_entry-clause-only
+returns-in_err-number_entry-clause-only c =
+    HasMoreNamesOf-entry c.args.blob.now.file c.file.result.now c.file.ensures c.entries-entries.result.now (root_of c.args.blob.now)
+    c.entries-entries.ensures.is_table.items c.loop-entry.entry-index _ c.loop-entry-test.true (names_in_table c.args.self.now) (names_in_table c.loop-entry.self)
+    (names_in_table c.number_entry.new.self) c.number_entry.ensures.only c.loop-entry.invariant.only
 
-pub returns-in_err-push-clause-held : goal.returns-in_err-push-clause-held
-returns-in_err-push-clause-held c are =
-    AreNamesIn-entry c.args.blob.now.file c.file.result.now c.file.ensures c.entries-entries.result.now (root_of c.args.blob.now)
-    c.entries-entries.ensures.is_table.items c.loop-entry.entry-index _ c.loop-entry-test.true (names_in_table c.loop-entry.self)
-    (names_in_table c.number_entry.new.self) c.number_entry.ensures.only (c.loop-entry.invariant.held are)
+pub returns-in_err-push-clause-only : goal.returns-in_err-push-clause-only
+returns-in_err-push-clause-only c =
+    HasMoreNamesOf-entry c.args.blob.now.file c.file.result.now c.file.ensures c.entries-entries.result.now (root_of c.args.blob.now)
+    c.entries-entries.ensures.is_table.items c.loop-entry.entry-index _ c.loop-entry-test.true (names_in_table c.args.self.now) (names_in_table c.loop-entry.self)
+    (names_in_table c.number_entry.new.self) c.number_entry.ensures.only c.loop-entry.invariant.only
 
 pub loop-entry-preserved : goal.loop-entry-preserved
 loop-entry-preserved c = record {
@@ -56,8 +56,8 @@ loop-entry-preserved c = record {
   more = HasMoreNames-again c.args.self.now c.loop-entry.self c.number_entry.new.self c.loop-entry.invariant.more c.number_entry.ensures.more;
   blocks = AreBlockNumbers-more c.loop-entry.self.tails c.number_entry.new.self.tails c.strings-strings.result.now c.in_ok-blocks.blocks.items
       c.number_entry.ensures.more.tails c.loop-entry.invariant.blocks;
-  held = λ are.
-      AreNamesIn-entry c.args.blob.now.file c.file.result.now c.file.ensures c.entries-entries.result.now (root_of c.args.blob.now)
-      c.entries-entries.ensures.is_table.items c.loop-entry.entry-index _ c.loop-entry-test.true (names_in_table c.loop-entry.self)
-      (names_in_table c.number_entry.new.self) c.number_entry.ensures.only (c.loop-entry.invariant.held are);
+  only =
+      HasMoreNamesOf-entry c.args.blob.now.file c.file.result.now c.file.ensures c.entries-entries.result.now (root_of c.args.blob.now)
+      c.entries-entries.ensures.is_table.items c.loop-entry.entry-index _ c.loop-entry-test.true (names_in_table c.args.self.now) (names_in_table c.loop-entry.self)
+      (names_in_table c.number_entry.new.self) c.number_entry.ensures.only c.loop-entry.invariant.only;
 }
