@@ -1,13 +1,11 @@
-use Rattle.std.proofs.Common.{◌≡◌, ◌≢◌, ◌+◌, ◌<◌, ◌≤◌, ◌||◌, ℕ, Bool, true, false, T, not, cond, inr, List, [], ◌∷◌, ◌++◌, None, length, map, nat_cmp, Ordering, Less, Equal, Greater}
+use Rattle.std.proofs.Common.{◌≡◌, ◌≢◌, ◌+◌, ◌<◌, ◌≤◌, ℕ, Bool, true, false, T, not, cond, inr, List, [], ◌∷◌, ◌++◌, None, length, map, nat_cmp, Ordering, Less, Equal, Greater}
 use Rattle.std.specs.Prelude.{if◌then◌else◌}
 use Rattle.std.proofs.Common.{bytes_eq, refl, sym, ap, subst, ◌∙◌, arith, length-append}
 use Rattle.std.specs.Cmp.Lexicographic.{slice_cmp}
-use Rattle.std.specs.List.{AllByRecursion, list_any}
 use Rattle.std.specs.FinMap.{entries, from_entries, from_sorted, put, get, entries-from_sorted, entries-insert, entries_sorted, is_sorted, get-from_sorted}
 use Rattle.std.specs.FinMap.{same_entries_map}
 use Rattle.std.specs.FinMap.Entries.{by_order, where_key, find-where_key, is_sorted-where_key}
 use Rattle.std.proofs.lemmas.Cmp.{nat_list_cmp_total}
-use Rattle.std.proofs.lemmas.Slice.Eq.{bytes_eq-Decides}
 use Rattle.bi_blob.specs.Tree.{Nodes, none, node, with_each, names, IsNew, AreDistinct, EachOwn, FileNode, Property, PropertyMap, properties_of}
 use Rattle.bi_blob.specs.Lookups.{root_node}
 use Rattle.bi_blob.proofs.Texts.PropertyOrder.{order_tells}
