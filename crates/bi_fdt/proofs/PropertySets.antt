@@ -2,7 +2,7 @@ use Rattle.std.proofs.Common.{◌≡◌, ℕ, Bool, true, false, cond, List, [],
 use Rattle.std.specs.Prelude.{◌||◌, not, bytes_eq}
 use Rattle.std.specs.List.{list_any}
 use Rattle.std.specs.declared.cmp.Ordering.{Ordering}
-use Rattle.std.specs.declared.cmp.Ordering.TheVariants.{Less, Equal, Greater}
+use Rattle.std.specs.declared.cmp.Ordering.TheVariants.{Equal}
 use Rattle.std.specs.Ordering.{nat_cmp, ordering_then, is_eq}
 use Rattle.std.specs.Cmp.Lexicographic.{slice_cmp, lists_total, bytes_decides}
 use Rattle.std.specs.BTreeSet.{contains, Updates, IsEmpty}
@@ -10,10 +10,9 @@ use denote.Ref.{Bor}
 use Rattle.std.proofs.lemmas.Bool.{false≢true}
 use Rattle.std.proofs.lemmas.Cmp.{tied_itself, nat_cmp_total}
 use Rattle.std.proofs.lemmas.List.Folds.{list_any-append}
-use Rattle.std.proofs.lemmas.Map.Lookups.{exact_bytes}
 use Rattle.std.proofs.lemmas.Map.Text.{is_eq-slice_cmp}
 use Rattle.bi_blob.specs.Tree.{IsNew}
-use Rattle.bi_blob.proofs.NameSets.{name_cmp, new_by_test, held_by_test}
+use Rattle.bi_blob.proofs.NameSets.{name_cmp, is_eq-before, new_by_test, held_by_test}
 use Rattle.bi_fdt.specs.Digests.{digest_of_name}
 use Rattle.bi_fdt.specs.declared.property_names.PropertyNames.{PropertyNames}
 use Rattle.bi_fdt.specs.PropertySets.{by_digest, HoldsProperties}
@@ -32,22 +31,7 @@ before_itself name =
 -- Names with their lengths and digests are the same where the names are.
 is_eq-by_digest : (m n : Bor (List ℕ)) →
     is_eq (by_digest (length m.now, digest_of_name m.now, m) (length n.now, digest_of_name n.now, n)) ≡ bytes_eq m.now n.now
-is_eq-by_digest m n = by_order (slice_cmp nat_cmp m.now n.now) refl ∙ is_eq-slice_cmp m.now n.now where
-  unequal : (a : Ordering) → is_eq (ordering_then a Less) ≡ false
-  unequal Less = refl
-  unequal Equal = refl
-  unequal Greater = refl
-
-  unequal_greater : (a : Ordering) → is_eq (ordering_then a Greater) ≡ false
-  unequal_greater Less = refl
-  unequal_greater Equal = refl
-  unequal_greater Greater = refl
-
-  by_order : (o : Ordering) → slice_cmp nat_cmp m.now n.now ≡ o → is_eq (ordering_then (before_names m.now n.now) o) ≡ is_eq o
-  by_order Less e = unequal (before_names m.now n.now)
-  by_order Equal e =
-      ap (λ a. is_eq (ordering_then a Equal)) (ap (λ l. before_names m.now l) (sym (exact_bytes m.now n.now e)) ∙ before_itself m.now)
-  by_order Greater e = unequal_greater (before_names m.now n.now)
+is_eq-by_digest m n = is_eq-before before_names before_itself m.now n.now
 
 -- Names of different lengths are different.
 bytes_eq-lengths : (a b : List ℕ) → (length a ≡ length b → ⊥) → bytes_eq a b ≡ false

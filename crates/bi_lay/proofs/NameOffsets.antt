@@ -3,18 +3,16 @@ use Rattle.std.proofs.Common.{subst, ◌∙◌, arith, length-append, append-nil
 use Rattle.std.specs.Prelude.{◌||◌}
 use Rattle.std.specs.BTreeMap.{BTreeMap, get, Updates}
 use Rattle.std.specs.declared.cmp.Ordering.{Ordering}
-use Rattle.std.specs.declared.cmp.Ordering.TheVariants.{Less, Equal, Greater}
+use Rattle.std.specs.declared.cmp.Ordering.TheVariants.{Equal}
 use Rattle.std.specs.Ordering.{nat_cmp, ordering_then, is_eq}
-use Rattle.std.specs.Cmp.Lexicographic.{slice_cmp}
 use Rattle.std.proofs.lemmas.Cmp.{tied_itself, nat_cmp_total}
-use Rattle.std.proofs.lemmas.Map.Lookups.{exact_bytes}
-use Rattle.std.proofs.lemmas.Map.Text.{is_eq-slice_cmp}
 use Rattle.std.proofs.lemmas.Slice.Eq.{bytes_eq-Decides}
 use Rattle.std.proofs.lemmas.List.Folds.{list_any-append}
 use Rattle.std.proofs.lemmas.List.Concat.{flat_map-append}
 use Rattle.std.proofs.lemmas.Option.{none-some, same_Some}
 use Rattle.bi_blob.specs.Layout.{offset_in, strings_of, is_among}
 use Rattle.bi_blob.specs.NamesByPrefix.{prefix_of_name, by_prefix}
+use Rattle.bi_blob.proofs.NameSets.{is_eq-before}
 use Rattle.bi_lay.specs.Names.{offset_among, saturated_usize, with_name, key_of_name}
 
 -- The offsets of names in the strings block, and what a look-up of a name finds.
@@ -104,22 +102,7 @@ before_itself name =
 -- Names with their lengths and first bytes are the same where the names are.
 is_eq-key_of_name : (m n : Bor (List ℕ)) →
     is_eq (by_prefix (key_of_name m) (key_of_name n)) ≡ bytes_eq m.now n.now
-is_eq-key_of_name m n = by_order (slice_cmp nat_cmp m.now n.now) refl ∙ is_eq-slice_cmp m.now n.now where
-  unequal : (a : Ordering) → is_eq (ordering_then a Less) ≡ false
-  unequal Less = refl
-  unequal Equal = refl
-  unequal Greater = refl
-
-  unequal_greater : (a : Ordering) → is_eq (ordering_then a Greater) ≡ false
-  unequal_greater Less = refl
-  unequal_greater Equal = refl
-  unequal_greater Greater = refl
-
-  by_order : (o : Ordering) → slice_cmp nat_cmp m.now n.now ≡ o → is_eq (ordering_then (before_bytes m.now n.now) o) ≡ is_eq o
-  by_order Less e = unequal (before_bytes m.now n.now)
-  by_order Equal e =
-      ap (λ a. is_eq (ordering_then a Equal)) (ap (λ l. before_bytes m.now l) (sym (exact_bytes m.now n.now e)) ∙ before_itself m.now)
-  by_order Greater e = unequal_greater (before_bytes m.now n.now)
+is_eq-key_of_name m n = is_eq-before before_bytes before_itself m.now n.now
 
 -- The map of offsets, when a name that it lacks comes behind the others.
 pub placed-push : (old new : BTreeMap (ℕ × ℕ × Bor (List ℕ)) ℕ) (names : List (List ℕ)) (key : Bor (List ℕ))
