@@ -14,6 +14,7 @@ each of its files; otherwise nothing is judged.
 """
 import argparse
 import os
+import random
 import subprocess
 import sys
 import tempfile
@@ -140,11 +141,24 @@ def reservations(size):
     return file_of(node_around(b"images", b""), reservations=cells(0, 1, 0, 1) * (size // 16))
 
 
-def many_properties(size):
-    """In one node, properties of short names."""
-    names = [b"p%06d" % index for index in range(size // 20)]
-    properties = b"".join(property_at(8 * index) for index in range(len(names)))
+def properties_in_order(order):
+    """In one node, a property of a short name for each number in this order. The strings block has the names in the order of their
+    numbers."""
+    names = [b"p%06d" % index for index in range(len(order))]
+    properties = b"".join(property_at(8 * index) for index in order)
     return file_of(node_around(b"images", node_around(b"image", properties)), b"\0".join(names) + b"\0")
+
+
+def many_properties(size):
+    """In one node, properties of short names, which are in byte order."""
+    return properties_in_order(range(size // 20))
+
+
+def mixed_properties(size):
+    """In one node, properties of short names, which are in no order."""
+    order = list(range(size // 20))
+    random.Random(1).shuffle(order)
+    return properties_in_order(order)
 
 
 def many_nodes(size):
@@ -177,6 +191,7 @@ SHAPES = {
     "nops": nops,
     "reservations": reservations,
     "many-properties": many_properties,
+    "mixed-properties": mixed_properties,
     "many-nodes": many_nodes,
     "many-parts": many_parts,
 }
