@@ -1,27 +1,35 @@
-use Rattle.std.proofs.Common.{◌≡◌, ℕ, zero, suc, ◌+◌, ◌<◌, Bool, true, false, cond, List, [], ◌∷◌, length, get_or, Some, Result, Ok, Err, All, Contains, Bor, refl, sym, ap, subst, ◌∙◌, arith, bytes_eq, add-one, inl, inr, IsPermutation, IsSortedBy, true≢false}
+use Rattle.std.proofs.Common.{◌≡◌, ℕ, zero, suc, ◌+◌, ◌<◌, Bool, true, false, cond, List, [], ◌∷◌, ◌++◌, length, map, take, get_or, Some, Result, Ok, Err, All, Contains, Bor, refl, sym, ap, subst, ◌∙◌, arith, bytes_eq, add-one, inl, inr, IsPermutation, IsSortedBy, true≢false}
 use Rattle.std.specs.Cmp.Lexicographic.{slice_cmp, nat_list_cmp_total, nat_list_eq_equiv, texts_ties, same_text}
-use Rattle.std.specs.Ordering.{nat_cmp, is_lt, is_eq, ordering_reverse}
+use Rattle.std.specs.declared.cmp.Ordering.{Ordering}
+use Rattle.std.specs.Ordering.{nat_cmp, is_lt, is_eq, ordering_reverse, ordering_then, ordering_index}
 use Rattle.std.specs.declared.cmp.Ordering.TheVariants.{Less, Equal, Greater}
 use Rattle.std.specs.List.{dedup, dedup_from}
-use Rattle.std.specs.List.Sorted.{IsStrictlySortedBy, IsBinarySearchResult, IsPartitionPoint, IsSearchInRange}
+use Rattle.std.specs.List.Sorted.{IsStrictlySortedBy, IsBinarySearchResult, IsNonDecreasingBy, IsPartitionPoint, IsSearchInRange}
 use Rattle.std.specs.List.Retain.{IsFiltered, DiffersFromLast}
 use Rattle.std.specs.Result.{result_unwrap_or}
 use Rattle.std.proofs.lemmas.Bool.{cases_lt}
-use Rattle.std.proofs.lemmas.Cmp.{tied_itself}
-use Rattle.std.proofs.lemmas.List.{get_or-map, length-map}
-use Rattle.std.proofs.lemmas.List.Elements.{All-weaker, All-contains_itself, at_from_Contains}
+use Rattle.std.proofs.lemmas.Cmp.{tied_itself, nat_cmp_total}
+use Rattle.std.proofs.lemmas.List.{get_or-map, length-map, map_more}
+use Rattle.std.proofs.lemmas.List.Elements.{All-weaker, All-push, All-contains_itself, at_from_Contains}
 use Rattle.std.proofs.lemmas.List.Filters.{dedup_is}
 use Rattle.std.proofs.lemmas.List.Kept.{Contains-dedup, Contains-from_dedup, IsStrictlySortedBy-dedup}
 use Rattle.std.proofs.lemmas.List.Sorted.{Contains-permutation, IsPermutation-map, IsPermutation-sym, searchable_from_sorted}
 use Rattle.std.proofs.lemmas.Map.Lookups.{exact_bytes}
+use Rattle.bi_base.specs.Cells.{AreBytes}
 use Rattle.bi_base.specs.Slices.{bytes_of}
 use Rattle.bi_base.proofs.ListMembers.{Contains-none}
+use Rattle.bi_blob.specs.NamesByPrefix.{prefix_of_name}
+use Rattle.bi_blob.proofs.NamePrefixes.{prefix_keeps_order}
 use Rattle.bi_fdt.specs.Numbers.{IsNumberOf}
+use Rattle.bi_fdt.specs.PrefixedNames.{with_prefix, names_of_pairs, slices_of, HasItsPrefix}
 
 -- Names that were sorted, and then kept once each, are in byte order, and none is lost. A binary search among them finds the rank of each.
 
 abbrev Slice : Type 0
 Slice = Bor (List ℕ)
+
+abbrev Pair : Type 0
+Pair = ℕ × Bor (List ℕ)
 
 -- ---- each name once
 
@@ -91,61 +99,152 @@ held_once names sorted once moved filtered =
 not_below : (name later : List ℕ) → slice_cmp nat_cmp name later ≡ Less → is_lt (slice_cmp nat_cmp later name) ≡ false
 not_below name later below = ap is_lt (nat_list_cmp_total.antisymm later name ∙ ap ordering_reverse below)
 
-next_not_below : (slices : List Slice) (k : ℕ) (d : Slice) → IsStrictlySortedBy (slice_cmp nat_cmp) (bytes_of slices) →
-    suc k < length slices →
-    is_lt (slice_cmp nat_cmp (get_or slices (suc k) d).now (get_or slices k d).now) ≡ false
+next_not_below : (pairs : List Pair) (k : ℕ) (d : Pair) → IsStrictlySortedBy (slice_cmp nat_cmp) (names_of_pairs pairs) →
+    suc k < length pairs →
+    is_lt (slice_cmp nat_cmp (get_or pairs (suc k) d).1.now (get_or pairs k d).1.now) ≡ false
 unfolding IsStrictlySortedBy
 next_not_below [] k d ascending within = absurd (omega arith)
-next_not_below (slice ∷ []) k d ascending within = absurd (omega arith)
-next_not_below (slice ∷ other ∷ slices) zero d ascending within = not_below slice.now other.now ascending.0.0
-next_not_below (slice ∷ other ∷ slices) (suc k) d ascending within =
-    next_not_below (other ∷ slices) k d ascending.1 (omega arith)
+next_not_below (pair ∷ []) k d ascending within = absurd (omega arith)
+next_not_below (pair ∷ other ∷ pairs) zero d ascending within = not_below pair.1.now other.1.now ascending.0.0
+next_not_below (pair ∷ other ∷ pairs) (suc k) d ascending within =
+    next_not_below (other ∷ pairs) k d ascending.1 (omega arith)
 
-IsSortedBy-slices : (slices : List Slice) → IsStrictlySortedBy (slice_cmp nat_cmp) (bytes_of slices) →
-    IsSortedBy (λ a b. is_lt (slice_cmp nat_cmp a.now b.now)) slices
-IsSortedBy-slices slices ascending = λ k d least within.
-    subst (λ n. is_lt (slice_cmp nat_cmp (get_or slices n d).now (get_or slices k d).now) ≡ false) (sym (add-one k))
-    (next_not_below slices k d ascending (omega arith))
+IsSortedBy-pairs : (pairs : List Pair) → IsStrictlySortedBy (slice_cmp nat_cmp) (names_of_pairs pairs) →
+    IsSortedBy (λ a b. is_lt (slice_cmp nat_cmp a.1.now b.1.now)) pairs
+IsSortedBy-pairs pairs ascending = λ k d least within.
+    subst (λ n. is_lt (slice_cmp nat_cmp (get_or pairs n d).1.now (get_or pairs k d).1.now) ≡ false) (sym (add-one k))
+    (next_not_below pairs k d ascending (omega arith))
 
 -- The rank of a name is the index at which its bytes are.
-IsNumberOf-at : (slices : List Slice) (name : List ℕ) (rank : ℕ) → rank < length slices →
-    ((d : Slice) → (get_or slices rank d).now ≡ name) →
-    IsNumberOf (bytes_of slices) name rank
+IsNumberOf-at : (pairs : List Pair) (name : List ℕ) (rank : ℕ) → rank < length pairs →
+    ((d : Pair) → (get_or pairs rank d).1.now ≡ name) →
+    IsNumberOf (names_of_pairs pairs) name rank
 IsNumberOf-at [] name rank within is = absurd (omega arith)
-IsNumberOf-at (slice ∷ slices) name zero within is = ap Some (is slice)
-IsNumberOf-at (slice ∷ slices) name (suc rank) within is = IsNumberOf-at slices name rank (omega arith) is
+IsNumberOf-at (pair ∷ pairs) name zero within is = ap Some (is pair)
+IsNumberOf-at (pair ∷ pairs) name (suc rank) within is = IsNumberOf-at pairs name rank (omega arith) is
 
 -- A name that is there has an index.
-index_of_held : (slices : List Slice) (name : List ℕ) → Contains (bytes_of slices) name →
-    (k : ℕ) × (k < length slices) × ((d : Slice) → (get_or slices k d).now ≡ name)
-index_of_held slices name held =
-    let at = at_from_Contains (bytes_of slices) name held in
-    let within : at.0 < length slices = omega (arith, at.1, length-map slices (λ (slice : Slice). slice.now)) in
-    (at.0, within, λ d. sym (get_or-map (λ (slice : Slice). slice.now) slices at.0 d d.now within) ∙ at.2 d.now)
+index_of_held : (pairs : List Pair) (name : List ℕ) → Contains (names_of_pairs pairs) name →
+    (k : ℕ) × (k < length pairs) × ((d : Pair) → (get_or pairs k d).1.now ≡ name)
+index_of_held pairs name held =
+    let at = at_from_Contains (names_of_pairs pairs) name held in
+    let within : at.0 < length pairs = omega (arith, at.1, length-map pairs (λ (pair : Pair). pair.1.now)) in
+    (at.0, within, λ d. sym (get_or-map (λ (pair : Pair). pair.1.now) pairs at.0 d d.1.now within) ∙ at.2 d.1.now)
+
+-- The order of a pair and a name, by their prefixes and then by their bytes.
+abbrev to_name : List ℕ → Pair → Ordering
+to_name name pair = ordering_then (nat_cmp pair.0 (prefix_of_name name)) (slice_cmp nat_cmp pair.1.now name)
+
+-- It is byte order.
+to_name-bytes : (name : List ℕ) (pair : Pair) → AreBytes name → HasItsPrefix pair → to_name name pair ≡ slice_cmp nat_cmp pair.1.now name
+to_name-bytes name pair bytes has =
+    ap (λ prefix. ordering_then (nat_cmp prefix (prefix_of_name name)) (slice_cmp nat_cmp pair.1.now name)) has.0
+    ∙ prefix_keeps_order pair.1.now name has.1 bytes
+
+-- A pair of the name itself is neither before nor after it.
+to_name-itself : (name : List ℕ) (pair : Pair) → HasItsPrefix pair → pair.1.now ≡ name → to_name name pair ≡ Equal
+to_name-itself name pair has is =
+    ap (λ prefix. ordering_then (nat_cmp prefix (prefix_of_name name)) (slice_cmp nat_cmp pair.1.now name)) (has.0 ∙ ap prefix_of_name is)
+    ∙ ap (λ o. ordering_then o (slice_cmp nat_cmp pair.1.now name)) (tied_itself nat_cmp_total (prefix_of_name name))
+    ∙ ap (λ other. slice_cmp nat_cmp other name) is ∙ tied_itself nat_list_cmp_total name
+
+-- What is equal by both is equal by the second.
+equal_after : (first second : Ordering) → ordering_then first second ≡ Equal → second ≡ Equal
+equal_after Less second is = absurd cc
+equal_after Equal second is = is
+equal_after Greater second is = absurd cc
 
 -- A name that is there is neither before nor after each other name, so that a search finds it.
-no_place : (slices : List Slice) (name : List ℕ) (place : ℕ) (d : Slice) →
-    IsPartitionPoint (λ (slice : Slice). slice_cmp nat_cmp slice.now name ≡ Less) (λ slice. slice_cmp nat_cmp slice.now name ≡ Greater)
-    slices place →
-    (k : ℕ) → k < length slices → (get_or slices k d).now ≡ name → ⊥
-no_place slices name place d parts k within is =
-    let equal : slice_cmp nat_cmp (get_or slices k d).now name ≡ Equal =
-    ap (λ other. slice_cmp nat_cmp other name) is ∙ tied_itself nat_list_cmp_total name in
+no_place : (pairs : List Pair) (name : List ℕ) (place : ℕ) (d : Pair) → All HasItsPrefix pairs →
+    IsPartitionPoint (λ (pair : Pair). to_name name pair ≡ Less) (λ pair. to_name name pair ≡ Greater) pairs place →
+    (k : ℕ) → k < length pairs → (get_or pairs k d).1.now ≡ name → ⊥
+no_place pairs name place d prefixes parts k within is =
+    let equal : to_name name (get_or pairs k d) ≡ Equal = to_name-itself name (get_or pairs k d) (prefixes k d within) is in
     elim (cases_lt k place) [
       | inl before ↦ let less = parts.0 k d (omega arith) before in absurd (true≢false (ap is_eq (sym equal ∙ less)))
       | inr after ↦ let greater = parts.1 k d after within in absurd (true≢false (ap is_eq (sym equal ∙ greater)))
     ]
 
+-- Pairs of names in byte order are in this order.
+rises_to_name : (pairs : List Pair) (name : List ℕ) → AreBytes name → All HasItsPrefix pairs →
+    IsStrictlySortedBy (slice_cmp nat_cmp) (names_of_pairs pairs) →
+    IsNonDecreasingBy (λ (pair : Pair). ordering_index (to_name name pair)) pairs
+rises_to_name pairs name bytes prefixes ascending = λ i j d least within.
+    let rises = searchable_from_sorted nat_list_cmp_total (λ (pair : Pair). pair.1.now) pairs name (IsSortedBy-pairs pairs ascending) i j d least within in
+    let at : (k : ℕ) → k < length pairs → ordering_index (to_name name (get_or pairs k d)) ≡ ordering_index (slice_cmp nat_cmp (get_or pairs k d).1.now name) =
+    λ k inside. ap ordering_index (to_name-bytes name (get_or pairs k d) bytes (prefixes k d inside)) in
+    omega (arith, rises, at i (omega arith), at j within)
+
 -- The index that a binary search finds for a name that is there is its rank.
-pub rank_of_search : (slices : List Slice) (name : List ℕ) (r : Result ℕ ℕ) → IsSearchInRange r (length slices) →
-    IsBinarySearchResult (λ slice. slice_cmp nat_cmp slice.now name) slices r → IsStrictlySortedBy (slice_cmp nat_cmp) (bytes_of slices) →
-    Contains (bytes_of slices) name → IsNumberOf (bytes_of slices) name (result_unwrap_or r 0)
-rank_of_search slices name (Ok rank) within is ascending held =
-    IsNumberOf-at slices name rank within (λ d. exact_bytes (get_or slices rank d).now name (is d))
-rank_of_search [] name (Err place) within is ascending held = absurd (Contains-none name held)
-rank_of_search (slice ∷ slices) name (Err place) within is ascending held =
-    let all = slice ∷ slices in
+pub rank_of_search : (pairs : List Pair) (name : List ℕ) (r : Result ℕ ℕ) → IsSearchInRange r (length pairs) →
+    IsBinarySearchResult (to_name name) pairs r → AreBytes name → All HasItsPrefix pairs →
+    IsStrictlySortedBy (slice_cmp nat_cmp) (names_of_pairs pairs) →
+    Contains (names_of_pairs pairs) name → IsNumberOf (names_of_pairs pairs) name (result_unwrap_or r 0)
+rank_of_search pairs name (Ok rank) within is bytes prefixes ascending held =
+    IsNumberOf-at pairs name rank within
+    (λ d. exact_bytes (get_or pairs rank d).1.now name (equal_after (nat_cmp (get_or pairs rank d).0 (prefix_of_name name)) _ (is d)))
+rank_of_search [] name (Err place) within is bytes prefixes ascending held = absurd (Contains-none name held)
+rank_of_search (pair ∷ pairs) name (Err place) within is bytes prefixes ascending held =
+    let all = pair ∷ pairs in
     let at = index_of_held all name held in
-    absurd (no_place all name place slice
-    (is (searchable_from_sorted nat_list_cmp_total (λ (slice : Slice). slice.now) all name (IsSortedBy-slices all ascending)))
-    at.0 at.1 (at.2 slice))
+    absurd (no_place all name place pair prefixes (is (rises_to_name all name bytes prefixes ascending)) at.0 at.1 (at.2 pair))
+
+names_with_prefixes : (slices : List Slice) → names_of_pairs (map with_prefix slices) ≡ bytes_of slices
+names_with_prefixes [] = refl
+names_with_prefixes (slice ∷ slices) = ap (λ l. slice.now ∷ l) (names_with_prefixes slices)
+
+-- The names of pairs are those that they were made of.
+pub pair_names_are : (sorted : List Slice) (pairs here : List Pair) → here ≡ pairs → pairs ≡ map with_prefix sorted →
+    names_of_pairs here ≡ bytes_of sorted
+pair_names_are sorted pairs here same are = ap names_of_pairs (same ∙ are) ∙ names_with_prefixes sorted
+
+-- A name is in a list that is the same as one that has it.
+pub held_there : (names here : List (List ℕ)) (name : List ℕ) → here ≡ names → Contains names name → Contains here name
+held_there names here name same held = subst (λ (l : List (List ℕ)). Contains l name) (sym same) held
+
+-- A number of a name in a list is one in a list that is the same.
+pub number_there : (names here : List (List ℕ)) (name : List ℕ) (number : ℕ) → here ≡ names → IsNumberOf here name number →
+    IsNumberOf names name number
+number_there names here name number same is = subst (λ (l : List (List ℕ)). IsNumberOf l name number) same is
+
+-- Some names with their prefixes, and then the next.
+pub pairs_more : (names : List Slice) (index : ℕ) (d : Slice) (prefix : ℕ) (pairs more : List Pair) → index < length names →
+    pairs ≡ map with_prefix (take index names) → All HasItsPrefix pairs → prefix ≡ prefix_of_name (get_or names index d).now →
+    AreBytes (get_or names index d).now → more ≡ pairs ++ (prefix, get_or names index d) ∷ [] →
+    (more ≡ map with_prefix (take (index + 1) names)) × All HasItsPrefix more
+pairs_more names index d prefix pairs more within are prefixes is bytes pushed = (
+  pushed ∙ ap (λ l. l ++ (prefix, get_or names index d) ∷ []) are
+      ∙ ap (λ n. map with_prefix (take index names) ++ (n, get_or names index d) ∷ []) is
+      ∙ sym (map_more with_prefix names index d within),
+  subst (All HasItsPrefix) (sym pushed) (All-push HasItsPrefix pairs (prefix, get_or names index d) prefixes (is, bytes)),
+)
+
+slices_with_prefixes : (slices : List Slice) → slices_of (map with_prefix slices) ≡ slices
+slices_with_prefixes [] = refl
+slices_with_prefixes (slice ∷ slices) = ap (λ l. slice ∷ l) (slices_with_prefixes slices)
+
+-- Pairs that were sorted have the slices that they were made of.
+pub slices_moved : (names : List Slice) (pairs sorted : List Pair) → pairs ≡ map with_prefix names → IsPermutation pairs sorted →
+    IsPermutation names (slices_of sorted)
+slices_moved names pairs sorted are moved =
+    subst (λ (l : List Slice). IsPermutation l (slices_of sorted)) (ap slices_of are ∙ slices_with_prefixes names)
+    (IsPermutation-map (λ (pair : Pair). pair.1) pairs sorted moved)
+
+-- Pairs in their order have slices in byte order.
+pub slices_ascending : (pairs : List Pair) → All HasItsPrefix pairs →
+    IsSortedBy (λ a b. is_lt (ordering_then (nat_cmp a.0 b.0) (slice_cmp nat_cmp a.1.now b.1.now))) pairs →
+    IsSortedBy (λ a b. is_lt (slice_cmp nat_cmp a.now b.now)) (slices_of pairs)
+slices_ascending [] prefixes ascending k d least within = absurd (omega arith)
+slices_ascending (pair ∷ pairs) prefixes ascending k d least within =
+    let all = pair ∷ pairs in
+    let long : k + 1 < length all = omega (arith, length-map all (λ (pair : Pair). pair.1)) in
+    let later = get_or all (k + 1) pair in
+    let sooner = get_or all k pair in
+    let later_has = prefixes (k + 1) pair long in
+    let sooner_has = prefixes k pair (omega arith) in
+    let same : ordering_then (nat_cmp later.0 sooner.0) (slice_cmp nat_cmp later.1.now sooner.1.now) ≡ slice_cmp nat_cmp later.1.now sooner.1.now =
+    ap (λ n. ordering_then (nat_cmp later.0 n) (slice_cmp nat_cmp later.1.now sooner.1.now)) sooner_has.0
+    ∙ to_name-bytes sooner.1.now later sooner_has.1 later_has in
+    (λ i. is_lt (slice_cmp nat_cmp (get_or-map (λ (pair : Pair). pair.1) all (k + 1) pair d long i).now
+    (get_or-map (λ (pair : Pair). pair.1) all k pair d (omega arith) i).now))
+    ∙ ap is_lt (sym same) ∙ ascending k pair least long

@@ -1,5 +1,6 @@
 pub mod Header
 pub mod Blocks
+pub mod PrefixedNames
 pub mod Properties
 pub mod Table
 pub mod Growth

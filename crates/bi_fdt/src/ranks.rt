@@ -9,7 +9,10 @@ ghost use Rattle.std.specs.Ordering.{nat_cmp};
 ghost use Rattle.bi_base.specs.Slices.{bytes_of};
 ghost use Rattle.bi_fdt.specs.Table.{TableItem};
 ghost use Rattle.bi_fdt.specs.Numbers.{AreNumbered, IsNumberOf};
+ghost use Rattle.bi_fdt.specs.PrefixedNames.{with_prefix, names_of_pairs, slices_of, HasItsPrefix};
 
+use bi_base::are_bytes;
+use bi_blob::name_prefix;
 use std::alloc::{AllocError, Global};
 
 /// The ranks of names: their indices among names in byte order.
@@ -21,6 +24,30 @@ pub struct NameRanks<'a> {
     pub ranks: Vec<usize>,
 }
 
+/// Returns these names, each after its prefix. It fails if memory runs out.
+fn with_prefixes<'a>(alloc: Global, names: &[&'a [u8]]) -> Result<Vec<(u64, &'a [u8])>, AllocError>
+    ensures names { IfOk result (λ pairs. pairs.items ≡ map with_prefix names.now) }
+    ensures prefixes { IfOk result (λ pairs. All HasItsPrefix pairs.items) }
+{
+    let mut pairs = Vec::with_capacity(alloc, names.len())?;
+    for name in names {
+        // The call gives the proof that the name is of bytes, so that prefixes keep their order.
+        are_bytes(name);
+        pairs.push((name_prefix(name), *name))?;
+    }
+    Ok(pairs)
+}
+
+/// Returns the names of these pairs. It fails if memory runs out.
+fn without_prefixes<'a>(
+    alloc: Global,
+    pairs: &[(u64, &'a [u8])],
+) -> Result<Vec<&'a [u8]>, AllocError>
+    ensures { IfOk result (λ names. names.items ≡ slices_of pairs.now) }
+{
+    pairs.iter().map(|pair| pair.1).collect(alloc)
+}
+
 /// Returns these names in byte order, each once. It fails if memory runs out.
 fn sort_names<'a>(alloc: Global, names: &[&'a [u8]]) -> Result<Vec<&'a [u8]>, AllocError>
     ensures ascending { IfOk result (λ sorted.
@@ -30,19 +57,24 @@ fn sort_names<'a>(alloc: Global, names: &[&'a [u8]]) -> Result<Vec<&'a [u8]>, Al
     ensures held { IfOk result (λ sorted.
         All (Contains (bytes_of names.now)) (bytes_of sorted.items)) }
 {
-    let mut sorted: Vec<&'a [u8]> = names.iter().copied().collect(alloc)?;
-    sorted.sort()?;
+    let mut pairs = with_prefixes(alloc, names)?;
+    pairs.sort()?;
+    let mut sorted = without_prefixes(alloc, &pairs)?;
     sorted.dedup();
     Ok(sorted)
 }
 
-/// Returns the rank of a name among names in byte order, which have it.
-fn rank_of(sorted: &[&[u8]], name: &[u8]) -> usize
-    requires ascending { IsStrictlySortedBy (slice_cmp nat_cmp) (bytes_of sorted.now) }
-    requires held { Contains (bytes_of sorted.now) name.now }
-    ensures { IsNumberOf (bytes_of sorted.now) name.now result }
+/// Returns the rank of a name among names in byte order, which have it, and each of which is after
+/// its prefix. Names with other prefixes are not read.
+fn rank_of(sorted: &[(u64, &[u8])], name: &[u8]) -> usize
+    requires ascending { IsStrictlySortedBy (slice_cmp nat_cmp) (names_of_pairs sorted.now) }
+    requires prefixes { All HasItsPrefix sorted.now }
+    requires held { Contains (names_of_pairs sorted.now) name.now }
+    ensures { IsNumberOf (names_of_pairs sorted.now) name.now result }
 {
-    sorted.binary_search(&name).unwrap_or(0)
+    sorted
+        .binary_search(&(name_prefix(name), name))
+        .unwrap_or(0)
 }
 
 /// Returns the rank of each of these names. It fails if memory runs out.
@@ -52,9 +84,10 @@ fn rank_each(alloc: Global, sorted: &[&[u8]], names: &[&[u8]]) -> Result<Vec<usi
     ensures { IfOk result (λ ranks.
         AllZip (IsNumberOf (bytes_of sorted.now)) (bytes_of names.now) ranks.items) }
 {
+    let pairs = with_prefixes(alloc, sorted)?;
     let mut ranks = Vec::with_capacity(alloc, names.len())?;
     for name in names {
-        ranks.push(rank_of(sorted, name))?;
+        ranks.push(rank_of(&pairs, name))?;
     }
     Ok(ranks)
 }
