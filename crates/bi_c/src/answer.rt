@@ -1,7 +1,8 @@
 //! What a call returns to C.
 
 ghost use Rattle.std.specs.Prelude.{◌≡◌, ◌⊎◌, ◌++◌, ◌<◌, ◌≤◌, length, drop};
-ghost use Rattle.bi_c.specs.Answers.{answer_of, answer_of_failure, status_of_failure, done, no_room};
+ghost use Rattle.bi_c.specs.Answers.{answer_of, answer_of_failure, status_of_failure};
+ghost use Rattle.bi_c.specs.Answers.{done, no_room};
 
 use crate::failure::Failure;
 
