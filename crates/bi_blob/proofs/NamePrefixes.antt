@@ -8,7 +8,8 @@ use Rattle.std.proofs.lemmas.Cmp.{nat_list_cmp_total}
 use Rattle.std.proofs.lemmas.List.{take-replicate}
 use Rattle.std.proofs.lemmas.Nat.{mul-add-lt}
 use Rattle.bi_base.specs.Cells.{AreBytes}
-use Rattle.bi_blob.specs.NamesByPrefix.{prefix_of_name}
+use Rattle.bi_base.proofs.ByteLists.{AreBytes-drop}
+use Rattle.bi_blob.specs.NamesByPrefix.{prefix_of_name, PrefixesKeepByteOrder}
 
 -- The first bytes of a name and zeros after a shorter one.
 
@@ -31,9 +32,6 @@ leading zero name = 0
 leading (suc count) [] = 0
 leading (suc count) (byte ∷ later) = byte * 256 ^ count + leading count later
 
-later_bytes : (byte : ℕ) (later : List ℕ) → AreBytes (byte ∷ later) → AreBytes later
-later_bytes byte later bytes = record { each = λ i. bytes.each (suc i) }
-
 power_is_positive : (count : ℕ) → 0 < 256 ^ count
 power_is_positive zero = omega arith
 power_is_positive (suc count) = omega (arith, power_is_positive count)
@@ -42,7 +40,7 @@ leading_fits : (count : ℕ) (name : List ℕ) → AreBytes name → leading cou
 leading_fits zero name bytes = power_is_positive zero
 leading_fits (suc count) [] bytes = power_is_positive (suc count)
 leading_fits (suc count) (byte ∷ later) bytes =
-    omega (arith, mul-add-lt byte (256 ^ count) (leading count later) 256 (bytes.each 0) (leading_fits count later (later_bytes byte later bytes)))
+    omega (arith, mul-add-lt byte (256 ^ count) (leading count later) 256 (bytes.each 0) (leading_fits count later (AreBytes-drop 1 (byte ∷ later) bytes)))
 
 -- A name with a lower number is before one with a higher one.
 leading_order : (count : ℕ) (one other : List ℕ) → AreBytes one → AreBytes other → leading count one < leading count other →
@@ -53,7 +51,7 @@ leading_order (suc count) [] (y ∷ ys) one_bytes other_bytes less = refl
 leading_order (suc count) (x ∷ xs) [] one_bytes other_bytes less = absurd (omega (arith, less))
 leading_order (suc count) (x ∷ xs) (y ∷ ys) one_bytes other_bytes less =
     by (nat_cmp x y) refl (ranked x y (nat_cmp x y) refl)
-    (leading_order count xs ys (later_bytes x xs one_bytes) (later_bytes y ys other_bytes))
+    (leading_order count xs ys (AreBytes-drop 1 (x ∷ xs) one_bytes) (AreBytes-drop 1 (y ∷ ys) other_bytes))
   where
     by : (o : Ordering) → nat_cmp x y ≡ o → MatchOrdering o (x < y) (x ≡ y) (y < x) →
         (leading count xs < leading count ys → slice_cmp nat_cmp xs ys ≡ Less) → slice_cmp nat_cmp (x ∷ xs) (y ∷ ys) ≡ Less
@@ -62,7 +60,7 @@ leading_order (suc count) (x ∷ xs) (y ∷ ys) one_bytes other_bytes less =
         let rest : leading count xs < leading count ys = omega (arith, less, ap (λ n. n * 256 ^ count) same) in
         rw is (later rest)
     by Greater is above later =
-        absurd (omega (arith, less, mul-add-lt y (256 ^ count) (leading count ys) x above (leading_fits count ys (later_bytes y ys other_bytes))))
+        absurd (omega (arith, less, mul-add-lt y (256 ^ count) (leading count ys) x above (leading_fits count ys (AreBytes-drop 1 (y ∷ ys) other_bytes))))
 
 -- The prefix of a name is the number of its first eight bytes.
 prefix_is_leading : (name : List ℕ) → prefix_of_name name ≡ leading 8 name
@@ -78,16 +76,18 @@ prefix_is_leading (a ∷ b ∷ c ∷ d ∷ e ∷ f ∷ g ∷ []) = omega arith
 prefix_is_leading (a ∷ b ∷ c ∷ d ∷ e ∷ f ∷ g ∷ h ∷ later) = omega arith
 
 -- The order of names by prefix, and of those with one prefix by their bytes, is byte order.
-pub prefix_keeps_order : (one other : List ℕ) → AreBytes one → AreBytes other →
-    ordering_then (nat_cmp (prefix_of_name one) (prefix_of_name other)) (slice_cmp nat_cmp one other) ≡ slice_cmp nat_cmp one other
-prefix_keeps_order one other one_bytes other_bytes =
-    by (nat_cmp (prefix_of_name one) (prefix_of_name other)) refl (ranked (prefix_of_name one) (prefix_of_name other) (nat_cmp (prefix_of_name one) (prefix_of_name other)) refl)
+pub prefixes_keep_order : PrefixesKeepByteOrder
+prefixes_keep_order one other one_bytes other_bytes =
+    let a = prefix_of_name one in
+    let b = prefix_of_name other in
+    by (nat_cmp a b) (ranked a b (nat_cmp a b) refl)
   where
-    by : (o : Ordering) → nat_cmp (prefix_of_name one) (prefix_of_name other) ≡ o →
-        MatchOrdering o (prefix_of_name one < prefix_of_name other) (prefix_of_name one ≡ prefix_of_name other) (prefix_of_name other < prefix_of_name one) →
+    by : (o : Ordering) →
+        MatchOrdering o (prefix_of_name one < prefix_of_name other) (prefix_of_name one ≡ prefix_of_name other)
+        (prefix_of_name other < prefix_of_name one) →
         ordering_then o (slice_cmp nat_cmp one other) ≡ slice_cmp nat_cmp one other
-    by Less is below = sym (leading_order 8 one other one_bytes other_bytes (omega (arith, below, prefix_is_leading one, prefix_is_leading other)))
-    by Equal is same = refl
-    by Greater is above =
+    by Less below = sym (leading_order 8 one other one_bytes other_bytes (omega (arith, below, prefix_is_leading one, prefix_is_leading other)))
+    by Equal same = refl
+    by Greater above =
         let less = leading_order 8 other one other_bytes one_bytes (omega (arith, above, prefix_is_leading one, prefix_is_leading other)) in
         sym (nat_list_cmp_total.antisymm one other ∙ ap ordering_reverse less)

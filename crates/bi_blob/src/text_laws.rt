@@ -10,6 +10,7 @@ ghost use Rattle.bi_blob.specs.TextLaws.{EachTreeHasOneOrder, ContentMayBeOrdere
 ghost use Rattle.bi_blob.specs.TextLaws.{NormalTextTellsContent, TextWithRestHasOneContent};
 ghost use Rattle.bi_blob.specs.TextLaws.{NormalTextWithRestTellsContent, NormalEventsHaveOneTree};
 ghost use Rattle.bi_blob.specs.KnownTexts.{HasSmallestText, IsLaidOut};
+ghost use Rattle.bi_blob.specs.NamesByPrefix.{PrefixesKeepByteOrder};
 
 /// The strings block of a text has each name that the events use once, and no other name (profile
 /// of this project; Devicetree Specification, 5.5).
@@ -119,6 +120,12 @@ pub fn normal_text_tells_content()
 /// project; Devicetree Specification, 5.4.2).
 pub fn normal_events_have_one_tree()
     ensures { NormalEventsHaveOneTree }
+{}
+
+/// Names in the order of their prefixes, and those with one prefix in the order of their bytes, are
+/// in byte order (profile of this project).
+pub fn prefixes_keep_byte_order()
+    ensures { PrefixesKeepByteOrder }
 {}
 
 /// The normal text of the smallest tree, a root with one child `images`, is 88 known bytes.

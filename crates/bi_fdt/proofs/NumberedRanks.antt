@@ -4,8 +4,7 @@ use Rattle.std.proofs.lemmas.List.{get_or-map, length-map, map_more}
 use Rattle.std.proofs.lemmas.Option.{none-some}
 use Rattle.bi_base.specs.Slices.{bytes_of}
 use Rattle.bi_fdt.specs.Table.{TableItem, NodeItem, PropertyItem}
-use Rattle.bi_fdt.specs.Numbers.{AreNumbered}
-use Rattle.bi_fdt.specs.Numbers.{IsNumberOf}
+use Rattle.bi_fdt.specs.Numbers.{AreNumbered, IsNumberOf}
 use Rattle.bi_fdt.proofs.NumberedNames.{AllZip-append}
 
 -- The ranks of names, and those at the numbers of properties, which number them by the names in byte order.
@@ -29,13 +28,13 @@ ranks_more sorted names index d ranks more rank within are is pushed =
     (is, tt)))
 
 -- The rank at the number of a name is its rank.
-IsNumberOf-again : (sorted names : List (List ℕ)) (ranks : List ℕ) (number : ℕ) (name : List ℕ) → AllZip (IsNumberOf sorted) names ranks →
+IsNumberOf-ranks : (sorted names : List (List ℕ)) (ranks : List ℕ) (number : ℕ) (name : List ℕ) → AllZip (IsNumberOf sorted) names ranks →
     slice_get names number ≡ Some name → IsNumberOf sorted name (slice_index ranks number)
-IsNumberOf-again sorted [] ranks number name are is = absurd (none-some _ is)
-IsNumberOf-again sorted (first ∷ names) [] number name are is = elim are [ ]
-IsNumberOf-again sorted (first ∷ names) (rank ∷ ranks) zero name are is = are.0 ∙ is
-IsNumberOf-again sorted (first ∷ names) (rank ∷ ranks) (suc number) name are is =
-    IsNumberOf-again sorted names ranks number name are.1 is
+IsNumberOf-ranks sorted [] ranks number name are is = absurd (none-some _ is)
+IsNumberOf-ranks sorted (first ∷ names) [] number name are is = elim are [ ]
+IsNumberOf-ranks sorted (first ∷ names) (rank ∷ ranks) zero name are is = are.0 ∙ is
+IsNumberOf-ranks sorted (first ∷ names) (rank ∷ ranks) (suc number) name are is =
+    IsNumberOf-ranks sorted names ranks number name are.1 is
 
 -- They number the properties by the names in byte order.
 pub AreNumbered-ranks : (sorted names : List (List ℕ)) (ranks : List ℕ) → AllZip (IsNumberOf sorted) names ranks →
@@ -47,4 +46,4 @@ AreNumbered-ranks sorted names ranks ranked (item ∷ table) [] are = elim are [
 AreNumbered-ranks sorted names ranks ranked (NodeItem depth place name ∷ table) (number ∷ numbers) are =
     (tt, AreNumbered-ranks sorted names ranks ranked table numbers are.1)
 AreNumbered-ranks sorted names ranks ranked (PropertyItem property ∷ table) (number ∷ numbers) are =
-    (IsNumberOf-again sorted names ranks number property.name ranked are.0, AreNumbered-ranks sorted names ranks ranked table numbers are.1)
+    (IsNumberOf-ranks sorted names ranks number property.name ranked are.0, AreNumbered-ranks sorted names ranks ranked table numbers are.1)

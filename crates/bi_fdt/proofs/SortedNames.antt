@@ -19,7 +19,7 @@ use Rattle.bi_base.specs.Cells.{AreBytes}
 use Rattle.bi_base.specs.Slices.{bytes_of}
 use Rattle.bi_base.proofs.ListMembers.{Contains-none}
 use Rattle.bi_blob.specs.NamesByPrefix.{prefix_of_name}
-use Rattle.bi_blob.proofs.NamePrefixes.{prefix_keeps_order}
+use Rattle.bi_blob.proofs.NamePrefixes.{prefixes_keep_order}
 use Rattle.bi_fdt.specs.Numbers.{IsNumberOf}
 use Rattle.bi_fdt.specs.PrefixedNames.{with_prefix, names_of_pairs, slices_of, HasItsPrefix}
 
@@ -139,7 +139,7 @@ to_name name pair = ordering_then (nat_cmp pair.0 (prefix_of_name name)) (slice_
 to_name-bytes : (name : List ℕ) (pair : Pair) → AreBytes name → HasItsPrefix pair → to_name name pair ≡ slice_cmp nat_cmp pair.1.now name
 to_name-bytes name pair bytes has =
     ap (λ prefix. ordering_then (nat_cmp prefix (prefix_of_name name)) (slice_cmp nat_cmp pair.1.now name)) has.0
-    ∙ prefix_keeps_order pair.1.now name has.1 bytes
+    ∙ prefixes_keep_order pair.1.now name has.1 bytes
 
 -- A pair of the name itself is neither before nor after it.
 to_name-itself : (name : List ℕ) (pair : Pair) → HasItsPrefix pair → pair.1.now ≡ name → to_name name pair ≡ Equal

@@ -1,8 +1,7 @@
 use Rattle.std.proofs.Common.{◌≡◌, Bor, List, ℕ, All, Contains, map, slice_index, subst, sym, ap, ◌∙◌}
 use Rattle.std.specs.List.{AllZip}
 use Rattle.bi_base.specs.Slices.{bytes_of}
-use Rattle.bi_fdt.specs.Numbers.{AreNumbered}
-use Rattle.bi_fdt.specs.Numbers.{IsNumberOf}
+use Rattle.bi_fdt.specs.Numbers.{AreNumbered, IsNumberOf}
 use Rattle.bi_fdt.proofs.NumberedRanks.{AreNumbered-ranks}
 use Rattle.bi_fdt.proofs.ranks.rank_names.Goals as goal
 
