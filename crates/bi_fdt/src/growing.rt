@@ -3,7 +3,7 @@
 ghost use Rattle.std.specs.Prelude.{◌≡◌, ℕ, ◌+◌, ◌<◌, ◌≤◌, ◌^◌, List, [], ◌∷◌, ◌↔◌, length, map};
 ghost use Rattle.std.specs.Prelude.{IsTrue, IfOk, IfErr, OnOk};
 ghost use Rattle.bi_base.specs.Errors.{IsFaultOrNoMemory};
-ghost use Rattle.bi_blob.specs.Tree.{names, IsNew};
+ghost use Rattle.bi_blob.specs.Tree.{names, HasNoZero, IsNew};
 ghost use Rattle.bi_blob.specs.BlobFaults.{token_fault, IsNewNode, IsNewProperty};
 ghost use Rattle.bi_blob.specs.OpenNodes.{OpenFileNode, new_node, with_one_property};
 ghost use Rattle.bi_fdt.specs.Digests.{digest_of_name};
@@ -158,6 +158,7 @@ impl<'a> Growing<'a> {
         requires grown { IsGrown self }
         requires few { length self.entries.items ≤ property.place }
         requires digest { digest ≡ digest_of_name name.now }
+        requires no_zero { HasNoZero name.now }
         ensures new { OnOk result ((file : List ℕ) (innermost : OpenFileNode)
             (outer : List OpenFileNode) → IsGrowing file self.entry innermost outer
             → names innermost.children ≡ []

@@ -8,8 +8,13 @@ use Rattle.bi_blob.specs.OpenNodes.{IsOpenAt, OpenTree, open_node_of, outer_node
 use Rattle.bi_blob.proofs.Blobs.Steps.{property_at}
 use Rattle.bi_fdt.specs.Blocks.{blocks_of}
 use Rattle.bi_fdt.specs.Table.{property_in}
+use Rattle.bi_fdt.proofs.FirstZero.{no_zero_in_name}
 use Rattle.bi_fdt.proofs.TokenSteps.{up4-within, property_fault, duplicate_property, after_property}
 use Rattle.bi_fdt.proofs.tokens.add_property.Goals as goal
+
+pub add_property-requires-clause-no_zero : goal.add_property-requires-clause-no_zero
+add_property-requires-clause-no_zero c =
+    no_zero_in_name c.args.blocks.strings.now _ (u32_at c.args.blocks.file.now (c.args.reading.place + 8)) (c.name_in-name.ensures ∙ c.in_ok-property.ensures.name)
 
 pub returns-in_err-property-clause-failed : goal.returns-in_err-property-clause-failed
 returns-in_err-property-clause-failed c =
