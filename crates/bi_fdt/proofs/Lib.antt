@@ -18,6 +18,7 @@ pub mod NumberedTables
 pub mod NameParts
 pub mod NameTails
 pub mod NumberedNames
+pub mod EntryOrder
 pub mod NameTables
 pub mod SortedNames
 pub mod NumberedRanks

@@ -1,8 +1,8 @@
-use Rattle.std.proofs.Common.{◌≡◌, ℕ, zero, suc, ◌+◌, ◌<◌, List, [], ◌∷◌, ◌++◌, length, map, take, slice_index_or, sym, ap, subst, ◌∙◌, arith}
-use Rattle.std.proofs.Common.{add-one}
+use Rattle.std.proofs.Common.{◌≡◌, ℕ, zero, suc, ◌+◌, ◌<◌, List, [], ◌∷◌, ◌++◌, length, map, take, get_or, All, sym, ap, subst, ◌∙◌, arith}
 use Rattle.std.specs.List.{AllByRecursion}
-use Rattle.std.proofs.Math.Seq.{take-suc}
-use Rattle.std.proofs.lemmas.List.{append_assoc, append-nil, map-append}
+use Rattle.std.proofs.Math.ListN.{set}
+use Rattle.std.proofs.lemmas.List.{append_assoc, append-nil, get_or-map}
+use Rattle.std.proofs.lemmas.List.Elements.{All-weaker, All-more}
 use Rattle.bi_blob.specs.Blob.{tree_blocks}
 use Rattle.bi_blob.specs.Tokens.{name_from}
 use Rattle.bi_blob.proofs.Blobs.BytesBeforeZero.{name_from-IsNameAt, IsNameAt-within}
@@ -14,9 +14,9 @@ use Rattle.bi_fdt.specs.declared.table.PropertyEntry.{PropertyEntry}
 use Rattle.bi_fdt.specs.Fields.{HasNameOffset, IsNamedAt}
 use Rattle.bi_fdt.specs.NameParts.{NamePart, AreMoreParts}
 use Rattle.bi_fdt.specs.NameTables.{names_in_table, IsNameTable, HasMoreNames}
-use Rattle.bi_fdt.specs.Numbers.{BeginsWith, IsNumbered, AreNumbered}
+use Rattle.bi_fdt.specs.Numbers.{BeginsWith, IsNumbered}
 use Rattle.bi_fdt.specs.Table.{TableItem, item_in, property_in}
-use Rattle.bi_fdt.proofs.NumberedNames.{AreHeads-tails, AreNumbered-push}
+use Rattle.bi_fdt.proofs.NumberedNames.{IsNumberedAt, AreHeads-tails, number_written, numbers_kept}
 
 -- Tables of names while the properties of a blob are numbered.
 
@@ -41,7 +41,7 @@ name_ends_within file strings e property at block is has offset =
 
 -- What holds of the item of each entry.
 pub item_at : (P : TableItem → Type 0) (file : List ℕ) (entries : List Entry) (index : ℕ) (d : Entry) →
-    AllByRecursion P (map (item_in file) entries) → index < length entries → P (item_in file (slice_index_or entries index d))
+    AllByRecursion P (map (item_in file) entries) → index < length entries → P (item_in file (get_or entries index d))
 item_at P file [] index d each within = absurd (omega arith)
 item_at P file (e ∷ entries) zero d each within = each.0
 item_at P file (e ∷ entries) (suc index) d each within = item_at P file entries index d each.1 (omega arith)
@@ -68,17 +68,24 @@ HasMoreNames-tails table tails is more = record {
   tails = more.begin;
 }
 
--- The items with one more entry have one more number.
+-- The number of one more entry is at the index of the entry, which comes next in an order.
 pub numbers_more : (old new : NameTable) → HasMoreNames old new → (file other : List ℕ) → other ≡ file →
-    (entries : List Entry) (index : ℕ) (d : Entry) (numbers more : List ℕ) (number : ℕ) →
-    index < length entries → AreNumbered (names_in_table old) (map (item_in file) (take index entries)) numbers →
-    IsNumbered (names_in_table new) (item_in other (slice_index_or entries index d)) number → more ≡ numbers ++ number ∷ [] →
-    AreNumbered (names_in_table new) (map (item_in file) (take (index + 1) entries)) more
-numbers_more old new has file other same entries index d numbers more number within are is pushed =
-    let taken : take (index + 1) entries ≡ take index entries ++ slice_index_or entries index d ∷ [] = ap (λ n. take n entries) (add-one index) ∙ take-suc entries index d within in
-    let items : map (item_in file) (take (index + 1) entries) ≡ map (item_in file) (take index entries) ++ item_in file (slice_index_or entries index d) ∷ [] =
-    ap (map (item_in file)) taken ∙ map-append (item_in file) (take index entries) (slice_index_or entries index d ∷ []) in
-    subst (λ l. AreNumbered (names_in_table new) l more) (sym items)
-    (subst (AreNumbered (names_in_table new) (map (item_in file) (take index entries) ++ item_in file (slice_index_or entries index d) ∷ [])) (sym pushed)
-    (AreNumbered-push (names_in_table new) (names_in_table old) has.names (map (item_in file) (take index entries)) numbers (item_in file (slice_index_or entries index d)) number are
-    (subst (λ (here : List ℕ). IsNumbered (names_in_table new) (item_in here (slice_index_or entries index d)) number) same is)))
+    (entries : List Entry) (table : List TableItem) → map (item_in file) entries ≡ table →
+    (order : List (ℕ × ℕ)) (place : ℕ) (p : ℕ × ℕ) (d : Entry) (numbers : List ℕ) (number : ℕ) → place < length order →
+    (get_or order place p).1 < length entries → length numbers ≡ length entries →
+    All (λ pair. IsNumberedAt (names_in_table old) table numbers pair.1) (take place order) →
+    IsNumbered (names_in_table new) (item_in other (get_or entries (get_or order place p).1 d)) number →
+    All (λ pair. IsNumberedAt (names_in_table new) table (set numbers (get_or order place p).1 number) pair.1) (take (place + 1) order)
+numbers_more old new has file other same entries table items order place p d numbers number inside within long are is =
+    let index = (get_or order place p).1 in
+    let less : index < length numbers = omega (arith, within, long) in
+    let here : (e : TableItem) → IsNumbered (names_in_table new) (get_or table index e) number =
+    λ e. subst (λ l. IsNumbered (names_in_table new) (get_or l index e) number) items
+    (subst (λ item. IsNumbered (names_in_table new) item number) (sym (get_or-map (item_in file) entries index d e within))
+    (subst (λ (here : List ℕ). IsNumbered (names_in_table new) (item_in here (get_or entries index d)) number) same is)) in
+    let IsDone : ℕ × ℕ → Type 0 = λ pair. IsNumberedAt (names_in_table new) table (set numbers index number) pair.1 in
+    All-more IsDone order place p inside
+    (All-weaker (λ pair. IsNumberedAt (names_in_table old) table numbers pair.1) IsDone
+    (λ pair was. numbers_kept (names_in_table new) (names_in_table old) has.names table numbers index number less here pair.1 was)
+    (take place order) are)
+    (number_written (names_in_table new) table numbers index number less here)

@@ -1,5 +1,7 @@
-use Rattle.std.proofs.Common.{◌≡◌, ℕ, zero, suc, ◌<◌, List, [], ◌∷◌, ◌++◌, length, Some, slice_get, inl, inr, refl, ap, subst, ◌∙◌, arith}
+use Rattle.std.proofs.Common.{◌≡◌, ℕ, zero, suc, ◌<◌, List, [], ◌∷◌, ◌++◌, length, get_or, Some, slice_get, inl, inr, refl, sym, ap, subst, ◌∙◌, arith, get_or-set_same, get_or-set_other}
 use Rattle.std.specs.List.{AllZip}
+use Rattle.std.proofs.Math.ListN.{set}
+use Rattle.std.proofs.lemmas.Bool.{cases_eq}
 use Rattle.std.proofs.lemmas.Option.{none-some, same_Some, slice_get_within}
 use Rattle.bi_blob.specs.Tree.{IsNew}
 use Rattle.bi_blob.proofs.Blobs.OpenNodes.{AreDistinct-push}
@@ -34,17 +36,36 @@ IsNumbered-more : (all front : List (List ℕ)) → BeginsWith all front → (it
 IsNumbered-more all front begins (NodeItem depth place name) number is = tt
 IsNumbered-more all front begins (PropertyItem property) number is = slice_get-begin all front begins number property.name is
 
-pub AreNumbered-begin : (all front : List (List ℕ)) → BeginsWith all front → (table : List TableItem) (numbers : List ℕ) →
-    AreNumbered front table numbers →
-    AreNumbered all table numbers
-AreNumbered-begin all front begins table numbers are = AllZip-then (IsNumbered front) (IsNumbered all) table numbers (IsNumbered-more all front begins) are
+-- The item at an index of a table has the number at that index.
+abbrev pub IsNumberedAt : List (List ℕ) → List TableItem → List ℕ → ℕ → Type 0
+IsNumberedAt names table numbers index = (d : TableItem) → IsNumbered names (get_or table index d) (get_or numbers index 0)
 
--- One more item of a table has a number.
-pub AreNumbered-push : (all front : List (List ℕ)) → BeginsWith all front →
-    (table : List TableItem) (numbers : List ℕ) (item : TableItem) (number : ℕ) →
-    AreNumbered front table numbers → IsNumbered all item number → AreNumbered all (table ++ item ∷ []) (numbers ++ number ∷ [])
-AreNumbered-push all front begins table numbers item number are is =
-    AllZip-append (IsNumbered all) table numbers (item ∷ []) (number ∷ []) (AreNumbered-begin all front begins table numbers are) (is, tt)
+-- A number is where it was written.
+pub number_written : (names : List (List ℕ)) (table : List TableItem) (numbers : List ℕ) (index number : ℕ) → index < length numbers →
+    ((d : TableItem) → IsNumbered names (get_or table index d) number) → IsNumberedAt names table (set numbers index number) index
+number_written names table numbers index number within is d =
+    subst (IsNumbered names (get_or table index d)) (sym (get_or-set_same numbers index number 0 within)) (is d)
+
+-- The numbers at other indices are those of the items there, also when names are added.
+pub numbers_kept : (all front : List (List ℕ)) → BeginsWith all front →
+    (table : List TableItem) (numbers : List ℕ) (index number : ℕ) → index < length numbers →
+    ((d : TableItem) → IsNumbered all (get_or table index d) number) →
+    (other : ℕ) → IsNumberedAt front table numbers other → IsNumberedAt all table (set numbers index number) other
+numbers_kept all front begins table numbers index number within is other was d = elim (cases_eq other index) [
+  | inl same ↦ subst (λ at. IsNumbered all (get_or table at d) (get_or (set numbers index number) at 0)) (sym same)
+      (number_written all table numbers index number within is d)
+  | inr apart ↦ subst (IsNumbered all (get_or table other d)) (sym (get_or-set_other numbers index other number 0 apart))
+      (IsNumbered-more all front begins (get_or table other d) (get_or numbers other 0) (was d))
+]
+
+-- The items of a table have numbers if that at each index does.
+pub AreNumbered-each : (names : List (List ℕ)) (table : List TableItem) (numbers : List ℕ) → length numbers ≡ length table →
+    ((index : ℕ) → index < length table → IsNumberedAt names table numbers index) → AreNumbered names table numbers
+AreNumbered-each names [] [] long each = tt
+AreNumbered-each names [] (number ∷ numbers) long each = absurd (omega arith)
+AreNumbered-each names (item ∷ table) [] long each = absurd (omega arith)
+AreNumbered-each names (item ∷ table) (number ∷ numbers) long each =
+    (each 0 (omega arith) item, AreNumbered-each names table numbers (omega arith) (λ index within. each (suc index) (omega arith)))
 
 -- The heads of names are the same when tails are added.
 heads_kept : (old new : List NamePart) → BeginsWith new old → (heads : List NamePart) (names : List (List ℕ)) →

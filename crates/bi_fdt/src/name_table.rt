@@ -1,6 +1,8 @@
 //! A table of the names of properties.
 
-ghost use Rattle.std.specs.Prelude.{◌≡◌, [], IfOk, Some, slice_get, take};
+ghost use Rattle.std.specs.Prelude.{◌≡◌, [], IfOk, IsPermutation, Some};
+ghost use Rattle.std.specs.Prelude.{length, map, slice_get, take};
+ghost use Rattle.std.specs.List.{range_with_len};
 ghost use Rattle.bi_blob.specs.Blob.{tree_blocks};
 ghost use Rattle.bi_fdt.specs.Content.{root_of};
 ghost use Rattle.bi_fdt.specs.Fields.{HasNameOffset};
@@ -17,10 +19,11 @@ use crate::name_tails::{block_numbers, tail_at};
 use crate::strings::{STRIDE, ends_of_names};
 use crate::table::Entry;
 use bi_base::cell_at;
+use bi_blob::name_prefix;
 use std::alloc::{AllocError, Global};
 
-/// Names, each once, in the order of their first use. A name is found by its head of less than 128
-/// bytes and the number of its tail, so that no more of it is read.
+/// Names, each once, in the order in which they were added. A name is found by its head of less
+/// than 128 bytes and the number of its tail, so that no more of it is read.
 #[derive(Drop)]
 pub(crate) struct NameTable<'a> {
     /// The blocks of the names at the multiples of 64, each with the number of those after it.
@@ -107,12 +110,37 @@ impl<'a> NameTable<'a> {
         let ends = ends_of_names(alloc, strings)?;
         let blocks = block_numbers(alloc, &mut self.tails, strings, &ends)?;
         let entries = blob.entries();
-        let mut numbers = Vec::with_capacity(alloc, entries.len())?;
-        for entry in entries {
-            numbers.push(self.number_entry(blob.file(), strings, &blocks, *entry)?)?;
+        let order = order_by_prefix(alloc, blob.file(), entries)?;
+        let mut numbers = vec![in alloc; 0; entries.len()]?;
+        for (_, index) in &order {
+            numbers[*index] = self.number_entry(blob.file(), strings, &blocks, entries[*index])?;
         }
         Ok(numbers)
     }
+}
+
+/// Returns the indices of these entries of a file, each once. Each is after the first eight bytes
+/// of the name as a number, or after 0 for a node. The pairs are in ascending order, so that names
+/// that are alike follow each other, and each is found where the last one was. Fails if memory runs
+/// out.
+fn order_by_prefix(
+    alloc: Global,
+    file: &[u8],
+    entries: &[Entry],
+) -> Result<Vec<(u64, usize)>, AllocError>
+    ensures { IfOk result (λ order. IsPermutation (range_with_len 0 (length entries.now))
+        (map (λ pair. pair.1) order.items)) }
+{
+    let mut pairs = Vec::with_capacity(alloc, entries.len())?;
+    for (index, entry) in entries.iter().enumerate() {
+        let prefix = match entry {
+            Entry::Node(_) => 0,
+            Entry::Property(property) => name_prefix(property.name_in(file)),
+        };
+        pairs.push((prefix, index))?;
+    }
+    pairs.sort()?;
+    Ok(pairs)
 }
 
 /// Returns the bytes of a name before its tail.

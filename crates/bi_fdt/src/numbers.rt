@@ -11,8 +11,8 @@ use crate::name_table::NameTable;
 use std::alloc::{AllocError, Global};
 use std::marker::Model;
 
-/// The names of the properties of blobs, each once, in the order of their first use. The number of
-/// a name is its index, so that two names are equal exactly if their numbers are.
+/// The names of the properties of blobs, each once. The number of a name is its index, so that two
+/// names are equal exactly if their numbers are.
 #[derive(Drop)]
 pub struct NameNumbers<'a> {
     table: NameTable<'a>,
