@@ -47,7 +47,7 @@ pub mod LongNames
 pub mod NormalDocuments
 pub mod PlacedImages
 pub mod PairedPayloads
-pub mod ValueMaps
+pub mod ValuePairs
 pub mod NumberedValues
 pub mod ComparedTrees
 pub mod UpdatedVerdicts

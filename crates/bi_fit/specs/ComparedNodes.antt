@@ -1,8 +1,9 @@
 use Rattle.std.specs.Prelude.{◌≡◌, ℕ, ◌==◌, ◌&&◌, Bool, true, not, List, [], ◌∷◌, ◌++◌, Option}
-use Rattle.std.specs.Prelude.{Some, None, option_map, bytes_eq, if◌then◌else◌}
+use Rattle.std.specs.Prelude.{Some, None, option_map, bytes_eq, nat_eq, if◌then◌else◌}
 use Rattle.std.specs.Borrow.{Bor}
+use Rattle.std.specs.List.Sorted.{IsStrictlySortedBy}
+use Rattle.std.specs.Map.{keys_of, lookup}
 use Rattle.std.specs.Ordering.{nat_cmp}
-use Rattle.std.specs.BTreeMap.{BTreeMap, IsOrdered, get_by}
 use Rattle.bi_blob.specs.Tree.{Nodes, none, node, PropertyMap, FileProperty, FileNode, AreDistinct}
 use Rattle.bi_blob.specs.Lookups.{root_node}
 use Rattle.bi_fdt.specs.declared.node.NodeRef.{NodeRef}
@@ -81,10 +82,14 @@ value_numbered role value (property ∷ later) (number ∷ numbers) wanted =
     (if (number == wanted) && is_compared role property.name then Some property.value else value)
     later numbers wanted
 
--- The map has the values of these properties that are compared in a node of this role, by the
--- numbers of their names.
+-- The value that is paired with a number, if there is one.
+abbrev pub paired_value : (wanted : ℕ) → List (ℕ × Bor (List ℕ)) → Option (List ℕ)
+paired_value wanted values = option_map (λ value. value.now) (lookup (nat_eq wanted) values)
+
+-- The values of these properties that are compared in a node of this role, each paired with the
+-- number of its name. The numbers ascend.
 pub record HaveNumberedValues (role : Role) (properties : List FileProperty) (numbers : List ℕ)
-    (values : BTreeMap ℕ (Bor (List ℕ))) : Type 0 where
-  pub ordered : IsOrdered nat_cmp values
-  pub each : (wanted : ℕ) → option_map (λ value. value.now) (get_by (nat_cmp wanted) values)
+    (values : List (ℕ × Bor (List ℕ))) : Type 0 where
+  pub ordered : IsStrictlySortedBy nat_cmp (keys_of values)
+  pub each : (wanted : ℕ) → paired_value wanted values
       ≡ value_numbered role None properties numbers wanted

@@ -1,6 +1,7 @@
 //! Comparing the properties of nodes.
 
-ghost use Rattle.std.specs.Prelude.{◌≡◌, ◌↔◌, IsTrue, IfOk, length};
+ghost use Rattle.std.specs.Prelude.{◌≡◌, ◌↔◌, IsTrue, IfOk, length, nat_eq};
+ghost use Rattle.std.specs.List.{IsDistinct};
 ghost use Rattle.bi_fdt.specs.Views.{node_of};
 ghost use Rattle.bi_fit.specs.NormalNodes.{HasDistinctNames};
 ghost use Rattle.bi_fit.specs.ComparedNodes.{HaveOneNumbering, HaveNumberedValues};
@@ -10,7 +11,6 @@ use crate::comparing::numbers::Numbers;
 use crate::comparing::role::Role;
 use bi_fdt::NodeRef;
 use std::alloc::{AllocError, Global};
-use std::collections::BTreeMap;
 
 /// Whether two nodes of this role have the same properties by name, without those that are not
 /// compared.
@@ -35,28 +35,31 @@ pub(super) fn have_same_properties<'a>(
     Ok(values == other_values)
 }
 
-/// The values of the properties of a node of this role, by the numbers of their names, without
-/// those that are not compared.
+/// Returns the values of the properties of a node of this role, each with the number of its name,
+/// in ascending order of numbers. Those that are not compared are left out. Fails if memory runs
+/// out.
 fn values_by_number<'a>(
     alloc: Global,
     node: NodeRef<'a, '_>,
     role: Role,
     numbers: &[usize],
-) -> Result<BTreeMap<usize, &'a [u8]>, AllocError>
-    requires { length numbers.now ≡ length (node_of node).own.properties }
-    ensures { IfOk result
-        (HaveNumberedValues role (node_of node.entry).own.properties numbers.now) }
+) -> Result<Vec<(usize, &'a [u8])>, AllocError>
+    requires count { length numbers.now ≡ length (node_of node).own.properties }
+    requires distinct { IsDistinct nat_eq numbers.now }
+    ensures { IfOk result (λ values.
+        HaveNumberedValues role (node_of node.entry).own.properties numbers.now values.items) }
 {
-    let mut values = BTreeMap::new(alloc);
+    let mut values = Vec::new(alloc);
     let mut left = numbers;
     for property in node.properties() {
         let Some((number, later)) = left.split_first() else {
             unreachable!();
         };
         if role.compares(property.name) {
-            values.insert(*number, property.value)?;
+            values.push((*number, property.value))?;
         }
         left = later;
     }
+    values.sort()?;
     Ok(values)
 }
