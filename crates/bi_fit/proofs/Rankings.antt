@@ -1,29 +1,45 @@
-use Rattle.std.proofs.Common.{◌≡◌, ℕ, zero, suc, ◌<◌, T, List, [], ◌∷◌, ◌++◌, map, Ordering, Less, Equal, Greater, Some, slice_get, get_or}
-use Rattle.std.proofs.Common.{refl, sym, ap, subst, ◌∙◌, nat_cmp, arith, ◌⊎◌, inl, inr}
+use Rattle.std.proofs.Common.{◌≡◌, ℕ, zero, suc, ◌+◌, ◌<◌, T, Bool, true, false, cond, eqb, List, [], ◌∷◌, ◌++◌, length, map, take, get_or}
+use Rattle.std.proofs.Common.{Ordering, Less, Equal, Greater, is_lt, Option, Some, None, slice_get, All, IsSomeAnd, bytes_eq}
+use Rattle.std.proofs.Common.{IsPermutation, IsSorted, IsSortedBy, refl, sym, ap, ap₂, subst, ◌∙◌, nat_cmp, arith, ◌⊎◌, ◌≢◌, inl, inr}
+use Rattle.std.specs.Bool.{⊤}
 use Rattle.std.specs.Cmp.Lexicographic.{slice_cmp}
-use Rattle.std.specs.Cmp.{tied_itself, nat_cmp_is}
-use Rattle.std.specs.Ordering.{match_ordering, ordering_reverse, MatchOrdering}
-use Rattle.std.specs.BTreeMap.{insert_entry}
-use Rattle.std.specs.List.{AllByRecursion, AllZip}
+use Rattle.std.specs.Cmp.{tied_itself, nat_cmp_is, nat_eq_equiv, eq_by_cmp_equiv}
+use Rattle.std.specs.Ordering.{ordering_reverse, ordering_then, MatchOrdering, eq_by_cmp}
+use Rattle.std.specs.List.{AllByRecursion, AllZip, IsDistinct, range_with_len}
 use Rattle.std.specs.List.Sorted.{IsStrictlySortedBy}
-use Rattle.std.specs.Option.{option_to_list}
-use Rattle.std.specs.FinMap.{from_sorted, is_sorted, put, nat_cmp-IsAntisymmetric}
+use Rattle.std.specs.Map.{lookup, keys_of}
+use Rattle.std.specs.Option.{option_to_list, option_map}
+use Rattle.std.specs.FinMap.{from_sorted, from_entries, is_sorted, find, get-from_sorted, get-from_entries}
+use Rattle.std.specs.FinMap.Entries.{below_all}
+use Rattle.std.proofs.Math.Seq.{take-length}
+use Rattle.std.proofs.lemmas.Bool.Decides.{eqb_tells}
 use Rattle.std.proofs.lemmas.Cmp.{nat_list_cmp_total}
-use Rattle.std.proofs.lemmas.Map.Keys.{sorted_head, sorted_tail}
-use Rattle.std.proofs.lemmas.List.Elements.{Contains-get_or}
-use Rattle.std.proofs.lemmas.Option.{get_or_from_slice_get, slice_get_within}
+use Rattle.std.proofs.lemmas.List.{get_or-map, length-map, take_more}
+use Rattle.std.proofs.lemmas.List.Elements.{Contains-get_or, All-tail}
+use Rattle.std.proofs.lemmas.List.FromFn.{length-range_with_len, get_or-range_with_len, fill_by_all}
+use Rattle.std.proofs.lemmas.List.Sorted.{IsPermutation-map, IsPermutation-sym, All-permutation, Contains-permutation}
+use Rattle.std.proofs.lemmas.List.Sorted.{IsNonDecreasingBy-from_sort}
+use Rattle.std.proofs.lemmas.Map.Keys.{sorted_head, sorted_tail, IsDistinct-IsPermutation, IsStrictlyIncreasing-from_distinct}
+use Rattle.std.proofs.lemmas.Map.Keys.{sorted_from_strictly_increasing}
+use Rattle.std.proofs.lemmas.Map.Text.{is_eq-slice_cmp}
+use Rattle.std.proofs.lemmas.Map.Views.{Contains-from_lookup, lookup-from_Contains}
+use Rattle.std.proofs.lemmas.Option.{get_or_from_slice_get, slice_get_within, slice_get-get_or, slice_get-map, same_Some, none-some}
+use Rattle.std.proofs.lemmas.Option.{some_pair_parts, MatchOption-at_some}
+use Rattle.std.proofs.lemmas.Slice.Eq.{bytes_eq-Decides}
+use Rattle.std.proofs.lemmas.Slice.Zip.{all_zipped_more, AllZip-right, AllZip-long, length-zip, get_or-zip, firsts-zip, seconds-zip}
 use Rattle.bi_base.proofs.ListMembers.{each-contains}
 use Rattle.bi_lay.specs.Values.{value_bytes}
-use Rattle.bi_blob.specs.Tree.{FileNode, FileProperty, property_of}
-use Rattle.bi_blob.proofs.Texts.PropertyOrder.{order_tells}
+use Rattle.bi_blob.specs.Tree.{Property, FileNode, FileProperty, property_of, properties_of, IsNew, AreDistinct}
+use Rattle.bi_blob.proofs.Texts.NormalEvents.{both_hold}
 use Rattle.bi_fdt.specs.Numbers.{HasNumber}
 use Rattle.bi_fit.specs.declared.document.property_map.MapEntry.{MapEntry}
-use Rattle.bi_fit.specs.NormalNodes.{properties_by_name}
+use Rattle.bi_fit.specs.NormalNodes.{HasDistinctNames, properties_by_name}
+use Rattle.bi_fit.specs.PropertyMapModels.{AreNumbersIn}
 use Rattle.bi_fit.specs.PropertyMaps.{properties_in, numbers_in}
-use Rattle.bi_fit.specs.EntryOrder.{IsAtRank, AreByRank}
-use Rattle.bi_fit.proofs.PropertyMaps.{insert_all, sorted-put, from_sorted-put}
+use Rattle.bi_fit.specs.EntryOrder.{with_indices, ranked_cmp, IsEntryAt}
+use Rattle.bi_fit.proofs.PayloadProperties.{same}
 
--- The entries of the properties of a node, by the ranks of their names.
+-- The entries of the properties of a node, in the order of the ranks of their names.
 
 -- Of names in byte order, the first is before the one at an index.
 first_before : (first : List ℕ) (names : List (List ℕ)) → IsStrictlySortedBy (slice_cmp nat_cmp) (first ∷ names) →
@@ -64,88 +80,354 @@ ranks_match (first ∷ names) ordered (suc rank) (suc other) name other_name the
     more Equal same = ap suc same
     more Greater above = omega arith
 
+-- So they are compared as their ranks are.
 rank_cmp : (names : List (List ℕ)) → IsStrictlySortedBy (slice_cmp nat_cmp) names → (rank other : ℕ) (name other_name : List ℕ) →
     slice_get names rank ≡ Some name → slice_get names other ≡ Some other_name → slice_cmp nat_cmp name other_name ≡ nat_cmp rank other
 rank_cmp names ordered rank other name other_name there other_there =
     nat_cmp_is rank other (slice_cmp nat_cmp name other_name) (ranks_match names ordered rank other name other_name there other_there)
 
--- The entries that the map has.
-abbrev pub ranked_entries : List (ℕ × MapEntry) → List MapEntry
-ranked_entries es = map (λ e. e.1) es
+-- ---- ranks before their indices
 
--- One more entry is one more property,
-properties-insert_ranked : (names : List (List ℕ)) → IsStrictlySortedBy (slice_cmp nat_cmp) names →
-    (es : List (ℕ × MapEntry)) (rank : ℕ) (entry : MapEntry) → AllByRecursion (IsAtRank names) es → IsAtRank names (rank, entry) →
-    properties_in (ranked_entries (insert_entry nat_cmp es rank entry))
-    ≡ put (slice_cmp nat_cmp) entry.name.now (value_bytes entry.value) (properties_in (ranked_entries es))
-properties-insert_ranked names ordered [] rank entry at_ranks at_rank = refl
-properties-insert_ranked names ordered (e ∷ es) rank entry at_ranks at_rank =
-    by_cmp (nat_cmp rank e.0) (rank_cmp names ordered rank e.0 entry.name.now e.1.name.now at_rank.1 at_ranks.0.1) (properties-insert_ranked names ordered es rank entry at_ranks.1 at_rank)
+-- There are as many as ranks.
+length-with_indices : (ranks : List ℕ) → length (with_indices ranks) ≡ length ranks
+length-with_indices ranks =
+    let shorter = length-zip ranks (range_with_len 0 (length ranks)) in
+    let indices = length-range_with_len 0 (length ranks) in
+    omega arith
+
+-- At an index is the rank that is there, before the index.
+with_indices_at : (ranks : List ℕ) (index : ℕ) (d : ℕ × ℕ) → index < length ranks →
+    get_or (with_indices ranks) index d ≡ (get_or ranks index d.0, index)
+with_indices_at ranks index d within =
+    let long : index < length (range_with_len 0 (length ranks)) = omega (arith, length-range_with_len 0 (length ranks)) in
+    let counted : 0 + index ≡ index = omega arith in
+    get_or-zip ranks (range_with_len 0 (length ranks)) index d within long
+    ∙ ap (λ n. (get_or ranks index d.0, n)) (get_or-range_with_len 0 (length ranks) index d.1 within ∙ counted)
+
+-- Some ranks before their indices, and then the next.
+pub with_indices_more : (ranks : List ℕ) (index d : ℕ) (order more : List (ℕ × ℕ)) → index < length ranks →
+    order ≡ take index (with_indices ranks) → more ≡ order ++ (get_or ranks index d, index) ∷ [] →
+    more ≡ take (index + 1) (with_indices ranks)
+with_indices_more ranks index d order more within are pushed =
+    let long : index < length (with_indices ranks) = omega (arith, length-with_indices ranks) in
+    pushed
+    ∙ ap (λ l. l ++ (get_or ranks index d, index) ∷ []) are
+    ∙ sym (take_more (with_indices ranks) index (d, index) long
+    ∙ ap (λ ranked. take index (with_indices ranks) ++ ranked ∷ []) (with_indices_at ranks index (d, index) within))
+
+-- In the end all are there.
+pub with_indices_all : (ranks : List ℕ) (index : ℕ) → index ≡ length ranks → take index (with_indices ranks) ≡ with_indices ranks
+with_indices_all ranks index is =
+    ap (λ n. take n (with_indices ranks)) (is ∙ sym (length-with_indices ranks)) ∙ take-length (with_indices ranks)
+
+-- The ranks without their indices.
+abbrev ranks_of : List (ℕ × ℕ) → List ℕ
+ranks_of order = map (λ ranked. ranked.0) order
+
+-- The indices without their ranks.
+abbrev indices_of : List (ℕ × ℕ) → List ℕ
+indices_of order = map (λ ranked. ranked.1) order
+
+-- ---- ranks in order
+
+-- What is not before another by two orders in turn is not before it by the first.
+not_before : (first second : Ordering) → is_lt (ordering_then first second) ≡ false → is_lt first ≡ false
+not_before Less second is = is
+not_before Equal second is = refl
+not_before Greater second is = refl
+
+-- Ranks that were put in order with their indices do not fall.
+ranks_ascend : (order : List (ℕ × ℕ)) → IsSorted ranked_cmp order → IsSortedBy (λ a b. is_lt (nat_cmp a b)) (ranks_of order)
+ranks_ascend order sorted k d least within =
+    let long : k + 1 < length order = omega (arith, length-map order (λ (ranked : ℕ × ℕ). ranked.0)) in
+    let later = get_or order (k + 1) (d, 0) in
+    let sooner = get_or order k (d, 0) in
+    (λ i. is_lt (nat_cmp (get_or-map (λ (ranked : ℕ × ℕ). ranked.0) order (k + 1) (d, 0) d long i)
+    (get_or-map (λ (ranked : ℕ × ℕ). ranked.0) order k (d, 0) d (omega arith) i)))
+    ∙ not_before (nat_cmp later.0 sooner.0) (nat_cmp later.1 sooner.1) (sorted k (d, 0) least long)
+
+-- The rank of a name is none of the ranks of other names.
+ranks_differ : (names : List (List ℕ)) (rank : ℕ) (name : List ℕ) → slice_get names rank ≡ Some name →
+    (properties : List FileProperty) (ranks : List ℕ) → AllZip (HasNumber names) properties ranks →
+    IsNew name (map (λ property. property.0) (map property_of properties)) → AllByRecursion (λ other. eqb rank other ≡ false) ranks
+ranks_differ names rank name there [] [] numbered new = tt
+ranks_differ names rank name there [] (other ∷ ranks) numbered new = absurd numbered
+ranks_differ names rank name there (property ∷ properties) [] numbered new = absurd numbered
+ranks_differ names rank name there (property ∷ properties) (other ∷ ranks) numbered new =
+    (by_test (eqb_tells rank other), ranks_differ names rank name there properties ranks numbered.1 new.1)
   where
-    by_cmp : (o : Ordering) → slice_cmp nat_cmp entry.name.now e.1.name.now ≡ o →
-        properties_in (ranked_entries (insert_entry nat_cmp es rank entry))
-        ≡ put (slice_cmp nat_cmp) entry.name.now (value_bytes entry.value) (properties_in (ranked_entries es)) →
-        properties_in (ranked_entries (match_ordering o ((rank, entry) ∷ e ∷ es) ((e.0, entry) ∷ es) (e ∷ insert_entry nat_cmp es rank entry)))
-        ≡ put (slice_cmp nat_cmp) entry.name.now (value_bytes entry.value) (properties_in (ranked_entries (e ∷ es)))
-    by_cmp Less is later = rw is refl
-    by_cmp Equal is later = rw is (ap (λ n. (n, value_bytes entry.value) ∷ properties_in (ranked_entries es)) (order_tells entry.name.now e.1.name.now is))
-    by_cmp Greater is later = rw is (ap (λ l. (e.1.name.now, value_bytes e.1.value) ∷ l) later)
+    by_test : ((eqb rank other ≡ true) × (rank ≡ other)) ⊎ ((eqb rank other ≡ false) × (rank ≢ other)) → eqb rank other ≡ false
+    by_test (inl equal) = absurd (new.0 (same_Some property.name name (sym numbered.0 ∙ ap (slice_get names) (sym equal.1) ∙ there)))
+    by_test (inr differ) = differ.0
 
--- and is at its rank, as the others are.
-at_ranks-insert : (names : List (List ℕ)) (es : List (ℕ × MapEntry)) (rank : ℕ) (entry : MapEntry) →
-    AllByRecursion (IsAtRank names) es → IsAtRank names (rank, entry) → AllByRecursion (IsAtRank names) (insert_entry nat_cmp es rank entry)
-at_ranks-insert names [] rank entry at_ranks at_rank = (at_rank, tt)
-at_ranks-insert names (e ∷ es) rank entry at_ranks at_rank = by_cmp (nat_cmp rank e.0) refl (at_ranks-insert names es rank entry at_ranks.1 at_rank)
+-- The ranks of distinct names are distinct.
+distinct_ranks : (names : List (List ℕ)) (properties : List FileProperty) (ranks : List ℕ) → AllZip (HasNumber names) properties ranks →
+    AreDistinct (map (λ property. property.0) (map property_of properties)) → IsDistinct eqb ranks
+unfolding IsDistinct
+distinct_ranks names [] [] numbered distinct = tt
+distinct_ranks names [] (rank ∷ ranks) numbered distinct = absurd numbered
+distinct_ranks names (property ∷ properties) [] numbered distinct = absurd numbered
+distinct_ranks names (property ∷ properties) (rank ∷ ranks) numbered distinct = (
+  ranks_differ names rank property.name numbered.0 properties ranks numbered.1 distinct.0,
+  distinct_ranks names properties ranks numbered.1 distinct.1,
+)
+
+-- Distinct ranks that were put in order rise.
+ranks_rise : (ranks : List ℕ) (order : List (ℕ × ℕ)) → IsPermutation (with_indices ranks) order → IsSorted ranked_cmp order →
+    IsDistinct eqb ranks → IsStrictlySortedBy nat_cmp (ranks_of order)
+ranks_rise ranks order moved sorted distinct =
+    let all : IsPermutation ranks (ranks_of order) =
+    subst (λ (l : List ℕ). IsPermutation l (ranks_of order))
+    (firsts-zip ranks (range_with_len 0 (length ranks)) (length-range_with_len 0 (length ranks)))
+    (IsPermutation-map (λ (ranked : ℕ × ℕ). ranked.0) (with_indices ranks) order moved) in
+    sorted_from_strictly_increasing (ranks_of order)
+    (IsStrictlyIncreasing-from_distinct (ranks_of order)
+    (IsNonDecreasingBy-from_sort (λ (rank : ℕ). rank) (ranks_of order) (ranks_ascend order sorted))
+    (IsDistinct-IsPermutation eqb nat_eq_equiv.symm ranks (ranks_of order) all distinct))
+
+-- ---- entries at indices
+
+-- Entries at some of the indices, and then at the next.
+pub entries_more : (own : FileNode) (order : List (ℕ × ℕ)) (index : ℕ) (d : ℕ × ℕ) (entry : MapEntry) (entries more : List MapEntry) →
+    index < length order → AllZip (IsEntryAt own) (take index order) entries → IsEntryAt own (get_or order index d) entry →
+    more ≡ entries ++ entry ∷ [] → AllZip (IsEntryAt own) (take (index + 1) order) more
+entries_more own order index d entry entries more within are is pushed =
+    subst (AllZip (IsEntryAt own) (take (index + 1) order)) (sym pushed)
+    (subst (λ l. AllZip (IsEntryAt own) l (entries ++ entry ∷ [])) (sym (take_more order index d within))
+    (all_zipped_more (IsEntryAt own) (take index order) entries (get_or order index d) entry are is))
+
+-- In the end all are there.
+pub entries_all : (own : FileNode) (order : List (ℕ × ℕ)) (index : ℕ) (entries : List MapEntry) → index ≡ length order →
+    AllZip (IsEntryAt own) (take index order) entries → AllZip (IsEntryAt own) order entries
+entries_all own order index entries is are =
+    subst (λ l. AllZip (IsEntryAt own) l entries) (ap (λ n. take n order) is ∙ take-length order) are
+
+-- ---- names of ranks
+
+-- There is a property at this index, and this is the rank of its name.
+abbrev IsRankedIn : List (List ℕ) → List FileProperty → ℕ × ℕ → Type 0
+IsRankedIn names properties ranked = IsSomeAnd (slice_get properties ranked.1) (λ property. HasNumber names property ranked.0)
+
+-- Each rank is that of the property at its index, in any order of the ranks.
+all_ranked : (names : List (List ℕ)) (properties : List FileProperty) (ranks : List ℕ) (order : List (ℕ × ℕ)) →
+    AllZip (HasNumber names) properties ranks → IsPermutation (with_indices ranks) order → All (IsRankedIn names properties) order
+all_ranked names properties ranks order numbered moved =
+    All-permutation (IsRankedIn names properties) (with_indices ranks) order moved (λ index d within.
+    let inside : index < length ranks = omega (arith, length-with_indices ranks) in
+    subst (IsRankedIn names properties) (sym (with_indices_at ranks index d inside))
+    (MatchOption-at_some ⊤ (λ rank. IsRankedIn names properties (rank, index)) (get_or ranks index d.0)
+    (slice_get-get_or ranks index d.0 inside) (AllZip-right (HasNumber names) properties ranks numbered index)))
+
+-- So each index is one of a property.
+pub all_within : (names : List (List ℕ)) (properties : List FileProperty) (ranks : List ℕ) (order : List (ℕ × ℕ)) →
+    AllZip (HasNumber names) properties ranks → IsPermutation (with_indices ranks) order →
+    All (λ ranked. ranked.1 < length properties) order
+all_within names properties ranks order numbered moved k d within =
+    by_property (get_or order k d) (slice_get properties (get_or order k d).1) refl
+    (all_ranked names properties ranks order numbered moved k d within)
   where
-    by_cmp : (o : Ordering) → nat_cmp rank e.0 ≡ o → AllByRecursion (IsAtRank names) (insert_entry nat_cmp es rank entry) →
-        AllByRecursion (IsAtRank names) (match_ordering o ((rank, entry) ∷ e ∷ es) ((e.0, entry) ∷ es) (e ∷ insert_entry nat_cmp es rank entry))
-    by_cmp Less is later = (at_rank, at_ranks)
-    by_cmp Equal is later = (subst (λ r. IsAtRank names (r, entry)) (nat_cmp-IsAntisymmetric rank e.0 is) at_rank, at_ranks.1)
-    by_cmp Greater is later = (at_ranks.0, later)
+    by_property : (ranked : ℕ × ℕ) (found : Option FileProperty) → slice_get properties ranked.1 ≡ found →
+        IsSomeAnd found (λ property. HasNumber names property ranked.0) → ranked.1 < length properties
+    by_property ranked None there is = absurd is
+    by_property ranked (Some property) there is = slice_get_within properties ranked.1 property there
 
--- Some properties of a node are among the entries, and the others are left, with their ranks.
-pub record IsRanking (names : List (List ℕ)) (own : FileNode) (es : List (ℕ × MapEntry)) (left : List FileProperty) (ranks : List ℕ)
+-- The name of the entry has this rank.
+abbrev IsNamedAt : List (List ℕ) → ℕ × ℕ → MapEntry → Type 0
+IsNamedAt names ranked entry = slice_get names ranked.0 ≡ Some entry.name.now
+
+-- A rank is that of the name of the entry at its index.
+named_at : (names : List (List ℕ)) (own : FileNode) (ranked : ℕ × ℕ) (entry : MapEntry) → IsRankedIn names own.properties ranked →
+    IsEntryAt own ranked entry → IsNamedAt names ranked entry
+named_at names own ranked entry is at = by_property (slice_get own.properties ranked.1) refl is
+  where
+    by_property : (found : Option FileProperty) → slice_get own.properties ranked.1 ≡ found →
+        IsSomeAnd found (λ property. HasNumber names property ranked.0) → slice_get names ranked.0 ≡ Some entry.name.now
+    by_property None there is = absurd is
+    by_property (Some property) there is =
+        let parts = some_pair_parts property.name entry.name.now property.value (value_bytes entry.value)
+        (sym (slice_get-map property_of own.properties ranked.1 ∙ ap (option_map property_of) there) ∙ at.1) in
+        is ∙ ap (λ name. Some name) parts.0
+
+-- So it is for all entries.
+named_entries : (names : List (List ℕ)) (own : FileNode) (order : List (ℕ × ℕ)) (entries : List MapEntry) →
+    All (IsRankedIn names own.properties) order →
+    AllZip (IsEntryAt own) order entries → AllZip (IsNamedAt names) order entries
+named_entries names own [] [] ranked at = tt
+named_entries names own [] (entry ∷ entries) ranked at = absurd at
+named_entries names own (first ∷ order) [] ranked at = absurd at
+named_entries names own (first ∷ order) (entry ∷ entries) ranked at = (
+  named_at names own first entry (ranked 0 first (omega arith)) at.0,
+  named_entries names own order entries (All-tail (IsRankedIn names own.properties) first order ranked) at.1,
+)
+
+-- ---- entries in byte order
+
+-- A name whose rank is below others is before their entries.
+below_entries : (names : List (List ℕ)) → IsStrictlySortedBy (slice_cmp nat_cmp) names →
+    (rank : ℕ) (name : List ℕ) → slice_get names rank ≡ Some name →
+    (order : List (ℕ × ℕ)) (entries : List MapEntry) → AllZip (IsNamedAt names) order entries →
+    AllByRecursion (λ other. nat_cmp rank other ≡ Less) (ranks_of order) → T (below_all (slice_cmp nat_cmp) name (properties_in entries))
+below_entries names ascend rank name there [] [] named below = tt
+below_entries names ascend rank name there [] (entry ∷ entries) named below = absurd named
+below_entries names ascend rank name there (ranked ∷ order) [] named below = absurd named
+below_entries names ascend rank name there (ranked ∷ order) (entry ∷ entries) named below =
+    both_hold (is_lt (slice_cmp nat_cmp name entry.name.now)) (below_all (slice_cmp nat_cmp) name (properties_in entries))
+    (subst (λ o. T (is_lt o)) (sym (rank_cmp names ascend rank ranked.0 name entry.name.now there named.0 ∙ below.0)) tt)
+    (below_entries names ascend rank name there order entries named.1 below.1)
+
+-- Entries whose ranks rise are in byte order of their names.
+rising_entries : (names : List (List ℕ)) → IsStrictlySortedBy (slice_cmp nat_cmp) names → (order : List (ℕ × ℕ)) (entries : List MapEntry) →
+    AllZip (IsNamedAt names) order entries → IsStrictlySortedBy nat_cmp (ranks_of order) →
+    T (is_sorted (slice_cmp nat_cmp) (properties_in entries))
+rising_entries names ascend [] [] named rise = tt
+rising_entries names ascend [] (entry ∷ entries) named rise = absurd named
+rising_entries names ascend (ranked ∷ order) [] named rise = absurd named
+rising_entries names ascend (ranked ∷ order) (entry ∷ entries) named rise =
+    both_hold (below_all (slice_cmp nat_cmp) entry.name.now (properties_in entries)) (is_sorted (slice_cmp nat_cmp) (properties_in entries))
+    (below_entries names ascend ranked.0 entry.name.now named.0 order entries named.1 (sorted_head nat_cmp ranked.0 (ranks_of order) rise))
+    (rising_entries names ascend order entries named.1 (sorted_tail nat_cmp ranked.0 (ranks_of order) rise))
+
+-- ---- entries of all properties
+
+-- The properties of the entries are those at the indices.
+properties_at : (own : FileNode) (order : List (ℕ × ℕ)) (entries : List MapEntry) → AllZip (IsEntryAt own) order entries →
+    properties_in entries ≡ map (λ index. get_or (properties_of own) index ([], [])) (indices_of order)
+properties_at own [] [] at = refl
+properties_at own [] (entry ∷ entries) at = absurd at
+properties_at own (ranked ∷ order) [] at = absurd at
+properties_at own (ranked ∷ order) (entry ∷ entries) at =
+    ap₂ (λ first later. first ∷ later)
+    (sym (get_or_from_slice_get (properties_of own) ranked.1 (entry.name.now, value_bytes entry.value) ([], []) at.0.1))
+    (properties_at own order entries at.1)
+
+-- They are all of the properties, in another order.
+moved_properties : (own : FileNode) (ranks : List ℕ) (order : List (ℕ × ℕ)) (entries : List MapEntry) →
+    length ranks ≡ length own.properties → IsPermutation (with_indices ranks) order → AllZip (IsEntryAt own) order entries →
+    IsPermutation (properties_of own) (properties_in entries)
+moved_properties own ranks order entries long moved at =
+    let property_at : ℕ → Property = λ index. get_or (properties_of own) index ([], []) in
+    let indices = range_with_len 0 (length ranks) in
+    let count : length (properties_of own) ≡ length ranks = length-map own.properties property_of ∙ sym long in
+    let all : properties_of own ≡ map property_at indices =
+    fill_by_all property_at (properties_of own) (length ranks) ([], []) count (λ k within. refl) in
+    let same_indices : indices_of (with_indices ranks) ≡ indices =
+    seconds-zip ranks indices (length-range_with_len 0 (length ranks)) in
+    subst (IsPermutation (properties_of own)) (sym (properties_at own order entries at))
+    (subst (λ (l : List Property). IsPermutation l (map property_at (indices_of order))) (ap (map property_at) same_indices ∙ sym all)
+    (IsPermutation-map property_at (indices_of (with_indices ranks)) (indices_of order)
+    (IsPermutation-map (λ (ranked : ℕ × ℕ). ranked.1) (with_indices ranks) order moved)))
+
+-- ---- properties by name, in any order
+
+-- Whether two names are equal, by their order.
+abbrev same_name : List ℕ → List ℕ → Bool
+same_name = eq_by_cmp (slice_cmp nat_cmp)
+
+-- A name is none of those among which it is new,
+names_differ : (name : List ℕ) (others : List (List ℕ)) → IsNew name others → AllByRecursion (λ other. same_name name other ≡ false) others
+names_differ name [] new = tt
+names_differ name (other ∷ others) new = (by_test (bytes_eq name other) refl, names_differ name others new.1)
+  where
+    by_test : (b : Bool) → bytes_eq name other ≡ b → same_name name other ≡ false
+    by_test true equal = absurd (new.0 (sym ((bytes_eq-Decides name other).0 equal)))
+    by_test false differ = is_eq-slice_cmp name other ∙ differ
+
+-- so distinct names differ.
+distinct_names : (names : List (List ℕ)) → AreDistinct names → IsDistinct same_name names
+unfolding IsDistinct
+distinct_names [] distinct = tt
+distinct_names (name ∷ names) distinct = (names_differ name names distinct.0, distinct_names names distinct.1)
+
+-- A look-up finds what a scan finds.
+find_is : (name : List ℕ) (properties : List Property) → find (slice_cmp nat_cmp) name properties ≡ lookup (same_name name) properties
+find_is name [] = refl
+find_is name (property ∷ properties) = ap (cond (same_name name property.0) (Some property.1)) (find_is name properties)
+
+-- What is found among properties is found among them in another order,
+found_moved : (properties moved : List Property) (name value : List ℕ) → IsPermutation properties moved →
+    IsDistinct same_name (keys_of moved) →
+    lookup (same_name name) properties ≡ Some value → lookup (same_name name) moved ≡ Some value
+found_moved properties moved name value is_moved distinct found =
+    lookup-from_Contains (eq_by_cmp_equiv nat_list_cmp_total) name value moved distinct
+    (Contains-permutation properties moved (name, value) is_moved
+    (Contains-from_lookup (λ x y equal. (bytes_eq-Decides x y).0 (sym (is_eq-slice_cmp x y) ∙ equal)) name value properties found))
+
+-- and nothing else is.
+same_found : (properties moved : List Property) (name : List ℕ) → IsPermutation properties moved →
+    IsDistinct same_name (keys_of properties) →
+    IsDistinct same_name (keys_of moved) → lookup (same_name name) properties ≡ lookup (same_name name) moved
+same_found properties moved name is_moved distinct moved_distinct =
+    by_found (lookup (same_name name) properties) (lookup (same_name name) moved) refl refl
+  where
+    by_found : (found other : Option (List ℕ)) → lookup (same_name name) properties ≡ found → lookup (same_name name) moved ≡ other →
+        lookup (same_name name) properties ≡ lookup (same_name name) moved
+    by_found (Some value) other is other_is = is ∙ sym (found_moved properties moved name value is_moved moved_distinct is)
+    by_found None (Some value) is other_is =
+        let back = IsPermutation-sym properties moved is_moved in
+        absurd (none-some value (sym is ∙ found_moved moved properties name value back distinct other_is))
+    by_found None None is other_is = is ∙ sym other_is
+
+-- Properties of distinct names are the same by name in byte order.
+sorted_by_name : (properties moved : List Property) → AreDistinct (map (λ property. property.0) properties) →
+    IsPermutation properties moved → T (is_sorted (slice_cmp nat_cmp) moved) →
+    from_sorted {R = slice_cmp nat_cmp} moved ≡ from_entries properties
+sorted_by_name properties moved distinct is_moved sorted =
+    let apart = distinct_names (map (λ (property : Property). property.0) properties) distinct in
+    let moved_apart : IsDistinct same_name (keys_of moved) =
+    IsDistinct-IsPermutation same_name (eq_by_cmp_equiv nat_list_cmp_total).symm (keys_of properties) (keys_of moved)
+    (IsPermutation-map (λ (property : Property). property.0) properties moved is_moved) apart in
+    same _ _ (λ name.
+    get-from_sorted (slice_cmp nat_cmp) moved name sorted
+    ∙ find_is name moved
+    ∙ sym (same_found properties moved name is_moved apart moved_apart)
+    ∙ sym (find_is name properties)
+    ∙ sym (get-from_entries nat_list_cmp_total properties name))
+
+-- ---- what is known of the map
+
+-- These are the entries of the properties of a node, in the order of the ranks of their names.
+pub record AreOrdered (names : List (List ℕ)) (own : FileNode) (ranks : List ℕ) (order : List (ℕ × ℕ)) (entries : List MapEntry)
     : Type 0 where
-  pub at_ranks : AllByRecursion (IsAtRank names) es
-  pub in_order : T (is_sorted (slice_cmp nat_cmp) (properties_in (ranked_entries es)))
-  pub to_come : insert_all (from_sorted (properties_in (ranked_entries es))) (map property_of left) ≡ properties_by_name own
-  pub numbered : AllZip (HasNumber names) left ranks
+  pub ascend : IsStrictlySortedBy (slice_cmp nat_cmp) names
+  pub numbered : AllZip (HasNumber names) own.properties ranks
+  pub moved : IsPermutation (with_indices ranks) order
+  pub sorted : IsSorted ranked_cmp order
+  pub at : AllZip (IsEntryAt own) order entries
 
--- The next of them becomes an entry.
-pub ranking_more : (names : List (List ℕ)) → IsStrictlySortedBy (slice_cmp nat_cmp) names →
-    (own : FileNode) (es new : List (ℕ × MapEntry)) (property : FileProperty) (left : List FileProperty) (rank : ℕ) (ranks : List ℕ)
-    (entry : MapEntry) →
-    IsRanking names own es (property ∷ left) (rank ∷ ranks) → new ≡ insert_entry nat_cmp es rank entry →
-    entry.number ≡ Some rank → entry.name.now ≡ property.name → value_bytes entry.value ≡ property.value →
-    IsRanking names own new left ranks
-ranking_more names ordered own es new property left rank ranks entry ranking is number same_name same_value =
-    let at_rank : IsAtRank names (rank, entry) = (number, ranking.numbered.0 ∙ ap (λ n. Some n) (sym same_name)) in
-    let properties : properties_in (ranked_entries new) ≡ put (slice_cmp nat_cmp) property.name property.value (properties_in (ranked_entries es)) =
-    ap (λ l. properties_in (ranked_entries l)) is
-    ∙ properties-insert_ranked names ordered es rank entry ranking.at_ranks at_rank
-    ∙ ap (λ n. put (slice_cmp nat_cmp) n (value_bytes entry.value) (properties_in (ranked_entries es))) same_name
-    ∙ ap (λ v. put (slice_cmp nat_cmp) property.name v (properties_in (ranked_entries es))) same_value in
-    record {
-      at_ranks = subst (AllByRecursion (IsAtRank names)) (sym is) (at_ranks-insert names es rank entry ranking.at_ranks at_rank);
-      in_order = subst (λ l. T (is_sorted (slice_cmp nat_cmp) l)) (sym properties) (sorted-put (properties_in (ranked_entries es)) property.name property.value ranking.in_order);
-      to_come = ap (λ l. insert_all (from_sorted l) (map property_of left)) properties
-          ∙ ap (λ m. insert_all m (map property_of left)) (from_sorted-put (properties_in (ranked_entries es)) property.name property.value ranking.in_order)
-          ∙ ranking.to_come;
-      numbered = ranking.numbered.1;
-    }
+-- Their names have the ranks.
+ordered_names : (names : List (List ℕ)) (own : FileNode) (ranks : List ℕ) (order : List (ℕ × ℕ)) (entries : List MapEntry) →
+    AreOrdered names own ranks order entries → AllZip (IsNamedAt names) order entries
+ordered_names names own ranks order entries are =
+    named_entries names own order entries (all_ranked names own.properties ranks order are.numbered are.moved) are.at
 
--- In the end all are.
-pub ranking_done : (names : List (List ℕ)) (own : FileNode) (es : List (ℕ × MapEntry)) (left : List FileProperty) (ranks : List ℕ) →
-    (left ≡ []) ⊎ (ranks ≡ []) → IsRanking names own es left ranks → AreByRank names own es
-ranking_done names own es [] ranks ended ranking = record { at_ranks = ranking.at_ranks; in_order = ranking.in_order; complete = ranking.to_come }
-ranking_done names own es (property ∷ left) [] ended ranking = absurd ranking.numbered
-ranking_done names own es (property ∷ left) (rank ∷ ranks) (inl none) ranking = absurd cc
-ranking_done names own es (property ∷ left) (rank ∷ ranks) (inr none) ranking = absurd cc
+-- They are in byte order.
+pub ordered_entries : (names : List (List ℕ)) (own : FileNode) (ranks : List ℕ) (order : List (ℕ × ℕ)) (entries : List MapEntry) →
+    HasDistinctNames own → AreOrdered names own ranks order entries → T (is_sorted (slice_cmp nat_cmp) (properties_in entries))
+ordered_entries names own ranks order entries distinct are =
+    rising_entries names are.ascend order entries (ordered_names names own ranks order entries are)
+    (ranks_rise ranks order are.moved are.sorted (distinct_ranks names own.properties ranks are.numbered distinct))
+
+-- They are the properties by name.
+pub ordered_by_name : (names : List (List ℕ)) (own : FileNode) (ranks : List ℕ) (order : List (ℕ × ℕ)) (entries : List MapEntry) →
+    HasDistinctNames own → AreOrdered names own ranks order entries → from_sorted (properties_in entries) ≡ properties_by_name own
+ordered_by_name names own ranks order entries distinct are =
+    sorted_by_name (properties_of own) (properties_in entries) distinct
+    (moved_properties own ranks order entries (AllZip-long (HasNumber names) own.properties ranks are.numbered) are.moved are.at)
+    (ordered_entries names own ranks order entries distinct are)
+
+-- The number of each entry is the rank of its name.
+entry_numbers : (names : List (List ℕ)) (own : FileNode) (order : List (ℕ × ℕ)) (entries : List MapEntry) →
+    AllZip (IsEntryAt own) order entries →
+    AllZip (IsNamedAt names) order entries → AreNumbersIn names (numbers_in entries)
+entry_numbers names own [] [] at named = tt
+entry_numbers names own [] (entry ∷ entries) at named = absurd at
+entry_numbers names own (ranked ∷ order) [] at named = absurd at
+entry_numbers names own (ranked ∷ order) (entry ∷ entries) at named =
+    subst (λ number. AreNumbersIn names (map (λ n. (entry.name.now, n)) (option_to_list number) ++ numbers_in entries)) (sym at.0.0)
+    (named.0, entry_numbers names own order entries at.1 named.1)
 
 -- The numbers of the entries are those of their names.
-pub ranks_are_numbers : (names : List (List ℕ)) (es : List (ℕ × MapEntry)) → AllByRecursion (IsAtRank names) es →
-    AllByRecursion (λ e. slice_get names e.1 ≡ Some e.0) (numbers_in (ranked_entries es))
-ranks_are_numbers names [] at_ranks = tt
-ranks_are_numbers names (e ∷ es) at_ranks =
-    subst (λ number. AllByRecursion (λ e. slice_get names e.1 ≡ Some e.0) (map (λ n. (e.1.name.now, n)) (option_to_list number) ++ numbers_in (ranked_entries es))) (sym at_ranks.0.0)
-    (at_ranks.0.1, ranks_are_numbers names es at_ranks.1)
+pub ordered_numbers : (names : List (List ℕ)) (own : FileNode) (ranks : List ℕ) (order : List (ℕ × ℕ)) (entries : List MapEntry) →
+    AreOrdered names own ranks order entries → AreNumbersIn names (numbers_in entries)
+ordered_numbers names own ranks order entries are =
+    entry_numbers names own order entries are.at (ordered_names names own ranks order entries are)

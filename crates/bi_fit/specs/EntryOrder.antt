@@ -1,14 +1,13 @@
-use Rattle.std.specs.Prelude.{◌≡◌, ℕ, suc, List, [], ◌∷◌, map, Bool, false, Option, Some, None, T}
+use Rattle.std.specs.Prelude.{◌≡◌, ℕ, suc, List, [], ◌∷◌, length, Bool, false, Option, Some, None}
 use Rattle.std.specs.Prelude.{slice_get, bytes_eq}
-use Rattle.std.specs.Ordering.{nat_cmp}
+use Rattle.std.specs.Ordering.{nat_cmp, ordering_then}
+use Rattle.std.specs.declared.cmp.Ordering.{Ordering}
 use Rattle.std.specs.Cmp.Lexicographic.{slice_cmp}
-use Rattle.std.specs.List.{AllByRecursion}
-use Rattle.std.specs.FinMap.{from_sorted, is_sorted}
+use Rattle.std.specs.List.{zip, range_with_len}
 use Rattle.std.specs.FinMap.Entries.{by_order}
-use Rattle.bi_blob.specs.Tree.{FileNode}
+use Rattle.bi_lay.specs.Values.{value_bytes}
+use Rattle.bi_blob.specs.Tree.{FileNode, properties_of}
 use Rattle.bi_fit.specs.declared.document.property_map.MapEntry.{MapEntry}
-use Rattle.bi_fit.specs.NormalNodes.{properties_by_name}
-use Rattle.bi_fit.specs.PropertyMaps.{properties_in}
 
 -- The order of the entries of a map of properties.
 
@@ -23,15 +22,17 @@ abbrev pub is_entry_named : Option MapEntry → (name : List ℕ) → Bool
 is_entry_named None name = false
 is_entry_named (Some entry) name = bytes_eq entry.name.now name
 
--- The entry has the name of this rank, and has the rank as its number.
-abbrev pub IsAtRank : List (List ℕ) → ℕ × MapEntry → Type 0
-IsAtRank names entry =
-    (entry.1.number ≡ Some entry.0) × (slice_get names entry.0 ≡ Some entry.1.name.now)
+-- These ranks, each before its index.
+abbrev pub with_indices : List ℕ → List (ℕ × ℕ)
+with_indices ranks = zip ranks (range_with_len 0 (length ranks))
 
--- These are the entries of the properties of a node, by the ranks of their names.
-pub record AreByRank (names : List (List ℕ)) (own : FileNode) (entries : List (ℕ × MapEntry))
-    : Type 0 where
-  pub at_ranks : AllByRecursion (IsAtRank names) entries
-  pub in_order : T (is_sorted (slice_cmp nat_cmp) (properties_in (map (λ entry. entry.1) entries)))
-  pub complete : from_sorted (properties_in (map (λ entry. entry.1) entries))
-      ≡ properties_by_name own
+-- The order of ranks with their indices: by the ranks, and for equal ranks by the indices.
+abbrev pub ranked_cmp : ℕ × ℕ → ℕ × ℕ → Ordering
+ranked_cmp ranked other = ordering_then (nat_cmp ranked.0 other.0) (nat_cmp ranked.1 other.1)
+
+-- The entry has the name and the value of the property at this index, and has this rank as its
+-- number.
+abbrev pub IsEntryAt : FileNode → ℕ × ℕ → MapEntry → Type 0
+IsEntryAt own ranked entry =
+    (entry.number ≡ Some ranked.0)
+    × (slice_get (properties_of own) ranked.1 ≡ Some (entry.name.now, value_bytes entry.value))

@@ -1,6 +1,7 @@
 //! The properties of a node, by name.
 
-ghost use Rattle.std.specs.Prelude.{◌≡◌, ℕ, List, map, slice_get, OnOk, IfOk, IfErr};
+ghost use Rattle.std.specs.Prelude.{◌≡◌, ◌<◌, ℕ, List, length, map, slice_get, OnOk, IfOk, IfErr};
+ghost use Rattle.std.specs.List.Sorted.{IsPermutation, IsSorted};
 ghost use Rattle.std.specs.FinMap.{empty, entries};
 ghost use Rattle.std.specs.Option.{option_map};
 ghost use Rattle.bi_base.specs.declared.fault.Error.TheVariants.{OutOfMemory};
@@ -19,7 +20,8 @@ ghost use Rattle.bi_fit.specs.PropertyMapModels.{without_numbers, with_property_
 ghost use Rattle.bi_fit.specs.PropertyMapModels.{AreNumbersIn};
 ghost use Rattle.bi_fit.specs.PropertyMaps.{number_in};
 ghost use Rattle.bi_fit.specs.RankedNodes.{sibling_of, HasRanks};
-ghost use Rattle.bi_fit.specs.EntryOrder.{index_of_name, is_entry_named, AreByRank};
+ghost use Rattle.bi_fit.specs.EntryOrder.{index_of_name, is_entry_named, with_indices};
+ghost use Rattle.bi_fit.specs.EntryOrder.{ranked_cmp, IsEntryAt};
 
 use crate::document::ranked_node::RankedNode;
 use crate::form::Form;
@@ -27,7 +29,6 @@ use bi_base::Error;
 use bi_hash::Algo;
 use bi_lay::{Doc, Value};
 use std::alloc::{AllocError, Global};
-use std::collections::BTreeMap;
 use std::marker::Model;
 
 /// The properties of a node, by name. Names and values are borrowed and not copied.
@@ -82,10 +83,10 @@ impl<'a> PropertyMap<'a> {
         ensures numbers { (names : List (List ℕ)) → HasRanks names node.entry →
             IfOk result (HaveNumbers names) }
     {
-        let by_rank = entries_by_rank(alloc, node)?;
-        let mut entries = Vec::new(alloc);
-        for (_, entry) in &by_rank {
-            entries.push(*entry)?;
+        let order = order_by_rank(alloc, node.name_ranks())?;
+        let mut entries = Vec::with_capacity(alloc, order.len())?;
+        for (rank, index) in &order {
+            entries.push(entry_at(node, *rank, *index))?;
         }
         Ok(PropertyMap { entries })
     }
@@ -226,26 +227,31 @@ fn add_entry<'a>(doc: &mut Doc<'a>, entry: MapEntry<'a>) -> Result<(), Error>
     }
 }
 
-/// The entries of the properties of a node, by the ranks of their names.
-fn entries_by_rank<'a>(
-    alloc: Global,
-    node: RankedNode<'a, '_>,
-) -> Result<BTreeMap<usize, MapEntry<'a>>, AllocError>
-    requires ranks { (names : List (List ℕ)) × HasRanks names node }
-    requires distinct { HasDistinctNames (sibling_of node).own }
-    ensures { (names : List (List ℕ)) → HasRanks names node.entry →
-        IfOk result (λ by_rank. AreByRank names (sibling_of node.entry).own by_rank.entries) }
+/// Returns these ranks in ascending order, each before its index. Fails if memory runs out.
+fn order_by_rank(alloc: Global, ranks: &[usize]) -> Result<Vec<(usize, usize)>, AllocError>
+    ensures permutation { IfOk result (λ order.
+        IsPermutation (with_indices ranks.now) order.items) }
+    ensures sorted { IfOk result (λ order. IsSorted ranked_cmp order.items) }
 {
-    let mut by_rank = BTreeMap::new(alloc);
-    for (property, rank) in node.properties().zip(node.name_ranks()) {
-        let entry = MapEntry {
-            name: property.name,
-            number: Some(*rank),
-            value: Value::Slice(property.value),
-        };
-        by_rank.insert(*rank, entry)?;
+    let mut order = Vec::with_capacity(alloc, ranks.len())?;
+    for (index, rank) in ranks.iter().enumerate() {
+        order.push((*rank, index))?;
     }
-    Ok(by_rank)
+    order.sort()?;
+    Ok(order)
+}
+
+/// Returns the entry of the property at an index of a node, with this rank as its number.
+fn entry_at<'a>(node: RankedNode<'a, '_>, rank: usize, index: usize) -> MapEntry<'a>
+    requires { index < length (sibling_of node).own.properties }
+    ensures { IsEntryAt (sibling_of node.entry).own (rank, index) result }
+{
+    let (name, value) = node.property_at(index).unwrap();
+    MapEntry {
+        name,
+        number: Some(rank),
+        value: Value::Slice(value),
+    }
 }
 
 /// The index of the first of these entries, which are in byte order of their names, whose name is

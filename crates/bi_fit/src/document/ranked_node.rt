@@ -1,12 +1,13 @@
 //! Nodes of a blob, with the ranks of the names of its properties.
 
-ghost use Rattle.std.specs.Prelude.{◌≡◌, ℕ, List, IfSome};
+ghost use Rattle.std.specs.Prelude.{◌≡◌, ℕ, List, slice_get, IfSome};
 ghost use Rattle.std.specs.Option.{option_map};
 ghost use Rattle.std.specs.List.{AllZip};
 ghost use Rattle.bi_blob.specs.Lookups.{node_at};
+ghost use Rattle.bi_blob.specs.Tree.{properties_of};
 ghost use Rattle.bi_fdt.specs.Numbers.{HasNumber};
 
-use bi_fdt::{NodeRef, Properties};
+use bi_fdt::NodeRef;
 
 /// A node of a blob, with the ranks of the names of all properties of the blob. A name that is
 /// greater in byte order has a greater rank.
@@ -26,11 +27,13 @@ impl<'a, 'b> RankedNode<'a, 'b> {
         self.node.name()
     }
 
-    /// The properties in their order in the file.
-    pub(super) fn properties(self) -> Properties<'a, 'b>
-        ensures { result ≡ (sibling_of self.entry).own.properties }
+    /// The name and value of property `index`, from 0, in the order of the file. None exactly if
+    /// there is no such property. Takes constant time.
+    pub(super) fn property_at(self, index: usize) -> Option<(&'a [u8], &'a [u8])>
+        ensures { option_map (λ property. (property.0.now, property.1.now)) result
+            ≡ slice_get (properties_of (sibling_of self.entry).own) index }
     {
-        self.node.properties()
+        self.node.property_at(index)
     }
 
     /// The ranks of the names of the properties, in their order in the file.
