@@ -18,7 +18,7 @@ pub mod NumberedTables
 pub mod NameParts
 pub mod NameTails
 pub mod NumberedNames
-pub mod EntryOrder
+pub mod MovedIndices
 pub mod NameTables
 pub mod SortedNames
 pub mod NumberedRanks

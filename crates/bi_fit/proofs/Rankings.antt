@@ -37,6 +37,7 @@ use Rattle.bi_fit.specs.NormalNodes.{HasDistinctNames, properties_by_name}
 use Rattle.bi_fit.specs.PropertyMapModels.{AreNumbersIn}
 use Rattle.bi_fit.specs.PropertyMaps.{properties_in, numbers_in}
 use Rattle.bi_fit.specs.EntryOrder.{with_indices, ranked_cmp, IsEntryAt}
+use Rattle.bi_fit.proofs.MovedPairs.{lookup_moved, keys_ascend}
 use Rattle.bi_fit.proofs.PayloadProperties.{same}
 
 -- The entries of the properties of a node, in the order of the ranks of their names.
@@ -130,22 +131,6 @@ indices_of order = map (λ ranked. ranked.1) order
 
 -- ---- ranks in order
 
--- What is not before another by two orders in turn is not before it by the first.
-not_before : (first second : Ordering) → is_lt (ordering_then first second) ≡ false → is_lt first ≡ false
-not_before Less second is = is
-not_before Equal second is = refl
-not_before Greater second is = refl
-
--- Ranks that were put in order with their indices do not fall.
-ranks_ascend : (order : List (ℕ × ℕ)) → IsSorted ranked_cmp order → IsSortedBy (λ a b. is_lt (nat_cmp a b)) (ranks_of order)
-ranks_ascend order sorted k d least within =
-    let long : k + 1 < length order = omega (arith, length-map order (λ (ranked : ℕ × ℕ). ranked.0)) in
-    let later = get_or order (k + 1) (d, 0) in
-    let sooner = get_or order k (d, 0) in
-    (λ i. is_lt (nat_cmp (get_or-map (λ (ranked : ℕ × ℕ). ranked.0) order (k + 1) (d, 0) d long i)
-    (get_or-map (λ (ranked : ℕ × ℕ). ranked.0) order k (d, 0) d (omega arith) i)))
-    ∙ not_before (nat_cmp later.0 sooner.0) (nat_cmp later.1 sooner.1) (sorted k (d, 0) least long)
-
 -- The rank of a name is none of the ranks of other names.
 ranks_differ : (names : List (List ℕ)) (rank : ℕ) (name : List ℕ) → slice_get names rank ≡ Some name →
     (properties : List FileProperty) (ranks : List ℕ) → AllZip (HasNumber names) properties ranks →
@@ -176,14 +161,10 @@ distinct_ranks names (property ∷ properties) (rank ∷ ranks) numbered distinc
 ranks_rise : (ranks : List ℕ) (order : List (ℕ × ℕ)) → IsPermutation (with_indices ranks) order → IsSorted ranked_cmp order →
     IsDistinct eqb ranks → IsStrictlySortedBy nat_cmp (ranks_of order)
 ranks_rise ranks order moved sorted distinct =
-    let all : IsPermutation ranks (ranks_of order) =
-    subst (λ (l : List ℕ). IsPermutation l (ranks_of order))
-    (firsts-zip ranks (range_with_len 0 (length ranks)) (length-range_with_len 0 (length ranks)))
-    (IsPermutation-map (λ (ranked : ℕ × ℕ). ranked.0) (with_indices ranks) order moved) in
-    sorted_from_strictly_increasing (ranks_of order)
-    (IsStrictlyIncreasing-from_distinct (ranks_of order)
-    (IsNonDecreasingBy-from_sort (λ (rank : ℕ). rank) (ranks_of order) (ranks_ascend order sorted))
-    (IsDistinct-IsPermutation eqb nat_eq_equiv.symm ranks (ranks_of order) all distinct))
+    let same_ranks : ranks_of (with_indices ranks) ≡ ranks =
+    firsts-zip ranks (range_with_len 0 (length ranks)) (length-range_with_len 0 (length ranks)) in
+    keys_ascend (λ ranked other. nat_cmp ranked.1 other.1) (with_indices ranks) order moved
+    (subst (λ (l : List ℕ). IsDistinct eqb l) (sym same_ranks) distinct) sorted
 
 -- ---- entries at indices
 
@@ -343,43 +324,17 @@ find_is : (name : List ℕ) (properties : List Property) → find (slice_cmp nat
 find_is name [] = refl
 find_is name (property ∷ properties) = ap (cond (same_name name property.0) (Some property.1)) (find_is name properties)
 
--- What is found among properties is found among them in another order,
-found_moved : (properties moved : List Property) (name value : List ℕ) → IsPermutation properties moved →
-    IsDistinct same_name (keys_of moved) →
-    lookup (same_name name) properties ≡ Some value → lookup (same_name name) moved ≡ Some value
-found_moved properties moved name value is_moved distinct found =
-    lookup-from_Contains (eq_by_cmp_equiv nat_list_cmp_total) name value moved distinct
-    (Contains-permutation properties moved (name, value) is_moved
-    (Contains-from_lookup (λ x y equal. (bytes_eq-Decides x y).0 (sym (is_eq-slice_cmp x y) ∙ equal)) name value properties found))
-
--- and nothing else is.
-same_found : (properties moved : List Property) (name : List ℕ) → IsPermutation properties moved →
-    IsDistinct same_name (keys_of properties) →
-    IsDistinct same_name (keys_of moved) → lookup (same_name name) properties ≡ lookup (same_name name) moved
-same_found properties moved name is_moved distinct moved_distinct =
-    by_found (lookup (same_name name) properties) (lookup (same_name name) moved) refl refl
-  where
-    by_found : (found other : Option (List ℕ)) → lookup (same_name name) properties ≡ found → lookup (same_name name) moved ≡ other →
-        lookup (same_name name) properties ≡ lookup (same_name name) moved
-    by_found (Some value) other is other_is = is ∙ sym (found_moved properties moved name value is_moved moved_distinct is)
-    by_found None (Some value) is other_is =
-        let back = IsPermutation-sym properties moved is_moved in
-        absurd (none-some value (sym is ∙ found_moved moved properties name value back distinct other_is))
-    by_found None None is other_is = is ∙ sym other_is
-
 -- Properties of distinct names are the same by name in byte order.
 sorted_by_name : (properties moved : List Property) → AreDistinct (map (λ property. property.0) properties) →
     IsPermutation properties moved → T (is_sorted (slice_cmp nat_cmp) moved) →
     from_sorted {R = slice_cmp nat_cmp} moved ≡ from_entries properties
 sorted_by_name properties moved distinct is_moved sorted =
-    let apart = distinct_names (map (λ (property : Property). property.0) properties) distinct in
-    let moved_apart : IsDistinct same_name (keys_of moved) =
-    IsDistinct-IsPermutation same_name (eq_by_cmp_equiv nat_list_cmp_total).symm (keys_of properties) (keys_of moved)
-    (IsPermutation-map (λ (property : Property). property.0) properties moved is_moved) apart in
     same _ _ (λ name.
     get-from_sorted (slice_cmp nat_cmp) moved name sorted
     ∙ find_is name moved
-    ∙ sym (same_found properties moved name is_moved apart moved_apart)
+    ∙ lookup_moved same_name (eq_by_cmp_equiv nat_list_cmp_total)
+    (λ x y equal. (bytes_eq-Decides x y).0 (sym (is_eq-slice_cmp x y) ∙ equal)) properties moved is_moved
+    (distinct_names (map (λ (property : Property). property.0) properties) distinct) name
     ∙ sym (find_is name properties)
     ∙ sym (get-from_entries nat_list_cmp_total properties name))
 

@@ -22,9 +22,9 @@ use Rattle.bi_blob.specs.Tree.{FileProperty}
 use Rattle.bi_blob.proofs.Texts.NormalEvents.{both_hold}
 use Rattle.bi_fit.specs.declared.comparing.role.Role.{Role}
 use Rattle.bi_fit.specs.ComparedNodes.{is_compared, paired_value, value_numbered}
+use Rattle.bi_fit.proofs.MovedPairs.{lookup_moved}
 
--- Slices that are paired with numbers. Pairs whose numbers ascend are equal exactly if they have equal values at each number. A sort brings
--- distinct numbers into this order, and leaves each value at its number.
+-- Slices that are paired with numbers. Pairs whose numbers ascend are equal exactly if they have equal values at each number.
 
 -- A slice with its number.
 abbrev Pair : Type 0
@@ -99,59 +99,6 @@ same_values pairs others same ordered other_ordered is = (
     tells : Decides same (bytes_in pairs ≡ bytes_in others)
     tells = slice_eq-Decides same_pair (bytes_in pairs) (bytes_in others) same (is ∙ pointwise-bytes_in pairs others)
 
--- ---- the sort
-
--- A value that is found by its number is found in any order, if no number is there twice.
-found_moved : (pairs moved : List Pair) → IsPermutation pairs moved → IsDistinct nat_eq (keys_of moved) → (wanted : ℕ)
-    (value : Bor (List ℕ)) → lookup (nat_eq wanted) pairs ≡ Some value → lookup (nat_eq wanted) moved ≡ Some value
-found_moved pairs moved move distinct wanted value is =
-    lookup-from_Contains nat_eq_equiv wanted value moved distinct
-    (Contains-permutation pairs moved (wanted, value) move (Contains-from_lookup exact_unsigned_eq wanted value pairs is))
-
--- Distinct numbers stay so in any order.
-distinct_moved : (pairs moved : List Pair) → IsPermutation pairs moved → IsDistinct nat_eq (keys_of pairs) →
-    IsDistinct nat_eq (keys_of moved)
-distinct_moved pairs moved move distinct =
-    IsDistinct-IsPermutation nat_eq nat_eq_equiv.symm (keys_of pairs) (keys_of moved)
-    (IsPermutation-map (λ (pair : Pair). pair.0) pairs moved move) distinct
-
--- What is found by a number does not change when pairs with distinct numbers are moved.
-pub lookup_moved : (pairs moved : List Pair) → IsPermutation pairs moved → IsDistinct nat_eq (keys_of pairs) → (wanted : ℕ) →
-    lookup (nat_eq wanted) moved ≡ lookup (nat_eq wanted) pairs
-lookup_moved pairs moved move distinct wanted = by_result (lookup (nat_eq wanted) pairs) refl (lookup (nat_eq wanted) moved) refl
-  where
-    by_result : (found : Option (Bor (List ℕ))) → lookup (nat_eq wanted) pairs ≡ found → (other : Option (Bor (List ℕ))) → lookup (nat_eq wanted) moved ≡ other → lookup (nat_eq wanted) moved ≡ lookup (nat_eq wanted) pairs
-    by_result (Some value) is other other_is =
-        found_moved pairs moved move (distinct_moved pairs moved move distinct) wanted value is ∙ sym is
-    by_result None is (Some value) other_is =
-        other_is ∙ sym (found_moved moved pairs (IsPermutation-sym pairs moved move) distinct wanted value other_is)
-    by_result None is None other_is = other_is ∙ sym is
-
--- What comes first decides an order, unless it is equal.
-first_not_less : (first later : Ordering) → is_lt (ordering_then first later) ≡ false → is_lt first ≡ false
-first_not_less Less later is = is
-first_not_less Equal later is = refl
-first_not_less Greater later is = refl
-
--- Pairs in the order of their numbers have numbers in order.
-non_decreasing_keys : (pairs : List Pair) → IsNonDecreasingBy (λ pair. pair.0) pairs → IsNonDecreasing (keys_of pairs)
-non_decreasing_keys [] rising i j d least within = absurd (omega arith)
-non_decreasing_keys (pair ∷ pairs) rising i j d least within =
-    let all = pair ∷ pairs in
-    let short : j < length all = omega (arith, length-map all (λ (pair : Pair). pair.0)) in
-    omega (arith, get_or-map (λ (pair : Pair). pair.0) all i pair d (omega arith), get_or-map (λ (pair : Pair). pair.0) all j pair d short, rising i j pair least short)
-
--- The distinct numbers of pairs ascend after a sort.
-pub keys_ascend : (pairs sorted : List Pair) → IsPermutation pairs sorted → IsDistinct nat_eq (keys_of pairs) →
-    IsSortedBy (λ a b. is_lt (ordering_then (nat_cmp a.0 b.0) (slice_cmp nat_cmp a.1.now b.1.now))) sorted →
-    IsStrictlySortedBy nat_cmp (keys_of sorted)
-keys_ascend pairs sorted move distinct ascending =
-    sorted_from_strictly_increasing (keys_of sorted)
-    (IsStrictlyIncreasing-from_distinct (keys_of sorted)
-    (non_decreasing_keys sorted
-    (IsNonDecreasingBy-from_sort (λ (pair : Pair). pair.0) sorted (λ k d least within. first_not_less _ _ (ascending k d least within))))
-    (distinct_moved pairs sorted move distinct))
-
 -- ---- one more pair
 
 -- The last of distinct numbers are distinct,
@@ -186,7 +133,7 @@ lookup-more : (pairs : List Pair) (number : ℕ) (slice : Bor (List ℕ)) → Is
     (wanted : ℕ) →
     lookup (nat_eq wanted) (pairs ++ (number, slice) ∷ []) ≡ cond (nat_eq wanted number) (Some slice) (lookup (nat_eq wanted) pairs)
 lookup-more pairs number slice distinct wanted =
-    sym (lookup_moved (pairs ++ (number, slice) ∷ []) ((number, slice) ∷ pairs) (IsPermutation-to_front pairs (number, slice)) distinct wanted)
+    sym (lookup_moved nat_eq nat_eq_equiv exact_unsigned_eq (pairs ++ (number, slice) ∷ []) ((number, slice) ∷ pairs) (IsPermutation-to_front pairs (number, slice)) distinct wanted)
 
 -- The bytes of one more value are found by its number, and those of each other by its own.
 paired_value-more : (pairs : List Pair) (number : ℕ) (slice : Bor (List ℕ)) → IsDistinct nat_eq (keys_of (pairs ++ (number, slice) ∷ [])) →

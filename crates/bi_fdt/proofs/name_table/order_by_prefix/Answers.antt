@@ -1,5 +1,5 @@
 use Rattle.std.proofs.Common.{◌≡◌, length, arith}
-use Rattle.bi_fdt.proofs.EntryOrder.{indices_moved}
+use Rattle.bi_fdt.proofs.MovedIndices.{indices_moved}
 use Rattle.bi_fdt.proofs.name_table.order_by_prefix.Goals as goal
 
 pub returns : goal.returns

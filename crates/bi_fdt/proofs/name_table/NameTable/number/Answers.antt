@@ -7,7 +7,7 @@ use Rattle.bi_fdt.specs.Fields.{HasNameOffset, HaveNameOffsets}
 use Rattle.bi_fdt.specs.NameTables.{names_in_table}
 use Rattle.bi_fdt.specs.NameTails.{AreBlockNumbers}
 use Rattle.bi_fdt.specs.Table.{item_in}
-use Rattle.bi_fdt.proofs.EntryOrder.{moved_index_within, each_index}
+use Rattle.bi_fdt.proofs.MovedIndices.{moved_index_within, each_index}
 use Rattle.bi_fdt.proofs.NumberedNames.{IsNumberedAt, AreBlockNumbers-more, AreNumbered-each}
 use Rattle.bi_fdt.proofs.NameTables.{HasMoreNames-tails, HasMoreNames-again, item_at, numbers_more}
 use Rattle.bi_fdt.proofs.TreeNames.{HasMoreNamesOf-none, HasMoreNamesOf-entry}

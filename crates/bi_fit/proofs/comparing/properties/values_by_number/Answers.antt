@@ -1,8 +1,13 @@
-use Rattle.std.proofs.Common.{length, refl, sym, ap, ◌∙◌, arith}
+use Rattle.std.proofs.Common.{length, nat_cmp, refl, sym, ap, ◌∙◌, arith}
+use Rattle.std.specs.Prelude.{nat_eq}
+use Rattle.std.specs.Cmp.{nat_eq_equiv}
+use Rattle.std.specs.Cmp.Lexicographic.{slice_cmp}
 use Rattle.std.specs.Map.{keys_of}
 use Rattle.std.specs.Option.{option_map}
+use Rattle.std.proofs.lemmas.Map.Views.{exact_unsigned_eq}
 use Rattle.bi_fit.specs.ComparedNodes.{value_numbered, paired_value}
-use Rattle.bi_fit.proofs.ValuePairs.{distinct_front, keys_ascend, lookup_moved, values_kept, values_more}
+use Rattle.bi_fit.proofs.MovedPairs.{keys_ascend, lookup_moved}
+use Rattle.bi_fit.proofs.ValuePairs.{distinct_front, values_kept, values_more}
 use Rattle.bi_fit.proofs.comparing.properties.values_by_number.Goals as goal
 
 pub loop-property-preserved-in_ok-push : goal.loop-property-preserved-in_ok-push
@@ -32,9 +37,9 @@ returns c =
     let before = c.loop-property.invariant in
     let distinct = distinct_front (keys_of values) left before.distinct in
     record {
-      ordered = keys_ascend values c.sort.new.self.items sort.permutation distinct sort.sorted;
+      ordered = keys_ascend (λ a b. slice_cmp nat_cmp a.1.now b.1.now) values c.sort.new.self.items sort.permutation distinct sort.sorted;
       each = λ wanted.
-          ap (option_map (λ value. value.now)) (lookup_moved values c.sort.new.self.items sort.permutation distinct wanted)
+          ap (option_map (λ value. value.now)) (lookup_moved nat_eq nat_eq_equiv exact_unsigned_eq values c.sort.new.self.items sort.permutation distinct wanted)
           ∙ ap (λ properties. value_numbered c.args.role (paired_value wanted values) properties left wanted) (sym c.in-None.ensures.steps.0)
           ∙ before.each wanted;
     }
