@@ -32,6 +32,7 @@ pub mod FileLists
 pub mod SignatureCounts
 pub mod AddedEvents
 pub mod PropertyMaps
+pub mod DistinctNumbers
 pub mod MovedPairs
 pub mod Rankings
 pub mod AddedProperties

@@ -56,30 +56,6 @@ numbers_stay names more (property ∷ later) [] are = absurd are
 numbers_stay names more (property ∷ later) (number ∷ numbers) are =
     (number_stays names more number property.name are.0, numbers_stay names more later numbers are.1)
 
--- The number of a name is not that of another name.
-numbers_differ : (names : List (List ℕ)) (name : List ℕ) (number : ℕ) → slice_get names number ≡ Some name →
-    (properties : List FileProperty) (numbers : List ℕ) → IsNew name (map (λ property. property.0) (map property_of properties)) →
-    AllZip (HasNumber names) properties numbers → AllByRecursion (λ other. nat_eq number other ≡ false) numbers
-numbers_differ names name number is [] [] new are = tt
-numbers_differ names name number is [] (other ∷ numbers) new are = absurd are
-numbers_differ names name number is (property ∷ later) [] new are = absurd are
-numbers_differ names name number is (property ∷ later) (other ∷ numbers) new are = (
-  ne_eqb number other (λ equal. new.0 (same_in_some property.name name (sym are.0 ∙ ap (slice_get names) (sym equal) ∙ is))),
-  numbers_differ names name number is later numbers new.1 are.1,
-)
-
--- Properties of distinct names have distinct numbers.
-pub distinct_numbers : (names : List (List ℕ)) (properties : List FileProperty) (numbers : List ℕ) →
-    AreDistinct (map (λ property. property.0) (map property_of properties)) → AllZip (HasNumber names) properties numbers →
-    IsDistinct nat_eq numbers
-unfolding IsDistinct
-distinct_numbers names [] [] distinct are = tt
-distinct_numbers names [] (number ∷ numbers) distinct are = absurd are
-distinct_numbers names (property ∷ later) [] distinct are = absurd are
-distinct_numbers names (property ∷ later) (number ∷ numbers) distinct are =
-    IsDistinct-cons nat_eq number numbers (numbers_differ names property.name number are.0 later numbers distinct.0 are.1)
-    (distinct_numbers names later numbers distinct.1 are.1)
-
 -- Each name has a number or none.
 number_or_none : (name : List ℕ) (names : List (List ℕ)) →
     ((number : ℕ) × (slice_get names number ≡ Some name)) ⊎ ((number : ℕ) → slice_get names number ≡ Some name → ⊥)

@@ -1,29 +1,27 @@
-use Rattle.std.proofs.Common.{◌≡◌, ℕ, zero, suc, ◌+◌, ◌<◌, T, Bool, true, false, cond, eqb, List, [], ◌∷◌, ◌++◌, length, map, take, get_or}
+use Rattle.std.proofs.Common.{◌≡◌, ℕ, zero, suc, ◌+◌, ◌<◌, T, Bool, true, false, cond, List, [], ◌∷◌, ◌++◌, length, map, take, get_or}
 use Rattle.std.proofs.Common.{Ordering, Less, Equal, Greater, is_lt, Option, Some, None, slice_get, All, IsSomeAnd, bytes_eq}
-use Rattle.std.proofs.Common.{IsPermutation, IsSorted, IsSortedBy, refl, sym, ap, ap₂, subst, ◌∙◌, nat_cmp, arith, ◌⊎◌, ◌≢◌, inl, inr}
+use Rattle.std.proofs.Common.{IsPermutation, IsSorted, refl, sym, ap, ap₂, subst, ◌∙◌, nat_cmp, arith, ◌⊎◌, ◌≢◌, inl, inr}
+use Rattle.std.specs.Prelude.{nat_eq}
 use Rattle.std.specs.Bool.{⊤}
 use Rattle.std.specs.Cmp.Lexicographic.{slice_cmp}
-use Rattle.std.specs.Cmp.{tied_itself, nat_cmp_is, nat_eq_equiv, eq_by_cmp_equiv}
-use Rattle.std.specs.Ordering.{ordering_reverse, ordering_then, MatchOrdering, eq_by_cmp}
+use Rattle.std.specs.Cmp.{tied_itself, nat_cmp_is, eq_by_cmp_equiv}
+use Rattle.std.specs.Ordering.{ordering_reverse, MatchOrdering, eq_by_cmp}
 use Rattle.std.specs.List.{AllByRecursion, AllZip, IsDistinct, range_with_len}
 use Rattle.std.specs.List.Sorted.{IsStrictlySortedBy}
-use Rattle.std.specs.Map.{lookup, keys_of}
+use Rattle.std.specs.Map.{lookup}
 use Rattle.std.specs.Option.{option_to_list, option_map}
 use Rattle.std.specs.FinMap.{from_sorted, from_entries, is_sorted, find, get-from_sorted, get-from_entries}
 use Rattle.std.specs.FinMap.Entries.{below_all}
 use Rattle.std.proofs.Math.Seq.{take-length}
 use Rattle.std.proofs.lemmas.Bool.Decides.{eqb_tells}
 use Rattle.std.proofs.lemmas.Cmp.{nat_list_cmp_total}
-use Rattle.std.proofs.lemmas.List.{get_or-map, length-map, take_more}
+use Rattle.std.proofs.lemmas.List.{length-map, take_more}
 use Rattle.std.proofs.lemmas.List.Elements.{Contains-get_or, All-tail}
 use Rattle.std.proofs.lemmas.List.FromFn.{length-range_with_len, get_or-range_with_len, fill_by_all}
-use Rattle.std.proofs.lemmas.List.Sorted.{IsPermutation-map, IsPermutation-sym, All-permutation, Contains-permutation}
-use Rattle.std.proofs.lemmas.List.Sorted.{IsNonDecreasingBy-from_sort}
-use Rattle.std.proofs.lemmas.Map.Keys.{sorted_head, sorted_tail, IsDistinct-IsPermutation, IsStrictlyIncreasing-from_distinct}
-use Rattle.std.proofs.lemmas.Map.Keys.{sorted_from_strictly_increasing}
+use Rattle.std.proofs.lemmas.List.Sorted.{IsPermutation-map, All-permutation}
+use Rattle.std.proofs.lemmas.Map.Keys.{sorted_head, sorted_tail}
 use Rattle.std.proofs.lemmas.Map.Text.{is_eq-slice_cmp}
-use Rattle.std.proofs.lemmas.Map.Views.{Contains-from_lookup, lookup-from_Contains}
-use Rattle.std.proofs.lemmas.Option.{get_or_from_slice_get, slice_get_within, slice_get-get_or, slice_get-map, same_Some, none-some}
+use Rattle.std.proofs.lemmas.Option.{get_or_from_slice_get, slice_get_within, slice_get-get_or, slice_get-map, same_Some}
 use Rattle.std.proofs.lemmas.Option.{some_pair_parts, MatchOption-at_some}
 use Rattle.std.proofs.lemmas.Slice.Eq.{bytes_eq-Decides}
 use Rattle.std.proofs.lemmas.Slice.Zip.{all_zipped_more, AllZip-right, AllZip-long, length-zip, get_or-zip, firsts-zip, seconds-zip}
@@ -37,6 +35,7 @@ use Rattle.bi_fit.specs.NormalNodes.{HasDistinctNames, properties_by_name}
 use Rattle.bi_fit.specs.PropertyMapModels.{AreNumbersIn}
 use Rattle.bi_fit.specs.PropertyMaps.{properties_in, numbers_in}
 use Rattle.bi_fit.specs.EntryOrder.{with_indices, ranked_cmp, IsEntryAt}
+use Rattle.bi_fit.proofs.DistinctNumbers.{distinct_numbers}
 use Rattle.bi_fit.proofs.MovedPairs.{lookup_moved, keys_ascend}
 use Rattle.bi_fit.proofs.PayloadProperties.{same}
 
@@ -131,40 +130,14 @@ indices_of order = map (λ ranked. ranked.1) order
 
 -- ---- ranks in order
 
--- The rank of a name is none of the ranks of other names.
-ranks_differ : (names : List (List ℕ)) (rank : ℕ) (name : List ℕ) → slice_get names rank ≡ Some name →
-    (properties : List FileProperty) (ranks : List ℕ) → AllZip (HasNumber names) properties ranks →
-    IsNew name (map (λ property. property.0) (map property_of properties)) → AllByRecursion (λ other. eqb rank other ≡ false) ranks
-ranks_differ names rank name there [] [] numbered new = tt
-ranks_differ names rank name there [] (other ∷ ranks) numbered new = absurd numbered
-ranks_differ names rank name there (property ∷ properties) [] numbered new = absurd numbered
-ranks_differ names rank name there (property ∷ properties) (other ∷ ranks) numbered new =
-    (by_test (eqb_tells rank other), ranks_differ names rank name there properties ranks numbered.1 new.1)
-  where
-    by_test : ((eqb rank other ≡ true) × (rank ≡ other)) ⊎ ((eqb rank other ≡ false) × (rank ≢ other)) → eqb rank other ≡ false
-    by_test (inl equal) = absurd (new.0 (same_Some property.name name (sym numbered.0 ∙ ap (slice_get names) (sym equal.1) ∙ there)))
-    by_test (inr differ) = differ.0
-
--- The ranks of distinct names are distinct.
-distinct_ranks : (names : List (List ℕ)) (properties : List FileProperty) (ranks : List ℕ) → AllZip (HasNumber names) properties ranks →
-    AreDistinct (map (λ property. property.0) (map property_of properties)) → IsDistinct eqb ranks
-unfolding IsDistinct
-distinct_ranks names [] [] numbered distinct = tt
-distinct_ranks names [] (rank ∷ ranks) numbered distinct = absurd numbered
-distinct_ranks names (property ∷ properties) [] numbered distinct = absurd numbered
-distinct_ranks names (property ∷ properties) (rank ∷ ranks) numbered distinct = (
-  ranks_differ names rank property.name numbered.0 properties ranks numbered.1 distinct.0,
-  distinct_ranks names properties ranks numbered.1 distinct.1,
-)
-
 -- Distinct ranks that were put in order rise.
 ranks_rise : (ranks : List ℕ) (order : List (ℕ × ℕ)) → IsPermutation (with_indices ranks) order → IsSorted ranked_cmp order →
-    IsDistinct eqb ranks → IsStrictlySortedBy nat_cmp (ranks_of order)
+    IsDistinct nat_eq ranks → IsStrictlySortedBy nat_cmp (ranks_of order)
 ranks_rise ranks order moved sorted distinct =
     let same_ranks : ranks_of (with_indices ranks) ≡ ranks =
     firsts-zip ranks (range_with_len 0 (length ranks)) (length-range_with_len 0 (length ranks)) in
     keys_ascend (λ ranked other. nat_cmp ranked.1 other.1) (with_indices ranks) order moved
-    (subst (λ (l : List ℕ). IsDistinct eqb l) (sym same_ranks) distinct) sorted
+    (subst (λ (l : List ℕ). IsDistinct nat_eq l) (sym same_ranks) distinct) sorted
 
 -- ---- entries at indices
 
@@ -360,7 +333,7 @@ pub ordered_entries : (names : List (List ℕ)) (own : FileNode) (ranks : List �
     HasDistinctNames own → AreOrdered names own ranks order entries → T (is_sorted (slice_cmp nat_cmp) (properties_in entries))
 ordered_entries names own ranks order entries distinct are =
     rising_entries names are.ascend order entries (ordered_names names own ranks order entries are)
-    (ranks_rise ranks order are.moved are.sorted (distinct_ranks names own.properties ranks are.numbered distinct))
+    (ranks_rise ranks order are.moved are.sorted (distinct_numbers names own.properties ranks distinct are.numbered))
 
 -- They are the properties by name.
 pub ordered_by_name : (names : List (List ℕ)) (own : FileNode) (ranks : List ℕ) (order : List (ℕ × ℕ)) (entries : List MapEntry) →

@@ -49,7 +49,7 @@ fn values_by_number<'a>(
     ensures { IfOk result (λ values.
         HaveNumberedValues role (node_of node.entry).own.properties numbers.now values.items) }
 {
-    let mut values = Vec::new(alloc);
+    let mut values = Vec::with_capacity(alloc, numbers.len())?;
     let mut left = numbers;
     for property in node.properties() {
         let Some((number, later)) = left.split_first() else {

@@ -5,7 +5,8 @@ use Rattle.bi_fdt.specs.Views.{node_of, table_of_node}
 use Rattle.bi_fdt.specs.Numbers.{HasNumber, IsNumbered}
 use Rattle.bi_fit.specs.ComparedNodes.{HaveNumberedValues}
 use Rattle.bi_fit.proofs.ValuePairs.{same_values}
-use Rattle.bi_fit.proofs.NumberedValues.{distinct_numbers, numbers_stay, same_by_name, same_by_number}
+use Rattle.bi_fit.proofs.DistinctNumbers.{distinct_numbers}
+use Rattle.bi_fit.proofs.NumberedValues.{numbers_stay, same_by_name, same_by_number}
 use Rattle.bi_fit.proofs.comparing.properties.have_same_properties.Goals as goal
 
 pub name_numbers-requires : goal.name_numbers-requires
