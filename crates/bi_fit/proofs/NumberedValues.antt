@@ -1,13 +1,10 @@
 use Rattle.std.proofs.Common.{◌≡◌, ℕ, zero, suc, Bool, true, false, cond, ◌&&◌, ◌==◌, ◌⊎◌, inl, inr, true≢false, List, [], ◌∷◌, ◌++◌, map, Option, Some, None, bytes_eq}
 use Rattle.std.proofs.Common.{refl, sym, ap, ◌∙◌, nat_cmp}
-use Rattle.std.specs.Prelude.{nat_eq}
-use Rattle.std.specs.List.{slice_get, AllByRecursion, AllZip, IsDistinct}
+use Rattle.std.specs.List.{slice_get, AllZip}
 use Rattle.std.specs.Cmp.Lexicographic.{slice_cmp}
 use Rattle.std.specs.FinMap.{get, insert, empty, get-empty, get-insert}
 use Rattle.std.proofs.lemmas.Cmp.{nat_list_cmp_total}
-use Rattle.std.proofs.lemmas.Bool.{ne_eqb}
 use Rattle.std.proofs.lemmas.Bool.Decides.{Decides-eqb, same_from_decides}
-use Rattle.std.proofs.lemmas.Map.Keys.{IsDistinct-cons}
 use Rattle.std.proofs.lemmas.Slice.Eq.{bytes_eq-Decides}
 use Rattle.std.proofs.lemmas.Map.Text.{is_eq-slice_cmp}
 use Rattle.bi_blob.specs.Tree.{PropertyMap, FileProperty, FileNode, IsNew, AreDistinct, property_of, properties_of}

@@ -1,6 +1,6 @@
 use Rattle.std.proofs.Common.{◌≡◌, ℕ, zero, suc, ◌+◌, ◌<◌, T, Bool, true, false, cond, List, [], ◌∷◌, ◌++◌, length, map, take, get_or}
 use Rattle.std.proofs.Common.{Ordering, Less, Equal, Greater, is_lt, Option, Some, None, slice_get, All, IsSomeAnd, bytes_eq}
-use Rattle.std.proofs.Common.{IsPermutation, IsSorted, refl, sym, ap, ap₂, subst, ◌∙◌, nat_cmp, arith, ◌⊎◌, ◌≢◌, inl, inr}
+use Rattle.std.proofs.Common.{IsPermutation, IsSorted, refl, sym, ap, ap₂, subst, ◌∙◌, nat_cmp, arith}
 use Rattle.std.specs.Prelude.{nat_eq}
 use Rattle.std.specs.Bool.{⊤}
 use Rattle.std.specs.Cmp.Lexicographic.{slice_cmp}
@@ -13,7 +13,6 @@ use Rattle.std.specs.Option.{option_to_list, option_map}
 use Rattle.std.specs.FinMap.{from_sorted, from_entries, is_sorted, find, get-from_sorted, get-from_entries}
 use Rattle.std.specs.FinMap.Entries.{below_all}
 use Rattle.std.proofs.Math.Seq.{take-length}
-use Rattle.std.proofs.lemmas.Bool.Decides.{eqb_tells}
 use Rattle.std.proofs.lemmas.Cmp.{nat_list_cmp_total}
 use Rattle.std.proofs.lemmas.List.{length-map, take_more}
 use Rattle.std.proofs.lemmas.List.Elements.{Contains-get_or, All-tail}
@@ -21,7 +20,7 @@ use Rattle.std.proofs.lemmas.List.FromFn.{length-range_with_len, get_or-range_wi
 use Rattle.std.proofs.lemmas.List.Sorted.{IsPermutation-map, All-permutation}
 use Rattle.std.proofs.lemmas.Map.Keys.{sorted_head, sorted_tail}
 use Rattle.std.proofs.lemmas.Map.Text.{is_eq-slice_cmp}
-use Rattle.std.proofs.lemmas.Option.{get_or_from_slice_get, slice_get_within, slice_get-get_or, slice_get-map, same_Some}
+use Rattle.std.proofs.lemmas.Option.{get_or_from_slice_get, slice_get_within, slice_get-get_or, slice_get-map}
 use Rattle.std.proofs.lemmas.Option.{some_pair_parts, MatchOption-at_some}
 use Rattle.std.proofs.lemmas.Slice.Eq.{bytes_eq-Decides}
 use Rattle.std.proofs.lemmas.Slice.Zip.{all_zipped_more, AllZip-right, AllZip-long, length-zip, get_or-zip, firsts-zip, seconds-zip}
