@@ -7,7 +7,8 @@
 #
 # With --beside LOG before the crates it runs beside `rt ci`, which prints to LOG: the crates are tried one after the other, each as soon as
 # `rt ci` has proved the libraries below it. LOG.ended is made when `rt ci` ends; a crate that is not begun by then is left out. LOG.tried
-# has the others. The script without arguments leaves out the crates in the file of the variable `tried_before`.
+# has the others. A check that begins before that has less priority. The script without arguments leaves out the crates in the file of the
+# variable `tried_before`.
 set -u
 
 root=$(cd "$(dirname "$0")/../.." && pwd)
@@ -18,6 +19,8 @@ here=$root/tests/prover
 if [ "${1-}" = check ]; then
     crate=$2
     shift 2
+    # A process may always lower its own priority, and only root may raise one.
+    [ -z "${log_of_ci-}" ] || [ -e "$log_of_ci.ended" ] || renice -n 10 -p $$ > /dev/null
     file=src/lib.rt
     [ -f "$file" ] || file=src/main.rt
     # rattle proves the exports of a static library alone.
@@ -27,6 +30,7 @@ if [ "${1-}" = check ]; then
 fi
 
 log_of_ci=
+export log_of_ci
 if [ "${1-}" = --beside ]; then
     log_of_ci=$2
     shift 2
