@@ -1,7 +1,7 @@
-use Rattle.std.proofs.Common.{◌≡◌, ℕ, zero, suc, ◌+◌, ◌<◌, List, [], ◌∷◌, ◌++◌, length, map, take, get_or, All, sym, ap, subst, ◌∙◌, arith}
+use Rattle.std.proofs.Common.{◌≡◌, ℕ, zero, suc, ◌+◌, ◌<◌, List, [], ◌∷◌, ◌++◌, length, map, take, get_or, All, refl, sym, ap, subst, ◌∙◌, arith}
 use Rattle.std.specs.List.{AllByRecursion}
 use Rattle.std.proofs.Math.ListN.{set}
-use Rattle.std.proofs.lemmas.List.{append_assoc, append-nil, get_or-map}
+use Rattle.std.proofs.lemmas.List.{append_assoc, append-nil, get_or-map, length-map}
 use Rattle.std.proofs.lemmas.List.Elements.{All-weaker, All-more}
 use Rattle.bi_blob.specs.Blob.{tree_blocks}
 use Rattle.bi_blob.specs.Tokens.{name_from}
@@ -13,7 +13,7 @@ use Rattle.bi_fdt.specs.declared.table.Entry.TheVariants as entry
 use Rattle.bi_fdt.specs.declared.table.PropertyEntry.{PropertyEntry}
 use Rattle.bi_fdt.specs.Fields.{HasNameOffset, IsNamedAt}
 use Rattle.bi_fdt.specs.NameParts.{NamePart, AreMoreParts}
-use Rattle.bi_fdt.specs.NameTables.{names_in_table, IsNameTable, HasMoreNames}
+use Rattle.bi_fdt.specs.NameTables.{names_in_table, prefix_of_item, IsNameTable, HasMoreNames}
 use Rattle.bi_fdt.specs.Numbers.{BeginsWith, IsNumbered}
 use Rattle.bi_fdt.specs.Table.{TableItem, item_in, property_in}
 use Rattle.bi_fdt.proofs.NumberedNames.{IsNumberedAt, AreHeads-tails, number_written, numbers_kept}
@@ -45,6 +45,17 @@ pub item_at : (P : TableItem → Type 0) (file : List ℕ) (entries : List Entry
 item_at P file [] index d each within = absurd (omega arith)
 item_at P file (e ∷ entries) zero d each within = each.0
 item_at P file (e ∷ entries) (suc index) d each within = item_at P file entries index d each.1 (omega arith)
+
+-- Each entry has a prefix.
+pub length-prefixes : (file : List ℕ) (entries : List Entry) → length (map prefix_of_item (map (item_in file) entries)) ≡ length entries
+length-prefixes file entries = length-map (map (item_in file) entries) prefix_of_item ∙ length-map entries (item_in file)
+
+-- The prefix of the entry at an index.
+pub prefix_at : (file : List ℕ) (entries : List Entry) (index n : ℕ) (d : Entry) → index < length entries →
+    get_or (map prefix_of_item (map (item_in file) entries)) index n ≡ prefix_of_item (item_in file (get_or entries index d))
+prefix_at file [] index n d within = absurd (omega arith)
+prefix_at file (e ∷ entries) zero n d within = refl
+prefix_at file (e ∷ entries) (suc index) n d within = prefix_at file entries index n d (omega arith)
 
 -- A list that begins with one that begins with another.
 begins_again : {Item : Type 0} (a b c : List Item) → BeginsWith b a → BeginsWith c b → BeginsWith c a

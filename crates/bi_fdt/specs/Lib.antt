@@ -16,4 +16,5 @@ pub mod PropertySets
 pub mod Numbers
 pub mod NameParts
 pub mod NameTails
+pub mod KeyOrder
 pub mod NameTables

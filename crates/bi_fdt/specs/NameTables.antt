@@ -1,4 +1,5 @@
 use Rattle.std.specs.Prelude.{◌≡◌, ◌⊎◌, ℕ, List, [], ◌∷◌, ◌++◌, map}
+use Rattle.bi_blob.specs.NamesByPrefix.{prefix_of_name}
 use Rattle.bi_fdt.specs.declared.name_table.NameTable.{NameTable}
 use Rattle.bi_fdt.specs.NameTails.{AreHeads}
 use Rattle.bi_fdt.specs.Numbers.{BeginsWith}
@@ -28,3 +29,8 @@ HasAtMostMore old new name = (new ≡ old) ⊎ (new ≡ old ++ name ∷ [])
 abbrev pub HasAtMostNameOf : List (List ℕ) → List (List ℕ) → TableItem → Type 0
 HasAtMostNameOf old new (NodeItem depth place name) = new ≡ old
 HasAtMostNameOf old new (PropertyItem property) = HasAtMostMore old new property.name
+
+-- The first eight bytes of the name of a property as a number, and 0 for a node.
+abbrev pub prefix_of_item : TableItem → ℕ
+prefix_of_item (NodeItem depth place name) = 0
+prefix_of_item (PropertyItem property) = prefix_of_name property.name

@@ -1,13 +1,12 @@
 //! A table of the names of properties.
 
-ghost use Rattle.std.specs.Prelude.{◌≡◌, [], IfOk, IsPermutation, Some};
-ghost use Rattle.std.specs.Prelude.{length, map, slice_get, take};
-ghost use Rattle.std.specs.List.{range_with_len};
+ghost use Rattle.std.specs.Prelude.{◌≡◌, [], IfOk, Some, map, slice_get, take};
 ghost use Rattle.bi_blob.specs.Blob.{tree_blocks};
 ghost use Rattle.bi_fdt.specs.Content.{root_of};
 ghost use Rattle.bi_fdt.specs.Fields.{HasNameOffset};
 ghost use Rattle.bi_fdt.specs.NameTables.{names_in_table, IsNameTable, HasMoreNames};
-ghost use Rattle.bi_fdt.specs.NameTables.{HasAtMostMore, HasAtMostNameOf};
+ghost use Rattle.bi_fdt.specs.KeyOrder.{IsKeyOrder};
+ghost use Rattle.bi_fdt.specs.NameTables.{HasAtMostMore, HasAtMostNameOf, prefix_of_item};
 ghost use Rattle.bi_fdt.specs.NameTails.{IsTail, AreBlockNumbers, head_length};
 ghost use Rattle.bi_fdt.specs.Numbers.{IsNumbered, AreNumbered};
 ghost use Rattle.bi_fdt.specs.Table.{item_in};
@@ -119,28 +118,33 @@ impl<'a> NameTable<'a> {
     }
 }
 
-/// Returns the indices of these entries of a file, each once. Each is after the first eight bytes
-/// of the name as a number, or after 0 for a node. The pairs are in ascending order, so that names
-/// that are alike follow each other, and each is found where the last one was. Fails if memory runs
-/// out.
+/// Returns the prefixes of these entries of a file, each before the index of its entry, in ascending
+/// order. So names that are alike follow each other, and each is found where the last one was.
+/// Fails if memory runs out.
 fn order_by_prefix(
     alloc: Global,
     file: &[u8],
     entries: &[Entry],
 ) -> Result<Vec<(u64, usize)>, AllocError>
-    ensures { IfOk result (λ order. IsPermutation (range_with_len 0 (length entries.now))
-        (map (λ pair. pair.1) order.items)) }
+    ensures { IfOk result (λ order.
+        IsKeyOrder (map prefix_of_item (map (item_in file.now) entries.now)) order.items) }
 {
-    let mut pairs = Vec::with_capacity(alloc, entries.len())?;
+    let mut order = Vec::with_capacity(alloc, entries.len())?;
     for (index, entry) in entries.iter().enumerate() {
-        let prefix = match entry {
-            Entry::Node(_) => 0,
-            Entry::Property(property) => name_prefix(property.name_in(file)),
-        };
-        pairs.push((prefix, index))?;
+        order.push((entry_prefix(file, *entry), index))?;
     }
-    pairs.sort()?;
-    Ok(pairs)
+    order.sort()?;
+    Ok(order)
+}
+
+/// Returns the first eight bytes of the name of a property as a number, and 0 for a node.
+fn entry_prefix(file: &[u8], entry: Entry) -> u64
+    ensures { result ≡ prefix_of_item (item_in file.now entry) }
+{
+    match entry {
+        Entry::Node(_) => 0,
+        Entry::Property(property) => name_prefix(property.name_in(file)),
+    }
 }
 
 /// Returns the bytes of a name before its tail.

@@ -49,8 +49,8 @@ impl<'a> PropertyNames<'a> {
         self.long.clear();
     }
 
-    /// Adds a name, which has this digest, and returns whether it is new. It takes log n
-    /// comparisons, for n names.
+    /// Adds a name, which has this digest and no zero byte, and returns whether it is new. It takes
+    /// log n comparisons, for n names. Fails if memory runs out.
     pub(crate) fn insert(&mut self, name: &'a [u8], digest: [u8; 32]) -> Result<bool, AllocError>
         requires digest { digest ≡ digest_of_name name.now }
         requires no_zero { HasNoZero name.now }

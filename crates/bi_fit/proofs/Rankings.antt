@@ -1,6 +1,6 @@
 use Rattle.std.proofs.Common.{◌≡◌, ℕ, zero, suc, ◌+◌, ◌<◌, T, Bool, true, false, cond, List, [], ◌∷◌, ◌++◌, length, map, take, get_or}
 use Rattle.std.proofs.Common.{Ordering, Less, Equal, Greater, is_lt, Option, Some, None, slice_get, All, IsSomeAnd, bytes_eq}
-use Rattle.std.proofs.Common.{IsPermutation, IsSorted, refl, sym, ap, ap₂, subst, ◌∙◌, nat_cmp, arith}
+use Rattle.std.proofs.Common.{IsPermutation, refl, sym, ap, ap₂, subst, ◌∙◌, nat_cmp, arith}
 use Rattle.std.specs.Prelude.{nat_eq}
 use Rattle.std.specs.Bool.{⊤}
 use Rattle.std.specs.Cmp.Lexicographic.{slice_cmp}
@@ -16,24 +16,26 @@ use Rattle.std.proofs.Math.Seq.{take-length}
 use Rattle.std.proofs.lemmas.Cmp.{nat_list_cmp_total}
 use Rattle.std.proofs.lemmas.List.{length-map, take_more}
 use Rattle.std.proofs.lemmas.List.Elements.{Contains-get_or, All-tail}
-use Rattle.std.proofs.lemmas.List.FromFn.{length-range_with_len, get_or-range_with_len, fill_by_all}
+use Rattle.std.proofs.lemmas.List.FromFn.{fill_by_all}
 use Rattle.std.proofs.lemmas.List.Sorted.{IsPermutation-map, All-permutation}
 use Rattle.std.proofs.lemmas.Map.Keys.{sorted_head, sorted_tail}
 use Rattle.std.proofs.lemmas.Map.Text.{is_eq-slice_cmp}
 use Rattle.std.proofs.lemmas.Option.{get_or_from_slice_get, slice_get_within, slice_get-get_or, slice_get-map}
 use Rattle.std.proofs.lemmas.Option.{some_pair_parts, MatchOption-at_some}
 use Rattle.std.proofs.lemmas.Slice.Eq.{bytes_eq-Decides}
-use Rattle.std.proofs.lemmas.Slice.Zip.{all_zipped_more, AllZip-right, AllZip-long, length-zip, get_or-zip, firsts-zip, seconds-zip}
+use Rattle.std.proofs.lemmas.Slice.Zip.{all_zipped_more, AllZip-right, AllZip-long}
 use Rattle.bi_base.proofs.ListMembers.{each-contains}
 use Rattle.bi_lay.specs.Values.{value_bytes}
 use Rattle.bi_blob.specs.Tree.{Property, FileNode, FileProperty, property_of, properties_of, IsNew, AreDistinct}
 use Rattle.bi_blob.proofs.Texts.NormalEvents.{both_hold}
+use Rattle.bi_fdt.specs.KeyOrder.{with_indices, IsKeyOrder}
 use Rattle.bi_fdt.specs.Numbers.{HasNumber}
+use Rattle.bi_fdt.proofs.MovedIndices.{indices_of, length-with_indices, with_indices_at, keys-with_indices, indices_moved}
 use Rattle.bi_fit.specs.declared.document.property_map.MapEntry.{MapEntry}
 use Rattle.bi_fit.specs.NormalNodes.{HasDistinctNames, properties_by_name}
 use Rattle.bi_fit.specs.PropertyMapModels.{AreNumbersIn}
 use Rattle.bi_fit.specs.PropertyMaps.{properties_in, numbers_in}
-use Rattle.bi_fit.specs.EntryOrder.{with_indices, ranked_cmp, IsEntryAt}
+use Rattle.bi_fit.specs.EntryOrder.{IsEntryAt}
 use Rattle.bi_fit.proofs.DistinctNumbers.{distinct_numbers}
 use Rattle.bi_fit.proofs.MovedPairs.{lookup_moved, keys_ascend}
 use Rattle.bi_fit.proofs.PayloadProperties.{same}
@@ -85,58 +87,18 @@ rank_cmp : (names : List (List ℕ)) → IsStrictlySortedBy (slice_cmp nat_cmp) 
 rank_cmp names ordered rank other name other_name there other_there =
     nat_cmp_is rank other (slice_cmp nat_cmp name other_name) (ranks_match names ordered rank other name other_name there other_there)
 
--- ---- ranks before their indices
-
--- There are as many as ranks.
-length-with_indices : (ranks : List ℕ) → length (with_indices ranks) ≡ length ranks
-length-with_indices ranks =
-    let shorter = length-zip ranks (range_with_len 0 (length ranks)) in
-    let indices = length-range_with_len 0 (length ranks) in
-    omega arith
-
--- At an index is the rank that is there, before the index.
-with_indices_at : (ranks : List ℕ) (index : ℕ) (d : ℕ × ℕ) → index < length ranks →
-    get_or (with_indices ranks) index d ≡ (get_or ranks index d.0, index)
-with_indices_at ranks index d within =
-    let long : index < length (range_with_len 0 (length ranks)) = omega (arith, length-range_with_len 0 (length ranks)) in
-    let counted : 0 + index ≡ index = omega arith in
-    get_or-zip ranks (range_with_len 0 (length ranks)) index d within long
-    ∙ ap (λ n. (get_or ranks index d.0, n)) (get_or-range_with_len 0 (length ranks) index d.1 within ∙ counted)
-
--- Some ranks before their indices, and then the next.
-pub with_indices_more : (ranks : List ℕ) (index d : ℕ) (order more : List (ℕ × ℕ)) → index < length ranks →
-    order ≡ take index (with_indices ranks) → more ≡ order ++ (get_or ranks index d, index) ∷ [] →
-    more ≡ take (index + 1) (with_indices ranks)
-with_indices_more ranks index d order more within are pushed =
-    let long : index < length (with_indices ranks) = omega (arith, length-with_indices ranks) in
-    pushed
-    ∙ ap (λ l. l ++ (get_or ranks index d, index) ∷ []) are
-    ∙ sym (take_more (with_indices ranks) index (d, index) long
-    ∙ ap (λ ranked. take index (with_indices ranks) ++ ranked ∷ []) (with_indices_at ranks index (d, index) within))
-
--- In the end all are there.
-pub with_indices_all : (ranks : List ℕ) (index : ℕ) → index ≡ length ranks → take index (with_indices ranks) ≡ with_indices ranks
-with_indices_all ranks index is =
-    ap (λ n. take n (with_indices ranks)) (is ∙ sym (length-with_indices ranks)) ∙ take-length (with_indices ranks)
+-- ---- ranks in order
 
 -- The ranks without their indices.
 abbrev ranks_of : List (ℕ × ℕ) → List ℕ
 ranks_of order = map (λ ranked. ranked.0) order
 
--- The indices without their ranks.
-abbrev indices_of : List (ℕ × ℕ) → List ℕ
-indices_of order = map (λ ranked. ranked.1) order
-
--- ---- ranks in order
-
 -- Distinct ranks that were put in order rise.
-ranks_rise : (ranks : List ℕ) (order : List (ℕ × ℕ)) → IsPermutation (with_indices ranks) order → IsSorted ranked_cmp order →
-    IsDistinct nat_eq ranks → IsStrictlySortedBy nat_cmp (ranks_of order)
-ranks_rise ranks order moved sorted distinct =
-    let same_ranks : ranks_of (with_indices ranks) ≡ ranks =
-    firsts-zip ranks (range_with_len 0 (length ranks)) (length-range_with_len 0 (length ranks)) in
-    keys_ascend (λ ranked other. nat_cmp ranked.1 other.1) (with_indices ranks) order moved
-    (subst (λ (l : List ℕ). IsDistinct nat_eq l) (sym same_ranks) distinct) sorted
+ranks_rise : (ranks : List ℕ) (order : List (ℕ × ℕ)) → IsKeyOrder ranks order → IsDistinct nat_eq ranks →
+    IsStrictlySortedBy nat_cmp (ranks_of order)
+ranks_rise ranks order is distinct =
+    keys_ascend (λ ranked other. nat_cmp ranked.1 other.1) (with_indices ranks) order is.permutation
+    (subst (λ (l : List ℕ). IsDistinct nat_eq l) (sym (keys-with_indices ranks)) distinct) is.sorted
 
 -- ---- entries at indices
 
@@ -163,9 +125,9 @@ IsRankedIn names properties ranked = IsSomeAnd (slice_get properties ranked.1) (
 
 -- Each rank is that of the property at its index, in any order of the ranks.
 all_ranked : (names : List (List ℕ)) (properties : List FileProperty) (ranks : List ℕ) (order : List (ℕ × ℕ)) →
-    AllZip (HasNumber names) properties ranks → IsPermutation (with_indices ranks) order → All (IsRankedIn names properties) order
-all_ranked names properties ranks order numbered moved =
-    All-permutation (IsRankedIn names properties) (with_indices ranks) order moved (λ index d within.
+    AllZip (HasNumber names) properties ranks → IsKeyOrder ranks order → All (IsRankedIn names properties) order
+all_ranked names properties ranks order numbered is =
+    All-permutation (IsRankedIn names properties) (with_indices ranks) order is.permutation (λ index d within.
     let inside : index < length ranks = omega (arith, length-with_indices ranks) in
     subst (IsRankedIn names properties) (sym (with_indices_at ranks index d inside))
     (MatchOption-at_some ⊤ (λ rank. IsRankedIn names properties (rank, index)) (get_or ranks index d.0)
@@ -173,11 +135,10 @@ all_ranked names properties ranks order numbered moved =
 
 -- So each index is one of a property.
 pub all_within : (names : List (List ℕ)) (properties : List FileProperty) (ranks : List ℕ) (order : List (ℕ × ℕ)) →
-    AllZip (HasNumber names) properties ranks → IsPermutation (with_indices ranks) order →
-    All (λ ranked. ranked.1 < length properties) order
-all_within names properties ranks order numbered moved k d within =
+    AllZip (HasNumber names) properties ranks → IsKeyOrder ranks order → All (λ ranked. ranked.1 < length properties) order
+all_within names properties ranks order numbered is k d within =
     by_property (get_or order k d) (slice_get properties (get_or order k d).1) refl
-    (all_ranked names properties ranks order numbered moved k d within)
+    (all_ranked names properties ranks order numbered is k d within)
   where
     by_property : (ranked : ℕ × ℕ) (found : Option FileProperty) → slice_get properties ranked.1 ≡ found →
         IsSomeAnd found (λ property. HasNumber names property ranked.0) → ranked.1 < length properties
@@ -255,20 +216,17 @@ properties_at own (ranked ∷ order) (entry ∷ entries) at =
 
 -- They are all of the properties, in another order.
 moved_properties : (own : FileNode) (ranks : List ℕ) (order : List (ℕ × ℕ)) (entries : List MapEntry) →
-    length ranks ≡ length own.properties → IsPermutation (with_indices ranks) order → AllZip (IsEntryAt own) order entries →
+    length ranks ≡ length own.properties → IsKeyOrder ranks order → AllZip (IsEntryAt own) order entries →
     IsPermutation (properties_of own) (properties_in entries)
-moved_properties own ranks order entries long moved at =
+moved_properties own ranks order entries long is at =
     let property_at : ℕ → Property = λ index. get_or (properties_of own) index ([], []) in
-    let indices = range_with_len 0 (length ranks) in
-    let count : length (properties_of own) ≡ length ranks = length-map own.properties property_of ∙ sym long in
-    let all : properties_of own ≡ map property_at indices =
-    fill_by_all property_at (properties_of own) (length ranks) ([], []) count (λ k within. refl) in
-    let same_indices : indices_of (with_indices ranks) ≡ indices =
-    seconds-zip ranks indices (length-range_with_len 0 (length ranks)) in
+    let count : length ranks ≡ length (properties_of own) = long ∙ sym (length-map own.properties property_of) in
+    let all : properties_of own ≡ map property_at (range_with_len 0 (length (properties_of own))) =
+    fill_by_all property_at (properties_of own) (length (properties_of own)) ([], []) refl (λ k within. refl) in
     subst (IsPermutation (properties_of own)) (sym (properties_at own order entries at))
-    (subst (λ (l : List Property). IsPermutation l (map property_at (indices_of order))) (ap (map property_at) same_indices ∙ sym all)
-    (IsPermutation-map property_at (indices_of (with_indices ranks)) (indices_of order)
-    (IsPermutation-map (λ (ranked : ℕ × ℕ). ranked.1) (with_indices ranks) order moved)))
+    (subst (λ (l : List Property). IsPermutation l (map property_at (indices_of order))) (sym all)
+    (IsPermutation-map property_at (range_with_len 0 (length (properties_of own))) (indices_of order)
+    (indices_moved ranks order (length (properties_of own)) is count)))
 
 -- ---- properties by name, in any order
 
@@ -317,29 +275,28 @@ pub record AreOrdered (names : List (List ℕ)) (own : FileNode) (ranks : List �
     : Type 0 where
   pub ascend : IsStrictlySortedBy (slice_cmp nat_cmp) names
   pub numbered : AllZip (HasNumber names) own.properties ranks
-  pub moved : IsPermutation (with_indices ranks) order
-  pub sorted : IsSorted ranked_cmp order
+  pub in_order : IsKeyOrder ranks order
   pub at : AllZip (IsEntryAt own) order entries
 
 -- Their names have the ranks.
 ordered_names : (names : List (List ℕ)) (own : FileNode) (ranks : List ℕ) (order : List (ℕ × ℕ)) (entries : List MapEntry) →
     AreOrdered names own ranks order entries → AllZip (IsNamedAt names) order entries
 ordered_names names own ranks order entries are =
-    named_entries names own order entries (all_ranked names own.properties ranks order are.numbered are.moved) are.at
+    named_entries names own order entries (all_ranked names own.properties ranks order are.numbered are.in_order) are.at
 
 -- They are in byte order.
 pub ordered_entries : (names : List (List ℕ)) (own : FileNode) (ranks : List ℕ) (order : List (ℕ × ℕ)) (entries : List MapEntry) →
     HasDistinctNames own → AreOrdered names own ranks order entries → T (is_sorted (slice_cmp nat_cmp) (properties_in entries))
 ordered_entries names own ranks order entries distinct are =
     rising_entries names are.ascend order entries (ordered_names names own ranks order entries are)
-    (ranks_rise ranks order are.moved are.sorted (distinct_numbers names own.properties ranks distinct are.numbered))
+    (ranks_rise ranks order are.in_order (distinct_numbers names own.properties ranks distinct are.numbered))
 
 -- They are the properties by name.
 pub ordered_by_name : (names : List (List ℕ)) (own : FileNode) (ranks : List ℕ) (order : List (ℕ × ℕ)) (entries : List MapEntry) →
     HasDistinctNames own → AreOrdered names own ranks order entries → from_sorted (properties_in entries) ≡ properties_by_name own
 ordered_by_name names own ranks order entries distinct are =
     sorted_by_name (properties_of own) (properties_in entries) distinct
-    (moved_properties own ranks order entries (AllZip-long (HasNumber names) own.properties ranks are.numbered) are.moved are.at)
+    (moved_properties own ranks order entries (AllZip-long (HasNumber names) own.properties ranks are.numbered) are.in_order are.at)
     (ordered_entries names own ranks order entries distinct are)
 
 -- The number of each entry is the rank of its name.

@@ -1,9 +1,7 @@
-use Rattle.std.specs.Prelude.{◌≡◌, ℕ, suc, List, [], ◌∷◌, length, Bool, false, Option, Some, None}
+use Rattle.std.specs.Prelude.{◌≡◌, ℕ, suc, List, [], ◌∷◌, Bool, false, Option, Some, None}
 use Rattle.std.specs.Prelude.{slice_get, bytes_eq}
-use Rattle.std.specs.Ordering.{nat_cmp, ordering_then}
-use Rattle.std.specs.declared.cmp.Ordering.{Ordering}
+use Rattle.std.specs.Ordering.{nat_cmp}
 use Rattle.std.specs.Cmp.Lexicographic.{slice_cmp}
-use Rattle.std.specs.List.{zip, range_with_len}
 use Rattle.std.specs.FinMap.Entries.{by_order}
 use Rattle.bi_lay.specs.Values.{value_bytes}
 use Rattle.bi_blob.specs.Tree.{FileNode, properties_of}
@@ -21,14 +19,6 @@ index_of_name (entry ∷ entries) name =
 abbrev pub is_entry_named : Option MapEntry → (name : List ℕ) → Bool
 is_entry_named None name = false
 is_entry_named (Some entry) name = bytes_eq entry.name.now name
-
--- These ranks, each before its index.
-abbrev pub with_indices : List ℕ → List (ℕ × ℕ)
-with_indices ranks = zip ranks (range_with_len 0 (length ranks))
-
--- The order of ranks with their indices: by the ranks, and for equal ranks by the indices.
-abbrev pub ranked_cmp : ℕ × ℕ → ℕ × ℕ → Ordering
-ranked_cmp ranked other = ordering_then (nat_cmp ranked.0 other.0) (nat_cmp ranked.1 other.1)
 
 -- The entry has the name and the value of the property at this index, and has this rank as its
 -- number.

@@ -36,8 +36,8 @@ pub(super) fn have_same_properties<'a>(
 }
 
 /// Returns the values of the properties of a node of this role, each with the number of its name,
-/// in ascending order of numbers. Those that are not compared are left out. Fails if memory runs
-/// out.
+/// in ascending order of numbers. The names of the properties have these numbers, which are
+/// distinct. Properties that are not compared are left out. Fails if memory runs out.
 fn values_by_number<'a>(
     alloc: Global,
     node: NodeRef<'a, '_>,

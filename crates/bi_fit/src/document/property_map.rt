@@ -1,7 +1,6 @@
 //! The properties of a node, by name.
 
 ghost use Rattle.std.specs.Prelude.{◌≡◌, ◌<◌, ℕ, List, length, map, slice_get, OnOk, IfOk, IfErr};
-ghost use Rattle.std.specs.List.Sorted.{IsPermutation, IsSorted};
 ghost use Rattle.std.specs.FinMap.{empty, entries};
 ghost use Rattle.std.specs.Option.{option_map};
 ghost use Rattle.bi_base.specs.declared.fault.Error.TheVariants.{OutOfMemory};
@@ -9,6 +8,7 @@ ghost use Rattle.bi_blob.specs.Events.{NodeProperty};
 ghost use Rattle.bi_blob.specs.Following.{stage_of_events, MayHaveNextProperty};
 ghost use Rattle.bi_lay.specs.Contents.{with_event};
 ghost use Rattle.bi_lay.specs.Values.{value_bytes};
+ghost use Rattle.bi_fdt.specs.KeyOrder.{IsKeyOrder};
 ghost use Rattle.bi_fit.specs.Names.{is_payload_name as is_payload_name_of};
 ghost use Rattle.bi_fit.specs.ImageTree.{without_payload};
 ghost use Rattle.bi_fit.specs.Text.{with_payload};
@@ -20,8 +20,7 @@ ghost use Rattle.bi_fit.specs.PropertyMapModels.{without_numbers, with_property_
 ghost use Rattle.bi_fit.specs.PropertyMapModels.{AreNumbersIn};
 ghost use Rattle.bi_fit.specs.PropertyMaps.{number_in};
 ghost use Rattle.bi_fit.specs.RankedNodes.{sibling_of, HasRanks};
-ghost use Rattle.bi_fit.specs.EntryOrder.{index_of_name, is_entry_named, with_indices};
-ghost use Rattle.bi_fit.specs.EntryOrder.{ranked_cmp, IsEntryAt};
+ghost use Rattle.bi_fit.specs.EntryOrder.{index_of_name, is_entry_named, IsEntryAt};
 
 use crate::document::ranked_node::RankedNode;
 use crate::form::Form;
@@ -229,9 +228,7 @@ fn add_entry<'a>(doc: &mut Doc<'a>, entry: MapEntry<'a>) -> Result<(), Error>
 
 /// Returns these ranks in ascending order, each before its index. Fails if memory runs out.
 fn order_by_rank(alloc: Global, ranks: &[usize]) -> Result<Vec<(usize, usize)>, AllocError>
-    ensures permutation { IfOk result (λ order.
-        IsPermutation (with_indices ranks.now) order.items) }
-    ensures sorted { IfOk result (λ order. IsSorted ranked_cmp order.items) }
+    ensures { IfOk result (λ order. IsKeyOrder ranks.now order.items) }
 {
     let mut order = Vec::with_capacity(alloc, ranks.len())?;
     for (index, rank) in ranks.iter().enumerate() {
@@ -241,7 +238,8 @@ fn order_by_rank(alloc: Global, ranks: &[usize]) -> Result<Vec<(usize, usize)>, 
     Ok(order)
 }
 
-/// Returns the entry of the property at an index of a node, with this rank as its number.
+/// Returns the entry of the property at an index of a node, which has one there, with this rank as
+/// its number.
 fn entry_at<'a>(node: RankedNode<'a, '_>, rank: usize, index: usize) -> MapEntry<'a>
     requires { index < length (sibling_of node).own.properties }
     ensures { IsEntryAt (sibling_of node.entry).own (rank, index) result }

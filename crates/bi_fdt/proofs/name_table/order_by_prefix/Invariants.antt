@@ -1,8 +1,8 @@
-use Rattle.std.proofs.Common.{◌≡◌, ℕ, ◌<◌, length, get_or}
+use Rattle.std.proofs.Common.{◌≡◌, map, take}
+use Rattle.bi_fdt.specs.KeyOrder.{with_indices}
+use Rattle.bi_fdt.specs.NameTables.{prefix_of_item}
+use Rattle.bi_fdt.specs.Table.{item_in}
 use Rattle.bi_fdt.proofs.name_table.order_by_prefix.Given as goal
 
 abbrev pub invariant-loop-index : goal.invariant-loop-index
-invariant-loop-index l = record {
-  count : length l.pairs.items ≡ l.index;
-  indices : (k : ℕ) (d : ℕ × ℕ) → k < l.index → (get_or l.pairs.items k d).1 ≡ k;
-}
+invariant-loop-index l = l.order.items ≡ take l.index (with_indices (map prefix_of_item (map (item_in l.file) l.entries)))

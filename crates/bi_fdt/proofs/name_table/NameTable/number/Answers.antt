@@ -1,15 +1,16 @@
-use Rattle.std.proofs.Common.{◌≡◌, ℕ, ◌<◌, List, map, length, take, get_or, All, sym, ap, subst, ◌∙◌, arith}
+use Rattle.std.proofs.Common.{◌≡◌, ℕ, ◌<◌, List, map, length, take, get_or, All, IsPermutation, sym, ap, subst, ◌∙◌, arith}
+use Rattle.std.specs.List.{range_with_len}
 use Rattle.std.proofs.Math.Seq.{take-length}
 use Rattle.std.proofs.lemmas.List.{length-map, length-set}
 use Rattle.std.proofs.lemmas.List.Elements.{All-nil}
 use Rattle.bi_fdt.specs.Content.{root_of}
 use Rattle.bi_fdt.specs.Fields.{HasNameOffset, HaveNameOffsets}
-use Rattle.bi_fdt.specs.NameTables.{names_in_table}
+use Rattle.bi_fdt.specs.NameTables.{names_in_table, prefix_of_item}
 use Rattle.bi_fdt.specs.NameTails.{AreBlockNumbers}
 use Rattle.bi_fdt.specs.Table.{item_in}
-use Rattle.bi_fdt.proofs.MovedIndices.{moved_index_within, each_index}
+use Rattle.bi_fdt.proofs.MovedIndices.{indices_moved, moved_index_within, each_index}
 use Rattle.bi_fdt.proofs.NumberedNames.{IsNumberedAt, AreBlockNumbers-more, AreNumbered-each}
-use Rattle.bi_fdt.proofs.NameTables.{HasMoreNames-tails, HasMoreNames-again, item_at, numbers_more}
+use Rattle.bi_fdt.proofs.NameTables.{HasMoreNames-tails, HasMoreNames-again, item_at, numbers_more, length-prefixes}
 use Rattle.bi_fdt.proofs.TreeNames.{HasMoreNamesOf-none, HasMoreNamesOf-entry}
 use Rattle.bi_fdt.proofs.name_table.NameTable.number.Goals as goal
 use Rattle.bi_fdt.proofs.name_table.NameTable.number.Goals.{After-deref-in-loop-index}
@@ -32,12 +33,20 @@ loop-index-init c = record {
   only = HasMoreNamesOf-none (names_in_table c.args.self.now) (root_of c.args.blob.now);
 }
 
+-- Each index is in the order once.
+each_once : (c : After-deref-in-loop-index) →
+    IsPermutation (range_with_len 0 (length c.entries-entries.result.now)) (map (λ pair. pair.1) c.in_ok-order.order.items)
+each_once c =
+    let file = c.file.result.now in
+    indices_moved (map prefix_of_item (map (item_in file) c.entries-entries.result.now)) c.in_ok-order.order.items
+    (length c.entries-entries.result.now) c.in_ok-order.ensures (length-prefixes file c.entries-entries.result.now)
+
 -- The next index is that of an entry.
 next_within : (c : After-deref-in-loop-index) →
     (get_or c.deref-index-items.result.now c.loop-index.index-index (0, 0)).1 < length c.entries-entries.result.now
 next_within c =
     moved_index_within (length c.entries-entries.result.now) c.in_ok-order.order.items c.deref-index-items.result.now c.deref-index-items.ensures.value
-    c.in_ok-order.ensures c.loop-index.index-index (0, 0) c.loop-index-test.true
+    (each_once c) c.loop-index.index-index (0, 0) c.loop-index-test.true
 
 pub offset_bounds-entries-index : goal.offset_bounds-entries-index
 offset_bounds-entries-index c =
@@ -108,5 +117,6 @@ returns-clause-numbers c =
     subst (All (λ (pair : ℕ × ℕ). IsNumberedAt names table numbers pair.1)) whole c.loop-index.invariant.numbers in
     let long : length table ≡ length entries = ap length (sym c.entries-entries.ensures.items) ∙ length-map entries (item_in c.args.blob.now.file) in
     AreNumbered-each names table numbers (c.loop-index.invariant.count ∙ sym long)
-    (λ index within. each_index (IsNumberedAt names table numbers) (length entries) c.in_ok-order.order.items c.in_ok-order.ensures all index
+    (λ index within. each_index (IsNumberedAt names table numbers) (length entries) c.in_ok-order.order.items
+    (indices_moved _ c.in_ok-order.order.items (length entries) c.in_ok-order.ensures (length-prefixes _ entries)) all index
     (subst (λ n. index < n) long within))

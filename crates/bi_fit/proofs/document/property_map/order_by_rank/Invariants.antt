@@ -1,5 +1,5 @@
 use Rattle.std.proofs.Common.{◌≡◌, take}
-use Rattle.bi_fit.specs.EntryOrder.{with_indices}
+use Rattle.bi_fdt.specs.KeyOrder.{with_indices}
 use Rattle.bi_fit.proofs.document.property_map.order_by_rank.Given as goal
 
 abbrev pub invariant-loop-index : goal.invariant-loop-index

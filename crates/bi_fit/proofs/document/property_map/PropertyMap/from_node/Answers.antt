@@ -1,5 +1,5 @@
-use Rattle.std.proofs.Common.{◌≡◌, ℕ, List, length, IsPermutation, IsSorted, sym, subst, arith}
-use Rattle.bi_fit.specs.EntryOrder.{with_indices, ranked_cmp}
+use Rattle.std.proofs.Common.{◌≡◌, ℕ, List, length, sym, subst, arith}
+use Rattle.bi_fdt.specs.KeyOrder.{IsKeyOrder}
 use Rattle.bi_fit.specs.RankedNodes.{sibling_of, HasRanks}
 use Rattle.bi_fit.proofs.Rankings.{AreOrdered, all_within, entries_more, entries_all, ordered_entries, ordered_by_name, ordered_numbers}
 use Rattle.bi_fit.proofs.document.property_map.PropertyMap.from_node.Goals as goal
@@ -13,7 +13,7 @@ entry_at-requires c =
     let names = c.requires.ranks.0 in
     all_within names (sibling_of c.args.node).own.properties c.name_ranks.result.now c.deref-rank-items.result.now
     (c.name_ranks.ensures names c.requires.ranks.1)
-    (subst (IsPermutation (with_indices c.name_ranks.result.now)) (sym c.deref-rank-items.ensures.value) c.in_ok-order.ensures.permutation)
+    (subst (IsKeyOrder c.name_ranks.result.now) (sym c.deref-rank-items.ensures.value) c.in_ok-order.ensures)
     c.loop-rank.rank-index _ c.loop-rank-test.true
 
 pub loop-rank-preserved : goal.loop-rank-preserved
@@ -31,9 +31,7 @@ ordered c names has =
     record {
       ascend = has.in_order;
       numbered = c.name_ranks.ensures names has;
-      moved = subst (IsPermutation (with_indices c.name_ranks.result.now)) (sym c.deref-rank-items.ensures.value)
-          c.in_ok-order.ensures.permutation;
-      sorted = subst (IsSorted ranked_cmp) (sym c.deref-rank-items.ensures.value) c.in_ok-order.ensures.sorted;
+      in_order = subst (IsKeyOrder c.name_ranks.result.now) (sym c.deref-rank-items.ensures.value) c.in_ok-order.ensures;
       at = entries_all (sibling_of c.args.node).own c.deref-rank-items.result.now c.loop-rank.rank-index c.loop-rank.entries.items last
           c.loop-rank.invariant;
     }
