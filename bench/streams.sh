@@ -15,15 +15,12 @@ need time /usr/bin/time
 need coreutils cat dd
 need python3 python3
 need_program
+need_libraries
 work_in_new_directory
 
-test_crate baseline bi_base
-# rt proves no crate with links among its files.
-cp "$root/bench/baseline/main.rt.source" "$crate/src/main.rt"
-(cd "$crate" && rt run) < /dev/null > log 2>&1
-baseline=$crate/out/baseline
-check "the baseline is built" test -x "$baseline"
-[ "$failed" = 0 ] || { tail -n 20 log; finish; }
+check "the baseline is built" build_test_program baseline "$root/bench/baseline/main.rt.source" bi_base
+[ "$failed" = 0 ] || finish
+baseline=$work/baseline
 
 python3 "$root/bench/inputs.py" || exit 2
 python3 "$root/bench/streams.py" "$root/crates/bootimg/out/bootimg" "$baseline" "${1:-15}"

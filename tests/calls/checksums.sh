@@ -103,7 +103,7 @@ test_crate digest_tests "bi_hash bi_base md5 sha1 sha2"
 link_tests library algo
 digest_tests > "$crate/src/digests.rt"
 test_modules algo digests
-(cd "$crate" && rt try --test --seconds 300) > log 2>&1
+try_crate --steps 20000000 --seconds 300 < /dev/null > log 2>&1
 for length in 0 1 4095 4096 4097 8191 8192 8193 65537 3000001; do
     check "the digests of $length bytes are those of zlib and hashlib" \
         grep -Fqx "test digests::digests_of_${length}_bytes ... ok" log

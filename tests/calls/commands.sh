@@ -1,6 +1,6 @@
 #!/bin/sh
 # Runs the tests of bi_norm and bi_commands, which are in tests/calls/commands. They make the calls of these crates on small images, and
-# over readers and writers that fail. `rt try` builds and runs them without a proof.
+# over readers and writers that fail. They are built and run without a proof.
 set -u
 
 root=$(cd "$(dirname "$0")/../.." && pwd)
@@ -9,5 +9,5 @@ root=$(cd "$(dirname "$0")/../.." && pwd)
 work_in_new_directory
 test_crate command_tests "bi_commands bi_norm bi_fit bi_legacy bi_base scripted_io"
 link_tests commands
-run_tests --seconds 300
+run_tests
 finish

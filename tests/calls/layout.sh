@@ -120,7 +120,7 @@ check "fdtget and fdtdump say what the blobs have" sh -c \
 
 test_crate layout_of_events "bi_lay bi_base"
 link_tests layout main
-(cd "$crate" && rt try) < events > texts 2> errors
+try_crate --steps 20000000 --seconds 60 < events > texts 2> errors
 check "the program writes texts" test -s texts
 [ "$failed" = 0 ] || { tail -n 20 errors; finish; }
 

@@ -1,6 +1,6 @@
 #!/bin/sh
 # Runs the tests of bi_base, bi_hash, bi_legacy, bi_lay, bi_fdt and bi_fit, which are in tests/calls/library. They make the calls that
-# these crates offer, on values with known answers, and on readers and writers that fail. `rt try` builds and runs them without a proof.
+# these crates offer, on values with known answers, and on readers and writers that fail. They are built and run without a proof.
 set -u
 
 root=$(cd "$(dirname "$0")/../.." && pwd)
@@ -10,5 +10,5 @@ work_in_new_directory
 test_crate library_tests "bi_fit bi_fdt bi_lay bi_legacy bi_hash bi_base scripted_io md5 sha1 sha2"
 link_tests library
 link_tests commands images
-run_tests --seconds 300
+run_tests
 finish

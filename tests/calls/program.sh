@@ -1,6 +1,6 @@
 #!/bin/sh
 # Runs the tests of the program, which are in tests/calls/program. They give `run` and `run_with_files` arguments, small images and files in
-# memory, and readers and writers that fail. `rt try` builds and runs them without a proof, in a crate with the modules of bootimg.
+# memory, and readers and writers that fail. They are built and run without a proof, in a crate with the modules of bootimg.
 set -u
 
 root=$(cd "$(dirname "$0")/../.." && pwd)
@@ -12,5 +12,5 @@ link_tests program tests tests/building tests/checking tests/explaining tests/ex
     tests/streams tests/updating
 link_tests commands images
 test_modules tests images
-run_tests --seconds 300
+run_tests
 finish

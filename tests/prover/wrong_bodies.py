@@ -6,9 +6,10 @@ directory. The script adds the flags --incremental and --only.
 An edit has a line `refused: FUNCTION`, and then the lines of an edit for `rt must-fail`, which change what this function does. It is
 refused if a goal of the function stays open, or if an answer to one of its goals is wrong. A function is proved from its own code and
 the contracts of the functions that it calls, so the wrong bodies of several functions are checked at a time. rattle does not try a
-function that calls one that is not proved, so such an edit waits for the next round.
+function that calls one that is not proved, so an edit waits until those of the functions below its own are tried.
 """
 
+import json
 import re
 import shutil
 import subprocess
@@ -19,7 +20,7 @@ from typing import NamedTuple
 
 
 # What rattle prints of a function that it has not tried, since it calls one that is not proved.
-CALLS = re.compile(r"it calls `|a call of `")
+CALLS = re.compile(r"(?:it calls|a call of) `([^`]*)")
 
 
 class Edit(NamedTuple):
@@ -54,10 +55,37 @@ def apply(edit, texts):
     return texts
 
 
-def choose(edits, texts):
-    """Returns edits of different functions that can be applied together, and the texts of the files with them."""
+def read_calls(crate):
+    """Returns the functions of a library that each of them calls, by its code in the built library. Returns none for a program."""
+    code = crate / "out/rlib" / f"{crate.name}.rlib" / "toolchain/mir.json"
+    functions = dict(json.loads(code.read_text(encoding="utf-8"))) if code.is_file() else {}
+    return {name: functions.keys() & set(re.findall(r'"([^"]*)"', json.dumps(body))) for name, body in functions.items()}
+
+
+def add_calls(calls, output):
+    """Adds the calls for which rattle did not try a function."""
+    for function, what in re.findall(r"^fn (\S+): (.*)$", output, re.M):
+        calls.setdefault(function, set()).update(CALLS.findall(what))
+
+
+def functions_below(function, calls):
+    """Returns the functions that this one calls, and those that these call, and so on."""
+    below, left = set(), [function]
+    while left:
+        new = calls.get(left.pop(), set()) - below
+        below |= new
+        left += new
+    return below
+
+
+def choose(crate, edits, texts, calls):
+    """Returns edits of different functions that can be applied together, and the texts of the files with them. Of those functions that call
+    one another, directly or not, it takes the one that is called."""
+    names = {f"{crate}::{edit.function}" for edit in edits}
+    waits = {name for name in names if functions_below(name, calls) & names - {name}}
+    free = [edit for edit in edits if f"{crate}::{edit.function}" not in waits]
     chosen = []
-    for edit in edits:
+    for edit in free or edits:
         changed = apply(edit, texts)
         if changed and all(edit.function != other.function for other in chosen):
             chosen.append(edit)
@@ -138,10 +166,11 @@ def fault(output, edited):
     return None
 
 
-def try_round(crate, waiting, texts, command, kept):
+def try_round(crate, waiting, texts, calls, command, kept):
     """Checks edits of different functions together. Returns the verdict on each edit that was tried, or why the check shows nothing."""
-    chosen, changed = choose(waiting, texts)
+    chosen, changed = choose(crate.name, waiting, texts, calls)
     output = check(crate, changed, [edit.function for edit in chosen], command, kept)
+    add_calls(calls, output)
     verdicts = {edit: verdict(output, crate.name, edit, texts) for edit in chosen}
     tried = {edit: result for edit, result in verdicts.items() if result[0] is not None}
     why = fault(output, {f"{crate.name}::{edit.function}" for edit in chosen})
@@ -162,8 +191,9 @@ def try_all(crate, waiting, texts, command):
     """Tries the edits, round by round. Returns whether each is refused."""
     all_refused = True
     with tempfile.TemporaryDirectory() as kept:
+        calls = read_calls(crate)
         while waiting:
-            tried, why = try_round(crate, waiting, texts, command, kept)
+            tried, why = try_round(crate, waiting, texts, calls, command, kept)
             if why:
                 print(f"FAILED: {crate.name}: {why}")
                 return False

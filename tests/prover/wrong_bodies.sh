@@ -6,9 +6,9 @@
 # installs Debian's if it is missing and the script runs as root.
 #
 # With --beside LOG before the crates it runs beside `rt ci`, which prints to LOG: the crates are tried one after the other, each as soon as
-# `rt ci` has proved the libraries below it. LOG.ended is made when `rt ci` ends; a crate that is not begun by then is left out. LOG.tried
-# has the others. A check that begins before that has less priority. The script without arguments leaves out the crates in the file of the
-# variable `tried_before`.
+# `rt ci` has proved it. LOG.ended is made when `rt ci` ends; a crate that is not begun by then is left out. LOG.tried has the others. A
+# check that begins before that has less priority. The script without arguments leaves out the crates in the file of the variable
+# `tried_before`.
 set -u
 
 root=$(cd "$(dirname "$0")/../.." && pwd)
@@ -21,11 +21,15 @@ if [ "${1-}" = check ]; then
     shift 2
     # A process may always lower its own priority, and only root may raise one.
     [ -z "${log_of_ci-}" ] || [ -e "$log_of_ci.ended" ] || renice -n 10 -p $$ > /dev/null
-    file=src/lib.rt
-    [ -f "$file" ] || file=src/main.rt
+    # rattle reads the code of all libraries below a program, which takes minutes, and only what is public of those below a library. So a
+    # program is checked as a library of its modules.
+    if [ -f src/main.rt ]; then
+        { echo '#![tactic(auto)]'; grep '^mod ' src/main.rt; } > src/lib.rt
+        rm src/main.rt
+    fi
     # rattle proves the exports of a static library alone.
     ! is_static "$crate" || set -- --crate-type staticlib "$@"
-    rattle check "$crate" "$file" "$(sed -n "s/^$crate\( staticlib\)*: *//p" "$root/crates.txt")" "$@"
+    rattle check "$crate" src/lib.rt "$(sed -n "s/^$crate\( staticlib\)*: *//p" "$root/crates.txt")" "$@"
     exit
 fi
 
@@ -40,14 +44,11 @@ need python3 python3
 [ -n "$log_of_ci" ] || need_libraries
 work_in_new_directory
 
-# wait_for_libraries CRATE: waits until `rt ci` has proved the libraries of the workspace below the crate. Fails if it has ended.
-wait_for_libraries() {
-    for library in $(sed -n "s/^$1\( staticlib\)*: *//p" "$root/crates.txt"); do
-        [ -d "$root/crates/$library" ] || continue
-        until grep -qx "rt: $library proved" "$log_of_ci"; do
-            [ ! -e "$log_of_ci.ended" ] || return 1
-            sleep 5
-        done
+# wait_for_proof CRATE: waits until `rt ci` has proved the crate. Fails if it has ended.
+wait_for_proof() {
+    until grep -qx "rt: $1 proved" "$log_of_ci"; do
+        [ ! -e "$log_of_ci.ended" ] || return 1
+        sleep 5
     done
     [ ! -e "$log_of_ci.ended" ]
 }
@@ -58,7 +59,7 @@ try='
     python3 "$here/wrong_bodies.py" "$1/crates/$2" "$here/wrong_bodies/$2" "$here/wrong_bodies.sh" check "$2" > "$2.log" 2>&1'
 if [ -n "$log_of_ci" ]; then
     for crate; do
-        wait_for_libraries "$crate" || break
+        wait_for_proof "$crate" || break
         echo "$crate" >> "$log_of_ci.tried"
         sh -c "$try" sh "$root" "$crate"
     done
