@@ -22,9 +22,9 @@ if [ "${1-}" = check ]; then
     # A process may always lower its own priority, and only root may raise one.
     [ -z "${log_of_ci-}" ] || [ -e "$log_of_ci.ended" ] || renice -n 10 -p $$ > /dev/null
     # rattle reads the code of all libraries below a program, which takes minutes, and only what is public of those below a library. So a
-    # program is checked as a library of its modules.
+    # program is checked as a library of its modules. An edit of main.rt would fail, since rattle would not name its function.
     if [ -f src/main.rt ]; then
-        { echo '#![tactic(auto)]'; grep '^mod ' src/main.rt; } > src/lib.rt
+        modules_of_program src/main.rt > src/lib.rt
         rm src/main.rt
     fi
     # rattle proves the exports of a static library alone.

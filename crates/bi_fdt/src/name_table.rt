@@ -118,9 +118,9 @@ impl<'a> NameTable<'a> {
     }
 }
 
-/// Returns the prefixes of these entries of a file, each before the index of its entry, in ascending
-/// order. So names that are alike follow each other, and each is found where the last one was.
-/// Fails if memory runs out.
+/// Returns the prefixes of these entries of a file, each before the index of its entry, in
+/// ascending order. So names that are alike follow each other, and each is found where the last one
+/// was. Fails if memory runs out.
 fn order_by_prefix(
     alloc: Global,
     file: &[u8],
