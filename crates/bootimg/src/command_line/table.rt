@@ -16,7 +16,7 @@ pub const NO_COMPRESSION: &str = "none";
 pub const ZERO: &str = "0";
 
 /// The version that `--version` prints, and the kit that the program is built with.
-const VERSION: &str = "0.2.0 (rattle-kit-13f)";
+const VERSION: &str = "0.2.0 (rattle-kit-13b)";
 
 /// The text of `--help` before the usage.
 const ABOUT: &str =
