@@ -17,7 +17,10 @@ stub() {
     printf '#!/bin/sh\nname=%s\n' "$2" > "$1"
     cat >> "$1" << 'END'
 case ${1-} in
---beside) echo "$name beside the proofs" >> "$started" ;;
+--beside)
+    echo "$name beside the proofs" >> "$started"
+    cut -d ' ' -f 5,6 "/proc/$$/stat" > "$started.group"
+    ;;
 *) echo "$name${rt_ci:+ with the proofs}" >> "$started" ;;
 esac
 ! grep -Fqx "$name" "$broken"
@@ -64,6 +67,13 @@ printf '%s\n' $scripts | sort > all
 grep -v '/layers\.sh ' everything > gate
 check "the gate" starts gate
 check "the scripts of costs are the last" is_last
+
+# has_own_group: wrong code beside the proofs was a process group of its own, in the session of this script.
+has_own_group() {
+    read -r group session < started.group
+    [ "$session" = "$(cut -d ' ' -f 6 "/proc/$$/stat")" ] && [ "$group" != "$(cut -d ' ' -f 5 "/proc/$$/stat")" ]
+}
+check "wrong code beside the proofs is a process group of this session" has_own_group
 check "the gate with layers.sh" starts everything --layers
 for group in fast tools calls prover costs; do
     grep "^tests/$group/" all > wanted
