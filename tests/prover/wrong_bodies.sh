@@ -8,7 +8,7 @@
 # With --beside LOG before the crates it runs beside `rt ci`, which prints to LOG: the crates are tried one after the other, each as soon as
 # `rt ci` has proved it. LOG.ended is made when `rt ci` ends; a crate that is not begun by then is left out. LOG.tried has the others. A
 # check that begins before that has less priority. The script without arguments leaves out the crates in the file of the variable
-# `tried_before`.
+# `tried_before`, and the crate that takes longest has more priority than the others.
 set -u
 
 root=$(cd "$(dirname "$0")/../.." && pwd)
@@ -21,6 +21,7 @@ if [ "${1-}" = check ]; then
     shift 2
     # A process may always lower its own priority, and only root may raise one.
     [ -z "${log_of_ci-}" ] || [ -e "$log_of_ci.ended" ] || renice -n 10 -p $$ > /dev/null
+    [ -z "${longest-}" ] || [ "$crate" = "$longest" ] || renice -n 10 -p $$ > /dev/null
     # rattle reads the code of all libraries below a program, which takes minutes, and only what is public of those below a library. So a
     # program is checked as a library of its modules. An edit of main.rt would fail, since rattle would not name its function.
     if [ -f src/main.rt ]; then
@@ -65,7 +66,8 @@ if [ -n "$log_of_ci" ]; then
     done
 elif [ $# = 0 ]; then
     # The crates that take longest are the first.
-    printf '%s\n' bootimg bi_commands bi_norm bi_fit bi_legacy bi_base $(ls "$here/wrong_bodies") | awk '!seen[$0]++' |
+    export longest=bootimg
+    printf '%s\n' $longest bi_commands bi_norm bi_fit bi_legacy bi_base $(ls "$here/wrong_bodies") | awk '!seen[$0]++' |
         grep -vxFf "${tried_before:-/dev/null}" | xargs -n 1 -P "$(nproc)" sh -c "$try" sh "$root"
 else
     printf '%s\n' "$@" | xargs -n 1 -P "$(nproc)" sh -c "$try" sh "$root"
