@@ -1,12 +1,11 @@
-use Rattle.std.proofs.Common.{◌≡◌, ℕ, List, [], ◌∷◌, ◌++◌, Result, Ok, Err, OnOk, IfErr, codes, map, refl, sym, ap, ◌∙◌, append_assoc}
-use Rattle.std.proofs.Common.{subst}
+use Rattle.std.proofs.Common.{◌≡◌, ℕ, List, [], ◌∷◌, ◌++◌, codes, map, refl, sym, ap, subst, ◌∙◌, append_assoc}
 use Rattle.std.specs.Fmt.{decimal}
 use Rattle.std.specs.List.{flat_map}
 use Rattle.std.proofs.lemmas.List.Folds.{flat_map-map}
-use Rattle.bi_base.specs.Commands.{Appended, AppendFailed, WasRefused, SinkFailed}
+use Rattle.bi_base.specs.Commands.{AppendFailed, WasRefused, SinkFailed}
 use Rattle.bi_base.specs.declared.fault.Error.{Error}
 use Rattle.bi_base.specs.Limits.{Limits}
-use Rattle.bi_base.specs.Sinks.{FailsWithin, Wrote}
+use Rattle.bi_base.specs.Sinks.{FailsWithin}
 use Rattle.bi_base.specs.VecSinks.{Grows, IsOutOfMemory}
 use Rattle.bi_fdt.specs.Content.{Blob}
 use Rattle.bi_fit.specs.Content.{FitModel, ImageModel, tree_of}
@@ -78,21 +77,6 @@ fit_pieces content blob images same_blob same_images =
 pub listing_needs_memory : (limits : Limits) (file text : List ℕ) → IsListing limits file text → NeedsMemory limits file
 listing_needs_memory limits file text (OfLegacyImage parsed is same) = ForLegacyImage parsed.image is.means
 listing_needs_memory limits file text (OfImageTree is) = needs_memory limits file (OfFit is.tree) is.means
-
--- A call that appended a text, or failed as the sink does.
-pub appended_text : {S : Type 0} (appends : S → List ℕ → S → Type 0) (fails : S → List ℕ → S → Error → Type 0) (IsText : List ℕ → Type 0)
-    (old new : S)
-    (text : List ℕ) (result : Result (Unit {0}) Error) → IsText text → Wrote appends fails old text result new →
-    OnOk result (Appended appends IsText old new)
-appended_text appends fails IsText old new text (Ok done) is wrote = record { text = text; is_text = is; appended = wrote }
-appended_text appends fails IsText old new text (Err error) is wrote = tt
-
-pub failed_text : {S : Type 0} (appends : S → List ℕ → S → Type 0) (fails : S → List ℕ → S → Error → Type 0) (IsText : List ℕ → Type 0)
-    (HasError : Error → Type 0)
-    (old new : S) (text : List ℕ) (result : Result (Unit {0}) Error) → IsText text → Wrote appends fails old text result new →
-    IfErr result (AppendFailed fails IsText HasError old new)
-failed_text appends fails IsText HasError old new text (Ok done) is wrote = tt
-failed_text appends fails IsText HasError old new text (Err error) is wrote = SinkFailed text error is wrote refl
 
 -- An error of listing a file to memory.
 pub failed_in_memory : (limits : Limits) (file old new : List ℕ) (error : Error) →

@@ -13,8 +13,8 @@ ghost use Rattle.bi_commands.specs.Listing.{IsListing, list_promise, list_laws};
 
 use bi_base::{Command, Error, Limits, Sink, VecSink, pipe_to};
 use bi_norm::BootImage;
+pub(crate) use fit::KEYS;
 use fit::list_fit;
-pub(crate) use fit::{KEYS, key_word};
 use legacy::list_legacy;
 use std::alloc::Global;
 use std::io::{Read, Write};

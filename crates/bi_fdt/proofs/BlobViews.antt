@@ -29,22 +29,22 @@ use Rattle.bi_fdt.proofs.NameOffsetsOfTables.{names_in_tree}
 -- What a blob that was read holds.
 
 -- The fault of a file is its only one.
-pub only_fault : (bounds : Limits) (file : List ℕ) (fault : Fault) → IsBlobFault bounds file fault → IsOnlyFault bounds file fault
-only_fault bounds file fault is = record {
+pub only_fault : (limits : Limits) (file : List ℕ) (fault : Fault) → IsBlobFault limits file fault → IsOnlyFault limits file fault
+only_fault limits file fault is = record {
   is_fault = is;
-  only = λ other is_other. one_blob_fault bounds file other fault is_other is;
-  no_blob = λ within. blob_has_no_fault bounds file fault within is;
+  only = λ other is_other. one_blob_fault limits file other fault is_other is;
+  means_nothing = λ within. blob_has_no_fault limits file fault within is;
 }
 
 -- What an error in the structure block says of the file.
-pub refused_in_tree : (bounds : Limits) (file : List ℕ) (count : ℕ) (error : Error) → HasNoHeaderFault bounds file →
+pub refused_in_tree : (limits : Limits) (file : List ℕ) (count : ℕ) (error : Error) → HasNoHeaderFault limits file →
     HasReservations file (off_mem_rsvmap file) (totalsize file) count →
-    IsFaultOrNoMemory (IsStructureFault (tree_blocks file) bounds.depth) error →
-    IsBlobReadError bounds file error
-refused_in_tree bounds file count (error.Refused fault) fine has refusal = only_fault bounds file fault (InStructure fine count has refusal)
-refused_in_tree bounds file count error.OutOfMemory fine has refusal = record { header = fine; count = count; reservations = has }
-refused_in_tree bounds file count error.ReadFailed fine has refusal = refusal
-refused_in_tree bounds file count error.WriteFailed fine has refusal = refusal
+    IsFaultOrNoMemory (IsStructureFault (tree_blocks file) limits.depth) error →
+    IsBlobReadError limits file error
+refused_in_tree limits file count (error.Refused fault) fine has refusal = only_fault limits file fault (InStructure fine count has refusal)
+refused_in_tree limits file count error.OutOfMemory fine has refusal = record { header = fine; count = count; reservations = has }
+refused_in_tree limits file count error.ReadFailed fine has refusal = refusal
+refused_in_tree limits file count error.WriteFailed fine has refusal = refusal
 
 -- A header has at least 36 bytes.
 pub header_length-least : (file : List ℕ) → 36 ≤ header_length file
@@ -65,11 +65,11 @@ strings_within file header =
     let within : totalsize file ≤ length file = header.file_holds_total in
     omega arith
 
-pub is_held : (bounds : Limits) (file : List ℕ) (count : ℕ) (entries : List Entry) → HasNoHeaderFault bounds file →
-    HasReservations file (off_mem_rsvmap file) (totalsize file) count → HasTable (tree_blocks file) bounds.depth entries →
+pub is_held : (limits : Limits) (file : List ℕ) (count : ℕ) (entries : List Entry) → HasNoHeaderFault limits file →
+    HasReservations file (off_mem_rsvmap file) (totalsize file) count → HasTable (tree_blocks file) limits.depth entries →
     IsBlobHeld file count entries
-is_held bounds file count entries fine has table =
-    let header : Header file = HasNoHeaderFault-Header bounds file fine in
+is_held limits file count entries fine has table =
+    let header : Header file = HasNoHeaderFault-Header limits file fine in
     let least : 36 ≤ header_length file = header_length-least file in
     let whole : header_length file ≤ length file = header.whole in
     record {
@@ -81,11 +81,11 @@ is_held bounds file count entries fine has table =
       named = subst (HaveNameOffsets file) (sym table.is_table.items) (names_in_tree file table.root table.holds);
     }
 
-pub is_blob : (bounds : Limits) (file : List ℕ) (count : ℕ) (entries : List Entry) → AreBytes file → HasNoHeaderFault bounds file →
-    HasReservations file (off_mem_rsvmap file) (totalsize file) count → HasTable (tree_blocks file) bounds.depth entries →
+pub is_blob : (limits : Limits) (file : List ℕ) (count : ℕ) (entries : List Entry) → AreBytes file → HasNoHeaderFault limits file →
+    HasReservations file (off_mem_rsvmap file) (totalsize file) count → HasTable (tree_blocks file) limits.depth entries →
     IsBlob file (boot_cpuid_phys file) (reservations_at file (off_mem_rsvmap file) count) (root_in (map (item_in file) entries))
-is_blob bounds file count entries bytes fine has table =
-    let header : Header file = HasNoHeaderFault-Header bounds file fine in
+is_blob limits file count entries bytes fine has table =
+    let header : Header file = HasNoHeaderFault-Header limits file fine in
     subst (IsBlob file (boot_cpuid_phys file) (reservations_at file (off_mem_rsvmap file) count)) (sym (table_root file entries table.root table.is_table)) (record {
       bytes = bytes;
       header = header;
@@ -94,32 +94,32 @@ is_blob bounds file count entries bytes fine has table =
       holds = table.holds;
     })
 
-pub is_blob_within : (bounds : Limits) (file : List ℕ) (count : ℕ) (entries : List Entry) → AreBytes file → HasNoHeaderFault bounds file →
-    HasReservations file (off_mem_rsvmap file) (totalsize file) count → HasTable (tree_blocks file) bounds.depth entries →
-    IsBlobWithin bounds file
-is_blob_within bounds file count entries bytes fine has table =
-    blob_of_parts bounds file count bytes fine has (record { root = table.root; holds = table.holds; shallow = table.shallow })
+pub is_blob_within : (limits : Limits) (file : List ℕ) (count : ℕ) (entries : List Entry) → AreBytes file → HasNoHeaderFault limits file →
+    HasReservations file (off_mem_rsvmap file) (totalsize file) count → HasTable (tree_blocks file) limits.depth entries →
+    IsBlobWithin limits file
+is_blob_within limits file count entries bytes fine has table =
+    blob_of_parts limits file count bytes fine has (record { root = table.root; holds = table.holds; shallow = table.shallow })
 
 -- The blob of these was read from the file.
-pub is_read_blob : (bounds : Limits) (file : List ℕ) (count : ℕ) (entries : List Entry) → AreBytes file → HasNoHeaderFault bounds file →
-    HasReservations file (off_mem_rsvmap file) (totalsize file) count → HasTable (tree_blocks file) bounds.depth entries →
-    IsReadBlob bounds file (record {
+pub is_read_blob : (limits : Limits) (file : List ℕ) (count : ℕ) (entries : List Entry) → AreBytes file → HasNoHeaderFault limits file →
+    HasReservations file (off_mem_rsvmap file) (totalsize file) count → HasTable (tree_blocks file) limits.depth entries →
+    IsReadBlob limits file (record {
       file = file;
       cpu = boot_cpuid_phys file;
       total_size = totalsize file;
       reservations = reservations_at file (off_mem_rsvmap file) count;
       table = map (item_in file) entries;
     })
-is_read_blob bounds file count entries bytes fine has table =
-    let blob = is_blob bounds file count entries bytes fine has table in
-    let within = is_blob_within bounds file count entries bytes fine has table in
+is_read_blob limits file count entries bytes fine has table =
+    let blob = is_blob limits file count entries bytes fine has table in
+    let within = is_blob_within limits file count entries bytes fine has table in
     record {
       is_file = refl;
       size = refl;
       means = blob;
       within = within;
       only = λ cpu reservations root is. one_blob file _ cpu _ reservations _ root blob is;
-      no_fault = λ fault is. blob_has_no_fault bounds file fault within is;
+      no_fault = λ fault is. blob_has_no_fault limits file fault within is;
     }
 
 -- The numbers of a reservation.

@@ -13,7 +13,7 @@ ghost use Rattle.bi_fdt.specs.Growth.{HasBytesAt, IsGrowing, IsGrown, IsEnding};
 use crate::property_names::PropertyNames;
 use crate::table::{Entry, NodeEntry, PropertyEntry, set_after, set_property_count};
 use bi_base::{Cause, Error, refuse};
-use std::alloc::Global;
+use std::alloc::{AllocError, Global};
 use std::collections::BTreeSet;
 
 /// A node that has started and has not ended.
@@ -46,13 +46,12 @@ pub(crate) enum Ending<'a> {
 
 impl<'a> Growing<'a> {
     /// A tree whose root has started at `place`.
-    pub(crate) fn new(alloc: Global, name: &'a [u8], place: u32) -> Result<Growing<'a>, Error>
+    pub(crate) fn new(alloc: Global, name: &'a [u8], place: u32) -> Result<Growing<'a>, AllocError>
         requires { length name.now < 2 ^ 32 }
         ensures ok { IfOk result (λ growing. (file : List ℕ)
             → HasBytesAt file (place + 4) name.entry.now
             → IsGrowing file growing (new_node name.entry.now place) []) }
         ensures count { IfOk result (λ growing. length growing.entries.items ≡ 1) }
-        ensures failed { IfErr result (IsFaultOrNoMemory (λ _. ⊥)) }
     {
         let mut entries = Vec::new(alloc);
         entries.push(Entry::Node(NodeEntry {

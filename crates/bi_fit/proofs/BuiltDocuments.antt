@@ -14,7 +14,7 @@ use Rattle.bi_blob.proofs.Texts.NormalEvents.{normal_events_have_one_tree}
 use Rattle.bi_lay.specs.Contents.{Doc, empty_content, with_event}
 use Rattle.bi_fit.specs.declared.form.Form.{Form}
 use Rattle.bi_fit.specs.declared.form.Form.TheVariants.{Embedded, External}
-use Rattle.bi_fit.specs.NormalNodes.{MayAdd, with_events, begin_events}
+use Rattle.bi_fit.specs.NormalNodes.{MayAdd, with_events, begin_events, next_end}
 use Rattle.bi_fit.specs.PropertyMapModels.{PropertyMapModel, without_numbers, HaveNumbers}
 use Rattle.bi_fit.specs.Building.{HeadModel, ImageSpecModel, CanBeBuilt, built_tree, cell_property, built_image_properties, root_properties}
 use Rattle.bi_fit.specs.Documents.{document_of}
@@ -23,7 +23,6 @@ use Rattle.bi_fit.specs.Names.{is_payload_name}
 use Rattle.bi_fit.specs.Text.{normal_tree, with_payload, with_payloads, end_after}
 use Rattle.bi_fit.proofs.BuiltTrees.{built_is_image_tree, depth-built, none_found, load_is_no_payload, entry_is_no_payload}
 use Rattle.bi_fit.proofs.TreeContents.{content-normal_tree}
-use Rattle.bi_fit.proofs.ImageNodes.{next_end}
 use Rattle.bi_fit.proofs.PayloadProperties.{taken_out}
 use Rattle.bi_fit.proofs.NodeEvents.{IsAdding, adding_all, may_add_first, adding_later, adding_none}
 use Rattle.bi_fit.proofs.AddedEvents.{whole, may_begin, may_have_children, may_end, whole_added}

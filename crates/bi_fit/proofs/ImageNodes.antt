@@ -12,7 +12,7 @@ use Rattle.bi_fit.specs.Names.{data_name}
 use Rattle.bi_fit.specs.ImageTree.{without_payloads}
 use Rattle.bi_fit.specs.Text.{with_payloads, end_after, payloads_end}
 use Rattle.bi_fit.specs.TakenDigests.{algorithm_if_hashed, with_first_digest, images_with_digests_from}
-use Rattle.bi_fit.specs.NormalNodes.{HasCellSize, AreWithin, properties_by_name, nodes_by_name, begin_events, sorted_images}
+use Rattle.bi_fit.specs.NormalNodes.{HasCellSize, next_end, AreWithin, properties_by_name, nodes_by_name, begin_events, sorted_images}
 use Rattle.bi_fit.proofs.PayloadAreas.{payloads_end-le}
 use Rattle.bi_fit.proofs.AddedEvents.{begin_events-same}
 
@@ -46,11 +46,6 @@ embedded_anywhere one other (None ∷ payloads) (node name own children later) =
     ap (node name own children) (embedded_anywhere one other payloads later)
 embedded_anywhere one other (Some payload ∷ payloads) (node name own children later) =
     ap (node name (insert own data_name payload) children) (embedded_anywhere (end_after one (Some payload)) (end_after other (Some payload)) payloads later)
-
--- Where the payloads before the next one end. That counts only for external ones.
-abbrev pub next_end : Form → (end : ℕ) → Option (List ℕ) → ℕ
-next_end Embedded end payload = end
-next_end External end payload = end_after end payload
 
 -- The image nodes after the first.
 pub images-later : (hashes : Bool) (form : Form) (end : ℕ) (payload : Option (List ℕ)) (payloads : List (Option (List ℕ)))

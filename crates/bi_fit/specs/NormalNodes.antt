@@ -15,7 +15,7 @@ use Rattle.bi_fit.specs.declared.form.Form.TheVariants.{Embedded, External}
 use Rattle.bi_fit.specs.declared.image.Image.{Image}
 use Rattle.bi_fit.specs.Names.{images_name}
 use Rattle.bi_fit.specs.ImageTree.{without_payload, without_payloads}
-use Rattle.bi_fit.specs.Text.{with_payload, with_payloads, payloads_end}
+use Rattle.bi_fit.specs.Text.{with_payload, with_payloads, end_after, payloads_end}
 use Rattle.bi_fit.specs.Content.{image_model}
 use Rattle.bi_fit.specs.Updating.{with_time}
 use Rattle.bi_fit.specs.TakenDigests.{HaveImageDigests, with_digests_from}
@@ -96,6 +96,12 @@ sorted_images_node hashes form payloads digests sibling =
 abbrev pub HasCellSize : Form → Option (List ℕ) → Type 0
 HasCellSize External (Some payload) = length payload < 2 ^ 32
 HasCellSize form payload = ⊤
+
+-- Where the payloads end once there is one more, if they ended at `end` before it. That counts only
+-- for external ones.
+abbrev pub next_end : Form → (end : ℕ) → Option (List ℕ) → ℕ
+next_end Embedded end payload = end
+next_end External end payload = end_after end payload
 
 -- The payloads end within the longest text, if the form has them after the blob.
 abbrev pub AreWithin : Form → (end : ℕ) → List (Option (List ℕ)) → Type 0

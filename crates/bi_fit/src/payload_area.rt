@@ -6,14 +6,49 @@ ghost use Rattle.bi_base.specs.Cells.{up4 as up4_of};
 ghost use Rattle.bi_base.specs.Reading.{too_large};
 ghost use Rattle.bi_base.specs.Sinks.{Wrote};
 ghost use Rattle.bi_blob.specs.Layout.{longest_text, padding_to_4};
+ghost use Rattle.bi_fit.specs.declared.form.Form.TheVariants.{External};
 ghost use Rattle.bi_fit.specs.Documents.{length_after_blob as length_after_blob_of};
-ghost use Rattle.bi_fit.specs.Text.{end_after as end_after_of, payloads_end as payloads_end_of};
-ghost use Rattle.bi_fit.specs.Text.{payload_area};
-ghost use Rattle.bi_fit.specs.NormalNodes.{payloads_of};
+ghost use Rattle.bi_fit.specs.Text.{payload_area, payloads_end as payloads_end_of};
+ghost use Rattle.bi_fit.specs.NormalNodes.{payloads_of, next_end};
 
 use crate::form::Form;
 use crate::image::Image;
 use bi_base::{Cause, Error, Fault, Sink, refuse, up4};
+
+/// The area of the payloads after the blob, which grows payload by payload. It stays empty in the
+/// form Embedded.
+#[derive(Clone, Copy)]
+pub(crate) struct PayloadArea {
+    form: Form,
+    /// Where it ends.
+    end: usize,
+}
+
+impl PayloadArea {
+    /// An area without payloads.
+    pub(crate) fn new(form: Form) -> PayloadArea
+        ensures form { result.form ≡ form }
+        ensures end { result.end ≡ 0 }
+    {
+        PayloadArea { form, end: 0 }
+    }
+
+    /// Places the payload of one more image, and returns where it begins in the form External. An
+    /// image without a payload changes nothing. The end saturates at `usize::MAX`.
+    pub(crate) fn place(&mut self, payload: Option<&[u8]>) -> usize
+        requires { self.old.end + 3 < 2 ^ 64 }
+        ensures begin { result ≡ up4_of self.old.end }
+        ensures form { self.new.form ≡ self.old.form }
+        ensures end { let given = option_map (λ payload. payload.now) payload.entry in
+            self.new.end ≡ min (next_end self.old.form self.old.end given) (2 ^ 64 - 1) }
+    {
+        let begin = up4(self.end);
+        if let (Form::External, Some(payload)) = (self.form, payload) {
+            self.end = begin.saturating_add(payload.len());
+        }
+        begin
+    }
+}
 
 /// Returns how many bytes follow the blob: the payloads of these images in the form External, none
 /// in the form Embedded. TooLarge at the limit, exactly if they are more than that.
@@ -37,27 +72,14 @@ fn payloads_end(images: &[Image<'_>], limit: u32) -> Result<u32, Fault>
     ensures fault { IfErr result (λ fault. (fault ≡ too_large limit)
         × (limit < payloads_end_of 0 (payloads_of images.now))) }
 {
-    let mut end = 0;
+    let mut area = PayloadArea::new(Form::External);
     for image in images {
-        end = end_after(end, image.payload);
-        if end > limit as usize {
+        area.place(image.payload);
+        if area.end > limit as usize {
             return refuse(Cause::TooLarge, limit);
         }
     }
-    Ok(end as u32)
-}
-
-/// Returns where external payloads end after one more, if they end at `end` before it. An image
-/// without a payload changes nothing. Saturates at `usize::MAX`.
-pub(crate) fn end_after(end: usize, payload: Option<&[u8]>) -> usize
-    requires { end + 3 < 2 ^ 64 }
-    ensures { result ≡ min (end_after_of end (option_map (λ payload. payload.now) payload.entry))
-        (2 ^ 64 - 1) }
-{
-    match payload {
-        Some(payload) => up4(end).saturating_add(payload.len()),
-        None => end,
-    }
+    Ok(area.end as u32)
 }
 
 /// Appends the payloads of images in their order, each after zeros up to a multiple of four, also
@@ -67,25 +89,27 @@ pub(crate) fn put_payloads<S: Sink>(images: &[Image<'_>], sink: &mut S) -> Resul
     ensures { Wrote S.appends S.fails sink.old (payload_area 0 (payloads_of images.now)) result
         sink.new }
 {
-    let mut end = 0;
+    let mut area = PayloadArea::new(Form::External);
     for image in images {
         if let Some(payload) = image.payload {
-            end = put_payload(end, payload, sink)?;
+            put_payload(&mut area, payload, sink)?;
         }
     }
     Ok(())
 }
 
-/// Appends zeros up to a multiple of four, and a payload, after payloads that end at `end`. Returns
-/// where this one ends. Fails as the sink does.
-fn put_payload<S: Sink>(end: usize, payload: &[u8], sink: &mut S) -> Result<usize, Error>
-    requires { up4_of end + length payload.now ≤ longest_text }
-    ensures end { IfOk result (λ new_end. new_end ≡ up4_of end + length payload.now) }
-    ensures written { Wrote S.appends S.fails sink.old (padding_to_4 end ++ payload.now) result
-        sink.new }
+/// Places one more payload, and appends it after zeros up to a multiple of four. Fails as the sink
+/// does.
+fn put_payload<S: Sink>(area: &mut PayloadArea, payload: &[u8], sink: &mut S) -> Result<(), Error>
+    requires external { area.old.form ≡ External }
+    requires within { up4_of area.old.end + length payload.now ≤ longest_text }
+    ensures external { area.new.form ≡ External }
+    ensures end { area.new.end ≡ up4_of area.old.end + length payload.now }
+    ensures written { Wrote S.appends S.fails sink.old
+        (padding_to_4 area.old.end ++ payload.now) result sink.new }
 {
-    let begin = up4(end);
+    let end = area.end;
+    let begin = area.place(Some(payload));
     sink.put(&[0; 3][..begin - end])?;
-    sink.put(payload)?;
-    Ok(begin + payload.len())
+    sink.put(payload)
 }

@@ -6,8 +6,6 @@ use Rattle.std.proofs.lemmas.List.Folds.{list_any-append}
 use Rattle.std.proofs.lemmas.Bool.Decides.{Decides-eqb}
 use Rattle.std.proofs.lemmas.List.{get_or-set_other}
 use Rattle.std.proofs.lemmas.Option.{same_Some, get_or_from_slice_get, slice_get_read}
-use Rattle.bi_base.specs.declared.fault.Error.{Error}
-use Rattle.bi_base.specs.declared.fault.Error.TheVariants.{OutOfMemory}
 use Rattle.bi_blob.specs.Layout.{offset_in, is_among}
 use Rattle.bi_blob.proofs.Texts.FirstUse.{found_among}
 use Rattle.bi_lay.specs.Contents.{name_numbered}
@@ -91,14 +89,14 @@ known-read names offsets number stored offset known within is some = (
     there = look_up-some names.in_block (name_numbered names.by_number number) offset (known number offset read)
 
 -- Offsets that are known stay known where a name is added or memory runs out.
-pub known-added : (names : NumberedNames) (name : List ℕ) (offsets : List (Option ℕ)) (new : List (List ℕ)) (result : Result ℕ Error) →
-    AreKnownOffsets names offsets → OnOk result (new ≡ with_name names.in_block name) →
-    IfErr result (λ error. (error ≡ OutOfMemory) × (new ≡ names.in_block)) →
+pub known-added : {E : Type 0} (names : NumberedNames) (name : List ℕ) (offsets : List (Option ℕ)) (new : List (List ℕ))
+    (result : Result ℕ E) → AreKnownOffsets names offsets → OnOk result (new ≡ with_name names.in_block name) →
+    IfErr result (λ _. new ≡ names.in_block) →
     AreKnownOffsets (record names { in_block = new }) offsets
 known-added names name offsets new (Ok offset) known ok failed =
     subst (λ l. AreKnownOffsets (record names { in_block = l }) offsets) (sym ok) (known-with_use names name offsets known)
 known-added names name offsets new (Err error) known ok failed =
-    subst (λ l. AreKnownOffsets (record names { in_block = l }) offsets) (sym failed.1) known
+    subst (λ l. AreKnownOffsets (record names { in_block = l }) offsets) (sym failed) known
 
 -- A name was added, and the offset where it is now is stored under its number.
 pub known-stored : (names : NumberedNames) (offsets : List (Option ℕ)) (number offset : ℕ) (new : List (List ℕ)) → number < length offsets →

@@ -9,4 +9,4 @@ pub mod TokenBytes
 pub mod BlockBytes
 pub mod DocTexts
 pub mod ClosedEvents
-pub mod Building
+pub mod TreeStages

@@ -1,12 +1,10 @@
 //! The names of properties, each once, with their offsets in the strings block.
 
 ghost use Rattle.std.specs.Prelude.{◌≡◌, [], IfOk, OnOk, IfErr, length};
-ghost use Rattle.bi_base.specs.declared.fault.Error.TheVariants.{OutOfMemory};
 ghost use Rattle.bi_blob.specs.Layout.{offset_in, strings_of};
 
-use bi_base::Error;
 use bi_blob::name_prefix;
-use std::alloc::Global;
+use std::alloc::{AllocError, Global};
 use std::collections::BTreeMap;
 use std::marker::Model;
 
@@ -67,12 +65,12 @@ impl<'a> Names<'a> {
     /// greatest `usize` if it is greater than that. It takes log n comparisons, for n names, and
     /// only names with the same length and the same first eight bytes are read.
     ///
-    /// The only error is `OutOfMemory`, and the names are unchanged then.
-    pub(crate) fn add(&mut self, name: &'a [u8]) -> Result<usize, Error>
+    /// If memory runs out, the names are unchanged.
+    pub(crate) fn add(&mut self, name: &'a [u8]) -> Result<usize, AllocError>
         ensures offset { IfOk result (λ offset.
             offset ≡ saturated_usize (offset_in self.new name.entry.now)) }
         ensures names { OnOk result (self.new ≡ with_name self.old name.entry.now) }
-        ensures failed { IfErr result (λ error. (error ≡ OutOfMemory) × (self.new ≡ self.old)) }
+        ensures failed { IfErr result (λ _. self.new ≡ self.old) }
     {
         let key = (name.len(), name_prefix(name), name);
         if let Some(offset) = self.offsets.get(&key) {

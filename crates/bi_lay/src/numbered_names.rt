@@ -1,12 +1,10 @@
 //! The names of properties, each of which may be given by its bytes, and some by a number.
 
 ghost use Rattle.std.specs.Prelude.{◌≡◌, ◌<◌, [], IfOk, OnOk, IfErr, length};
-ghost use Rattle.bi_base.specs.declared.fault.Error.TheVariants.{OutOfMemory};
 ghost use Rattle.bi_blob.specs.Layout.{offset_in, strings_of};
 
 use crate::names::Names;
-use bi_base::Error;
-use std::alloc::Global;
+use std::alloc::{AllocError, Global};
 use std::marker::Model;
 
 /// The names that the strings block has, and the names that may be given by number.
@@ -36,12 +34,13 @@ impl<'a> NumberedNames<'a> {
     ghost use Rattle.bi_lay.specs.Names.{saturated_usize};
     ghost use Rattle.bi_lay.specs.NumberedNames.{with_use};
 
-    /// No names in the strings block. The number of each of these names is its index. The only
-    /// error is `OutOfMemory`.
-    pub(crate) fn new(alloc: Global, by_number: Vec<&'a [u8]>) -> Result<NumberedNames<'a>, Error>
+    /// No names in the strings block. The number of each of these names is its index.
+    pub(crate) fn new(
+        alloc: Global,
+        by_number: Vec<&'a [u8]>,
+    ) -> Result<NumberedNames<'a>, AllocError>
         ensures numbers { IfOk result (λ names. names.by_number ≡ bytes_of by_number.entry.items) }
         ensures block { IfOk result (λ names. names.in_block ≡ []) }
-        ensures failed { IfErr result (λ error. error ≡ OutOfMemory) }
     {
         let offsets = vec![in alloc; None; by_number.len()]?;
         Ok(NumberedNames {
@@ -77,12 +76,12 @@ impl<'a> NumberedNames<'a> {
     /// Adds a name to the strings block if it is not there yet, and returns its offset, as
     /// `Names::add` does.
     ///
-    /// The only error is `OutOfMemory`, and the names are unchanged then.
-    pub(crate) fn add(&mut self, name: &'a [u8]) -> Result<usize, Error>
+    /// If memory runs out, the names are unchanged.
+    pub(crate) fn add(&mut self, name: &'a [u8]) -> Result<usize, AllocError>
         ensures offset { IfOk result (λ offset.
             offset ≡ saturated_usize (offset_in self.new.in_block name.entry.now)) }
         ensures names { OnOk result (self.new ≡ with_use self.old name.entry.now) }
-        ensures failed { IfErr result (λ error. (error ≡ OutOfMemory) × (self.new ≡ self.old)) }
+        ensures failed { IfErr result (λ _. self.new ≡ self.old) }
     {
         self.in_block.add(name)
     }
@@ -90,14 +89,14 @@ impl<'a> NumberedNames<'a> {
     /// Adds the name of a number as `add` does. It takes a constant number of steps, except at the
     /// first use of a number, which looks the name up by its bytes.
     ///
-    /// The only error is `OutOfMemory`, and the names are unchanged then.
-    pub(crate) fn add_numbered(&mut self, number: usize) -> Result<usize, Error>
+    /// If memory runs out, the names are unchanged.
+    pub(crate) fn add_numbered(&mut self, number: usize) -> Result<usize, AllocError>
         requires { number < length self.old.by_number }
         ensures offset { let name = name_numbered self.old.by_number number in
             IfOk result (λ offset. offset ≡ saturated_usize (offset_in self.new.in_block name)) }
         ensures names { let name = name_numbered self.old.by_number number in
             OnOk result (self.new ≡ with_use self.old name) }
-        ensures failed { IfErr result (λ error. (error ≡ OutOfMemory) × (self.new ≡ self.old)) }
+        ensures failed { IfErr result (λ _. self.new ≡ self.old) }
     {
         if let Some(offset) = self.offsets[number] {
             return Ok(offset);

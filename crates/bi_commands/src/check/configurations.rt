@@ -11,7 +11,7 @@ ghost use Rattle.bi_commands.specs.Checking.{names_one_of};
 ghost use Rattle.bi_commands.specs.ReadChecking.{configurations_concerns, read_default_concerns};
 
 use super::Allowed;
-use crate::list::{KEYS, key_word};
+use crate::list::KEYS;
 use crate::shown::{shown_name, shown_or_none};
 use bi_fit::{ConfigError, Configuration, Fit, Key};
 use std::alloc::{AllocError, Global};
@@ -91,7 +91,7 @@ fn put_bad_list(
         ++ concern_line (bad_list configuration.now key)) }
 {
     let configuration = shown_name(alloc, configuration)?;
-    let key = key_word(key);
+    let key = key.name();
     writeln!(text, "bad-list {configuration} {key}")
 }
 
@@ -108,7 +108,7 @@ fn put_missing(
         ++ concern_line (missing configuration.now key index)) }
 {
     let configuration = shown_name(alloc, configuration)?;
-    let key = key_word(key);
+    let key = key.name();
     writeln!(text, "missing {configuration} {key} {index}")
 }
 

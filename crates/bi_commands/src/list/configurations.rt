@@ -14,7 +14,7 @@ ghost use Rattle.bi_commands.specs.ReadListing.{configuration_node_lines, config
 ghost use Rattle.bi_commands.specs.ReadListing.{key_lines};
 ghost use Rattle.bi_commands.specs.Shown.{line, shown_text};
 
-use super::fit::{KEYS, key_word};
+use super::fit::KEYS;
 use super::names::first_missing;
 use crate::describe::{Word, put_later_word, put_line, put_words};
 use bi_base::{Error, Sink};
@@ -73,7 +73,7 @@ fn put_key<S: Sink>(fit: &Fit, node: NodeRef, key: Key, sink: &mut S) -> Result<
     ensures { Wrote S.appends S.fails sink.old (key_line (node_of node.entry).name key
         (file_listed fit.now.images (node_of node.entry) key)) result sink.new }
 {
-    match node.property(key_word(key).as_bytes()) {
+    match node.property(key.name().as_bytes()) {
         Some(value) => put_value(fit, node.name(), key, value, sink),
         None => Ok(()),
     }
@@ -94,7 +94,7 @@ fn put_value<S: Sink>(
     let words = [
         Word::Text(b"key"),
         Word::Shown(name),
-        Word::Text(key_word(key).as_bytes()),
+        Word::Text(key.name().as_bytes()),
         Word::Text(b"bad-list"),
     ];
     if value.ends_with(b"\0") {
@@ -122,7 +122,7 @@ fn put_list<S: Sink>(
             let words = [
                 Word::Text(b"key"),
                 Word::Shown(name),
-                Word::Text(key_word(key).as_bytes()),
+                Word::Text(key.name().as_bytes()),
                 Word::Text(b"missing"),
                 Word::Decimal(index as u64),
             ];
@@ -142,7 +142,7 @@ fn put_images<S: Sink>(name: &[u8], key: Key, value: &[u8], sink: &mut S) -> Res
     let words = [
         Word::Text(b"key"),
         Word::Shown(name),
-        Word::Text(key_word(key).as_bytes()),
+        Word::Text(key.name().as_bytes()),
         Word::Text(b"ok"),
     ];
     put_words(&words, sink)?;

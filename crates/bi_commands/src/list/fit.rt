@@ -1,10 +1,9 @@
 //! The listing of a flattened image tree.
 
-ghost use Rattle.std.specs.Prelude.{◌≡◌, flat_map, length, map};
+ghost use Rattle.std.specs.Prelude.{flat_map, length, map};
 ghost use Rattle.bi_base.specs.Sinks.{Wrote};
 ghost use Rattle.bi_fit.specs.Content.{IsHeld, image_model, tree_of};
 ghost use Rattle.bi_fit.specs.Judgement.{default_of};
-ghost use Rattle.bi_fit.specs.Names.{key_name};
 ghost use Rattle.bi_commands.specs.FitListing.{default_line};
 ghost use Rattle.bi_commands.specs.ReadListing.{words_of_blob_lines, payload_line, read_image_line};
 ghost use Rattle.bi_commands.specs.ReadListing.{read_listing};
@@ -111,20 +110,6 @@ fn put_payload<'a, S: Sink>(
         Word::Decimal(u64::from(offset)),
     ];
     put_line(&words, sink)
-}
-
-/// Returns the name of a key.
-pub(crate) fn key_word(key: Key) -> &'static str
-    ensures { result.now ≡ key_name key }
-{
-    match key {
-        Key::Kernel => "kernel",
-        Key::Fdt => "fdt",
-        Key::Ramdisk => "ramdisk",
-        Key::Firmware => "firmware",
-        Key::Loadables => "loadables",
-        Key::Script => "script",
-    }
 }
 
 /// Appends the line of the default configuration, if one is named. Fails as the sink does.

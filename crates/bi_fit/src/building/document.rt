@@ -1,7 +1,6 @@
 //! The document of a tree to be built.
 
-ghost use Rattle.std.specs.Prelude.{◌≡◌, ◌≤◌, Some, OnOk, IfOk, IfErr};
-ghost use Rattle.bi_base.specs.Cells.{up4};
+ghost use Rattle.std.specs.Prelude.{◌≡◌, Some, OnOk, IfOk, IfErr};
 ghost use Rattle.bi_base.specs.declared.fault.Error.TheVariants.{OutOfMemory};
 ghost use Rattle.bi_blob.specs.Events.{events};
 ghost use Rattle.bi_blob.specs.Following.{stage_of_events};
@@ -26,8 +25,8 @@ use crate::building::properties::{
 use crate::building::{Head, NamedImage};
 use crate::document::{PropertyMap, begin_with};
 use crate::form::Form;
-use crate::payload_area::end_after;
-use bi_base::{Error, up4};
+use crate::payload_area::PayloadArea;
+use bi_base::Error;
 use bi_lay::Doc;
 use std::alloc::Global;
 
@@ -58,14 +57,14 @@ pub(super) fn build_doc<'a>(alloc: Global, parts: Parts<'a>, form: Form) -> Resu
     let properties = root_properties(alloc, parts.head)?;
     let mut doc = Doc::new(alloc, 0)?;
     begin_with(&mut doc, b"", &properties)?;
-    add_images(alloc, &mut doc, parts, form)?;
+    add_built_images(alloc, &mut doc, parts, form)?;
     add_configurations(alloc, &mut doc, parts)?;
     doc.end();
     Ok(doc)
 }
 
 /// Adds the node of the images, with all nodes below it.
-fn add_images<'a>(
+fn add_built_images<'a>(
     alloc: Global,
     doc: &mut Doc<'a>,
     parts: Parts<'a>,
@@ -82,13 +81,13 @@ fn add_images<'a>(
 {
     let properties = PropertyMap::new(alloc);
     begin_with(doc, b"images", &properties)?;
-    add_image_nodes(alloc, doc, parts, form)?;
+    add_built_image_nodes(alloc, doc, parts, form)?;
     doc.end();
     Ok(())
 }
 
 /// Adds the image nodes.
-fn add_image_nodes<'a>(
+fn add_built_image_nodes<'a>(
     alloc: Global,
     doc: &mut Doc<'a>,
     parts: Parts<'a>,
@@ -103,21 +102,18 @@ fn add_image_nodes<'a>(
         (events (built_image_nodes form 0 (head_model parts.entry.head) images))) }
     ensures failed { IfErr result (λ error. error ≡ OutOfMemory) }
 {
-    let mut end = 0;
+    let mut area = PayloadArea::new(form);
     for (index, image) in parts.images.iter().enumerate() {
         let digest = &parts.digests[index];
-        add_image_node(alloc, doc, parts.head, image, digest, form, up4(end) as u32)?;
-        end = match form {
-            Form::Embedded => end,
-            Form::External => end_after(end, Some(image.payload)),
-        };
+        let begin = area.place(Some(image.payload)) as u32;
+        add_built_image_node(alloc, doc, parts.head, image, digest, form, begin)?;
     }
     Ok(())
 }
 
 /// Adds an image node with its hash node. `begin` is the offset of an external payload from the end
 /// of the blob.
-fn add_image_node<'a>(
+fn add_built_image_node<'a>(
     alloc: Global,
     doc: &mut Doc<'a>,
     head: Head<'a>,

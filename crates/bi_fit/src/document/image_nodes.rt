@@ -22,8 +22,8 @@ use crate::document::ranked_node::RankedNode;
 use crate::form::Form;
 use crate::image::Image;
 use crate::new_digests::hash_algo;
-use crate::payload_area::end_after;
-use bi_base::{Error, up4};
+use crate::payload_area::PayloadArea;
+use bi_base::Error;
 use bi_lay::Doc;
 use std::alloc::{AllocError, Global};
 
@@ -85,19 +85,16 @@ fn add_image_nodes<'a>(
     ensures failed { IfErr result (λ error. error ≡ OutOfMemory) }
 {
     let mut next = node.first_child();
-    let mut end = 0;
+    let mut area = PayloadArea::new(form);
     let mut left = digests;
     for image in images {
         let Some(child) = next else {
             unreachable!();
         };
-        let properties = image_properties(alloc, child, form, up4(end) as u32, image.payload)?;
+        let begin = area.place(image.payload) as u32;
+        let properties = image_properties(alloc, child, form, begin, image.payload)?;
         let hashed = is_hashed(changes, image.payload);
         left = add_image_node(alloc, doc, child, &properties, hashed, left)?;
-        end = match form {
-            Form::Embedded => end,
-            Form::External => end_after(end, image.payload),
-        };
         next = child.next_sibling();
     }
     Ok(())

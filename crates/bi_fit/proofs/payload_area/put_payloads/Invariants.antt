@@ -1,9 +1,12 @@
 use Rattle.std.proofs.Common.{◌≡◌}
+use Rattle.bi_fit.specs.declared.form.Form.TheVariants.{External}
 use Rattle.bi_fit.proofs.AppendedPayloads.{area_before, end_before}
 use Rattle.bi_fit.proofs.payload_area.put_payloads.Given as goal
 
 -- The payloads before this image were appended, and end here.
 abbrev pub invariant-loop-image : goal.invariant-loop-image
-invariant-loop-image g l =
-    g.S.Sink.appends l.initial.sink (area_before l.images l.image-index) l.sink
-    × (l.end ≡ end_before l.images l.image-index)
+invariant-loop-image g l = record {
+  appended : g.S.Sink.appends l.initial.sink (area_before l.images l.image-index) l.sink;
+  external : l.area.form ≡ External;
+  end : l.area.end ≡ end_before l.images l.image-index;
+}

@@ -1,4 +1,4 @@
-use Rattle.bi_lay.proofs.Building.{each_may_follow}
+use Rattle.bi_lay.proofs.TreeStages.{each_may_follow}
 use Rattle.bi_lay.proofs.laws.each_event_may_follow.Goals as goal
 
 pub returns : goal.returns

@@ -1,4 +1,4 @@
-use Rattle.bi_lay.proofs.Building.{nodes_add_their_names}
+use Rattle.bi_lay.proofs.TreeStages.{nodes_add_their_names}
 use Rattle.bi_lay.proofs.laws.nodes_add_their_names.Goals as goal
 
 pub returns : goal.returns

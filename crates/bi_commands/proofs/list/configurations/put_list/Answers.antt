@@ -13,7 +13,7 @@ returns-in-Some g c =
     let index = c.in-Some.index in
     let missing = missing_is c.args.fit.now.images 0 index (listed_names c.args.value.now) (sym c.in-Some.ensures) in
     subst (λ bytes. Wrote g.S.Sink.appends g.S.Sink.fails c.args.sink.now bytes c.put_line.result c.put_line.new.sink)
-    (ap (λ word. line (codes "key" ∷ shown_text name ∷ word ∷ codes "missing" ∷ decimal index ∷ [])) (c.as_bytes.ensures.value ∙ c.key_word.ensures)
+    (ap (λ word. line (codes "key" ∷ shown_text name ∷ word ∷ codes "missing" ∷ decimal index ∷ [])) (c.as_bytes.ensures.value ∙ c.name.ensures)
     ∙ sym (ap (key_line name c.args.key) missing))
     c.put_line.ensures
 

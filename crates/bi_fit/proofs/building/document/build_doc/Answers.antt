@@ -20,8 +20,8 @@ begin_with-requires-clause-may c =
     subst (λ properties. MayAdd c.in_ok-doc.doc (begin_events [] properties.by_name)) (sym c.in_ok-properties.ensures)
     (may_begin_root c.args.form head images c.in_ok-doc.doc c.in_ok-doc.ensures.empty c.requires.prepared.can)
 
-pub add_images-requires-clause-may : goal.add_images-requires-clause-may
-add_images-requires-clause-may c =
+pub add_built_images-requires-clause-may : goal.add_built_images-requires-clause-may
+add_built_images-requires-clause-may c =
     let head = head_model c.args.parts.head in
     let images = named_models c.args.parts.images.now in
     let begun : c.begin_with.new.doc ≡ with_events c.in_ok-doc.doc (root_begin c.args.form head images) =
@@ -35,7 +35,7 @@ add_configurations-requires-clause-may c =
     let begun : c.begin_with.new.doc ≡ with_events c.in_ok-doc.doc (root_begin c.args.form head images) =
     c.in_ok-begin_with.ensures.added ∙ ap (λ properties. with_events c.in_ok-doc.doc (begin_events [] properties.by_name)) c.in_ok-properties.ensures in
     may_add_configurations c.args.form head images c.in_ok-doc.doc c.in_ok-doc.ensures.empty c.requires.prepared.can c.begin_with.new.doc begun
-    c.add_images.new.doc c.in_ok-add_images.ensures.added
+    c.add_built_images.new.doc c.in_ok-add_built_images.ensures.added
 
 pub end-requires : goal.end-requires
 end-requires c =
@@ -44,7 +44,7 @@ end-requires c =
     let begun : c.begin_with.new.doc ≡ with_events c.in_ok-doc.doc (root_begin c.args.form head images) =
     c.in_ok-begin_with.ensures.added ∙ ap (λ properties. with_events c.in_ok-doc.doc (begin_events [] properties.by_name)) c.in_ok-properties.ensures in
     may_end_root c.args.form head images c.in_ok-doc.doc c.in_ok-doc.ensures.empty c.requires.prepared.can c.begin_with.new.doc begun
-    c.add_images.new.doc c.in_ok-add_images.ensures.added c.add_configurations.new.doc c.in_ok-add_configurations.ensures.added
+    c.add_built_images.new.doc c.in_ok-add_built_images.ensures.added c.add_configurations.new.doc c.in_ok-add_configurations.ensures.added
 
 pub returns-clause-document : goal.returns-clause-document
 returns-clause-document c =
@@ -54,7 +54,7 @@ returns-clause-document c =
     c.in_ok-begin_with.ensures.added ∙ ap (λ properties. with_events c.in_ok-doc.doc (begin_events [] properties.by_name)) c.in_ok-properties.ensures in
     same_content c.end.new.self (document_of c.args.form (built_tree head images))
     (is_document c.args.form head images c.in_ok-doc.doc c.in_ok-doc.ensures.empty c.requires.prepared.can c.begin_with.new.doc begun
-    c.add_images.new.doc c.in_ok-add_images.ensures.added c.add_configurations.new.doc c.in_ok-add_configurations.ensures.added c.end.new.self c.end.ensures)
+    c.add_built_images.new.doc c.in_ok-add_built_images.ensures.added c.add_configurations.new.doc c.in_ok-add_configurations.ensures.added c.end.new.self c.end.ensures)
 
 pub returns-clause-closed : goal.returns-clause-closed
 returns-clause-closed c =
@@ -63,4 +63,4 @@ returns-clause-closed c =
     let begun : c.begin_with.new.doc ≡ with_events c.in_ok-doc.doc (root_begin c.args.form head images) =
     c.in_ok-begin_with.ensures.added ∙ ap (λ properties. with_events c.in_ok-doc.doc (begin_events [] properties.by_name)) c.in_ok-properties.ensures in
     is_closed c.args.form head images c.in_ok-doc.doc c.in_ok-doc.ensures.empty c.requires.prepared.can c.begin_with.new.doc begun
-    c.add_images.new.doc c.in_ok-add_images.ensures.added c.add_configurations.new.doc c.in_ok-add_configurations.ensures.added c.end.new.self c.end.ensures
+    c.add_built_images.new.doc c.in_ok-add_built_images.ensures.added c.add_configurations.new.doc c.in_ok-add_configurations.ensures.added c.end.new.self c.end.ensures

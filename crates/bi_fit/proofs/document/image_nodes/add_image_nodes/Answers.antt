@@ -10,20 +10,19 @@ use Rattle.bi_fit.specs.RankedNodes.{sibling_of}
 use Rattle.bi_fit.specs.Text.{end_after}
 use Rattle.bi_fit.specs.Content.{image_model}
 use Rattle.bi_fit.specs.TakenDigests.{is_hashed, after_digests, HaveImageDigests}
-use Rattle.bi_fit.specs.NormalNodes.{MayAdd, with_events, HasDistinctNames, AreWithin, payloads_of, nodes_by_name, image_properties}
+use Rattle.bi_fit.specs.NormalNodes.{MayAdd, with_events, HasDistinctNames, next_end, AreWithin, payloads_of, nodes_by_name, image_properties}
 use Rattle.bi_fit.specs.NormalNodes.{sorted_image, sorted_image_children, sorted_images}
 use Rattle.bi_fit.proofs.AddedEvents.{still_ranked_next, HasNextRanks}
 use Rattle.bi_fit.proofs.NodeEvents.{nodes_from, nodes_from_first, IsAdding, adding_all, may_add_first, adding_later}
 use Rattle.bi_fit.proofs.PayloadEnds.{no_image, payloads_from}
-use Rattle.bi_fit.proofs.ImageNodes.{next_end, images-later, within_sized, within_first, within_later}
+use Rattle.bi_fit.proofs.ImageNodes.{images-later, within_sized, within_first, within_later}
 use Rattle.bi_fit.proofs.document.image_nodes.add_image_nodes.Goals as goal
-use Rattle.bi_fit.proofs.document.image_nodes.add_image_nodes.Goals.{in-Embedded, in-External}
 
 pub loop-image-init : goal.loop-image-init
 loop-image-init c =
     let s = sibling_of c.args.node in
     let all : nodes_from (option_map sibling_of c.first_child-next.result) ≡ s.children = ap nodes_from c.first_child-next.ensures.child ∙ nodes_from_first s.children in
-    rw all (record {
+    rw (all, c.new-area.ensures.end) (record {
       adding = adding_all c.args.doc.now (sorted_images c.args.changes.hashes c.args.form 0 (payloads_of c.args.images.now) c.args.digests.now s.children) c.requires.may;
       ranks = c.first_child-next.ensures.ranks c.args.doc.now.names c.requires.ranks;
       distinct = c.requires.distinct;
@@ -31,6 +30,7 @@ loop-image-init c =
       has_digests = c.requires.images.has_digests;
       within = c.requires.within;
       small = omega arith;
+      form = c.new-area.ensures.form;
     })
 
 pub image_properties-requires-clause-ranks : goal.image_properties-requires-clause-ranks
@@ -48,8 +48,8 @@ pub image_properties-requires-clause-sized : goal.image_properties-requires-clau
 image_properties-requires-clause-sized c =
     let payload : Option (List ℕ) = (image_model (get_or c.args.images.now c.loop-image.image-index no_image)).payload in
     let later = payloads_of (drop (c.loop-image.image-index + 1) c.args.images.now) in
-    within_sized c.args.form c.loop-image.end payload later
-    (subst (AreWithin c.args.form c.loop-image.end) (payloads_from c.args.images.now c.loop-image.image-index c.loop-image-test.true) c.loop-image.invariant.within)
+    within_sized c.args.form c.loop-image.area.end payload later
+    (subst (AreWithin c.args.form c.loop-image.area.end) (payloads_from c.args.images.now c.loop-image.image-index c.loop-image-test.true) c.loop-image.invariant.within)
 
 pub add_image_node-requires-clause-may : goal.add_image_node-requires-clause-may
 add_image_node-requires-clause-may c =
@@ -59,16 +59,16 @@ add_image_node-requires-clause-may c =
     let payload : Option (List ℕ) = (image_model (get_or c.args.images.now c.loop-image.image-index no_image)).payload in
     let later = payloads_of (drop (c.loop-image.image-index + 1) c.args.images.now) in
     let target = with_events c.args.doc.now (events (sorted_images hashes c.args.form 0 (payloads_of c.args.images.now) c.args.digests.now (sibling_of c.args.node).children)) in
-    let adding : IsAdding c.loop-image.doc target (sorted_images hashes c.args.form c.loop-image.end (payload ∷ later) left (nodes_from (Some s))) =
-    subst (λ payloads. IsAdding c.loop-image.doc target (sorted_images hashes c.args.form c.loop-image.end payloads left (nodes_from (Some s)))) (payloads_from c.args.images.now c.loop-image.image-index c.loop-image-test.true)
-    (subst (λ nodes. IsAdding c.loop-image.doc target (sorted_images hashes c.args.form c.loop-image.end (payloads_of (drop c.loop-image.image-index c.args.images.now)) left nodes))
+    let adding : IsAdding c.loop-image.doc target (sorted_images hashes c.args.form c.loop-image.area.end (payload ∷ later) left (nodes_from (Some s))) =
+    subst (λ payloads. IsAdding c.loop-image.doc target (sorted_images hashes c.args.form c.loop-image.area.end payloads left (nodes_from (Some s)))) (payloads_from c.args.images.now c.loop-image.image-index c.loop-image-test.true)
+    (subst (λ nodes. IsAdding c.loop-image.doc target (sorted_images hashes c.args.form c.loop-image.area.end (payloads_of (drop c.loop-image.image-index c.args.images.now)) left nodes))
     (ap (λ next. nodes_from (option_map sibling_of next)) c.in-Some.is) c.loop-image.invariant.adding) in
-    let properties : c.in_ok-properties.properties.by_name ≡ image_properties c.args.form (up4 c.loop-image.end) payload s.own =
-    c.in_ok-properties.ensures.properties ∙ ap (λ begin. image_properties c.args.form begin payload s.own) c.up4.ensures in
+    let properties : c.in_ok-properties.properties.by_name ≡ image_properties c.args.form (up4 c.loop-image.area.end) payload s.own =
+    c.in_ok-properties.ensures.properties ∙ ap (λ begin. image_properties c.args.form begin payload s.own) c.place-begin.ensures.begin in
     subst (λ hashed. MayAdd c.loop-image.doc (events (sorted_image c.in_ok-properties.properties.by_name hashed left s))) (sym c.is_hashed-hashed.ensures)
     (subst (λ properties. MayAdd c.loop-image.doc (events (sorted_image properties (is_hashed hashes payload) left s))) (sym properties)
-    (may_add_first c.loop-image.doc target s.name (entries (image_properties c.args.form (up4 c.loop-image.end) payload s.own)) (sorted_image_children (is_hashed hashes payload) left s.children)
-    (sorted_images hashes c.args.form (end_after c.loop-image.end payload) later (after_digests (is_hashed hashes payload) left (nodes_by_name s.children)) s.later) adding))
+    (may_add_first c.loop-image.doc target s.name (entries (image_properties c.args.form (up4 c.loop-image.area.end) payload s.own)) (sorted_image_children (is_hashed hashes payload) left s.children)
+    (sorted_images hashes c.args.form (end_after c.loop-image.area.end payload) later (after_digests (is_hashed hashes payload) left (nodes_by_name s.children)) s.later) adding))
 
 pub loop-image-preserved : goal.loop-image-preserved
 loop-image-preserved c =
@@ -80,40 +80,39 @@ loop-image-preserved c =
     let target = with_events c.args.doc.now (events (sorted_images hashes c.args.form 0 (payloads_of c.args.images.now) c.args.digests.now (sibling_of c.args.node).children)) in
     let here : nodes_from (option_map sibling_of c.loop-image.next) ≡ nodes_from (Some s) = ap (λ next. nodes_from (option_map sibling_of next)) c.in-Some.is in
     let rest : nodes_from (option_map sibling_of c.next_sibling-next.result) ≡ s.later = ap nodes_from c.next_sibling-next.ensures.sibling ∙ nodes_from_first s.later in
-    let adding : IsAdding c.loop-image.doc target (sorted_images hashes c.args.form c.loop-image.end (payload ∷ later) left (nodes_from (Some s))) =
-    subst (λ payloads. IsAdding c.loop-image.doc target (sorted_images hashes c.args.form c.loop-image.end payloads left (nodes_from (Some s)))) (payloads_from c.args.images.now c.loop-image.image-index c.loop-image-test.true)
-    (subst (λ nodes. IsAdding c.loop-image.doc target (sorted_images hashes c.args.form c.loop-image.end (payloads_of (drop c.loop-image.image-index c.args.images.now)) left nodes)) here c.loop-image.invariant.adding) in
+    let adding : IsAdding c.loop-image.doc target (sorted_images hashes c.args.form c.loop-image.area.end (payload ∷ later) left (nodes_from (Some s))) =
+    subst (λ payloads. IsAdding c.loop-image.doc target (sorted_images hashes c.args.form c.loop-image.area.end payloads left (nodes_from (Some s)))) (payloads_from c.args.images.now c.loop-image.image-index c.loop-image-test.true)
+    (subst (λ nodes. IsAdding c.loop-image.doc target (sorted_images hashes c.args.form c.loop-image.area.end (payloads_of (drop c.loop-image.image-index c.args.images.now)) left nodes)) here c.loop-image.invariant.adding) in
     let has : HaveImageDigests hashes (payload ∷ later) left (nodes_by_name (nodes_from (Some s))) =
     subst (λ payloads. HaveImageDigests hashes payloads left (nodes_by_name (nodes_from (Some s)))) (payloads_from c.args.images.now c.loop-image.image-index c.loop-image-test.true)
     (subst (λ nodes. HaveImageDigests hashes (payloads_of (drop c.loop-image.image-index c.args.images.now)) left (nodes_by_name nodes)) here c.loop-image.invariant.has_digests) in
-    let within : AreWithin c.args.form c.loop-image.end (payload ∷ later) =
-    subst (AreWithin c.args.form c.loop-image.end) (payloads_from c.args.images.now c.loop-image.image-index c.loop-image-test.true) c.loop-image.invariant.within in
-    let small : next_end c.args.form c.loop-image.end payload ≤ longest_text = within_first c.args.form c.loop-image.end payload later within c.loop-image.invariant.small in
-    let at : c.match-form.end ≡ next_end c.args.form c.loop-image.end payload = elim c.match-form.branch [
-      | in-Embedded w ↦ w.end-is ∙ ap (λ form. next_end form c.loop-image.end payload) (sym w.in-Embedded.is)
-      | in-External w ↦ (let is : next_end c.args.form c.loop-image.end payload ≡ end_after c.loop-image.end payload = ap (λ form. next_end form c.loop-image.end payload) w.in-External.is in
-          omega (arith, w.end-is, w.end_after-end.ensures))
-    ] in
+    let within : AreWithin c.args.form c.loop-image.area.end (payload ∷ later) =
+    subst (AreWithin c.args.form c.loop-image.area.end) (payloads_from c.args.images.now c.loop-image.image-index c.loop-image-test.true) c.loop-image.invariant.within in
+    let small : next_end c.args.form c.loop-image.area.end payload ≤ longest_text = within_first c.args.form c.loop-image.area.end payload later within c.loop-image.invariant.small in
+    let at : c.place-begin.new.self.end ≡ next_end c.args.form c.loop-image.area.end payload =
+    let is : next_end c.loop-image.area.form c.loop-image.area.end payload ≡ next_end c.args.form c.loop-image.area.end payload = ap (λ form. next_end form c.loop-image.area.end payload) c.loop-image.invariant.form in
+    omega (arith, c.place-begin.ensures.end) in
     let distinct : EachOwn HasDistinctNames (nodes_from (Some s)) = subst (EachOwn HasDistinctNames) here c.loop-image.invariant.distinct in
     let count : c.loop-image.image-index + suc (length (siblings s.later)) ≡ length c.args.images.now =
     subst (λ nodes. c.loop-image.image-index + length (siblings nodes) ≡ length c.args.images.now) here c.loop-image.invariant.same_count in
-    let properties : c.in_ok-properties.properties.by_name ≡ image_properties c.args.form (up4 c.loop-image.end) payload s.own =
-    c.in_ok-properties.ensures.properties ∙ ap (λ begin. image_properties c.args.form begin payload s.own) c.up4.ensures in
-    let added : c.add_image_node.new.doc ≡ with_events c.loop-image.doc (events (sorted_image (image_properties c.args.form (up4 c.loop-image.end) payload s.own) (is_hashed hashes payload) left s)) =
+    let properties : c.in_ok-properties.properties.by_name ≡ image_properties c.args.form (up4 c.loop-image.area.end) payload s.own =
+    c.in_ok-properties.ensures.properties ∙ ap (λ begin. image_properties c.args.form begin payload s.own) c.place-begin.ensures.begin in
+    let added : c.add_image_node.new.doc ≡ with_events c.loop-image.doc (events (sorted_image (image_properties c.args.form (up4 c.loop-image.area.end) payload s.own) (is_hashed hashes payload) left s)) =
     c.in_ok-left.ensures.added
     ∙ ap (λ hashed. with_events c.loop-image.doc (events (sorted_image c.in_ok-properties.properties.by_name hashed left s))) c.is_hashed-hashed.ensures
     ∙ ap (λ properties. with_events c.loop-image.doc (events (sorted_image properties (is_hashed hashes payload) left s))) properties in
     let after : c.in_ok-left.left.now ≡ after_digests (is_hashed hashes payload) left (nodes_by_name s.children) =
     c.in_ok-left.ensures.left ∙ ap (λ hashed. after_digests hashed left (nodes_by_name s.children)) c.is_hashed-hashed.ensures in
     rw (rest, at, after) (record {
-      adding = subst (IsAdding c.add_image_node.new.doc target) (images-later hashes c.args.form c.loop-image.end payload later (after_digests (is_hashed hashes payload) left (nodes_by_name s.children)) s.later)
-          (adding_later c.loop-image.doc target s.name (entries (image_properties c.args.form (up4 c.loop-image.end) payload s.own)) (sorted_image_children (is_hashed hashes payload) left s.children)
-          (sorted_images hashes c.args.form (end_after c.loop-image.end payload) later (after_digests (is_hashed hashes payload) left (nodes_by_name s.children)) s.later) adding c.add_image_node.new.doc added);
+      adding = subst (IsAdding c.add_image_node.new.doc target) (images-later hashes c.args.form c.loop-image.area.end payload later (after_digests (is_hashed hashes payload) left (nodes_by_name s.children)) s.later)
+          (adding_later c.loop-image.doc target s.name (entries (image_properties c.args.form (up4 c.loop-image.area.end) payload s.own)) (sorted_image_children (is_hashed hashes payload) left s.children)
+          (sorted_images hashes c.args.form (end_after c.loop-image.area.end payload) later (after_digests (is_hashed hashes payload) left (nodes_by_name s.children)) s.later) adding c.add_image_node.new.doc added);
       ranks = still_ranked_next c.next_sibling-next.result c.loop-image.doc c.add_image_node.new.doc _ c.in_ok-left.ensures.added
           (c.next_sibling-next.ensures.ranks c.loop-image.doc.names (subst (HasNextRanks c.loop-image.doc.names) c.in-Some.is c.loop-image.invariant.ranks));
       distinct = distinct.2;
       same_count = omega arith;
       has_digests = has.1;
-      within = within_later c.args.form c.loop-image.end payload later within;
+      within = within_later c.args.form c.loop-image.area.end payload later within;
       small = small;
+      form = c.place-begin.ensures.form ∙ c.loop-image.invariant.form;
     })

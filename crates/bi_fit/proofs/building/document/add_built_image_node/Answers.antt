@@ -7,7 +7,7 @@ use Rattle.bi_fit.proofs.AddedEvents.{may_begin, may_have_children, may_end, who
 use Rattle.bi_fit.specs.NamedImages.{head_model, named_model}
 use Rattle.bi_fit.specs.BuiltNodes.{hash_node, placed_properties, leaf}
 use Rattle.bi_fit.proofs.BuiltDocuments.{properties_placed, have_no_numbers}
-use Rattle.bi_fit.proofs.building.document.add_image_node.Goals as goal
+use Rattle.bi_fit.proofs.building.document.add_built_image_node.Goals as goal
 
 pub begin_with-requires-clause-numbers : goal.begin_with-requires-clause-numbers
 begin_with-requires-clause-numbers c =

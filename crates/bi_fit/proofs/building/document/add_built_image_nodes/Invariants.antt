@@ -1,16 +1,17 @@
-use Rattle.std.proofs.Common.{◌≤◌, drop}
+use Rattle.std.proofs.Common.{◌≡◌, ◌≤◌, drop}
 use Rattle.bi_blob.specs.Events.{events}
 use Rattle.bi_blob.specs.Layout.{longest_text}
 use Rattle.bi_fit.specs.NormalNodes.{with_events, AreWithin}
 use Rattle.bi_fit.proofs.NodeEvents.{IsAdding}
 use Rattle.bi_fit.specs.NamedImages.{head_model, named_models}
 use Rattle.bi_fit.specs.BuiltNodes.{built_payloads, built_image_nodes}
-use Rattle.bi_fit.proofs.building.document.add_image_nodes.Given as goal
+use Rattle.bi_fit.proofs.building.document.add_built_image_nodes.Given as goal
 
 abbrev pub invariant-loop-index : goal.invariant-loop-index
 invariant-loop-index l = record {
   adding : IsAdding l.doc (with_events l.fn.doc (events (built_image_nodes l.form 0 (head_model l.parts.head) (named_models l.parts.images.now))))
-      (built_image_nodes l.form l.end (head_model l.parts.head) (named_models (drop l.index l.parts.images.now)));
-  within : AreWithin l.form l.end (built_payloads (named_models (drop l.index l.parts.images.now)));
-  small : l.end ≤ longest_text;
+      (built_image_nodes l.form l.area.end (head_model l.parts.head) (named_models (drop l.index l.parts.images.now)));
+  within : AreWithin l.form l.area.end (built_payloads (named_models (drop l.index l.parts.images.now)));
+  small : l.area.end ≤ longest_text;
+  form : l.area.form ≡ l.form;
 }

@@ -9,7 +9,7 @@ use Rattle.bi_fit.proofs.AddedEvents.{may_begin, may_have_children, may_end, who
 use Rattle.bi_fit.specs.NamedImages.{head_model, named_models}
 use Rattle.bi_fit.specs.BuiltNodes.{built_image_nodes}
 use Rattle.bi_fit.proofs.BuiltDocuments.{have_no_numbers}
-use Rattle.bi_fit.proofs.building.document.add_images.Goals as goal
+use Rattle.bi_fit.proofs.building.document.add_built_images.Goals as goal
 
 -- The node of the images has no properties.
 abbrev own : PropertyMap
@@ -24,8 +24,8 @@ begin_with-requires-clause-may c =
     let begins : begin_events images_name c.new-properties.result.by_name ≡ begin_events images_name own = ap (λ properties. begin_events images_name properties.by_name) c.new-properties.ensures in
     subst (MayAdd c.args.doc.now) (sym begins) (may_begin c.args.doc.now (begin_events images_name own) children c.requires.may)
 
-pub add_image_nodes-requires-clause-may : goal.add_image_nodes-requires-clause-may
-add_image_nodes-requires-clause-may c =
+pub add_built_image_nodes-requires-clause-may : goal.add_built_image_nodes-requires-clause-may
+add_built_image_nodes-requires-clause-may c =
     let children = events (built_image_nodes c.args.form 0 (head_model c.args.parts.head) (named_models c.args.parts.images.now)) in
     let begins : begin_events images_name c.new-properties.result.by_name ≡ begin_events images_name own = ap (λ properties. begin_events images_name properties.by_name) c.new-properties.ensures in
     let begun : c.begin_with.new.doc ≡ with_events c.args.doc.now (begin_events images_name own) =
@@ -38,7 +38,7 @@ end-requires c =
     let begins : begin_events images_name c.new-properties.result.by_name ≡ begin_events images_name own = ap (λ properties. begin_events images_name properties.by_name) c.new-properties.ensures in
     let begun : c.begin_with.new.doc ≡ with_events c.args.doc.now (begin_events images_name own) =
     c.in_ok-begin_with.ensures.added ∙ ap (with_events c.args.doc.now) begins in
-    may_end c.args.doc.now (begin_events images_name own) children c.begin_with.new.doc c.add_image_nodes.new.doc begun c.in_ok-add_image_nodes.ensures.added c.requires.may
+    may_end c.args.doc.now (begin_events images_name own) children c.begin_with.new.doc c.add_built_image_nodes.new.doc begun c.in_ok-add_built_image_nodes.ensures.added c.requires.may
 
 pub returns-clause-added : goal.returns-clause-added
 returns-clause-added c =
@@ -46,4 +46,4 @@ returns-clause-added c =
     let begins : begin_events images_name c.new-properties.result.by_name ≡ begin_events images_name own = ap (λ properties. begin_events images_name properties.by_name) c.new-properties.ensures in
     let begun : c.begin_with.new.doc ≡ with_events c.args.doc.now (begin_events images_name own) =
     c.in_ok-begin_with.ensures.added ∙ ap (with_events c.args.doc.now) begins in
-    c.end.ensures ∙ whole_added c.args.doc.now (begin_events images_name own) children c.begin_with.new.doc c.add_image_nodes.new.doc begun c.in_ok-add_image_nodes.ensures.added
+    c.end.ensures ∙ whole_added c.args.doc.now (begin_events images_name own) children c.begin_with.new.doc c.add_built_image_nodes.new.doc begun c.in_ok-add_built_image_nodes.ensures.added

@@ -1,0 +1,61 @@
+use Rattle.std.proofs.Common.{◌≡◌, ℕ, ◌+◌, ◌≤◌, List, ◌∷◌, drop, get_or, Option, Some, sym, ap, subst, ◌∙◌, arith}
+use Rattle.std.specs.FinMap.{entries}
+use Rattle.bi_base.specs.Cells.{up4}
+use Rattle.bi_blob.specs.Events.{events}
+use Rattle.bi_blob.specs.Layout.{longest_text}
+use Rattle.bi_fit.specs.NormalNodes.{MayAdd, with_events, next_end, AreWithin}
+use Rattle.bi_fit.specs.Text.{end_after}
+use Rattle.bi_fit.proofs.ImageNodes.{within_sized, within_first, within_later}
+use Rattle.bi_fit.proofs.NodeEvents.{IsAdding, may_add_first, adding_later}
+use Rattle.bi_fit.specs.NamedImages.{head_model, named_model, named_models}
+use Rattle.bi_fit.specs.BuiltNodes.{built_payloads, hash_node, placed_properties, image_node, built_image_nodes}
+use Rattle.bi_fit.proofs.BuiltDocuments.{nodes_later, nodes_at}
+use Rattle.bi_fit.proofs.BuiltPayloads.{no_named_image, built_payloads_from}
+use Rattle.bi_fit.proofs.building.document.add_built_image_nodes.Goals as goal
+
+pub add_built_image_node-requires-clause-sized : goal.add_built_image_node-requires-clause-sized
+add_built_image_node-requires-clause-sized c =
+    let images = c.args.parts.images.now in
+    let index = c.loop-index.index in
+    within_sized c.args.form c.loop-index.area.end (Some (get_or images index no_named_image).payload.now) (built_payloads (named_models (drop (index + 1) images)))
+    (subst (AreWithin c.args.form c.loop-index.area.end) (built_payloads_from images index no_named_image c.loop-index-test.true) c.loop-index.invariant.within)
+
+pub add_built_image_node-requires-clause-may : goal.add_built_image_node-requires-clause-may
+add_built_image_node-requires-clause-may c =
+    let images = c.args.parts.images.now in
+    let index = c.loop-index.index in
+    let head = head_model c.args.parts.head in
+    let image = named_model (get_or images index no_named_image) in
+    let target = with_events c.args.doc.now (events (built_image_nodes c.args.form 0 head (named_models images))) in
+    let later = built_image_nodes c.args.form (end_after c.loop-index.area.end (Some image.payload)) head (named_models (drop (index + 1) images)) in
+    subst (λ begin. MayAdd c.loop-index.doc (events (image_node c.args.form begin head image))) (sym c.place-begin.ensures.begin)
+    (may_add_first c.loop-index.doc target image.name (entries (placed_properties c.args.form (up4 c.loop-index.area.end) head image)) (hash_node image.payload) later
+    (subst (IsAdding c.loop-index.doc target) (nodes_at c.args.form c.loop-index.area.end head images index no_named_image c.loop-index-test.true) c.loop-index.invariant.adding))
+
+pub loop-index-preserved : goal.loop-index-preserved
+loop-index-preserved c =
+    let images = c.args.parts.images.now in
+    let index = c.loop-index.index in
+    let head = head_model c.args.parts.head in
+    let image = named_model (get_or images index no_named_image) in
+    let payload : Option (List ℕ) = Some image.payload in
+    let target = with_events c.args.doc.now (events (built_image_nodes c.args.form 0 head (named_models images))) in
+    let rest = named_models (drop (index + 1) images) in
+    let later = built_image_nodes c.args.form (end_after c.loop-index.area.end payload) head rest in
+    let adding : IsAdding c.loop-index.doc target (built_image_nodes c.args.form c.loop-index.area.end head (image ∷ rest)) =
+    subst (IsAdding c.loop-index.doc target) (nodes_at c.args.form c.loop-index.area.end head images index no_named_image c.loop-index-test.true) c.loop-index.invariant.adding in
+    let within : AreWithin c.args.form c.loop-index.area.end (payload ∷ built_payloads rest) =
+    subst (AreWithin c.args.form c.loop-index.area.end) (built_payloads_from images index no_named_image c.loop-index-test.true) c.loop-index.invariant.within in
+    let small : next_end c.args.form c.loop-index.area.end payload ≤ longest_text = within_first c.args.form c.loop-index.area.end payload (built_payloads rest) within c.loop-index.invariant.small in
+    let at : c.place-begin.new.self.end ≡ next_end c.args.form c.loop-index.area.end payload =
+    let is : next_end c.loop-index.area.form c.loop-index.area.end payload ≡ next_end c.args.form c.loop-index.area.end payload = ap (λ form. next_end form c.loop-index.area.end payload) c.loop-index.invariant.form in
+    omega (arith, c.place-begin.ensures.end) in
+    let added : c.add_built_image_node.new.doc ≡ with_events c.loop-index.doc (events (image_node c.args.form (up4 c.loop-index.area.end) head image)) =
+    c.in_ok-add_built_image_node.ensures.added ∙ ap (λ begin. with_events c.loop-index.doc (events (image_node c.args.form begin head image))) c.place-begin.ensures.begin in
+    rw at (record {
+      adding = subst (IsAdding c.add_built_image_node.new.doc target) (nodes_later c.args.form c.loop-index.area.end image.payload head rest)
+          (adding_later c.loop-index.doc target image.name (entries (placed_properties c.args.form (up4 c.loop-index.area.end) head image)) (hash_node image.payload) later adding c.add_built_image_node.new.doc added);
+      within = within_later c.args.form c.loop-index.area.end payload (built_payloads rest) within;
+      small = small;
+      form = c.place-begin.ensures.form ∙ c.loop-index.invariant.form;
+    })
