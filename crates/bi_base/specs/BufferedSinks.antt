@@ -41,7 +41,7 @@ pub record Stops (old : Buffer) (bytes : List ℕ) (new : Buffer) (error : Error
   pub stopped : WriteStopped old.trace (old.held ++ bytes) new.trace error
   pub same_borrow : new.borrow ≡ old.borrow
 
--- The same for a sink.
+-- A call appended bytes to a buffered sink: some bytes were written, and the others are held back.
 abbrev pub BufferAppends : {T : Type 0} → (T → WriteTrace) → BufferedSink T → List ℕ
     → BufferedSink T → Type 0
 BufferAppends trace old bytes new = Holds (state_of trace old) bytes (state_of trace new)

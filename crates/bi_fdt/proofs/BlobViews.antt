@@ -36,7 +36,7 @@ only_fault bounds file fault is = record {
   no_blob = λ within. blob_has_no_fault bounds file fault within is;
 }
 
--- What an error in the structure block says of the file.
+-- What follows from an error in the structure block for the file.
 pub refused_in_tree : (bounds : Limits) (file : List ℕ) (count : ℕ) (error : Error) → HasNoHeaderFault bounds file →
     HasReservations file (off_mem_rsvmap file) (totalsize file) count →
     IsFaultOrNoMemory (IsStructureFault (tree_blocks file) bounds.depth) error →

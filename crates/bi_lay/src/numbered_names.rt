@@ -36,8 +36,8 @@ impl<'a> NumberedNames<'a> {
     ghost use Rattle.bi_lay.specs.Names.{saturated_usize};
     ghost use Rattle.bi_lay.specs.NumberedNames.{with_use};
 
-    /// No names in the strings block. The number of each of these names is its index. The only
-    /// error is `OutOfMemory`.
+    /// Returns these names, none of which is in the strings block yet. The number of each is its
+    /// index. The only error is `OutOfMemory`.
     pub(crate) fn new(alloc: Global, by_number: Vec<&'a [u8]>) -> Result<NumberedNames<'a>, Error>
         ensures numbers { IfOk result (λ names. names.by_number ≡ bytes_of by_number.entry.items) }
         ensures block { IfOk result (λ names. names.in_block ≡ []) }
@@ -51,8 +51,8 @@ impl<'a> NumberedNames<'a> {
         })
     }
 
-    /// The length of the strings block in bytes, or the greatest `usize` if it is longer than
-    /// that.
+    /// Returns the length of the strings block in bytes, or the greatest `usize` if it is longer
+    /// than that.
     pub(crate) fn block_length(&self) -> usize
         ensures { result ≡ saturated_usize (length (strings_of self.now.in_block)) }
     {

@@ -21,7 +21,7 @@ pub enum CodeField {
 }
 
 impl CodeField {
-    /// The name of a code of this field. None if the code has no name.
+    /// Returns the name of a code of this field. Returns None if the code has no name.
     fn name(self, code: u8) -> Option<&'static str>
         ensures { option_map (λ name. name.now) result ≡ name_of_code (codes_of self) code }
     {

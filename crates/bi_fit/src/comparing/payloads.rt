@@ -11,7 +11,7 @@ use crate::fit::Fit;
 use crate::image::{Image, Place};
 use std::alloc::{AllocError, Global};
 
-/// Whether the images of two trees have the same payloads, or none, in the same order.
+/// Returns whether the images of two trees have the same payloads, or none, in the same order.
 ///
 /// It takes time n log n in the number of images, and time linear in the bytes of the first file
 /// for each distance between the offsets of two payloads. So regions that many images share are
@@ -104,7 +104,7 @@ fn pair_of_payloads(
     }
 }
 
-/// The offset of the first byte of a payload, or zero if there is none.
+/// Returns the offset of the first byte of a payload, or zero if there is none.
 fn begin_of(place: Place) -> usize
     ensures offset { (offset : ℕ) → offset_of_place place ≡ Some offset → result ≡ offset }
     ensures small { result < 2 ^ 32 }
