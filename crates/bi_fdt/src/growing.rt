@@ -147,9 +147,9 @@ impl<'a> Growing<'a> {
         })
     }
 
-    /// The tree after a property of the innermost open node, which has no child yet, with its name,
-    /// which has no zero byte, and the digest of that. DuplicateProperty if a property has the name
-    /// already.
+    /// Returns the tree after a property of the innermost open node, which has no child yet, with
+    /// its name, which has no zero byte, and the digest of that. Fails with DuplicateProperty if a
+    /// property has the name already.
     pub(crate) fn add_property(
         self,
         property: PropertyEntry,

@@ -26,7 +26,7 @@ pub(crate) struct BlockSizes {
 
 impl BlockSizes {
     /// Returns the sizes of the blocks with this many reservations, these items and a strings block
-    /// of this many bytes. None if the text would have more than 0x7fffffff bytes.
+    /// of this many bytes. Returns None if the text would have more than 0x7fffffff bytes.
     pub(crate) fn measure(
         reservation_count: usize,
         items: &[Item<'_>],

@@ -36,8 +36,9 @@ pub(super) fn have_same_payloads(
     Ok(have_same_bytes(file, other_file, &pairs))
 }
 
-/// Returns the pairs of the payloads of these images, which are in these files. None if not as many
-/// images are in both, or if two payloads differ in length, or if only one of them is there.
+/// Returns the pairs of the payloads of these images, which are in these files. Returns None if not
+/// as many images are in both, or if two payloads differ in length, or if only one of them is
+/// there.
 fn pair_payloads(
     alloc: Global,
     file: &[u8],
@@ -68,7 +69,7 @@ fn pair_payloads(
 }
 
 /// Returns the pair of the payloads of two images, which are in these files. It is empty if both
-/// have none. None if the payloads differ in length, or if only one of them is there.
+/// have none. Returns None if the payloads differ in length, or if only one of them is there.
 fn pair_of_payloads(
     file: &[u8],
     other_file: &[u8],
