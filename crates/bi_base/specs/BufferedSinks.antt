@@ -46,6 +46,8 @@ abbrev pub BufferAppends : {T : Type 0} → (T → WriteTrace) → BufferedSink 
     → BufferedSink T → Type 0
 BufferAppends trace old bytes new = Holds (state_of trace old) bytes (state_of trace new)
 
+-- A call failed to append bytes to a buffered sink: a prefix of the bytes held back before, and
+-- these, was written.
 abbrev pub BufferFails : {T : Type 0} → (T → WriteTrace) → BufferedSink T → List ℕ → BufferedSink T
     → Error → Type 0
 BufferFails trace old bytes new error = Stops (state_of trace old) bytes (state_of trace new) error
