@@ -3,13 +3,13 @@
 
 _bootimg() {
     local word=${COMP_WORDS[COMP_CWORD]} before=${COMP_WORDS[COMP_CWORD - 1]} words= files= prefix=
-    # In --os=arm, bash takes the sign for a word.
+    # In --os=arm, bash makes a word of the sign.
     if [[ $word == '=' ]]; then
         word=
     elif [[ $before == '=' ]]; then
         before=${COMP_WORDS[COMP_CWORD - 2]}
     fi
-    # So it may in @FILE, where a part or a payload is in a file.
+    # It may do the same in @FILE, the file of a part or a payload.
     if [[ ${COMP_WORDS[1]} == build-* && $word == *@* ]]; then
         [[ $COMP_WORDBREAKS == *@* ]] || prefix=${word%"${word##*@}"}
         word=${word##*@} before=@FILE

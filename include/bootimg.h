@@ -8,7 +8,9 @@
  * A pointer and the length after it are the first byte of some memory and its size in bytes. A pointer must not be null, not even if
  * the length is 0. The buffer and the struct that a call writes to must not overlap each other, nor the files of the call.
  *
- * `limit` is the greatest number of bytes of a file, and of an image, payload or description that is made: 64 to BOOTIMG_LIMIT.
+ * `limit` is the greatest number of bytes of a file, and of an image, payload or description that is made: 64 to BOOTIMG_LIMIT. Each
+ * call with `limit` refuses a longer file with TooLarge, and then a file that fails a check of its format with the cause of the first one
+ * (docs/FORMATS.md). The comment of a call has what it refuses in addition.
  * `depth` is the greatest depth of a flattened image tree, with the root counted: 1 to BOOTIMG_DEPTH. The program `bootimg` uses
  * BOOTIMG_DEPTH, and BOOTIMG_LIMIT by default.
  *
@@ -16,9 +18,9 @@
  *
  *   BOOTIMG_DONE            The call succeeded. `size` is the size of the output, and `value` the number that the comment of the call
  *                           names.
- *   BOOTIMG_REFUSED         A file is refused. `cause` is the number of the cause (see bootimg_cause_name), and `offset` is its offset
- *                           in the file, in bytes; for TooLarge it is the limit. `file` is 1 for the first file of the call, and 2 for
- *                           the second.
+ *   BOOTIMG_REFUSED         A file is refused: the call fails with a cause. `cause` is its number (see bootimg_cause_name), and `offset`
+ *                           is its offset in the file, in bytes; for TooLarge it is the limit. `file` is 1 for the first file of the
+ *                           call, and 2 for the second.
  *   BOOTIMG_OUT_OF_MEMORY   An allocation failed.
  *   BOOTIMG_NO_ROOM         The output is larger than the buffer. `size` and `value` are those of BOOTIMG_DONE.
  *   BOOTIMG_WRONG_ARGUMENT  A number is not one that the argument may be.
@@ -104,20 +106,20 @@ typedef struct bootimg_answer {
     uint32_t reason;
 } bootimg_answer;
 
-/* Returns in `value` the kind of a file by its first four bytes: BOOTIMG_LEGACY or BOOTIMG_FIT. The other bytes are not examined. A file
- * of fewer than four bytes is refused with Truncated at 0, and one without a magic number with BadMagic at 0. */
+/* Returns in `value` the kind of a file by its first four bytes: BOOTIMG_LEGACY or BOOTIMG_FIT. The other bytes are not examined. The
+ * call fails with Truncated at 0 for a file of fewer than four bytes, and with BadMagic at 0 for one without a magic number. */
 uint32_t bootimg_kind(const uint8_t *file, size_t file_size, bootimg_answer *answer);
 
 /* Writes the normal form of a file. `form` is BOOTIMG_EMBEDDED or BOOTIMG_EXTERNAL, and has no effect on a legacy image. `value` is the
- * number of signature nodes, which are kept and not checked. */
+ * number of signature nodes, which are kept and not checked. The call fails with TooLarge if the normal form is longer than `limit`. */
 uint32_t bootimg_normalise(const uint8_t *file, size_t file_size, uint32_t form, uint32_t limit, uint32_t depth,
                            uint8_t *buffer, size_t buffer_size, bootimg_answer *answer);
 
 /* Writes the normal form of a file with changes. `changes` is a sum of BOOTIMG_CHANGE_*, or 0. BOOTIMG_CHANGE_TIME sets the time of
  * creation to `time`, in seconds since 1970. BOOTIMG_CHANGE_HASHES computes the digests in the hash nodes of a flattened image tree
  * again. Without BOOTIMG_CHANGE_TIME, `time` has no effect. A legacy image has no hash nodes, and its checksums are always computed.
- * `form` and `value` are those of bootimg_normalise. With BOOTIMG_CHANGE_HASHES, the payloads together may not be longer than `limit`,
- * or the file is refused with TooLarge. */
+ * `form` and `value` are those of bootimg_normalise. The call fails with TooLarge if the output is longer than `limit`, or, with
+ * BOOTIMG_CHANGE_HASHES, if the payloads together are. */
 uint32_t bootimg_update(const uint8_t *file, size_t file_size, uint32_t changes, uint32_t time, uint32_t form, uint32_t limit,
                         uint32_t depth, uint8_t *buffer, size_t buffer_size, bootimg_answer *answer);
 
@@ -132,7 +134,7 @@ uint32_t bootimg_update(const uint8_t *file, size_t file_size, uint32_t changes,
  *   BOOTIMG_NO_CONFIG    No configuration has this name, or no default is named.
  *   BOOTIMG_NO_KEY       The configuration does not have the key.
  *   BOOTIMG_BAD_LIST     The value of the key is not a list of names.
- *   BOOTIMG_MISSING      The list names an image that is not there. `value` is the index of the first such name, from 0.
+ *   BOOTIMG_MISSING      The list names an image that is not there. `value` is the index of the first such name, counted from 0.
  *   BOOTIMG_NO_INDEX     The list has no entry of this index.
  *   BOOTIMG_NO_PAYLOAD   The image has no payload, not even an empty one.
  */
@@ -162,8 +164,8 @@ uint32_t bootimg_same_meaning(const uint8_t *one, size_t one_size, const uint8_t
 uint32_t bootimg_list(const uint8_t *file, size_t file_size, uint32_t limit, uint32_t depth,
                       uint8_t *buffer, size_t buffer_size, bootimg_answer *answer);
 
-/* Writes the description of what a file means. It does not depend on the layout of the file. The payloads together may not be longer
- * than `limit`, or the file is refused with TooLarge. */
+/* Writes the description of what a file means. It does not depend on the layout of the file. The call fails with TooLarge if the
+ * description, or the payloads together, are longer than `limit`. */
 uint32_t bootimg_describe(const uint8_t *file, size_t file_size, uint32_t limit, uint32_t depth,
                           uint8_t *buffer, size_t buffer_size, bootimg_answer *answer);
 
@@ -173,21 +175,26 @@ uint32_t bootimg_verify(const uint8_t *file, size_t file_size, uint32_t limit, u
                         uint8_t *buffer, size_t buffer_size, bootimg_answer *answer);
 
 /* Writes a line for each concern about a file: each thing in it that is not protected. `kinds` is a sum of BOOTIMG_ALLOW_*, or 0: the
- * kinds whose lines are left out. `value` is 1 if there is no line, otherwise 0. The payloads together may not be longer than `limit`,
- * or the file is refused with TooLarge. */
+ * kinds whose lines are left out. `value` is 1 if there is no line, otherwise 0. The call fails with TooLarge if the payloads together
+ * are longer than `limit`. */
 uint32_t bootimg_check(const uint8_t *file, size_t file_size, uint32_t kinds, uint32_t limit, uint32_t depth,
                        uint8_t *buffer, size_t buffer_size, bootimg_answer *answer);
 
-/* Writes the differences between what two files mean. `value` is 1 if they mean the same, and nothing is then written; otherwise 0. Of
- * files that differ, the payloads of each together may not be longer than `limit`, or it is refused with TooLarge. */
+/* Writes the differences between what two files mean. `value` is 1 if they mean the same, and nothing is then written; otherwise 0. If
+ * they do not mean the same, the call fails with TooLarge for the first file whose description, or payloads together, are longer than
+ * `limit`. */
 uint32_t bootimg_compare(const uint8_t *one, size_t one_size, const uint8_t *other, size_t other_size,
                          uint32_t limit, uint32_t depth, uint8_t *buffer, size_t buffer_size, bootimg_answer *answer);
 
-/* Writes the flattened image tree that a legacy image is converted to. A flattened image tree is refused with BadMagic. */
+/* Writes the flattened image tree that a legacy image is converted to. The call fails with BadMagic at 0 for a file that is no legacy
+ * image, for example a flattened image tree; with NoCodeName at the offset of the first code without a name, 28 to 31; with EmptyPart at
+ * 64 if there is no part; with TooManyParts at 64 if a multi-file image has more than three parts or a script more than one; and with
+ * TooLarge if the output is longer than `limit`. */
 uint32_t bootimg_convert(const uint8_t *file, size_t file_size, uint32_t limit, uint32_t depth,
                          uint8_t *buffer, size_t buffer_size, bootimg_answer *answer);
 
-/* Writes the name of the cause of this number, from 1 to 26, for example `Truncated`. */
+/* Writes the name of the cause of this number, 1 to 26, for example `Truncated`. The status is BOOTIMG_WRONG_ARGUMENT for any other
+ * number. */
 uint32_t bootimg_cause_name(uint32_t number, uint8_t *buffer, size_t buffer_size, bootimg_answer *answer);
 
 /* Writes the version of the library. */

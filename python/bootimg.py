@@ -5,11 +5,12 @@ images of one kind have the same normal form exactly if they mean the same. This
 called from several threads.
 
 `limit` is the greatest number of bytes of a file, and of an image, payload or description that is made: 64 to LIMIT. `depth` is the
-greatest depth of a flattened image tree, with the root counted: 1 to DEPTH. A call raises Refused if a file is refused, WrongArgument if
-a number is out of its range or a key or kind is unknown, NotFound if there is nothing to extract, and OutOfMemory if an allocation fails.
+greatest depth of a flattened image tree, with the root counted: 1 to DEPTH. A call raises Refused if a file is refused: with TooLarge for a
+file that is longer than `limit`, or else with the cause of the first check of its format that fails. It raises WrongArgument if a number is
+out of its range or a key or kind is unknown, NotFound if there is nothing to extract, and OutOfMemory if an allocation fails.
 
 `python3 -m bootimg COMMAND ..` writes what `bootimg COMMAND ..` writes, and ends with the same status, for the commands that read images.
-It has no `-o` and no `--escaped`, and its message about wrong arguments is another.
+It has no `-o` and no `--escaped`, and its message about wrong arguments is another. It also takes names that are not UTF-8.
 
 The module loads the library that the environment variable BOOTIMG_LIBRARY names, if it is set, or else the first that exists of
 libbootimg.so beside this file, the one that ./install writes under the same prefix, and that of the system.
@@ -19,6 +20,7 @@ import argparse
 import ctypes
 import ctypes.util
 import os
+import re
 import sys
 from typing import Callable, Iterable, NamedTuple
 
@@ -51,7 +53,8 @@ class _Unread(BootimgError):
 
 
 class Refused(BootimgError):
-    """A file is refused: the name of the cause, its number, the offset in the file, and the index of the file in the call, from 1."""
+    """A file is refused. `cause` is the name of the cause and `number` its number, 1 to 26. `offset` is its offset in the file, in bytes,
+    and for TooLarge the limit. `file` is the index of the file in the call, counted from 1."""
 
     def __init__(self, cause: str, number: int, offset: int, file: int) -> None:
         super().__init__(f"{cause} at {offset}")
@@ -66,12 +69,12 @@ class OutOfMemory(BootimgError, MemoryError):
 
 
 class WrongArgument(BootimgError, ValueError):
-    """A number is not one that the argument may be."""
+    """A number is out of the range of its argument, or a key or a kind is unknown."""
 
 
 class NotFound(BootimgError, LookupError):
-    """There is nothing to extract. It has the reason, one of REASONS, and for "missing image" the index of the first name that no image
-    has."""
+    """There is nothing to extract. `reason` is one of REASONS. `index` is None, or for "missing image" the index of the first name that no
+    image has, counted from 0."""
 
     def __init__(self, reason: str, index: int | None) -> None:
         super().__init__(reason if index is None else f"{reason} {index}")
@@ -167,7 +170,7 @@ def _raise(status: int, answer: _Answer) -> None:
         raise NotFound(REASONS[answer.reason - 1], answer.value if answer.reason == _MISSING else None)
 
 
-def _tell(name: str, *arguments: object) -> _Answer:
+def _call(name: str, *arguments: object) -> _Answer:
     """Calls a function without a buffer, and returns the struct that it sets."""
     answer = _Answer()
     status = getattr(_library, "bootimg_" + name)(*arguments, ctypes.byref(answer))
@@ -204,17 +207,19 @@ def cause_name(number: int) -> str:
 
 
 def kind(file: bytes) -> str:
-    """Returns the kind of a file by its first four bytes: "legacy" or "fit"."""
-    return ("legacy", "fit")[_tell("kind", *_of(file)).value - 1]
+    """Returns the kind of a file by its first four bytes: "legacy" or "fit". Raises Refused with Truncated for a file of fewer than four
+    bytes, and with BadMagic for one without a magic number."""
+    return ("legacy", "fit")[_call("kind", *_of(file)).value - 1]
 
 
 def normalise(file: bytes, external: bool = False, limit: int = LIMIT, depth: int = DEPTH) -> bytes:
-    """Returns the normal form of a file. With `external`, the payloads of a flattened image tree are after the blob."""
+    """Returns the normal form of a file. With `external`, the payloads of a flattened image tree are after the blob. Raises Refused with
+    TooLarge if the normal form is longer than `limit`."""
     return normalise_and_count(file, external, limit, depth)[0]
 
 
 def normalise_and_count(file: bytes, external: bool = False, limit: int = LIMIT, depth: int = DEPTH) -> tuple[bytes, int]:
-    """Returns the normal form of a file, and the number of its signature nodes, which are kept and not checked."""
+    """Returns what `normalise` returns, and the number of signature nodes, which are kept and not checked."""
     data = _of(file)
     return _fill("normalise", data[1] + 4096, *data, int(external), _number(limit), _number(depth))
 
@@ -227,7 +232,8 @@ def update(
     limit: int = LIMIT,
     depth: int = DEPTH,
 ) -> bytes:
-    """Returns the normal form of a file with this time of creation, if it is given, and with new digests, if `hashes` is set."""
+    """Returns the normal form of a file with this time of creation, in seconds since 1970, if it is given, and with new digests, if
+    `hashes` is set. Raises Refused with TooLarge if the output is longer than `limit`, or, with `hashes`, if the payloads together are."""
     return update_and_count(file, time, hashes, external, limit, depth)[0]
 
 
@@ -246,7 +252,7 @@ def update_and_count(
 
 
 def _region(file: bytes, name: str, *arguments: object) -> memoryview:
-    answer = _tell(name, *arguments)
+    answer = _call(name, *arguments)
     return memoryview(file).cast("B")[answer.value : answer.value + answer.size]
 
 
@@ -291,7 +297,8 @@ def listing(file: bytes, limit: int = LIMIT, depth: int = DEPTH) -> str:
 
 
 def describe(file: bytes, limit: int = LIMIT, depth: int = DEPTH) -> str:
-    """Returns the description of what a file means. It does not depend on the layout of the file."""
+    """Returns the description of what a file means. It does not depend on the layout of the file. Raises Refused with TooLarge if the
+    description, or the payloads together, are longer than `limit`."""
     return _text("describe", file, limit, depth)[0]
 
 
@@ -303,30 +310,44 @@ def verify(file: bytes, limit: int = LIMIT, depth: int = DEPTH) -> Report:
 
 def check(file: bytes, allow: Iterable[str] = (), limit: int = LIMIT, depth: int = DEPTH) -> str:
     """Returns a line for each concern about a file: each thing in it that is not protected. The text is empty if there is none. The lines
-    of the kinds in `allow`, of CONCERNS, are left out."""
+    of the kinds in `allow`, of CONCERNS, are left out. Raises Refused with TooLarge if the payloads together are longer than `limit`."""
     kinds = sum(1 << _index_of(kind, CONCERNS) for kind in set(allow))
     return _fill("check", 16384, *_of(file), kinds, _number(limit), _number(depth))[0].decode("ascii")
 
 
 def convert(file: bytes, limit: int = LIMIT, depth: int = DEPTH) -> bytes:
-    """Returns the flattened image tree that a legacy image is converted to."""
+    """Returns the flattened image tree that a legacy image is converted to. Raises Refused with BadMagic for a file that is no legacy
+    image, with NoCodeName, EmptyPart or TooManyParts for an image that cannot be converted, and with TooLarge if the output is longer than
+    `limit`."""
     data = _of(file)
     return _fill("convert", data[1] + 4096, *data, _number(limit), _number(depth))[0]
 
 
 def same_meaning(one: bytes, other: bytes, limit: int = LIMIT, depth: int = DEPTH) -> bool:
     """Returns whether two files mean the same."""
-    return _tell("same_meaning", *_of(one), *_of(other), _number(limit), _number(depth)).value == 1
+    return _call("same_meaning", *_of(one), *_of(other), _number(limit), _number(depth)).value == 1
 
 
 def compare(one: bytes, other: bytes, limit: int = LIMIT, depth: int = DEPTH) -> Comparison:
-    """Returns whether two files mean the same, and the differences between what they mean. There are none if they mean the same."""
+    """Returns whether two files mean the same, and the differences between what they mean. There are none if they mean the same. If they do
+    not, raises Refused with TooLarge for the first file whose description, or payloads together, are longer than `limit`."""
     text, value = _fill("compare", 16384, *_of(one), *_of(other), _number(limit), _number(depth))
     return Comparison(value == 1, text.decode("ascii"))
 
 
 def _whole_number(text: str) -> int:
-    return int(text, 16) if text.startswith("0x") else int(text)
+    """Returns the number of an argument, as the program reads numbers."""
+    if not re.fullmatch(r"[0-9]+|0x[0-9a-fA-F]+", text):
+        raise ValueError(text)
+    return int(text, 16 if text.startswith("0x") else 10)
+
+
+def _shown(path: str) -> str:
+    """Returns the name of a file as the program prints it."""
+    name = os.fsencode(path)
+    if name in (b"", b"-"):
+        return "%2D" if name else "-"
+    return "".join(chr(byte) if 0x21 <= byte <= 0x7E and byte != 0x25 else f"%{byte:02X}" for byte in name)
 
 
 def _parser() -> argparse.ArgumentParser:
@@ -377,13 +398,15 @@ def _read(path: str) -> bytes:
             raise _Unread("read failed") from None
     try:
         file = open(path, "rb")
+    except IsADirectoryError:
+        raise _Unread(f"{_shown(path)}: read failed") from None
     except OSError:
-        raise _Unread(f"{path}: cannot be opened") from None
+        raise _Unread(f"{_shown(path)}: cannot be opened") from None
     with file:
         try:
             return file.read()
         except OSError:
-            raise _Unread(f"{path}: read failed") from None
+            raise _Unread(f"{_shown(path)}: read failed") from None
 
 
 def _extracted(options: argparse.Namespace, file: bytes) -> memoryview:
@@ -437,7 +460,7 @@ def main(arguments: list[str] | None = None) -> int:
         output, status = _run(options, [_read(path) for path in paths])
     except (Refused, NotFound) as reason:
         path = paths[reason.file - 1 if isinstance(reason, Refused) else 0]
-        return _fail(f"{path + ': ' if path != '-' else ''}{reason}")
+        return _fail(f"{_shown(path) + ': ' if path != '-' else ''}{reason}")
     except WrongArgument:
         return _fail("usage: bad value")
     except BootimgError as error:

@@ -78,6 +78,33 @@ same() {
 }
 
 examples=$root/examples
+
+# refuses_number NUMBER: the program and the module fail with this number, with status 2 and without output.
+refuses_number() {
+    for tried in "$program" "python3 -m bootimg"; do
+        $tried list --limit "$1" "$examples/kernel.uimage" > output 2> errors
+        [ $? = 2 ] && [ ! -s output ] && [ -s errors ] || { cat output errors; return 1; }
+    done
+}
+
+# names_file PATH: the module names a file in the line of a failure as the program does.
+names_file() {
+    "$program" list "$1" > output 2> errors
+    status=$?
+    python3 -m bootimg list "$1" > output2 2> errors2
+    [ $? = "$status" ] && cmp output output2 && cmp errors errors2 || { cat errors errors2; return 1; }
+}
+mkdir names
+for path in "names/a b" names/a%b names/é names/-; do
+    check "a missing file is named by the module: $path" names_file "$path"
+    head -c 100 "$examples/kernel.uimage" > "$path"
+    check "a refused file is named by the module: $path" names_file "$path"
+done
+check "a file with an empty name is named by the module" names_file ""
+check "a directory is named by the module" names_file names
+for number in 1_000 +1000 0x_ff 0X3e8 " 1000 " ١٠٠٠ 1000.0 -1 "" 0x; do
+    check "the module takes no number that the program refuses: '$number'" refuses_number "$number"
+done
 "$root/tests/conformance/run" --export runs > log || cat log
 for compiler in gcc clang; do
     check "$compiler compiles the calls" $compiler -std=gnu99 -Wall -Wextra -Werror -g -fsanitize=address,undefined \

@@ -173,6 +173,12 @@ cannot_link() {
 check "without a compiler" cannot_link no-compiler "no-compiler is not found: install a C compiler, or give --without-library"
 check "with one that fails" cannot_link false "the shared library cannot be linked by false"
 
+# prints_usage: the line goes to standard output, and nothing is installed.
+prints_usage() {
+    "$install" --help > output 2> errors && [ ! -s errors ] && [ "$(wc -l < output)" = 1 ] && grep -q "^usage: ./install " output
+}
+check "--help prints the usage" prints_usage
+
 # Wrong arguments.
 for arguments in --bad -p help --prefix --destdir "--prefix relative" --prefix= "--uninstall --with-mkimage" --uninstall=x here \
     "--uninstall --without-library" --without-library=x; do

@@ -45,7 +45,7 @@ unfolding cell8
 AreBytes-cell8 n =
     AreBytes-cons _ _ (omega arith) (AreBytes-cons _ _ (omega arith) (AreBytes-cons _ _ (omega arith) (AreBytes-cons _ _ (omega arith) (AreBytes-cons _ _ (omega arith) (AreBytes-cons _ _ (omega arith) (AreBytes-cons _ _ (omega arith) (AreBytes-cons _ _ (omega arith) AreBytes-none)))))))
 
--- Lists of bytes one behind the other.
+-- Lists of bytes one after the other.
 pub AreBytes-flat_map : {X : Type 0} (f : X → List ℕ) (xs : List X) → AllByRecursion (λ x. AreBytes (f x)) xs → AreBytes (flat_map f xs)
 AreBytes-flat_map f [] each = AreBytes-none
 AreBytes-flat_map f (first ∷ others) each = AreBytes-append (f first) (flat_map f others) each.0 (AreBytes-flat_map f others each.1)

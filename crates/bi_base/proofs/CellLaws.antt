@@ -6,6 +6,8 @@ use Rattle.std.proofs.lemmas.List.{get_or-take, get_or-drop, get_or_past, length
 use Rattle.std.proofs.lemmas.Nat.{be_bytes_4}
 use Rattle.bi_base.specs.Cells.{cell, u32_at, slice, AreBytes}
 
+-- Proves what the slices and the cells of a list of bytes are: their lengths, their bounds, and that a cell is read as it was written.
+
 -- Two lists that are equal, each of a first part and a rest, have equal parts where the first parts are equally long.
 pub parts_agree : {X : Type 0} (a b x y : List X) → length a ≡ length b → a ++ x ≡ b ++ y → (a ≡ b) × (x ≡ y)
 parts_agree a b x y same e = (
@@ -45,7 +47,7 @@ unfolding cell u32_at
 cell-u32_at file at bytes within =
     be_bytes_4 (slice file at 4) (from_be_bytes w32 (slice file at 4)) (length-slice file at 4 within) (AreBytes-slice file at 4 bytes).each refl
 
--- What four bytes say is below 2^32.
+-- The number of four bytes is below 2^32.
 from_be_bytes_4-fits : (bytes : List ℕ) → ((i : ℕ) → get_or bytes i 0 < 256) → from_be_bytes w32 bytes < 2 ^ 32
 from_be_bytes_4-fits bytes each =
     let a : get_or bytes 0 0 < 256 = each 0 in

@@ -4,6 +4,8 @@ use Rattle.std.proofs.lemmas.List.FromFn.{length-map-range_with_len, get_or-map-
 use Rattle.bi_base.specs.CrcTables.{AreCrcTables, after_zeros, table_entry}
 use Rattle.bi_base.specs.declared.crc_tables.TheConstants.{TABLES}
 
+-- Proves that the tables of the program are those of the definition.
+
 -- The entries of table `k` in order.
 abbrev table_of : ℕ → List ℕ
 table_of k = map (table_entry k) (range_with_len 0 256)

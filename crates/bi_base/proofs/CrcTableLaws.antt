@@ -10,6 +10,8 @@ use Rattle.bi_base.specs.Crc.{crc_bit, crc_after, low_bits}
 use Rattle.bi_base.specs.CrcTables.{after_zeros, table_entry}
 use Rattle.bi_base.proofs.CrcLaws.{crc_after-append}
 
+-- Proves that the register after bytes is what the sixteen tables compute: for sixteen bytes at a time, and for one byte.
+
 -- The xor of two pairs is the xor of their first numbers with the xor of their second numbers.
 xor_swap : (a b c d : ℕ) → bit_xor (bit_xor a b) (bit_xor c d) ≡ bit_xor (bit_xor a c) (bit_xor b d)
 xor_swap a b c d =

@@ -111,7 +111,7 @@ moving_failed source new_source target new_target IsOutput HasError read_failed 
   else_nothing = all.failed.else_nothing;
 }
 
--- A command that was run over streams whose calls are traced was run over plain ones, where these have what the traces say.
+-- A command that was run over streams whose calls are traced was run over plain ones, where these have what the traces record.
 pub pipe_ends_well : {V E : Type 0} (promise : CommandPromise V E) (limits : Limits) (source new_source : ReadTrace)
     (target new_target : WriteTrace) (remaining new_remaining contents new_contents : Option (List ℕ)) (result : Result V E)
     → source.remaining ≡ remaining → new_source.remaining ≡ new_remaining → target.contents ≡ contents

@@ -119,7 +119,7 @@ refused_after source new_source target new_target IsOutput HasError read_failed 
   why_write_failed = λ write_failed. absurd (no_write write_failed);
 }
 
--- What an error of reading says of an input, whatever the call.
+-- What follows from an error of reading for an input, whatever the call.
 pub record IsErrorOfReading (remaining : Option (List ℕ)) (most : ℕ) (MustStop : Type 0) (HasError : List ℕ → Type 0) (error : Error) : Type 0 where
   pub input : List ℕ
   pub is_input : IsInput remaining input

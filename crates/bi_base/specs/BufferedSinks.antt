@@ -41,11 +41,13 @@ pub record Stops (old : Buffer) (bytes : List ℕ) (new : Buffer) (error : Error
   pub stopped : WriteStopped old.trace (old.held ++ bytes) new.trace error
   pub same_borrow : new.borrow ≡ old.borrow
 
--- The same for a sink.
+-- A call appended bytes to a buffered sink: some bytes were written, and the others are held back.
 abbrev pub BufferAppends : {T : Type 0} → (T → WriteTrace) → BufferedSink T → List ℕ
     → BufferedSink T → Type 0
 BufferAppends trace old bytes new = Holds (state_of trace old) bytes (state_of trace new)
 
+-- A call failed to append bytes to a buffered sink: a prefix of the bytes held back before, and
+-- these, was written.
 abbrev pub BufferFails : {T : Type 0} → (T → WriteTrace) → BufferedSink T → List ℕ → BufferedSink T
     → Error → Type 0
 BufferFails trace old bytes new error = Stops (state_of trace old) bytes (state_of trace new) error

@@ -68,7 +68,8 @@ pub data CommandFailed {S E : Type 0} (fails : S → List ℕ → S → Error �
     SinkFailed : (text : List ℕ) (cause : Error) → IsText text → fails old text new cause
         → error ≡ wraps cause → CommandFailed fails wraps IsText HasError old new error
 
--- The same for a call whose errors are those of sinks.
+-- A call that appends a text to a sink, and whose errors are those of sinks, failed: with an error
+-- of its own, and the sink is unchanged; or with an error of the sink.
 abbrev pub AppendFailed : {S : Type 0} → (S → List ℕ → S → Error → Type 0) → (List ℕ → Type 0)
     → (Error → Type 0) → S → S → Error → Type 0
 AppendFailed fails IsText HasError old new error =

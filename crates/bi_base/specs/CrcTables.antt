@@ -3,9 +3,7 @@ use Rattle.std.specs.Prelude.{List, [], length, get_or, slice_index, replicate, 
 use Rattle.std.specs.Int.Bits.{bit_xor}
 use Rattle.bi_base.specs.Crc.{crc_bit}
 
--- The sixteen tables by which a CRC-32 takes sixteen bytes in one step. M. E. Kounavis and
--- F. L. Berry describe this for four and eight ("A Systematic Approach to Building High Performance
--- Software-based CRC Generators", 2005).
+-- The sixteen tables by which a CRC-32 takes sixteen bytes in one step (slicing by sixteen).
 
 -- The register after `n` message bits of zero.
 unfoldable pub after_zeros : ℕ → ℕ → ℕ

@@ -43,14 +43,17 @@ pub record MoveFailed (remaining new_remaining contents new_contents : Option (L
       IsOutput
   pub else_nothing : ¬ write_failed → Keeps contents new_contents
 
--- The same for a reader and a writer whose calls are traced: the output was also flushed.
+-- The whole input was read from a reader, and its output was written to a writer and flushed. The
+-- calls of both are traced.
 pub record Transferred (source new_source : ReadTrace) (target new_target : WriteTrace)
     (IsOutput : List ℕ → List ℕ → Type 0) : Type 0 where
   pub moved : Moved source.remaining new_source.remaining target.contents new_target.contents
       IsOutput
   pub flushed : IsFlushed new_target
 
--- The same for a call that failed: a failed read or write was a reason to stop.
+-- The call failed with an error that it can have for the input, from a reader to a writer whose
+-- calls are traced. After a failed write a prefix of the output was written, and after any other
+-- error nothing was. A failed read or write was a reason to stop.
 pub record TransferFailed (source new_source : ReadTrace) (target new_target : WriteTrace)
     (IsOutput : List ℕ → List ℕ → Type 0) (HasError : List ℕ → Type 0)
     (read_failed write_failed : Type 0) : Type 0 where

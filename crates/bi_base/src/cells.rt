@@ -9,8 +9,9 @@ ghost use Rattle.bi_base.specs.Sinks.{Wrote};
 use crate::fault::Error;
 use crate::sinks::Sink;
 
-/// The number whose cell, its four big-endian bytes (Devicetree Specification, 2.2.4.2: u32), is at
-/// offset `at`. None exactly if the bytes end before the cell does.
+/// Returns the number in the cell at offset `at`, which is four bytes, the highest first
+/// (Devicetree Specification, 2.2.4.2: u32). Returns None exactly if the bytes end before the cell
+/// does.
 pub fn be32_at(bytes: &[u8], at: usize) -> Option<u32>
     ensures within { IsSome result ↔ (at + 4 ≤ length bytes.now) }
     ensures value { IfSome result (λ number. number ≡ u32_at bytes.now at) }
@@ -20,7 +21,8 @@ pub fn be32_at(bytes: &[u8], at: usize) -> Option<u32>
     Some(u32::from_be_bytes(*cell))
 }
 
-/// The least multiple of four that is at least `n`, which is at most `usize::MAX - 3`.
+/// Returns the least multiple of four that is at least `n`. It may only be called if `n` is at most
+/// `usize::MAX - 3`.
 pub fn up4(n: usize) -> usize
     requires { n + 3 < 2 ^ 64 }
     ensures { result ≡ up4_of n }
@@ -28,8 +30,9 @@ pub fn up4(n: usize) -> usize
     (n + 3) / 4 * 4
 }
 
-/// The number whose two cells, its eight big-endian bytes (Devicetree Specification, 2.2.4.2: u64),
-/// are at offset `at`. None exactly if the bytes end before the two cells do.
+/// Returns the number in the two cells at offset `at`, which are eight bytes, the highest first
+/// (Devicetree Specification, 2.2.4.2: u64). Returns None exactly if the bytes end before the two
+/// cells do.
 #[tactic(auto, unfolding(crate::specs::Cells::u64_at))]
 pub fn be64_at(bytes: &[u8], at: usize) -> Option<u64>
     ensures within { IsSome result ↔ (at + 8 ≤ length bytes.now) }
@@ -40,7 +43,8 @@ pub fn be64_at(bytes: &[u8], at: usize) -> Option<u64>
     Some(u64::from_be_bytes(*cells))
 }
 
-/// The number whose cell is at offset `at`. The bytes have all of the cell.
+/// Returns the number in the cell at offset `at`. It may only be called if the bytes do not end
+/// before the cell does.
 pub fn cell_at(bytes: &[u8], at: usize) -> u32
     requires { at + 4 ≤ length bytes.now }
     ensures { result ≡ u32_at bytes.now at }
@@ -48,7 +52,8 @@ pub fn cell_at(bytes: &[u8], at: usize) -> u32
     be32_at(bytes, at).unwrap()
 }
 
-/// The number whose two cells are at offset `at`. The bytes have all of both cells.
+/// Returns the number in the two cells at offset `at`. It may only be called if the bytes do not
+/// end before the cells do.
 pub fn two_cells_at(bytes: &[u8], at: usize) -> u64
     requires { at + 8 ≤ length bytes.now }
     ensures { result ≡ u64_at bytes.now at }
@@ -57,14 +62,20 @@ pub fn two_cells_at(bytes: &[u8], at: usize) -> u64
 }
 
 /// Appends the cell of this number: its four bytes, the highest first (Devicetree Specification,
-/// 2.2.4.2: u32). Fails as the sink does.
+/// 2.2.4.2: u32).
+///
+/// Fails only as the sink does. After an error of the sink, it is as a failed `put` of the cell
+/// leaves it.
 pub fn put_cell<S: Sink>(sink: &mut S, number: u32) -> Result<(), Error>
     ensures { Wrote S.appends S.fails sink.old (cell number) result sink.new }
 {
     sink.put(&number.to_be_bytes())
 }
 
-/// Appends the cells of these numbers in their order. Fails as the sink does.
+/// Appends the cells of these numbers in their order.
+///
+/// Fails only as the sink does. After an error of the sink, it is as a failed `put` of all of the
+/// cells leaves it.
 pub fn put_cells<S: Sink>(sink: &mut S, numbers: &[u32]) -> Result<(), Error>
     ensures { Wrote S.appends S.fails sink.old (flat_map cell numbers.now) result sink.new }
 {

@@ -24,7 +24,8 @@ pub trait Command {
     // What the command promises within these limits.
     ghost promise: { Self → Limits → CommandPromise Self.Value Self.Failure };
 
-    /// Appends the output for this input to a sink.
+    /// Appends the output for this input to a sink. It may only be called if the command may be run
+    /// (`can_run`) and the input has at most `limits.file()` bytes.
     ///
     /// After an error of the command, the sink is unchanged. After an error of the sink, it is as a
     /// failed `put` of the output leaves it.

@@ -26,8 +26,8 @@ impl Model for Crc32 {
 }
 
 impl Crc32 {
-    /// The checksum before any byte. Contracts see a `Crc32` as its register, which begins with all
-    /// bits set.
+    /// Returns the running checksum of no bytes. Contracts see a `Crc32` as its register, which
+    /// begins with all bits set.
     pub fn new() -> Crc32
         ensures { result ≡ 0xFFFFFFFF }
     {
@@ -43,7 +43,7 @@ impl Crc32 {
         self.register = after_bytes(self.register, bytes);
     }
 
-    /// The CRC-32 of all bytes so far: the register's complement.
+    /// Returns the CRC-32 of all bytes so far: the register's complement.
     pub fn finish(self) -> u32
         ensures { result ≡ 0xFFFFFFFF - self }
     {

@@ -5,7 +5,7 @@ ghost use Rattle.std.specs.Prelude.{◌≡◌, ◌<◌, [], ◌∷◌, fold};
 ghost use Rattle.bi_base.specs.Crc.{crc_after};
 ghost use Rattle.bi_base.specs.CrcTables.{table_entry};
 
-/// The register after these bytes.
+/// Returns the register after these bytes.
 pub(crate) fn after_bytes(register: u32, bytes: &[u8]) -> u32
     ensures { result ≡ crc_after register bytes.now }
 {
@@ -13,7 +13,7 @@ pub(crate) fn after_bytes(register: u32, bytes: &[u8]) -> u32
     after_rest(after_groups(register, groups), rest)
 }
 
-/// The register after groups of sixteen bytes.
+/// Returns the register after groups of sixteen bytes.
 fn after_groups(register: u32, groups: &[[u8; 16]]) -> u32
     ensures { result ≡ fold crc_after register groups.now }
 {
@@ -24,7 +24,7 @@ fn after_groups(register: u32, groups: &[[u8; 16]]) -> u32
     after
 }
 
-/// The register after bytes, one at a time.
+/// Returns the register after bytes, one at a time.
 fn after_rest(register: u32, bytes: &[u8]) -> u32
     ensures { result ≡ crc_after register bytes.now }
 {
@@ -35,7 +35,7 @@ fn after_rest(register: u32, bytes: &[u8]) -> u32
     after
 }
 
-/// The register after sixteen bytes.
+/// Returns the register after sixteen bytes.
 fn after_group(register: u32, group: [u8; 16]) -> u32
     ensures { result ≡ crc_after register group }
 {
@@ -47,7 +47,7 @@ fn after_group(register: u32, group: [u8; 16]) -> u32
     after
 }
 
-/// The register after one byte.
+/// Returns the register after one byte.
 fn after_byte(register: u32, byte: u8) -> u32
     ensures { result ≡ crc_after register (byte ∷ []) }
 {
@@ -55,7 +55,7 @@ fn after_byte(register: u32, byte: u8) -> u32
     (register >> 8) ^ entry(0, lowest ^ byte)
 }
 
-/// The entry of one of the sixteen tables at this index.
+/// Returns the entry of one of the sixteen tables at this index.
 fn entry(table: usize, index: u8) -> u32
     requires { table < 16 }
     ensures { result ≡ table_entry table index }

@@ -1,4 +1,4 @@
-//! Why a file is refused, and what else can go wrong.
+//! Why a file is refused, and how else a call can fail.
 
 ghost use Rattle.std.specs.Prelude.{◌≡◌};
 ghost use Rattle.bi_base.specs.declared.fault.Error.TheVariants.{OutOfMemory, Refused};
@@ -16,9 +16,10 @@ pub enum Cause {
     BadHeaderCrc = 3,
     /// The data checksum of a legacy image is not that of its data.
     BadDataCrc = 4,
-    /// The part table of a multi or script image has no end.
+    /// The part table of a multi-file image or script has no end.
     BadPartTable = 5,
-    /// A part ends after the data of the image.
+    /// A part ends after the data of the image, or the pieces that an input is cut into are not
+    /// together the whole input.
     BadPart = 6,
     /// The `totalsize` of a blob is less than the length of its header.
     BadTotalSize = 7,
@@ -36,7 +37,7 @@ pub enum Cause {
     PropertyAfterChild = 13,
     /// A node has two properties of one name.
     DuplicateProperty = 14,
-    /// A node has two children of one name.
+    /// A node has two children of one name, or two images to be built have one name.
     DuplicateNode = 15,
     /// More nodes are open than the limit allows.
     TooDeep = 16,
@@ -48,31 +49,34 @@ pub enum Cause {
     NoSize = 19,
     /// A payload ends after the file.
     OutsideFile = 20,
-    /// The file, or the text to be written, is longer than the limit.
+    /// The file, the text to be written or the description is longer than the limit, or, for some
+    /// calls, the payloads together are.
     TooLarge = 21,
-    /// A code has no name.
+    /// A code that a flattened image tree has to name has no name.
     NoCodeName = 22,
-    /// A legacy image that is to be converted has too many parts.
+    /// A legacy image that is to be converted has too many parts: a multi-file image more than
+    /// three, a script more than one.
     TooManyParts = 23,
     /// A part is empty, or there is none.
     EmptyPart = 24,
     /// A field cannot be written as it is given.
     BadField = 25,
-    /// The file is of a kind that cannot be handled yet.
+    /// The file is of a kind that cannot be handled yet. No call of this version fails with this
+    /// cause.
     Unsupported = 26,
 }
 
 impl Cause {
     ghost use Rattle.bi_base.specs.Causes.{number_of, name_of};
 
-    /// The number of the cause, 1 to 26.
+    /// Returns the number of the cause: 1 to 26.
     pub fn number(self) -> u8
         ensures { result ≡ number_of self }
     {
         self as u8
     }
 
-    /// The name of the cause, as the program prints it.
+    /// Returns the name of the cause, as the program prints it.
     pub fn name(self) -> &'static str
         ensures { result.now ≡ name_of self }
     {
@@ -112,8 +116,9 @@ impl Cause {
 pub struct Fault {
     /// Why.
     pub cause: Cause,
-    /// Where, in bytes from the beginning of the file, or of the image to be written. For TooLarge
-    /// it is the limit.
+    /// Where, in bytes from the beginning of the file, of the input that is cut, or of the image to
+    /// be written. For TooLarge it is the limit. For NoCodeName, DuplicateNode and BadField of an
+    /// image of `build_fit` it is the index of the image, counted from 0.
     pub offset: u32,
 }
 

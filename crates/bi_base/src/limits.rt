@@ -5,8 +5,9 @@ ghost use Rattle.bi_base.specs.Limits.{Limits, IsInRange};
 
 use std::marker::Model;
 
-/// The limits of a call. `file` is the most bytes of an input, and of an image or payload that is
-/// written. `depth` is the most nodes of a blob's tree that are open at once, the root counted.
+/// The limits of a call. `file` is the greatest length in bytes of an input, and of an image or
+/// payload that is written. `depth` is the greatest number of nodes of a blob's tree that are open
+/// at once, the root counted.
 #[derive(Clone, Copy, Debug, PartialEq, Eq)]
 pub struct Limits {
     file: u32,
@@ -24,8 +25,8 @@ impl Model for Limits {
 }
 
 impl Limits {
-    /// The limits with these bounds. Some exactly if `file` is 64 to 0x7fffffff and `depth` is 1 to
-    /// 64.
+    /// Returns the limits with these bounds. Returns None exactly if `file` is not 64 to
+    /// 0x7fffffff, or `depth` is not 1 to 64.
     pub fn new(file: u32, depth: u8) -> Option<Limits>
         ensures in_range { IsSome result ↔ IsInRange file depth }
         ensures value { IfSome result (λ limits. limits ≡ record { file = file; depth = depth }) }
@@ -37,7 +38,8 @@ impl Limits {
         }
     }
 
-    /// The most bytes of an input, or of an image or payload that is written: 64 to 0x7fffffff.
+    /// Returns the greatest length in bytes of an input, and of an image or payload that is
+    /// written: 64 to 0x7fffffff.
     pub fn file(self) -> u32
         ensures value { result ≡ self.file }
         ensures least { 64 ≤ result }
@@ -46,7 +48,8 @@ impl Limits {
         self.file
     }
 
-    /// The most open nodes of a blob's tree, the root counted: 1 to 64.
+    /// Returns the greatest number of nodes of a blob's tree that are open at once, the root
+    /// counted: 1 to 64.
     pub fn depth(self) -> u8
         ensures value { result ≡ self.depth }
         ensures least { 1 ≤ result }

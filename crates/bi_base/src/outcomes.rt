@@ -19,7 +19,7 @@ pub struct CallOutcome {
 }
 
 impl CallOutcome {
-    /// The outcome before any call.
+    /// Returns the outcome before any call.
     pub fn new() -> CallOutcome
         ensures not_failed { IsFalse result.failed }
         ensures not_interrupted { result.interruptions ≡ 0 }
@@ -30,7 +30,7 @@ impl CallOutcome {
         }
     }
 
-    /// The outcome after one more call with this result.
+    /// Returns the outcome after one more call with this result.
     pub fn after<T>(self, call: &io::Result<T>) -> CallOutcome
         ensures failed { RecordsFailure result.failed call.now }
         ensures interruptions { CountsInterruptions self.interruptions result.interruptions
@@ -49,7 +49,7 @@ impl CallOutcome {
         }
     }
 
-    /// Whether the last call is a reason to stop.
+    /// Returns whether the last call is a reason to stop.
     pub fn must_stop(self) -> bool
         ensures { IsTrue result ↔ MustStop self.failed self.interruptions }
     {

@@ -16,7 +16,8 @@ use std::alloc::Global;
 use std::io::{Read, Write};
 
 /// Reads an input to its end, runs a command on it, writes the output and flushes, from a reader to
-/// a writer that record the outcome of their calls. Returns what the command returns.
+/// a writer that record the outcome of their calls. Returns what the command returns. It may only
+/// be called if the command may be run (`can_run`).
 ///
 /// Errors: `ReadFailed` after a read that failed with an error other than an interruption, or after
 /// 1,024 interrupted reads in a row; `Refused` with `TooLarge` at the limit for files, if the input
@@ -41,10 +42,10 @@ pub fn pipe<C: Command, S: TracedRead, T: TracedWrite>(
 }
 
 /// Reads an input to its end, runs a command on it, writes the output and flushes: `pipe` over a
-/// plain reader and a plain writer, with the same errors.
+/// plain reader and a plain writer, with the same condition and the same errors.
 ///
-/// A plain reader or writer does not record a failed call, so the contract cannot state why
-/// `ReadFailed` and `WriteFailed` come, that no failed call is ignored, and that the writer was
+/// A plain reader or writer does not record a failed call, so the contract does not state why
+/// `ReadFailed` and `WriteFailed` come, that no failed call is ignored, or that the writer was
 /// flushed. `pipe` promises all three.
 pub fn pipe_to<C: Command, R: Read, W: Write>(
     alloc: Global,

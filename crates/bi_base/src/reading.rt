@@ -80,8 +80,8 @@ pub fn read_all_traced<S: TracedRead>(
 
 /// Reads a whole input up to its end: `read_all_traced` over a plain reader, with the same errors.
 ///
-/// A plain reader does not record a failed call, so the contract cannot state why `ReadFailed`
-/// comes, nor that no failure is ignored. `read_all_traced` promises both.
+/// A plain reader does not record a failed call, so the contract does not state why `ReadFailed`
+/// comes, or that no failure is ignored. `read_all_traced` promises both.
 pub fn read_all<R: Read>(alloc: Global, reader: &mut R, limits: Limits) -> Result<Vec<u8>, Error>
     ensures whole { IfOk result (λ bytes.
         ReadWhole (R.remaining reader.old) (R.remaining reader.new) bytes.items) }

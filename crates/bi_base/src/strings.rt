@@ -5,7 +5,7 @@ ghost use Rattle.std.specs.Option.{option_copied};
 ghost use Rattle.bi_base.specs.Strings.{before_nul as before_nul_of};
 ghost use Rattle.bi_base.specs.Strings.{text_before_nul as text_before_nul_of};
 
-/// The bytes before the first zero byte, or all of them if none is zero.
+/// Returns the bytes before the first zero byte, or all of them if none is zero.
 pub fn before_nul(bytes: &[u8]) -> &[u8]
     ensures { result.now ≡ before_nul_of bytes.entry.now }
 {
@@ -17,7 +17,7 @@ pub fn before_nul(bytes: &[u8]) -> &[u8]
     bytes
 }
 
-/// The bytes before the first zero byte. None exactly if none is zero.
+/// Returns the bytes before the first zero byte. Returns None exactly if none is zero.
 #[tactic(auto, unfolding(crate::specs::Strings::text_before_nul))]
 pub fn text_before_nul(value: &[u8]) -> Option<&[u8]>
     ensures { option_copied result ≡ text_before_nul_of value.now }
@@ -26,7 +26,7 @@ pub fn text_before_nul(value: &[u8]) -> Option<&[u8]>
     Some(&value[..end])
 }
 
-/// The index of the first zero byte, if there is one.
+/// Returns the index of the first zero byte, if there is one.
 fn position_of_nul(bytes: &[u8]) -> Option<usize>
     ensures { result ≡ position (λ byte. byte == 0) bytes.now }
 {

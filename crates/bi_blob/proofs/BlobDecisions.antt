@@ -194,7 +194,7 @@ are_reservations_sound (reservation ∷ later) e =
       are_reservations_sound later all.1,
     )
 
--- The bytes from the reservation block on.
+-- The bytes from the memory reservation block on.
 abbrev from_reservations : List ℕ → List ℕ
 from_reservations file = slice file (off_mem_rsvmap file) (totalsize file - off_mem_rsvmap file)
 

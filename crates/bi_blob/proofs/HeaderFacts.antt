@@ -51,7 +51,7 @@ header_checks_have_order = record {
   structure_before_strings = in_header _ _ PlacesStructure refl;
 }
 
--- In each reservation block, the pairs up to the one that extends past its end.
+-- In each memory reservation block, the pairs up to the one that extends past its end.
 pub reservations_have_faults : ReservationsHaveFaults
 unfolding u32_at u64_at cell test
 reservations_have_faults = record {

@@ -22,7 +22,7 @@ to_root = BeginNode [] ∷ []
 abbrev to_images : List Token
 to_images = BeginNode (codes "images") ∷ to_root
 
--- The tokens before the one at fault, and its check that fails.
+-- The tokens before the one that fails, and its check that fails.
 pub tokens_have_faults : TokensHaveFaults
 unfolding u32_at u64_at cell cell8 text_of_blocks test first_failing lacks_byte is_new is_property_name is_child_name may_be_named are_none token_test is_token is_token_at is_before_end are_passed has_no_reservations
 tokens_have_faults = record {

@@ -105,26 +105,26 @@ pub record Reservation : Type 0 where
   pub address : ℕ
   pub size : ℕ
 
--- The bytes of a pair of the reservation block (5.3.2).
+-- The bytes of a pair of the memory reservation block (5.3.2).
 abbrev pub pair_bytes : Reservation → List ℕ
 pair_bytes reservation = cell8 reservation.address ++ cell8 reservation.size
 
--- The pair of two zeros that ends the reservation block (5.3.2).
+-- The pair of two zeros that ends the memory reservation block (5.3.2).
 abbrev pub end_pair : Reservation
 end_pair = record { address = 0; size = 0 }
 
--- A reservation that the reservation block can hold: not both numbers are zero (5.3.2; that one of
--- size zero counts is profile of this project).
+-- A reservation that the memory reservation block can hold: not both numbers are zero (5.3.2; that
+-- one of size zero counts is profile of this project).
 pub record IsReservation (reservation : Reservation) : Type 0 where
   pub address_fits : reservation.address < 2 ^ 64
   pub size_fits : reservation.size < 2 ^ 64
   pub some : 0 < reservation.address + reservation.size
 
--- The reservation block with these reservations (5.3.2).
+-- The memory reservation block with these reservations (5.3.2).
 abbrev pub reservation_block : List Reservation → List ℕ
 reservation_block reservations = flat_map pair_bytes reservations ++ pair_bytes end_pair
 
--- These bytes begin with the reservation block that has these reservations (5.3).
+-- These bytes begin with the memory reservation block that has these reservations (5.3).
 pub record BeginsWithReservations (bytes : List ℕ) (reservations : List Reservation) : Type 0 where
   pub are_reservations : AllByRecursion IsReservation reservations
   pub trailing : List ℕ

@@ -23,7 +23,7 @@ use Rattle.bi_blob.specs.Blob.{TreeBlocks, tree_blocks}
 
 -- Why a file is no blob within limits, and at which offset: the first check that fails (profile of
 -- this project, with the requirements of the Devicetree Specification, chapter 5). The checks of
--- the header come first, then the pairs of the reservation block, and then the tokens of the
+-- the header come first, then the pairs of the memory reservation block, and then the tokens of the
 -- structure block one by one.
 
 -- The checks of the header (5.2).
@@ -91,20 +91,20 @@ abbrev pub IsHeaderFault : Limits → List ℕ → Fault → Type 0
 IsHeaderFault bounds file fault =
     IsFirstFault (HeaderPasses bounds file) (header_fault bounds) header_checks fault
 
--- The pair of two zeros that ends the reservation block is at this offset (5.3.2).
+-- The pair of two zeros that ends the memory reservation block is at this offset (5.3.2).
 pub record IsEndPair (file : List ℕ) (at : ℕ) : Type 0 where
   pub address : u64_at file at ≡ 0
   pub size : u64_at file (at + 8) ≡ 0
 
--- The reservation block at this offset has this many reservations, and its end pair ends at
+-- The memory reservation block at this offset has this many reservations, and its end pair ends at
 -- `total` or before (5.3).
 pub record HasReservations (file : List ℕ) (at total count : ℕ) : Type 0 where
   pub before : (index : ℕ) → index < count → ¬ (IsEndPair file (at + 16 * index))
   pub end : IsEndPair file (at + 16 * count)
   pub within : at + 16 * count + 16 ≤ total
 
--- Of the pairs of the reservation block, up to and including its end pair, the first that extends
--- past `total` gives the fault.
+-- Of the pairs of the memory reservation block, up to and including its end pair, the first that
+-- extends past `total` gives the fault.
 pub record IsReservationsFault (file : List ℕ) (at total : ℕ) (fault : Fault) : Type 0 where
   pub index : ℕ
   pub before : (earlier : ℕ) → earlier < index → ¬ (IsEndPair file (at + 16 * earlier))
@@ -112,13 +112,13 @@ pub record IsReservationsFault (file : List ℕ) (at total : ℕ) (fault : Fault
   pub past : total < at + 16 * index + 16
   pub is : fault ≡ record { cause = Truncated; offset = at + 16 * index }
 
--- The header and the reservation block of a file have no fault.
+-- The header and the memory reservation block of a file have no fault.
 pub record HasNoFaultBeforeTree (bounds : Limits) (file : List ℕ) : Type 0 where
   pub header : HasNoHeaderFault bounds file
   pub count : ℕ
   pub reservations : HasReservations file (off_mem_rsvmap file) (totalsize file) count
 
--- The fault of a file before its structure block: in the header or in the reservation block.
+-- The fault of a file before its structure block: in the header or in the memory reservation block.
 abbrev pub IsFaultBeforeTree : Limits → List ℕ → Fault → Type 0
 IsFaultBeforeTree bounds file fault =
     IsHeaderFault bounds file fault

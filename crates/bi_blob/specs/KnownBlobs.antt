@@ -76,8 +76,8 @@ tree_with_overlap = record {
 }
 
 -- Version 18, which a reader of version 17 can read. The strings block comes right after the
--- header, then the structure block (at 44) and the reservation block (at 104). Boot processor 3;
--- one reservation has size 0. Four bytes follow the blob.
+-- header, then the structure block (at 44) and the memory reservation block (at 104). Boot
+-- processor 3; one reservation has size 0. Four bytes follow the blob.
 abbrev pub file_of_version_18 : List ℕ
 file_of_version_18 =
     cells (0xd00dfeed ∷ 152 ∷ 44 ∷ 40 ∷ 104 ∷ 18 ∷ 17 ∷ 3 ∷ 2 ∷ 56 ∷ [])
@@ -104,7 +104,7 @@ tree_of_version_18 = record {
 }
 
 -- Version 16. The structure block (at 36) comes right after the header, then free bytes and the
--- reservation block (at 72).
+-- memory reservation block (at 72).
 abbrev pub file_of_version_16 : List ℕ
 file_of_version_16 =
     cells (0xd00dfeed ∷ 88 ∷ 36 ∷ 68 ∷ 72 ∷ 16 ∷ 16 ∷ 0 ∷ 0 ∷ [])

@@ -13,8 +13,8 @@ use Rattle.bi_blob.specs.Layout.{text_of_tree, IsNormalText}
 abbrev pub smallest_tree : Root (List Property)
 smallest_tree = record { own = []; children = node (codes "images") [] none none }
 
--- Its text: ten cells of the header, the pair that ends the reservation block, and eight cells of
--- the structure block.
+-- Its text: ten cells of the header, the pair that ends the memory reservation block, and eight
+-- cells of the structure block.
 abbrev pub smallest_text : List ℕ
 smallest_text =
     0xd0 ∷ 0x0d ∷ 0xfe ∷ 0xed ∷ 0x00 ∷ 0x00 ∷ 0x00 ∷ 0x58 ∷ 0x00 ∷ 0x00 ∷ 0x00 ∷ 0x38

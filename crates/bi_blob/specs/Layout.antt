@@ -11,10 +11,10 @@ use Rattle.bi_blob.specs.Events.{Event, NodeStart, NodeProperty, NodeEnd, events
 use Rattle.bi_blob.specs.Blob.{Reservation, IsReservation, reservation_block, blob_magic}
 
 -- The text of a blob as this project lays it out (profile of this project): a header of version 17,
--- the reservation block, the structure block and the strings block, one after the other. There is
--- no FDT_NOP, padding is zero, and each name of a property is in the strings block once, in the
--- order of first use; names share no bytes. Properties and children are in the order of the tree.
--- The text is the normal one if the properties of each node are in byte order of their names.
+-- the memory reservation block, the structure block and the strings block, one after the other.
+-- There is no FDT_NOP, padding is zero, and each name of a property is in the strings block once,
+-- in the order of first use; names share no bytes. Properties and children are in the order of the
+-- tree. The text is the normal one if the properties of each node are in byte order of their names.
 
 -- The names of properties that an event uses.
 abbrev pub event_names : Event → List (List ℕ)

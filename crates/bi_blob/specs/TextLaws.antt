@@ -127,7 +127,8 @@ TextIsAccepted =
     → depth_of root ≤ bounds.depth
     → IsAccepted bounds (text_of_tree cpu reservations root ++ rest) cpu reservations root
 
--- The same for a normal text.
+-- A normal text that is not too long, with any bytes after it, is accepted under limits that are no
+-- less than the length of all of it and the depth of its tree.
 abbrev pub NormalTextIsAccepted : Type 0
 NormalTextIsAccepted =
     (bounds : Limits) (cpu : ℕ) (reservations : List Reservation) (root : Root (List Property))
@@ -199,8 +200,8 @@ TextHasOneContent =
     → text_of_tree cpu reservations root ≡ text_of_tree other_cpu other_reservations other_root
     → SameContent cpu other_cpu reservations other_reservations root other_root
 
--- The same for texts with other bytes after them, neither of which is too long: if the files are
--- the same, the contents are the same, and so are the bytes after the texts.
+-- Two texts, neither of which is too long, are each followed by other bytes. If the files are the
+-- same, the contents are the same, and so are the bytes after the texts.
 abbrev pub TextWithRestHasOneContent : Type 0
 TextWithRestHasOneContent =
     (cpu other_cpu : ℕ) (reservations other_reservations : List Reservation)
@@ -254,7 +255,9 @@ NormalTextTellsContent =
     ↔ SameContent cpu other_cpu reservations other_reservations (tree_without_order root)
     (tree_without_order other_root)
 
--- The same for normal texts with other bytes after them, neither of which is too long.
+-- Two normal texts, neither of which is too long, are each followed by other bytes. The files are
+-- the same exactly if the boot processors, the memory reservations, the trees, with the properties
+-- of each node by name, and the bytes after the texts are.
 abbrev pub NormalTextWithRestTellsContent : Type 0
 NormalTextWithRestTellsContent =
     (cpu other_cpu : ℕ) (reservations other_reservations : List Reservation)

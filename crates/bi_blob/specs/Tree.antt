@@ -33,7 +33,7 @@ with_each change none = none
 with_each change (node name own children later) =
     node name (change own) (with_each change children) (with_each change later)
 
--- The same for a whole tree.
+-- The same tree, with what each node has itself changed by a function.
 abbrev pub with_each_node : {A B : Type 0} → (A → B) → Root A → Root B
 with_each_node change root =
     record { own = change root.own; children = with_each change root.children }
@@ -44,7 +44,7 @@ abbrev pub depth : {Own : Type 0} → Nodes Own → ℕ
 depth none = 0
 depth (node name own children later) = max (depth children + 1) (depth later)
 
--- The same for a whole tree, its root counted.
+-- The depth of a tree: the number of nodes on its longest line of descent, its root counted.
 abbrev pub depth_of : {Own : Type 0} → Root Own → ℕ
 depth_of root = depth (as_nodes root)
 
@@ -53,7 +53,7 @@ abbrev pub node_count : {Own : Type 0} → Nodes Own → ℕ
 node_count none = 0
 node_count (node name own children later) = node_count children + node_count later + 1
 
--- The same for a whole tree, its root counted.
+-- The number of the nodes of a tree, its root counted.
 abbrev pub node_count_of : {Own : Type 0} → Root Own → ℕ
 node_count_of root = node_count (as_nodes root)
 

@@ -54,8 +54,8 @@ pub fn closed_events_have_one_tree()
     ensures { ClosedEventsHaveOneTree }
 {}
 
-/// A file has a fault in its header or its reservation block, which is then its fault; or it has
-/// none there, and its fault, if it has one, is in its structure block.
+/// A file has a fault in its header or its memory reservation block, which is then its fault; or it
+/// has none there, and its fault, if it has one, is in its structure block.
 pub fn fault_before_tree_comes_first()
     ensures { FaultBeforeTreeComesFirst }
 {}

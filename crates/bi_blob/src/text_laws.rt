@@ -46,7 +46,7 @@ pub fn text_encodes_its_tree()
     ensures { TextEncodesItsTree }
 {}
 
-/// A text of a tree, and a text of any events, is as long as its header, reservation block,
+/// A text of a tree, and a text of any events, is as long as its header, memory reservation block,
 /// structure block and strings block together, padded to a multiple of four. The token of a node's
 /// start has five bytes and the name, that of a property twelve bytes and the value, each padded to
 /// a multiple of four, and that of a node's end four bytes (profile of this project; Devicetree

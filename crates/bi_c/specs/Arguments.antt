@@ -52,7 +52,7 @@ pub record HasChanges (limit depth form changes : ℕ) : Type 0 where
   pub is_form : form < 2
   pub are_changes : changes < 4
 
--- The key of a configuration: a number for each, from 0.
+-- The key of a configuration: a number for each, counted from 0.
 abbrev pub key_of : ℕ → Key
 key_of number =
     if number == 0 then Kernel

@@ -117,7 +117,8 @@ pub record IsTextOnly (limit depth : ℕ) (Is : Limits → List ℕ → Type 0) 
     pub is : Is (bounds limit depth) text
     pub no_value : value ≡ 0
 
--- The same with a yes or no as its number.
+-- The output of a call on files whose limits have to be in range, which returns a yes or no as its
+-- number.
 pub record IsTextWithFlag (limit depth : ℕ) (Is : Limits → Bool → List ℕ → Type 0) (text : List ℕ)
     (value : ℕ) : Type 0
   where

@@ -30,13 +30,14 @@ const NOT_FOUND: u32 = 5;
 pub struct Answer {
     /// The number of bytes of the output, also if the buffer has no room for it.
     pub size: usize,
-    /// The number that the call returns.
+    /// The number that the docstring of the call names. For the reason that an image is missing,
+    /// the index of the first name that no image has.
     pub value: usize,
     /// The number of the cause for which a file is refused.
     pub cause: u32,
-    /// Where the file is refused.
+    /// The offset of the cause in the file, in bytes. For TooLarge it is the limit.
     pub offset: u32,
-    /// Which file is refused, from 1.
+    /// The index of the file that is refused, counted from 1.
     pub file: u32,
     /// The number of the reason for which nothing is extracted.
     pub reason: u32,

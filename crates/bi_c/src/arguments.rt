@@ -48,7 +48,7 @@ pub(crate) fn key_of(number: u32) -> Option<Key>
     }
 }
 
-/// Whether a number has the bit of this weight, which is not 0.
+/// Returns whether a number has the bit of this weight, which is not 0.
 pub(crate) fn has_bit(weight: u32, number: u32) -> bool
     requires { 0 < weight }
     ensures { result ≡ is_set weight number }

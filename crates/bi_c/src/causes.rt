@@ -13,7 +13,7 @@ use bi_base::Cause;
 /// The version of the library: that of the program.
 const VERSION: &str = "0.2.0";
 
-/// Writes the name of the cause of this number to a buffer.
+/// Writes the name of the cause of this number, 1 to 26, to a buffer. Returns the status.
 #[unsafe(no_mangle)]
 pub extern "C" fn bootimg_cause_name(number: u32, buffer: &mut [u8], answer: &mut Answer) -> u32
     ensures { Fills (IsCauseName number) (IsNoCause number) buffer.old buffer.new answer.new
@@ -61,7 +61,7 @@ fn cause_of(number: u32) -> Option<Cause>
     }
 }
 
-/// Writes the version of the library to a buffer.
+/// Writes the version of the library to a buffer. Returns the status.
 #[unsafe(no_mangle)]
 pub extern "C" fn bootimg_version(buffer: &mut [u8], answer: &mut Answer) -> u32
     ensures { Fills IsVersion (λ _. ⊥) buffer.old buffer.new answer.new result }

@@ -12,8 +12,9 @@ use crate::failure::{Failure, failure_of};
 use bi_commands::check::{Allowed, check};
 use std::alloc::Global;
 
-/// Writes a line for each concern about a file whose kind is not allowed to a buffer, and returns
-/// whether there is no line: 1 if so, else 0. Each bit of `kinds` allows a kind.
+/// Writes a line to a buffer for each concern about a file whose kind is not allowed, and sets
+/// `answer.value` to 1 if there is no line, and otherwise to 0. Each bit of `kinds` allows a kind.
+/// Returns the status.
 #[unsafe(no_mangle)]
 pub extern "C" fn bootimg_check(
     alloc: Global,

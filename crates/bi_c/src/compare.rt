@@ -13,7 +13,7 @@ use crate::failure::Failure;
 use bi_commands::compare::{CompareError, compare, have_same_meaning};
 use std::alloc::Global;
 
-/// Returns whether two files mean the same: 1 if they do, else 0.
+/// Sets `answer.value` to 1 if two files mean the same, and otherwise to 0. Returns the status.
 #[unsafe(no_mangle)]
 pub extern "C" fn bootimg_same_meaning(
     alloc: Global,
@@ -36,8 +36,8 @@ pub extern "C" fn bootimg_same_meaning(
     }
 }
 
-/// Writes what differs between what two files mean to a buffer, and returns whether they mean the
-/// same: 1 if they do, else 0.
+/// Writes what differs between what two files mean to a buffer, and sets `answer.value` to 1 if
+/// they mean the same, and otherwise to 0. Returns the status.
 #[unsafe(no_mangle)]
 pub extern "C" fn bootimg_compare(
     alloc: Global,

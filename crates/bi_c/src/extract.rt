@@ -19,8 +19,9 @@ use bi_commands::extract::{ExtractError, Select};
 use bi_fit::ConfigError;
 use std::alloc::Global;
 
-/// Returns where the part of this index, from 0, of a legacy image is: the offset of its first
-/// byte in the file as the number, and its size as that of an output.
+/// Finds the part of this index, counted from 0, of a legacy image. Sets `answer.value` to the
+/// offset of its first byte in the file, and `answer.size` to its size in bytes. Returns the
+/// status.
 #[unsafe(no_mangle)]
 pub extern "C" fn bootimg_extract_part(
     alloc: Global,
@@ -41,7 +42,9 @@ pub extern "C" fn bootimg_extract_part(
     extract(alloc, file, Select::Part(index), limits, answer)
 }
 
-/// Returns where the payload is of the image of this name of a flattened image tree.
+/// Finds the payload of the image of this name of a flattened image tree. Sets `answer.value` to
+/// the offset of its first byte in the file, and `answer.size` to its size in bytes. Returns the
+/// status.
 #[unsafe(no_mangle)]
 pub extern "C" fn bootimg_extract_image(
     alloc: Global,
@@ -63,8 +66,9 @@ pub extern "C" fn bootimg_extract_image(
     extract(alloc, file, Select::Image(name), limits, answer)
 }
 
-/// Returns where a payload is that the configuration of this name of a flattened image tree lists
-/// under the key of this number, at this index, from 0.
+/// Finds a payload that the configuration of this name of a flattened image tree lists under the
+/// key of this number, at this index, counted from 0. Sets `answer.value` to the offset of its
+/// first byte in the file, and `answer.size` to its size in bytes. Returns the status.
 #[unsafe(no_mangle)]
 pub extern "C" fn bootimg_extract_config(
     alloc: Global,
@@ -96,8 +100,9 @@ pub extern "C" fn bootimg_extract_config(
     )
 }
 
-/// Returns where a payload is that the default configuration of a flattened image tree lists
-/// under the key of this number, at this index, from 0.
+/// Finds a payload that the default configuration of a flattened image tree lists under the key of
+/// this number, at this index, counted from 0. Sets `answer.value` to the offset of its first byte
+/// in the file, and `answer.size` to its size in bytes. Returns the status.
 #[unsafe(no_mangle)]
 pub extern "C" fn bootimg_extract_default(
     alloc: Global,

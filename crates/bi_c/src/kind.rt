@@ -7,8 +7,8 @@ use crate::answer::{Answer, fail, succeed};
 use crate::failure::Failure;
 use bi_norm::{Kind, kind_of};
 
-/// Returns the kind of a file by its first four bytes: 1 for a legacy image, 2 for a flattened
-/// image tree.
+/// Sets `answer.value` to the kind of a file by its first four bytes: 1 for a legacy image, 2 for a
+/// flattened image tree. Returns the status.
 #[unsafe(no_mangle)]
 pub extern "C" fn bootimg_kind(file: &[u8], answer: &mut Answer) -> u32
     ensures { Answers (IsKindNumber file.now) (IsKindFailure file.now) answer.new result }

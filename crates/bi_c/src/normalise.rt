@@ -18,7 +18,9 @@ use bi_legacy::Legacy;
 use bi_norm::BootImage;
 use std::alloc::Global;
 
-/// Writes the normal form of a file to a buffer, and returns the number of its signature nodes.
+/// Writes the normal form of a file to a buffer, and sets `answer.value` to the number of its
+/// signature nodes. `form` is 0 for payloads inside the blob and 1 for payloads after it. Returns
+/// the status.
 #[unsafe(no_mangle)]
 pub extern "C" fn bootimg_normalise(
     alloc: Global,

@@ -17,7 +17,7 @@ use bi_commands::verify::verify;
 use bi_norm::convert;
 use std::alloc::Global;
 
-/// Writes the listing of a file to a buffer.
+/// Writes the listing of a file to a buffer. Returns the status.
 #[unsafe(no_mangle)]
 pub extern "C" fn bootimg_list(
     alloc: Global,
@@ -40,7 +40,7 @@ pub extern "C" fn bootimg_list(
     }
 }
 
-/// Writes the description of what a file means to a buffer.
+/// Writes the description of what a file means to a buffer. Returns the status.
 #[unsafe(no_mangle)]
 pub extern "C" fn bootimg_describe(
     alloc: Global,
@@ -63,8 +63,8 @@ pub extern "C" fn bootimg_describe(
     }
 }
 
-/// Writes the report on the checksums and digests of a file to a buffer, and returns whether no
-/// verdict is other than Good: 1 if so, else 0.
+/// Writes the report on the checksums and digests of a file to a buffer, and sets `answer.value` to
+/// 1 if no verdict is other than Good, and otherwise to 0. Returns the status.
 #[unsafe(no_mangle)]
 pub extern "C" fn bootimg_verify(
     alloc: Global,
@@ -93,7 +93,7 @@ pub extern "C" fn bootimg_verify(
     }
 }
 
-/// Writes the flattened image tree of a legacy image to a buffer.
+/// Writes the flattened image tree of a legacy image to a buffer. Returns the status.
 #[unsafe(no_mangle)]
 pub extern "C" fn bootimg_convert(
     alloc: Global,

@@ -13,8 +13,9 @@ use bi_commands::update::update_into;
 use bi_fit::Changes;
 use std::alloc::Global;
 
-/// Writes the normal form of a file with changes to a buffer, and returns the number of its
-/// signature nodes. The bit 1 of `changes` sets the time, and the bit 2 computes the digests again.
+/// Writes the normal form of a file with changes to a buffer, and sets `answer.value` to the number
+/// of its signature nodes. The bit 1 of `changes` sets the time of creation to `time`, in seconds
+/// since 1970, and the bit 2 computes the digests again. Returns the status.
 #[unsafe(no_mangle)]
 pub extern "C" fn bootimg_update(
     alloc: Global,

@@ -1,3 +1,4 @@
+-- Lemmas on clean images: checking an image writes nothing exactly if it is clean.
 pub mod NoLines
 pub mod CleanImages
 pub mod CleanConfigurations

@@ -12,7 +12,7 @@ use Rattle.bi_commands.specs.TreeEntries.{EntryModel, as_entry, entry_lines, lin
 
 -- Entries one after the other.
 
--- The entry that stands in where there is none.
+-- The entry that is used where there is none.
 abbrev pub no_entry : Entry
 no_entry = Begin (record { ref_ptr = (0, 0); now = [] })
 

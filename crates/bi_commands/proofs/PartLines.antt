@@ -7,6 +7,8 @@ use Rattle.bi_commands.specs.Listing.{part_line, part_lines}
 use Rattle.std.specs.Fmt.{decimal}
 use Rattle.bi_commands.specs.Shown.{line}
 
+-- Proves that the lines of the parts are written one after the other.
+
 -- There are as many parts with places as parts.
 length-placed_parts_from : (at : ℕ) (parts : List (List ℕ)) → length (placed_parts_from at parts) ≡ length parts
 length-placed_parts_from at [] = refl

@@ -171,7 +171,7 @@ words_of_one (byte ∷ later) some true is =
           ∙ ap (map quoted_text) names.are;
     }
 
--- All words for a value may stand for one word after others.
+-- All words for a value may replace one word after others.
 pub joined_words : (before last value : List ℕ) → 1 ≤ length value →
     before ++ (32 ∷ (last ++ (32 ∷ join_with_byte 32 (value_words value)))) ≡ before ++ (32 ∷ join_with_byte 32 (last ∷ value_words value))
 joined_words before last value some =

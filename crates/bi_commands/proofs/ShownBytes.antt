@@ -4,6 +4,8 @@ use Rattle.std.specs.Fmt.{AppendsText, ◌++?◌, digits, digits_output, styled_
 use Rattle.std.proofs.lemmas.Fmt.{hex_byte}
 use Rattle.bi_commands.specs.Shown.{digits_of_byte, is_plain, shown_byte}
 
+-- Proves that formatting writes a byte that is not printed unchanged as its escape.
+
 -- What a placeholder for hexadecimal digits without `#` writes, by how the digits are padded.
 styled_hex : (d : _) (s : _) (upper : Bool) (n width : ℕ) (out : List ℕ) → digits_output d ≡ Some (digits 16 upper n) →
     s ≡ format_spec 32 0 4 width (2 ^ 64 - 1) →

@@ -93,7 +93,8 @@ protection_concerns image hashes =
     if not (list_any is_good hashes) then unhashed_image image ∷ [] else
     if not (list_any is_strong hashes) then weak_hash image (filter is_good hashes) ∷ [] else []
 
--- The same for an image that may have no payload.
+-- The concern about an image, which may have no payload, and these hash nodes: there is none
+-- without a payload.
 abbrev pub payload_concerns : (image : List ℕ) → Option (List ℕ) → List CheckedHash → List Concern
 payload_concerns image None hashes = []
 payload_concerns image (Some payload) hashes = protection_concerns image hashes
@@ -119,8 +120,8 @@ abbrev pub bad_list : (configuration : List ℕ) → Key → Concern
 bad_list configuration key =
     record { kind = kind.BadList; words = shown_text configuration ∷ key_name key ∷ [] }
 
--- A key of a configuration that lists at this index, from 0, a name that no image has. It is the
--- first such name.
+-- A key of a configuration that lists at this index, counted from 0, a name that no image has. It
+-- is the first such name.
 abbrev pub missing : (configuration : List ℕ) → Key → (index : ℕ) → Concern
 missing configuration key index = record {
   kind = kind.Missing;

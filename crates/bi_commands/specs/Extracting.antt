@@ -70,13 +70,14 @@ abbrev pub choice_by_configuration : ImageTree → (configuration : List ℕ) �
 choice_by_configuration tree configuration key index =
     choice_of_listed (listed_of tree configuration key) index
 
--- The same of the configuration of this name, if there is a name.
+-- The payload at this index of what the configuration of this name lists under a key. There may be
+-- no name, and then there is no such configuration.
 abbrev pub choice_by_name_if_any : ImageTree → (configuration : Option (List ℕ)) → Key → ℕ → Choice
 choice_by_name_if_any tree None key index = NoSuchConfiguration
 choice_by_name_if_any tree (Some configuration) key index =
     choice_by_configuration tree configuration key index
 
--- The same of the default configuration.
+-- The payload at this index of what the default configuration lists under a key.
 abbrev pub choice_by_default : ImageTree → Key → ℕ → Choice
 choice_by_default tree key index = choice_by_name_if_any tree (default_of tree) key index
 

@@ -16,11 +16,11 @@ long_names_of none = []
 long_names_of (node name own children later) =
     long_names own ++ (long_names_of children ++ long_names_of later)
 
--- The same of the nodes of a file.
+-- The long names of the properties of these nodes of a file and of all nodes below them.
 abbrev pub long_names_in : Nodes FileNode → List ℕ
 long_names_in nodes = long_names_of (with_each properties_of nodes)
 
--- The same of a node of a file and of all nodes below it.
+-- The long names of the properties of a node of a file and of all nodes below it.
 abbrev pub long_names_from : Sibling FileNode → List ℕ
 long_names_from sibling =
     long_names (properties_of sibling.own) ++ long_names_in sibling.children

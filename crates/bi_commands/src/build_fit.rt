@@ -15,14 +15,15 @@ use std::alloc::{AllocError, Global};
 use std::io::{Read, Write};
 
 /// Building a flattened image tree, as a command: `build_fit_into` with these images. The payloads
-/// are given, or are consecutive pieces of the input.
+/// are given, or are consecutive pieces of the input. It may only be run if there are as many
+/// payloads as images.
 #[derive(Clone, Copy, Debug, PartialEq, Eq)]
 pub struct FitBuilder<'a> {
     /// The description and the time.
     pub head: Head<'a>,
-    /// The images. Their payloads are replaced by `payloads`.
+    /// The images. `payloads` takes the place of the payloads that they have.
     pub images: &'a [ImageSpec<'a>],
-    /// The payload of each image.
+    /// The payload of each image, in the order of the images.
     pub payloads: &'a [Part<'a>],
     /// Where the payloads are.
     pub form: Form,
@@ -63,10 +64,12 @@ impl<'a> Command for FitBuilder<'a> {
 }
 
 /// Reads the payloads of a flattened image tree to the end of the input, writes the flattened image
-/// tree of these images, and flushes: `pipe_to` with a `FitBuilder`. The payloads that the images
-/// have are replaced by consecutive pieces of the input, of these lengths.
+/// tree of these images, and flushes: `pipe_to` with a `FitBuilder`. Consecutive pieces of the
+/// input, of these lengths in bytes, take the place of the payloads that the images have. It may
+/// only be called if there are as many lengths as images.
 ///
-/// The errors are those of `pipe_to`, and of the input those of `FitBuilder::run`.
+/// The errors are those of `pipe_to`, and of the input those of `FitBuilder::run`. OutOfMemory may
+/// also come before anything is read.
 pub fn build_fit_to<R: Read, W: Write>(
     alloc: Global,
     reader: &mut R,

@@ -23,7 +23,7 @@ use std::io::{Read, Write};
 pub struct LegacyBuilder<'a> {
     /// The fields of the header.
     pub fields: Fields<'a>,
-    /// The parts.
+    /// The parts, in their order. Without any, the whole input is the one part.
     pub parts: &'a [Part<'a>],
 }
 
@@ -40,7 +40,8 @@ impl<'a> Command for LegacyBuilder<'a> {
     ///
     /// Errors, the first that applies: with parts, BadPart at the beginning of the first piece of
     /// the input that does not fit, or at the end of the pieces, if bytes are left; those of
-    /// `bi_legacy::emit`. OutOfMemory may come in place of any of them.
+    /// `bi_legacy::emit`. OutOfMemory comes only for an input that can be cut, or without parts,
+    /// and then in place of any other error.
     fn run<S: Sink>(
         &self,
         alloc: Global,
@@ -57,10 +58,11 @@ impl<'a> Command for LegacyBuilder<'a> {
 }
 
 /// Reads the parts of a legacy image to the end of the input, writes the legacy image of these
-/// fields and parts, and flushes: `pipe_to` with a `LegacyBuilder` whose parts are pieces of these
-/// lengths.
+/// fields and parts, and flushes: `pipe_to` with a `LegacyBuilder` whose parts are consecutive
+/// pieces of the input, of these lengths in bytes.
 ///
-/// The errors are those of `pipe_to`, and of the input those of `LegacyBuilder::run`.
+/// The errors are those of `pipe_to`, and of the input those of `LegacyBuilder::run`. OutOfMemory
+/// may also come before anything is read.
 pub fn build_legacy_to<R: Read, W: Write>(
     alloc: Global,
     reader: &mut R,

@@ -92,8 +92,8 @@ impl Allowed {
     }
 }
 
-/// Returns a line for each concern about a boot image that is not allowed, so no text if the image
-/// is clean.
+/// Returns a line for each concern about a boot image that is not allowed. The text is empty
+/// exactly if the image is clean, except for what is allowed.
 ///
 /// Of a flattened image tree, for each image: the hash nodes whose verdict is not Good, and then,
 /// if the image has a payload, that no verdict is Good, or that no Good one is of a strong
@@ -103,7 +103,9 @@ impl Allowed {
 ///
 /// Errors, the first that applies: those of `BootImage::read`; TooLarge at the limit, if the
 /// payloads of a flattened image tree together are longer than that, each counted for each image
-/// that has it; OutOfMemory. No payload is hashed before the lengths of the payloads are checked.
+/// that has it. OutOfMemory may come in place of any of these, but only after the checks of a
+/// legacy image, or of the header and the memory reservation block of a blob. ReadFailed and
+/// WriteFailed never come. No payload is hashed before the lengths of the payloads are checked.
 pub fn check(alloc: Global, file: &[u8], allowed: Allowed, limits: Limits) -> Result<String, Error>
     ensures checked { IfOk result (λ text. IsChecked allowed limits file.now
         (string_bytes text)) }

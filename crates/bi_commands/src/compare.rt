@@ -49,7 +49,9 @@ pub struct Comparison {
 /// Returns whether two boot images mean the same. Images of different kinds do not.
 ///
 /// Errors, the first that applies: One with the fault of the first file; Other with that of the
-/// second one; OutOfMemory, never if the first file fails a check that needs no memory.
+/// second one. OutOfMemory may come in place of any of these, but only after the first file has
+/// passed the checks of a legacy image, or of the header and the memory reservation block of a
+/// blob.
 pub fn have_same_meaning(
     alloc: Global,
     one: &[u8],
@@ -69,8 +71,9 @@ pub fn have_same_meaning(
 ///
 /// Errors, the first that applies: One with the fault of the first file; Other with that of the
 /// second one; if the meanings differ, One and then Other with TooLarge at the limit, if a meaning
-/// is too long to describe; OutOfMemory, never if the first file fails a check that needs no
-/// memory.
+/// is too long to describe. OutOfMemory may come in place of any of these, but only after the first
+/// file has passed the checks of a legacy image, or of the header and the memory reservation block
+/// of a blob.
 pub fn compare(
     alloc: Global,
     one: &[u8],
@@ -119,7 +122,7 @@ fn read_one(alloc: Global, file: &[u8], limits: Limits) -> Result<BootImage<'_>,
     }
 }
 
-/// The failure for an error of reading the first file.
+/// Returns the failure for an error of reading the first file.
 fn reading_failure(error: Error) -> CompareError
     ensures { (limits : Limits) (file other : List ℕ) → IsOpenError limits file error
         → IsReadingError limits file other result }
@@ -143,7 +146,7 @@ fn read_other(alloc: Global, file: &[u8], limits: Limits) -> Result<BootImage<'_
     }
 }
 
-/// Whether two images that were read mean the same.
+/// Returns whether two images that were read mean the same.
 fn mean_the_same(
     alloc: Global,
     image: &BootImage<'_>,

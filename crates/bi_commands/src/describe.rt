@@ -38,8 +38,10 @@ pub(crate) use words::{Word, put_decimal, put_later_word, put_line, put_lines, p
 ///
 /// Errors, the first that applies: those of `BootImage::read`; TooLarge at the limit, if the
 /// payloads of a flattened image tree together are longer than that, each counted for each image
-/// that has it, or if the description is; OutOfMemory. No payload is hashed before the lengths of
-/// the payloads are checked.
+/// that has it, or if the description is. OutOfMemory may come in place of any of these, but only
+/// after the checks of a legacy image, or of the header and the memory reservation block of a blob.
+/// ReadFailed and WriteFailed never come. No payload is hashed before the lengths of the payloads
+/// are checked.
 pub fn describe(alloc: Global, file: &[u8], limits: Limits) -> Result<String, Error>
     ensures described { IfOk result (λ text. IsDescription limits file.now (string_bytes text)) }
     ensures failed { IfErr result (IsDescribeError limits file.now) }

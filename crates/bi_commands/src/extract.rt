@@ -22,14 +22,15 @@ use std::io::{Read, Write};
 /// What is to be extracted from a boot image.
 #[derive(Clone, Copy, Debug, PartialEq, Eq)]
 pub enum Select<'a> {
-    /// The part of this index, from 0, of a legacy image.
+    /// The part of this index, counted from 0, of a legacy image.
     Part(u32),
     /// The payload of the image of this name of a flattened image tree.
     Image(&'a [u8]),
     /// A payload that a configuration of a flattened image tree lists: by the name of the
-    /// configuration, the key, and the index, from 0, in what it lists under the key.
+    /// configuration, the key, and the index, counted from 0, in what it lists under the key.
     Config(&'a [u8], Key, u32),
-    /// The same of the default configuration.
+    /// A payload that the default configuration lists: by the key, and the index, counted from 0,
+    /// in what it lists under the key.
     Default(Key, u32),
 }
 
@@ -84,10 +85,10 @@ impl From<ConfigError> for ExtractError {
 ///
 /// Errors, the first that applies: Failed with the error of `BootImage::read`; WrongKind, if a part
 /// is selected of a flattened image tree, or anything else of a legacy image; NoPart; NoImage;
-/// Config with NoConfig, NoKey, BadList or Missing; NoIndex; NoPayload. NoConfig comes too if the
+/// Config with NoConfig, NoKey, BadList or Missing; NoIndex; NoPayload. NoConfig also comes if the
 /// default configuration is selected and there is no default. Failed with OutOfMemory comes only
-/// for a legacy image, or for a file whose header and reservation block, as those of a blob, have
-/// no fault.
+/// for a legacy image, or for a file whose header and memory reservation block, as those of a blob,
+/// have no fault.
 pub fn extract<'a>(
     alloc: Global,
     file: &'a [u8],

@@ -21,8 +21,10 @@ use std::io::{Read, Write};
 
 /// Returns the listing of a boot image.
 ///
-/// Errors, the first that applies: TooLarge at the limit, if the file is longer; Truncated at 0
-/// below four bytes; BadMagic at 0; those of `Legacy::read` or of `Fit::read`; OutOfMemory.
+/// Errors, the first that applies: TooLarge at the limit, if the file is longer; Truncated at 0, if
+/// it has fewer than four bytes; BadMagic at 0; those of `Legacy::read` or of `Fit::read`.
+/// OutOfMemory may come in place of any of these, but only after the checks of a legacy image, or
+/// of the header and the memory reservation block of a blob. ReadFailed and WriteFailed never come.
 pub fn listing(alloc: Global, file: &[u8], limits: Limits) -> Result<String, Error>
     ensures lists { IfOk result (λ text. IsListing limits file.now (string_bytes text)) }
     ensures failed { IfErr result (IsOpenError limits file.now) }

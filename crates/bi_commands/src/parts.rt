@@ -14,9 +14,9 @@ use std::alloc::{AllocError, Global};
 /// A part of a legacy image, or the payload of an image of a flattened image tree.
 #[derive(Clone, Copy, Debug, PartialEq, Eq)]
 pub enum Part<'a> {
-    /// These bytes.
+    /// Bytes that are given.
     Bytes(&'a [u8]),
-    /// The next bytes of the input: this many.
+    /// The next bytes of the input: as many as this number.
     Length(u32),
 }
 

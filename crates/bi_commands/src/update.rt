@@ -28,7 +28,7 @@ use std::io::{Read, Write};
 /// longer than that, each counted for each image that has it; TooLarge at the limit, if the text of
 /// a flattened image tree is longer. No payload is hashed before the lengths of the payloads are
 /// checked. OutOfMemory comes only after the checks of a legacy image, or of the header and the
-/// reservation block of a blob. ReadFailed and WriteFailed never come.
+/// memory reservation block of a blob. ReadFailed and WriteFailed never come.
 pub fn update(
     alloc: Global,
     file: &[u8],

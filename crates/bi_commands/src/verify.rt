@@ -40,8 +40,10 @@ pub struct Report {
 /// with the verdict on it, and a last line with the number of each verdict. Of a legacy image it
 /// has a line for each of the two checksums, both good, since an image with a wrong one is refused.
 ///
-/// Errors, the first that applies: TooLarge at the limit, if the file is longer; Truncated at 0
-/// below four bytes; BadMagic at 0; those of `Legacy::read` or of `Fit::read`; OutOfMemory.
+/// Errors, the first that applies: TooLarge at the limit, if the file is longer; Truncated at 0, if
+/// it has fewer than four bytes; BadMagic at 0; those of `Legacy::read` or of `Fit::read`.
+/// OutOfMemory may come in place of any of these, but only after the checks of a legacy image, or
+/// of the header and the memory reservation block of a blob. ReadFailed and WriteFailed never come.
 pub fn verify(alloc: Global, file: &[u8], limits: Limits) -> Result<Report, Error>
     ensures verified { IfOk result (λ report. Verified limits report.all_good file.now
         (string_bytes report.text)) }

@@ -36,7 +36,7 @@ only_fault limits file fault is = record {
   means_nothing = λ within. blob_has_no_fault limits file fault within is;
 }
 
--- What an error in the structure block says of the file.
+-- What follows from an error in the structure block for the file.
 pub refused_in_tree : (limits : Limits) (file : List ℕ) (count : ℕ) (error : Error) → HasNoHeaderFault limits file →
     HasReservations file (off_mem_rsvmap file) (totalsize file) count →
     IsFaultOrNoMemory (IsStructureFault (tree_blocks file) limits.depth) error →

@@ -61,7 +61,7 @@ drop-within [] later (suc index) x at = absurd cc
 drop-within (y ∷ xs) later zero x at = let e : suc (length xs) ≡ suc (length later) = ap length at in omega arith
 drop-within (y ∷ xs) later (suc index) x at = let e : index + 1 + length later ≡ length xs = drop-within xs later index x at in omega arith
 
--- What the innermost open node says after its beginning.
+-- The items of the innermost open node after its beginning.
 abbrev pub open_rest : OpenFileNode → List OpenFileNode → List TableItem
 open_rest o outer = map PropertyItem o.properties ++ node_items (length outer + 1) o.children
 

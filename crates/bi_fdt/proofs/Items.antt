@@ -48,7 +48,7 @@ depth_after-properties : (depth : ℕ) (properties : List FileProperty) (es : Li
 depth_after-properties depth [] es = refl
 depth_after-properties depth (p ∷ ps) es = depth_after-properties depth ps es
 
--- What nodes say has their items, and leaves the depth.
+-- The events of nodes have the items of the nodes, and leave the depth.
 pub items_of-nodes : (depth : ℕ) (nodes : Nodes FileNode) (es : List FileEvent) →
     items_of depth (file_events nodes ++ es) ≡ node_items depth nodes ++ items_of depth es
 items_of-nodes depth none es = refl
@@ -95,7 +95,7 @@ depth_after-open depth o =
     ∙ ap (depth_after (depth + 1)) (sym (append-nil (file_events o.children)))
     ∙ depth_after-nodes (depth + 1) o.children []
 
--- As many nodes are open after what open nodes say.
+-- As many nodes are open after the events of open nodes.
 pub depth_after-open_nodes : (o : OpenFileNode) (outer : List OpenFileNode) →
     depth_after 0 (events_of_open_nodes o outer) ≡ length outer + 1
 depth_after-open_nodes o [] = depth_after-open 0 o
@@ -146,7 +146,7 @@ inside-nodes depth own (node name n children later) items deeper =
     let long : length (properties ++ (below ++ after)) ≡ length n.properties + (length below + length after) = simp (length-append, length-map) in
     omega arith
 
--- All that an open node says after its beginning is inside it.
+-- All items of an open node after its beginning are inside it.
 pub inside-open : (depth : ℕ) (o : OpenFileNode) →
     count_inside depth (map PropertyItem o.properties ++ node_items (depth + 1) o.children)
     ≡ length (map PropertyItem o.properties ++ node_items (depth + 1) o.children)
@@ -159,7 +159,7 @@ inside-open depth o =
     let long : length (map PropertyItem o.properties ++ below) ≡ length o.properties + length below = simp (length-append, length-map) in
     omega arith
 
--- An open node without children says its properties alone after its beginning.
+-- An open node without children has its properties alone after its beginning.
 pub childless_items : (depth : ℕ) (o : OpenFileNode) → names o.children ≡ [] →
     map PropertyItem o.properties ++ node_items (depth + 1) o.children ≡ map PropertyItem o.properties
 childless_items depth o childless =

@@ -241,7 +241,7 @@ module _ (file : List ℕ) (entries : List Entry) (table : List TableItem) (inde
         first_item : {a b : FileProperty} {u v : List TableItem} → PropertyItem a ∷ u ≡ PropertyItem b ∷ v → a ≡ b
         first_item e = cc
 
--- A node has as many properties as its entry says.
+-- A node has as many properties as its entry counts.
 pub property_count_is : (file : List ℕ) (table : List TableItem) (index : ℕ) (n : NodeEntry) → IsNodeOf file table index n →
     n.property_count ≡ length (first_sibling (drop index table)).own.properties
 property_count_is file table index n there = there.linked.count ∙ ap (λ items. length (first_sibling items).own.properties) (sym there.is_at)

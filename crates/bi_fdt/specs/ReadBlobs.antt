@@ -30,6 +30,6 @@ pub record IsOnlyFault (limits : Limits) (file : List ℕ) (fault : Fault) : Typ
   pub means_nothing : ¬ (IsBlobWithin limits file)
 
 -- The error of reading a file: its fault; or that memory ran out, which happens only if the header
--- and the reservation block have no fault.
+-- and the memory reservation block have no fault.
 abbrev pub IsBlobReadError : Limits → List ℕ → Error → Type 0
 IsBlobReadError limits file = FailsWith (IsOnlyFault limits file) (HasNoFaultBeforeTree limits file)

@@ -67,21 +67,21 @@ impl<'a> Blob<'a> {
     /// Reads a blob of version 16 or 17, or of a later version that is compatible with 17. The file
     /// may be longer than the blob.
     ///
-    /// If memory suffices, Ok exactly if the file is a blob within the limits. Else the fault of
-    /// the first check that fails:
+    /// Succeeds exactly if the file is a blob within the limits, unless memory runs out. Otherwise
+    /// it fails with the fault of the first check that fails:
     ///
-    /// - in the header: TooLarge at the limit; Truncated at 0 for less than a magic number;
-    ///   BadMagic at 0; Truncated at 0 for less than a header; BadVersion at 20 and at 24;
-    ///   BadTotalSize at 4; Truncated at 4 if `totalsize` is greater than the file's length;
-    ///   BadOffset at 16, 8 and 12 for the memory reservation block, the structure block and the
-    ///   strings block;
-    /// - in the reservation block: Truncated at the first pair that ends after `totalsize`;
+    /// - in the header: TooLarge at the limit; Truncated at 0, if the file has fewer than four
+    ///   bytes; BadMagic at 0; Truncated at 0, if the file ends before the header does; BadVersion
+    ///   at 20 and at 24; BadTotalSize at 4; Truncated at 4 if `totalsize` is greater than the
+    ///   file's length; BadOffset at 16, 8 and 12 for the memory reservation block, the structure
+    ///   block and the strings block;
+    /// - in the memory reservation block: Truncated at the first pair that ends after `totalsize`;
     /// - in the structure block, at the token: Truncated if the block ends inside it; BadToken;
     ///   TooDeep, BadName and DuplicateNode for a node; PropertyAfterChild, BadNameOffset, BadName
     ///   and DuplicateProperty for a property.
     ///
-    /// OutOfMemory comes only if the header and the reservation block have no fault. ReadFailed and
-    /// WriteFailed never come.
+    /// OutOfMemory comes only if the header and the memory reservation block have no fault.
+    /// ReadFailed and WriteFailed never come.
     pub fn read(alloc: Global, file: &'a [u8], limits: Limits) -> Result<Blob<'a>, Error>
         ensures read { IfOk result (IsReadBlob limits file.entry.now) }
         ensures failed { IfErr result (IsBlobReadError limits file.entry.now) }
@@ -97,36 +97,37 @@ impl<'a> Blob<'a> {
         })
     }
 
-    /// The file, which may be longer than the blob.
+    /// Returns the file, which may be longer than the blob.
     pub fn file(&self) -> &'a [u8]
         ensures { result.now ≡ self.now.file }
     {
         self.file
     }
 
-    /// The physical number of the boot processor (5.2, boot_cpuid_phys).
+    /// Returns the physical number of the boot processor (Devicetree Specification, 5.2:
+    /// boot_cpuid_phys).
     pub fn boot_cpu(&self) -> u32
         ensures { result ≡ self.now.cpu }
     {
         boot_cpuid_phys(self.file)
     }
 
-    /// The length of the blob in bytes (5.2, totalsize).
+    /// Returns the length of the blob in bytes (Devicetree Specification, 5.2: totalsize).
     pub fn total_size(&self) -> u32
         ensures { result ≡ self.now.total_size }
     {
         totalsize(self.file)
     }
 
-    /// The number of the memory reservations (5.3).
+    /// Returns the number of the memory reservations (Devicetree Specification, 5.3).
     pub fn reservation_count(&self) -> usize
         ensures { result ≡ length self.now.reservations }
     {
         self.reservation_count
     }
 
-    /// The address and the size of memory reservation `index`, from 0. None exactly if there is no
-    /// such reservation.
+    /// Returns the address and the size of memory reservation `index`, counted from 0. Returns None
+    /// exactly if there is no such reservation.
     pub fn reservation(&self, index: usize) -> Option<(u64, u64)>
         ensures { result ≡ slice_get (map
             (λ reservation. (reservation.address, reservation.size)) self.now.reservations) index }
@@ -141,7 +142,7 @@ impl<'a> Blob<'a> {
         ))
     }
 
-    /// The root of the tree.
+    /// Returns the root of the tree.
     pub fn root<'b>(&'b self) -> NodeRef<'a, 'b>
         ensures root { node_of result ≡ root_node (root_of self.now) }
         ensures same_table { table_of_node result ≡ self.now.table }
@@ -149,7 +150,8 @@ impl<'a> Blob<'a> {
         NodeRef::new(self)
     }
 
-    /// The node at an index that `NodeRef::index` returned for this blob. Takes constant time.
+    /// Returns the node at an index in the table. It may only be called with an index that
+    /// `NodeRef::index` returned for a node of this blob. Takes constant time.
     pub fn node<'b>(&'b self, index: usize) -> NodeRef<'a, 'b>
         requires { HasNodeAt self.now.table index }
         ensures node { node_of result ≡ node_in self.now.table index }
@@ -158,7 +160,7 @@ impl<'a> Blob<'a> {
         NodeRef::at(self, index)
     }
 
-    /// The bytes of the strings block (5.5).
+    /// Returns the bytes of the strings block (Devicetree Specification, 5.5).
     pub(crate) fn strings(&self) -> &'a [u8]
         ensures strings { result.now ≡ (tree_blocks_of self.now.file).strings }
         ensures names { HaveNameOffsets self.now.file self.now.table }
@@ -166,7 +168,7 @@ impl<'a> Blob<'a> {
         strings_block(self.file)
     }
 
-    /// The table of the tree.
+    /// Returns the table of the tree.
     pub(crate) fn entries(&self) -> &[Entry]
         ensures items { map (item_in self.now.file) result.now ≡ self.now.table }
         ensures is_table { IsTable self.now.file result.now (root_of self.now) }
@@ -176,7 +178,7 @@ impl<'a> Blob<'a> {
     }
 }
 
-/// Makes the checks of the header and of the reservation block, and counts the reservations.
+/// Makes the checks of the header and of the memory reservation block, and counts the reservations.
 fn check_before_tree(file: &[u8], limits: Limits) -> Result<usize, Fault>
     ensures header { OnOk result (HasNoHeaderFault limits file.now) }
     ensures reservations { IfOk result (HasReservations file.now
@@ -191,7 +193,7 @@ fn check_before_tree(file: &[u8], limits: Limits) -> Result<usize, Fault>
     )
 }
 
-/// The bytes of the strings block of a file that has its header and the block.
+/// Returns the bytes of the strings block of a file that has its header and the block.
 fn strings_block(file: &[u8]) -> &[u8]
     requires header { 36 ≤ length file.now }
     requires strings { header.strings_end file.now ≤ length file.now }
@@ -201,7 +203,7 @@ fn strings_block(file: &[u8]) -> &[u8]
     &file[strings..strings + size_dt_strings(file) as usize]
 }
 
-/// The blocks that hold the tree of a file whose header was checked.
+/// Returns the blocks that hold the tree of a file whose header was checked.
 fn tree_blocks<'a, 's>(file: &'a [u8], strings: &'s Strings<'a>) -> Blocks<'a, 's>
     requires header { Header file.now }
     requires strings { strings.now ≡ (tree_blocks_of file.now).strings }

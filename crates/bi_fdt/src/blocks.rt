@@ -29,8 +29,8 @@ pub(crate) struct Blocks<'a, 's> {
     pub(crate) strings_begin: usize,
 }
 
-/// The number of the token at `place`. Truncated if the structure block ends before the number
-/// does.
+/// Returns the number of the token at `place`. Fails with Truncated if the structure block ends
+/// before the number does.
 pub(crate) fn number_at(blocks: Blocks, place: usize) -> Result<u32, Fault>
     requires blocks { AreBlocks blocks }
     requires within { place ≤ blocks.end + 3 }
@@ -45,7 +45,7 @@ pub(crate) fn number_at(blocks: Blocks, place: usize) -> Result<u32, Fault>
     Ok(cell_at(blocks.file, place))
 }
 
-/// The name of the root, whose token is at `place`.
+/// Returns the name of the root, whose token is at `place`.
 pub(crate) fn root_name<'a>(
     blocks: Blocks<'a, '_>,
     place: usize,
@@ -70,7 +70,7 @@ pub(crate) fn root_name<'a>(
     Ok(name)
 }
 
-/// The name of a child, whose token is at `place`, while `depth` nodes are open.
+/// Returns the name of a child, whose token is at `place`, while `depth` nodes are open.
 pub(crate) fn child_name<'a>(
     blocks: Blocks<'a, '_>,
     place: usize,
@@ -101,7 +101,7 @@ pub(crate) fn child_name<'a>(
     Ok(name)
 }
 
-/// The property whose token is at `place`.
+/// Returns the property whose token is at `place`.
 pub(crate) fn property_at(
     blocks: Blocks,
     place: usize,
@@ -150,7 +150,7 @@ pub(crate) fn property_at(
     })
 }
 
-/// The digest of the name of the property whose token is at `place`.
+/// Returns the digest of the name of the property whose token is at `place`.
 pub(crate) fn name_digest(blocks: Blocks, place: usize, name: &[u8]) -> [u8; 32]
     requires blocks { AreBlocks blocks }
     requires within { place + 12 ≤ blocks.end }

@@ -6,7 +6,7 @@ ghost use Rattle.bi_blob.specs.Blob as header;
 
 use bi_base::cell_at;
 
-/// The length of the blob in bytes.
+/// Returns the length of the blob in bytes.
 pub(crate) fn totalsize(file: &[u8]) -> u32
     requires { 8 ≤ length file.now }
     ensures { result ≡ header.totalsize file.now }
@@ -14,7 +14,7 @@ pub(crate) fn totalsize(file: &[u8]) -> u32
     cell_at(file, 4)
 }
 
-/// The offset of the structure block.
+/// Returns the offset of the structure block.
 pub(crate) fn off_dt_struct(file: &[u8]) -> u32
     requires { 12 ≤ length file.now }
     ensures { result ≡ header.off_dt_struct file.now }
@@ -22,7 +22,7 @@ pub(crate) fn off_dt_struct(file: &[u8]) -> u32
     cell_at(file, 8)
 }
 
-/// The offset of the strings block.
+/// Returns the offset of the strings block.
 pub(crate) fn off_dt_strings(file: &[u8]) -> u32
     requires { 16 ≤ length file.now }
     ensures { result ≡ header.off_dt_strings file.now }
@@ -30,7 +30,7 @@ pub(crate) fn off_dt_strings(file: &[u8]) -> u32
     cell_at(file, 12)
 }
 
-/// The offset of the memory reservation block.
+/// Returns the offset of the memory reservation block.
 pub(crate) fn off_mem_rsvmap(file: &[u8]) -> u32
     requires { 20 ≤ length file.now }
     ensures { result ≡ header.off_mem_rsvmap file.now }
@@ -38,7 +38,7 @@ pub(crate) fn off_mem_rsvmap(file: &[u8]) -> u32
     cell_at(file, 16)
 }
 
-/// The version of the blob.
+/// Returns the version of the blob.
 pub(crate) fn version(file: &[u8]) -> u32
     requires { 24 ≤ length file.now }
     ensures { result ≡ header.version file.now }
@@ -46,7 +46,7 @@ pub(crate) fn version(file: &[u8]) -> u32
     cell_at(file, 20)
 }
 
-/// The least version whose readers can read the blob.
+/// Returns the least version whose readers can read the blob.
 pub(crate) fn last_comp_version(file: &[u8]) -> u32
     requires { 28 ≤ length file.now }
     ensures { result ≡ header.last_comp_version file.now }
@@ -54,7 +54,7 @@ pub(crate) fn last_comp_version(file: &[u8]) -> u32
     cell_at(file, 24)
 }
 
-/// The physical number of the boot processor.
+/// Returns the physical number of the boot processor.
 pub(crate) fn boot_cpuid_phys(file: &[u8]) -> u32
     requires { 32 ≤ length file.now }
     ensures { result ≡ header.boot_cpuid_phys file.now }
@@ -62,7 +62,7 @@ pub(crate) fn boot_cpuid_phys(file: &[u8]) -> u32
     cell_at(file, 28)
 }
 
-/// The size of the strings block in bytes.
+/// Returns the size of the strings block in bytes.
 pub(crate) fn size_dt_strings(file: &[u8]) -> u32
     requires { 36 ≤ length file.now }
     ensures { result ≡ header.size_dt_strings file.now }
@@ -70,7 +70,7 @@ pub(crate) fn size_dt_strings(file: &[u8]) -> u32
     cell_at(file, 32)
 }
 
-/// The size of the structure block in bytes. Version 16 has no such cell.
+/// Returns the size of the structure block in bytes. Version 16 has no such cell.
 pub(crate) fn size_dt_struct(file: &[u8]) -> u32
     requires { 40 ≤ length file.now }
     ensures { result ≡ header.size_dt_struct file.now }

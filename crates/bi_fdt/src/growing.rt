@@ -45,7 +45,7 @@ pub(crate) enum Ending<'a> {
 }
 
 impl<'a> Growing<'a> {
-    /// A tree whose root has started at `place`.
+    /// Returns a tree whose root has started at `place`.
     pub(crate) fn new(alloc: Global, name: &'a [u8], place: u32) -> Result<Growing<'a>, AllocError>
         requires { length name.now < 2 ^ 32 }
         ensures ok { IfOk result (λ growing. (file : List ℕ)
@@ -72,7 +72,7 @@ impl<'a> Growing<'a> {
         })
     }
 
-    /// The number of the open nodes.
+    /// Returns the number of the open nodes.
     pub(crate) fn depth(&self) -> usize
         ensures { (file : List ℕ) (innermost : OpenFileNode) (outer : List OpenFileNode)
             → IsGrowing file self.now innermost outer → result ≡ length outer + 1 }
@@ -80,7 +80,7 @@ impl<'a> Growing<'a> {
         self.outer.len() + 1
     }
 
-    /// Whether the innermost open node has no child yet.
+    /// Returns whether the innermost open node has no child yet.
     pub(crate) fn is_childless(&self) -> bool
         ensures { (file : List ℕ) (innermost : OpenFileNode) (outer : List OpenFileNode)
             → IsGrowing file self.now innermost outer
@@ -89,8 +89,8 @@ impl<'a> Growing<'a> {
         self.innermost.children.is_empty()
     }
 
-    /// The tree after a child of the innermost open node has started at `place`. DuplicateNode if a
-    /// child has the name already.
+    /// Returns the tree after a child of the innermost open node has started at `place`. Fails with
+    /// DuplicateNode if a child has the name already.
     pub(crate) fn begin_node(
         self,
         alloc: Global,
@@ -146,9 +146,9 @@ impl<'a> Growing<'a> {
         })
     }
 
-    /// The tree after a property of the innermost open node, which has no child yet, with its name,
-    /// which has no zero byte, and the digest of that. DuplicateProperty if a property has the name
-    /// already.
+    /// Returns the tree after a property of the innermost open node, which has no child yet, with
+    /// its name, which has no zero byte, and the digest of that. Fails with DuplicateProperty if a
+    /// property has the name already.
     pub(crate) fn add_property(
         self,
         property: PropertyEntry,
@@ -199,7 +199,7 @@ impl<'a> Growing<'a> {
         })
     }
 
-    /// The tree after the innermost open node has ended.
+    /// Returns the tree after the innermost open node has ended.
     pub(crate) fn end_node(self) -> Ending<'a>
         requires grown { IsGrown self }
         requires few { length self.entries.items < 2 ^ 31 }

@@ -88,8 +88,8 @@ fn check_places(file: &[u8], limits: Limits) -> Result<(), Fault>
     Ok(())
 }
 
-/// The length of the header in bytes: 36 in version 16, else 40. It is 40 if the file ends before
-/// the cell of its version.
+/// Returns the length of the header in bytes: 36 in version 16, else 40. It is 40 if the file ends
+/// before the cell of its version.
 fn header_length(file: &[u8]) -> usize
     ensures least { 36 ≤ result }
     ensures value { 36 ≤ length file.now → result ≡ length_of_header file.now }
@@ -101,7 +101,7 @@ fn header_length(file: &[u8]) -> usize
     }
 }
 
-/// The offset of the end of the structure block: in version 16 the end of the blob.
+/// Returns the offset of the end of the structure block: in version 16 the end of the blob.
 pub(crate) fn structure_end(file: &[u8]) -> usize
     requires { length_of_header file.now ≤ length file.now }
     ensures { result ≡ end_of_structure file.now }

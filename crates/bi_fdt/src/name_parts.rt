@@ -33,7 +33,7 @@ impl<'a> Model for NameParts<'a> {
 impl<'a> NameParts<'a> {
     ghost use Rattle.bi_fdt.specs.NameParts.{IsPlaced};
 
-    /// No parts. It allocates nothing yet.
+    /// Returns an empty list of parts. It allocates nothing yet.
     pub(crate) fn new(alloc: Global) -> NameParts<'a>
         ensures { result ≡ [] }
     {

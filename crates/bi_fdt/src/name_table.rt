@@ -33,7 +33,7 @@ pub(crate) struct NameTable<'a> {
 }
 
 impl<'a> NameTable<'a> {
-    /// No names. It allocates nothing yet.
+    /// Returns a table without names. It allocates nothing yet.
     pub(crate) fn new(alloc: Global) -> NameTable<'a>
         ensures names { names_in_table result ≡ [] }
         ensures is_table { IsNameTable result }

@@ -31,7 +31,7 @@ impl<'a, 'b> NodeRef<'a, 'b> {
     ghost use Rattle.bi_fdt.specs.Views.{HasNodeAt, node_in, node_of, table_of_node};
     ghost use Rattle.bi_fdt.specs.Fields.{IsNodeOf};
 
-    /// The root of a blob.
+    /// Returns the root of a blob.
     pub(crate) fn new(blob: &'b Blob<'a>) -> NodeRef<'a, 'b>
         ensures root { node_of result ≡ root_node (root_of blob.entry.now) }
         ensures same_table { table_of_node result ≡ blob.entry.now.table }
@@ -41,7 +41,7 @@ impl<'a, 'b> NodeRef<'a, 'b> {
         NodeRef { blob, index: 0 }
     }
 
-    /// The node at an index of the table of a blob.
+    /// Returns the node at an index of the table of a blob.
     pub(crate) fn at(blob: &'b Blob<'a>, index: usize) -> NodeRef<'a, 'b>
         requires { HasNodeAt blob.now.table index }
         ensures node { node_of result ≡ node_in blob.entry.now.table index }
@@ -52,8 +52,8 @@ impl<'a, 'b> NodeRef<'a, 'b> {
         NodeRef { blob, index }
     }
 
-    /// The index of the node's entry in the table of its blob, by which `Blob::node` returns the
-    /// same node. Takes constant time.
+    /// Returns the index of the node's entry in the table of its blob. `Blob::node` returns the
+    /// same node for it. Takes constant time.
     pub fn index(self) -> usize
         ensures there { HasNodeAt (table_of_node self.entry) result }
         ensures node { node_in (table_of_node self.entry) result ≡ node_of self.entry }
@@ -61,7 +61,7 @@ impl<'a, 'b> NodeRef<'a, 'b> {
         self.index
     }
 
-    /// The node's entry.
+    /// Returns the node's entry.
     fn entry(self) -> NodeEntry
         ensures { IsNodeOf self.entry.blob.now.file self.entry.blob.now.table self.entry.index
             result }
@@ -73,29 +73,29 @@ impl<'a, 'b> NodeRef<'a, 'b> {
         }
     }
 
-    /// The name. That of the root is empty.
+    /// Returns the name. That of the root is empty.
     pub fn name(self) -> &'a [u8]
         ensures { result.now ≡ (node_of self.entry).name }
     {
         self.entry().name_in(self.blob.file())
     }
 
-    /// The offset in the file of the token that begins the node.
+    /// Returns the offset in the file of the token that begins the node.
     pub fn place(self) -> u32
         ensures { result ≡ (node_of self.entry).own.place }
     {
         self.entry().place
     }
 
-    /// The number of the properties.
+    /// Returns the number of the properties.
     pub fn property_count(self) -> usize
         ensures { result ≡ length (node_of self.entry).own.properties }
     {
         self.entry().property_count as usize
     }
 
-    /// The properties in their order in the file. Iterating over all of them takes time linear in
-    /// their number.
+    /// Returns the properties in their order in the file. Iterating over all of them takes time
+    /// linear in their number.
     pub fn properties(self) -> Properties<'a, 'b>
         ensures { result ≡ (node_of self.entry).own.properties }
     {
@@ -105,8 +105,9 @@ impl<'a, 'b> NodeRef<'a, 'b> {
         Properties::new(self.blob.file(), &entries[begin..end])
     }
 
-    /// The numbers of the names of the properties, in their order in the file. `numbers` are those
-    /// of all nodes and properties of the blob.
+    /// Returns the numbers of the names of the properties, in their order in the file. `numbers`
+    /// are those of all nodes and properties of the blob, as `NameNumbers::number` returns them. It
+    /// may only be called if there are as many of them.
     pub fn name_numbers<'n>(self, numbers: &'n [usize]) -> &'n [usize]
         requires { length numbers.now ≡ length (table_of_node self) }
         ensures { (names : List (List ℕ))
@@ -118,8 +119,8 @@ impl<'a, 'b> NodeRef<'a, 'b> {
         &numbers[begin..end]
     }
 
-    /// The name and value of property `index`, from 0, in the order of the file. None exactly if
-    /// there is no such property.
+    /// Returns the name and value of property `index`, counted from 0, in the order of the file.
+    /// Returns None exactly if there is no such property. Takes constant time.
     pub fn property_at(self, index: usize) -> Option<(&'a [u8], &'a [u8])>
         ensures { option_map (λ property. (property.0.now, property.1.now)) result
             ≡ slice_get (properties_of (node_of self.entry).own) index }
@@ -138,7 +139,8 @@ impl<'a, 'b> NodeRef<'a, 'b> {
         }
     }
 
-    /// The value of the property of this name. None exactly if there is no such property.
+    /// Returns the value of the property of this name. Returns None exactly if there is no such
+    /// property. Takes time linear in the number of properties before it.
     pub fn property(self, name: &[u8]) -> Option<&'a [u8]>
         ensures { option_map (λ value. value.now) result
             ≡ value_named (properties_of (node_of self.entry).own) name.now }
@@ -146,8 +148,9 @@ impl<'a, 'b> NodeRef<'a, 'b> {
         Some(self.find_property(name)?.value)
     }
 
-    /// The offset in the file of the token of the property of this name. None exactly if there is
-    /// no such property.
+    /// Returns the offset in the file of the token of the property of this name. Returns None
+    /// exactly if there is no such property. Takes time linear in the number of properties before
+    /// it.
     pub fn property_place(self, name: &[u8]) -> Option<u32>
         ensures { result ≡ option_map
             (λ property. property.place)
@@ -156,7 +159,8 @@ impl<'a, 'b> NodeRef<'a, 'b> {
         Some(self.find_property(name)?.place)
     }
 
-    /// The property of this name. None exactly if there is no such property.
+    /// Returns the property of this name. Returns None exactly if there is no such property. Takes
+    /// time linear in the number of properties before it.
     pub fn find_property(self, name: &[u8]) -> Option<Property<'a>>
         ensures { option_map file_property_of result
             ≡ property_named (node_of self.entry).own.properties name.now }
@@ -169,7 +173,7 @@ impl<'a, 'b> NodeRef<'a, 'b> {
         None
     }
 
-    /// The first child. None exactly if there is no child.
+    /// Returns the first child. Returns None exactly if the node has no child.
     pub fn first_child(self) -> Option<NodeRef<'a, 'b>>
         ensures child { option_map node_of result ≡ node_at (node_of self.entry).children 0 }
         ensures same_table { IfSome result
@@ -186,7 +190,8 @@ impl<'a, 'b> NodeRef<'a, 'b> {
         })
     }
 
-    /// The next child of the node's parent. None exactly for the last child, and for the root.
+    /// Returns the next child of the node's parent. Returns None exactly for the last child and for
+    /// the root.
     pub fn next_sibling(self) -> Option<NodeRef<'a, 'b>>
         ensures sibling { option_map node_of result ≡ node_at (node_of self.entry).later 0 }
         ensures same_table { IfSome result
@@ -210,7 +215,7 @@ impl<'a, 'b> NodeRef<'a, 'b> {
         }
     }
 
-    /// The number of the children. Takes time linear in it.
+    /// Returns the number of the children. Takes time linear in it.
     pub fn child_count(self) -> usize
         ensures { result ≡ length (siblings (node_of self.entry).children) }
     {
@@ -223,8 +228,8 @@ impl<'a, 'b> NodeRef<'a, 'b> {
         count
     }
 
-    /// Child `index`, from 0, in the order of the file. None exactly if there is no such child.
-    /// Takes time linear in the children before it.
+    /// Returns child `index`, counted from 0, in the order of the file. Returns None exactly if
+    /// there is no such child. Takes time linear in the number of children before it.
     pub fn child_at(self, index: usize) -> Option<NodeRef<'a, 'b>>
         ensures { option_map node_of result ≡ node_at (node_of self.entry).children index }
     {
@@ -235,8 +240,8 @@ impl<'a, 'b> NodeRef<'a, 'b> {
         Some(child)
     }
 
-    /// The child of this name. None exactly if there is no such child. Takes time linear in the
-    /// children before it.
+    /// Returns the child of this name. Returns None exactly if there is no such child. Takes time
+    /// linear in the number of children before it.
     pub fn child(self, name: &[u8]) -> Option<NodeRef<'a, 'b>>
         ensures child { option_map node_of result
             ≡ node_named (node_of self.entry).children name.now }

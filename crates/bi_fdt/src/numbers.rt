@@ -30,7 +30,7 @@ impl<'a> Model for NameNumbers<'a> {
 }
 
 impl<'a> NameNumbers<'a> {
-    /// No names. It allocates nothing yet.
+    /// Returns an empty list of names. It allocates nothing yet.
     pub fn new(alloc: Global) -> NameNumbers<'a>
         ensures { result ≡ [] }
     {
@@ -54,7 +54,7 @@ impl<'a> NameNumbers<'a> {
         self.table.number(alloc, blob)
     }
 
-    /// The names. The number of each is its index.
+    /// Returns the names. The number of each is its index.
     pub fn names(&self) -> &[&'a [u8]]
         ensures names { map (λ name. name.now) result.now ≡ self.now }
         ensures distinct { AreDistinct self.now }

@@ -25,7 +25,7 @@ impl<'a, 'b> Model for Properties<'a, 'b> {
 }
 
 impl<'a, 'b> Properties<'a, 'b> {
-    /// The properties that these entries of a file begin with.
+    /// Returns the properties that these entries of a file begin with.
     pub(crate) fn new(file: &'a [u8], entries: &'b [Entry]) -> Properties<'a, 'b>
         ensures { result
             ≡ first_properties (map (item_in file.entry.now) entries.entry.now) }

@@ -29,7 +29,7 @@ pub(crate) struct PropertyNames<'a> {
 }
 
 impl<'a> PropertyNames<'a> {
-    /// No names. It allocates nothing yet.
+    /// Returns an empty set of names. It allocates nothing yet.
     pub(crate) fn new(alloc: Global) -> PropertyNames<'a>
         ensures { HoldsProperties result [] }
     {

@@ -8,8 +8,8 @@ use bi_base::{Cause, Fault, refuse, two_cells_at};
 /// The bytes of a reservation: two cells of its address and two of its size.
 pub(crate) const PAIR_SIZE: usize = 16;
 
-/// The number of the reservations in the block at offset `at`. Truncated at the first pair, up to
-/// and including the end pair, that ends after `total`.
+/// Returns the number of the reservations in the block at offset `at`. Fails with Truncated at the
+/// first pair, up to and including the end pair, that ends after `total`.
 pub(crate) fn count_reservations(file: &[u8], at: usize, total: usize) -> Result<usize, Fault>
     requires begins { at ≤ total }
     requires within { total ≤ length file.now }

@@ -39,7 +39,7 @@ impl<'a> Model for Strings<'a> {
 }
 
 impl<'a> Strings<'a> {
-    /// The strings block of these bytes. Takes time linear in them.
+    /// Returns the strings block of these bytes. Takes time linear in them.
     pub(crate) fn new(alloc: Global, bytes: &'a [u8]) -> Result<Strings<'a>, AllocError>
         ensures { IfOk result (λ strings. strings ≡ bytes.entry.now) }
     {
@@ -52,7 +52,7 @@ impl<'a> Strings<'a> {
         })
     }
 
-    /// The name at offset `at`. None exactly if no zero byte ends it.
+    /// Returns the name at offset `at`. Returns None exactly if no zero byte ends it.
     pub(crate) fn name_at(&self, at: usize) -> Option<&'a [u8]>
         ensures some { IsSome result ↔ HasName self.now at (length self.now) }
         ensures value { IfSome result (λ name. name.now ≡ name_from self.now at) }
@@ -72,7 +72,7 @@ impl<'a> Strings<'a> {
         Some(&self.bytes[at..end])
     }
 
-    /// The digest of the name at offset `at`.
+    /// Returns the digest of the name at offset `at`.
     pub(crate) fn digest_at(&self, at: usize, name: &[u8]) -> [u8; 32]
         requires { name.now ≡ name_from self.now at }
         ensures { result ≡ digest_of_name name.now }
@@ -85,8 +85,8 @@ impl<'a> Strings<'a> {
     }
 }
 
-/// A name of this length begins at offset `at`. Returns the index of the first multiple of 64 from
-/// which on the name has one whole block less.
+/// Returns the index of the first multiple of 64 from which on a name of this length, which begins
+/// at offset `at`, has one whole block less.
 pub(crate) fn index_of_later_blocks(at: usize, length: usize) -> usize
     requires long { 128 ≤ length }
     ensures after { at < 64 * result }
@@ -96,7 +96,7 @@ pub(crate) fn index_of_later_blocks(at: usize, length: usize) -> usize
     at / STRIDE + (at % STRIDE + length % STRIDE) / STRIDE + 1
 }
 
-/// The ends of the names at the first multiples of 64.
+/// Returns the ends of the names at the first multiples of 64.
 pub(crate) fn ends_of_names(alloc: Global, bytes: &[u8]) -> Result<Vec<usize>, AllocError>
     ensures ends { IfOk result (λ ends. AreEnds bytes.now ends.items) }
     ensures count { IfOk result (λ ends. length ends.items ≡ length bytes.now / 64 + 1) }
@@ -113,8 +113,8 @@ pub(crate) fn ends_of_names(alloc: Global, bytes: &[u8]) -> Result<Vec<usize>, A
     Ok(ends)
 }
 
-/// The offset of the first zero byte from offset `at` on, or the length of the bytes if there is
-/// none.
+/// Returns the offset of the first zero byte from offset `at` on, or the length of the bytes if
+/// there is none.
 fn end_of_name(bytes: &[u8], at: usize) -> usize
     requires { at ≤ length bytes.now }
     ensures { result ≡ at + length (name_from bytes.now at) }

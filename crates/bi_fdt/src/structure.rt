@@ -18,8 +18,8 @@ use bi_base::{Cause, Error, Fault, refuse, up4};
 use bi_blob::format::{BEGIN_NODE, END, NOP};
 use std::alloc::Global;
 
-/// The table of the tree that the structure block holds. The fault is that of the first check that
-/// fails.
+/// Returns the table of the tree that the structure block holds. The fault is that of the first
+/// check that fails.
 pub(crate) fn read_tree<'a>(
     alloc: Global,
     blocks: Blocks<'a, '_>,
@@ -40,7 +40,7 @@ pub(crate) fn read_tree<'a>(
     Ok(entries)
 }
 
-/// The offset of the token of the root.
+/// Returns the offset of the token of the root.
 fn skip_to_root(blocks: Blocks) -> Result<usize, Fault>
     requires blocks { AreBlocks blocks }
     requires ordered { blocks.begin ≤ blocks.end }

@@ -25,7 +25,7 @@ pub(crate) struct NodeEntry {
 }
 
 impl NodeEntry {
-    /// The name, in the file that the entry is of.
+    /// Returns the name, in the file that the entry is of.
     pub(crate) fn name_in(self, file: &[u8]) -> &[u8]
         ensures { result.now ≡ node_name_in file.entry.now self }
     {
@@ -48,14 +48,14 @@ pub(crate) struct PropertyEntry {
 }
 
 impl PropertyEntry {
-    /// The name, in the file that the entry is of.
+    /// Returns the name, in the file that the entry is of.
     pub(crate) fn name_in(self, file: &[u8]) -> &[u8]
         ensures { result.now ≡ (property_in file.entry.now self).name }
     {
         slice_at(file, self.name_begin as usize, self.name_length as usize)
     }
 
-    /// The property, in the file that the entry is of.
+    /// Returns the property, in the file that the entry is of.
     pub(crate) fn property_in(self, file: &[u8]) -> Property<'_>
         ensures { file_property_of result ≡ property_in file.entry.now self }
     {
@@ -85,7 +85,7 @@ pub(crate) enum Entry {
     Property(PropertyEntry),
 }
 
-/// The `length` bytes of a file from offset `at`, or as many of them as it has.
+/// Returns the `length` bytes of a file from offset `at`, or as many of them as it has.
 fn slice_at(file: &[u8], at: usize, length: usize) -> &[u8]
     requires { at + length < 2 ^ 64 }
     ensures { result.now ≡ slice file.entry.now at length }

@@ -17,8 +17,8 @@ pub record IsFitFile (file : List ℕ) (tree : ImageTree) : Type 0 where
   pub payloads : AllZip (HasPayload file) (each_own images) tree.payloads
   pub is_root : tree.root ≡ tree_without_payloads (tree_without_order (tree_without_places root))
 
--- The same within limits on the length of the file and the depth of its tree (profile of this
--- project).
+-- The file is a flattened image tree that means this, within limits on the length of the file and
+-- the depth of its tree (profile of this project).
 pub record FitMeans (bounds : Limits) (file : List ℕ) (tree : ImageTree) : Type 0 where
   pub is_file : IsFitFile file tree
   pub within : IsWithin bounds file is_file.root

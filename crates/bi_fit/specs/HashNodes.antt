@@ -87,7 +87,7 @@ abbrev pub file_listed_in : List ImageModel → List ℕ → ListResult
 file_listed_in images value =
     if ends_with nat_eq value (0 ∷ []) then file_list images 0 (listed_names value) else BadList
 
--- The same where there may be no such key.
+-- What the value of a key lists. There may be no such key.
 abbrev pub file_listed_at : List ImageModel → Option (List ℕ) → ListResult
 file_listed_at images None = NoKey
 file_listed_at images (Some value) = file_listed_in images value

@@ -137,7 +137,7 @@ abbrev pub listed_in : List Image → List ℕ → ListResult
 listed_in images value =
     if ends_with nat_eq value (0 ∷ []) then list_images images 0 (listed_names value) else BadList
 
--- The same where there may be no such key.
+-- What the value of a key lists. There may be no such key.
 abbrev pub listed_at : List Image → Option (List ℕ) → ListResult
 listed_at images None = NoKey
 listed_at images (Some value) = listed_in images value

@@ -139,7 +139,8 @@ three_embedded =
     (node (codes "c") ((data_name, codes "x") ∷ []) none none)))
     []
 
--- The same in the form External: the offsets are 0, 8 and 8, and three zeros follow `hello`.
+-- Three images, with the payload `hello`, an empty one, and `x`, in the form External: the offsets
+-- are 0, 8 and 8, and three zeros follow `hello`.
 abbrev pub three_external : List ℕ
 three_external =
     file_of_images

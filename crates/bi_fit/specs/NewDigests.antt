@@ -27,25 +27,27 @@ digests_for payload none = []
 digests_for payload (node name own children later) =
     digest_by (hash_algorithm name own) payload ++ digests_for payload later
 
--- The same of an image node that may have no payload: then there are none.
+-- The digests of the payload of an image node for the hash nodes among these children of it. There
+-- are none if it has no payload.
 abbrev pub digests_of_image : Option (List ℕ) → Nodes PropertyMap → List ℕ
 digests_of_image None children = []
 digests_of_image (Some payload) children = digests_for payload children
 
--- Those of image nodes with these payloads, of which there are as many.
+-- The digests for the hash nodes of image nodes with these payloads, of which there are as many.
 abbrev pub digests_of_images : List (Option (List ℕ)) → Nodes PropertyMap → List ℕ
 digests_of_images [] nodes = []
 digests_of_images (payload ∷ payloads) none = []
 digests_of_images (payload ∷ payloads) (node name own children later) =
     digests_of_image payload children ++ digests_of_images payloads later
 
--- The same, if the digests change.
+-- The digests for the hash nodes of image nodes with these payloads. There are none if the digests
+-- do not change.
 abbrev pub digests_if_changed : (hashes : Bool) → List (Option (List ℕ)) → Nodes PropertyMap
     → List ℕ
 digests_if_changed false payloads nodes = []
 digests_if_changed true payloads nodes = digests_of_images payloads nodes
 
--- Those of a tree, if the digests change.
+-- The digests for the hash nodes of a tree, if the digests change.
 abbrev pub new_digests : Changes → ImageTree → List ℕ
 new_digests changes tree =
     digests_if_changed changes.hashes tree.payloads (nodes_or_none (image_nodes tree.root))

@@ -43,7 +43,7 @@ alone sibling = node sibling.name sibling.own sibling.children none
 abbrev pub properties_by_name : FileNode → PropertyMap
 properties_by_name own = from_entries (properties_of own)
 
--- The same for nodes and all below them.
+-- These nodes and all nodes below them, with the properties of each by name.
 abbrev pub nodes_by_name : Nodes FileNode → Nodes PropertyMap
 nodes_by_name nodes = with_each from_entries (with_each properties_of nodes)
 

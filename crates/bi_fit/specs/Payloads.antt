@@ -54,7 +54,8 @@ pub record IsRegion (file : List ℕ) (base : ℕ) (begin size : FileProperty)
   pub in_file : base + cell_number begin + cell_number size ≤ length file
   pub is_slice : payload ≡ Some (slice file (base + cell_number begin) (cell_number size))
 
--- The same where the size may not be there: then they name nothing.
+-- Two properties, each of one cell, name this payload: a region of the file. The second may not be
+-- there, and then they name nothing.
 abbrev pub IsSizedRegion : List ℕ → ℕ → FileProperty → Option FileProperty → Option (List ℕ)
     → Type 0
 IsSizedRegion file base begin None payload = ⊥

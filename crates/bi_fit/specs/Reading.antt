@@ -29,7 +29,7 @@ pub record IsOnlyFitFault (limits : Limits) (file : List ℕ) (fault : Fault) : 
   pub means_nothing : (tree : ImageTree) → ¬ (FitMeans limits file tree)
 
 -- The error of reading a file: its fault; or that memory ran out, which happens only if the header
--- and the reservation block have no fault.
+-- and the memory reservation block have no fault.
 abbrev pub IsFitReadError : Limits → List ℕ → Error → Type 0
 IsFitReadError limits file =
     FailsWith (IsOnlyFitFault limits file) (HasNoFaultBeforeTree limits file)

@@ -49,13 +49,15 @@ with_digest payload name properties =
     if is_hash_name name then with_digest_by (known_algorithm properties) payload properties
     else properties
 
--- The children of an image node with this payload. The nodes below them are as they were.
+-- The children of an image node with this payload, after the digests change. The nodes below them
+-- stay.
 abbrev pub with_digests : (payload : List ℕ) → Nodes PropertyMap → Nodes PropertyMap
 with_digests payload none = none
 with_digests payload (node name own children later) =
     node name (with_digest payload name own) children (with_digests payload later)
 
--- The same of an image node that may have no payload: then nothing changes.
+-- The children of an image node, after the digests change. Without a payload they stay, and the
+-- nodes below them stay in any case.
 abbrev pub with_digests_of : Option (List ℕ) → Nodes PropertyMap → Nodes PropertyMap
 with_digests_of None children = children
 with_digests_of (Some payload) children = with_digests payload children
@@ -106,7 +108,7 @@ abbrev pub rechecked_by : Image → Sibling PropertyMap → Option (List ℕ) �
 rechecked_by image hash (Some payload) (Some algo) = hash_with_digest image hash payload algo
 rechecked_by image hash payload algo = checked_hash image hash
 
--- The same, if the digests change.
+-- A hash node after an update. If the digests do not change, it is as it was.
 abbrev pub new_hash : (hashes : Bool) → Image → Sibling PropertyMap → CheckedHash
 new_hash false image hash = checked_hash image hash
 new_hash true image hash = rechecked_by image hash image.payload (known_algorithm hash.own)

@@ -6,7 +6,7 @@ pub struct Changes {
     /// The new time of creation, in seconds since 1970, if it changes. A flattened image tree has
     /// it in the property `timestamp` of the root.
     pub time: Option<u32>,
-    /// Whether each hash node of an image with a payload gets the digest of the payload by its
-    /// algorithm, if that is known.
+    /// Whether the value of each hash node of an image with a payload becomes the digest of the
+    /// payload by its algorithm, if that is known.
     pub hashes: bool,
 }

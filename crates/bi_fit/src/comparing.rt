@@ -28,7 +28,7 @@ use bi_fdt::{Blob, NameNumbers};
 use std::alloc::{AllocError, Global};
 
 impl<'a> Fit<'a> {
-    /// Whether both files mean the same: they have the same boot processor, the same memory
+    /// Returns whether both files mean the same: they have the same boot processor, the same memory
     /// reservations and the same nodes, each in the same order, and nodes have the same properties
     /// by name. The payloads of images are compared, and not where the files have them.
     ///
@@ -51,8 +51,8 @@ impl<'a> Fit<'a> {
     }
 }
 
-/// Whether both blobs have the same boot processor, the same memory reservations and the same
-/// nodes, without what gives the payloads of images.
+/// Returns whether both blobs have the same boot processor, the same memory reservations and the
+/// same nodes, without what gives the payloads of images.
 fn are_same_blobs<'a>(alloc: Global, own: &Blob<'a>, other: &Blob<'a>) -> Result<bool, AllocError>
     requires distinct { EachOwn HasDistinctNames (alone (root_node (root_of own.now))) }
     requires other_distinct { EachOwn HasDistinctNames (alone (root_node (root_of other.now))) }
@@ -65,8 +65,8 @@ fn are_same_blobs<'a>(alloc: Global, own: &Blob<'a>, other: &Blob<'a>) -> Result
     )
 }
 
-/// Whether the trees of both blobs have the same nodes, without the properties that give the
-/// payloads of images.
+/// Returns whether the trees of both blobs have the same nodes, without the properties that give
+/// the payloads of images.
 fn have_same_trees<'a>(alloc: Global, own: &Blob<'a>, other: &Blob<'a>) -> Result<bool, AllocError>
     requires distinct { EachOwn HasDistinctNames (alone (root_node (root_of own.now))) }
     requires other_distinct { EachOwn HasDistinctNames (alone (root_node (root_of other.now))) }

@@ -36,7 +36,7 @@ pub enum ConfigError {
     /// The value of the key is empty, or its last byte is not zero.
     #[error("bad list")]
     BadList,
-    /// No image has the name at this index of the list, from 0. It is the first such name.
+    /// No image has the name at this index of the list, counted from 0. It is the first such name.
     #[error("missing image")]
     Missing(usize),
     /// Memory ran out.
@@ -80,7 +80,7 @@ impl<'a, 'b> Model for Configuration<'a, 'b> {
 impl<'a, 'b> Configuration<'a, 'b> {
     ghost use Rattle.bi_fit.specs.JudgementCalls.{listed_image, IsListError};
 
-    /// The name.
+    /// Returns the name.
     pub fn name(&self) -> &'a [u8]
         ensures { result.now ≡ self.now.name }
     {
@@ -147,8 +147,8 @@ impl<'a, 'b> Iterator for Configurations<'a, 'b> {
 impl<'a> Fit<'a> {
     ghost use Rattle.bi_fit.specs.JudgementCalls.{configurations_of, listed_image, IsListError};
 
-    /// The configurations, in their order in the file. Going over all of them takes time linear in
-    /// their number.
+    /// Returns the configurations, in their order in the file. Iterating over all of them takes
+    /// time linear in their number.
     pub fn configurations<'b>(&'b self) -> Configurations<'a, 'b>
         ensures { result ≡ configurations_of self.now }
     {
@@ -159,7 +159,7 @@ impl<'a> Fit<'a> {
         }
     }
 
-    /// The number of the configurations. Takes time linear in it.
+    /// Returns the number of the configurations. Takes time linear in it.
     pub fn config_count(&self) -> usize
         ensures { result ≡ length (names (configuration_nodes (tree_of self.now))) }
     {
@@ -169,8 +169,8 @@ impl<'a> Fit<'a> {
         }
     }
 
-    /// The name of configuration `index`, from 0. None exactly if there is no such configuration.
-    /// Takes time linear in the configurations before it.
+    /// Returns the name of configuration `index`, counted from 0. Returns None exactly if there is
+    /// no such configuration. Takes time linear in the number of configurations before it.
     pub fn config_name(&self, index: usize) -> Option<&'a [u8]>
         ensures { option_map (λ name. name.now) result
             ≡ slice_get (names (configuration_nodes (tree_of self.now))) index }
@@ -178,9 +178,9 @@ impl<'a> Fit<'a> {
         Some(self.configurations_node()?.child_at(index)?.name())
     }
 
-    /// The name of the default configuration: the bytes of the property `default` of
-    /// `/configurations` before its first zero. None exactly if there is no such node or property,
-    /// or no zero in it. Whether there is such a configuration is not asked.
+    /// Returns the name of the default configuration: the bytes of the property `default` of
+    /// `/configurations` before its first zero. Returns None exactly if there is no such node or
+    /// property, or no zero in it. No configuration need have this name.
     pub fn default_config(&self) -> Option<&'a [u8]>
         ensures { option_map (λ name. name.now) result ≡ default_of (tree_of self.now) }
     {

@@ -67,8 +67,9 @@ impl<'a> Fit<'a> {
         self.updated_text(alloc, Changes::default(), b"", form, limits)
     }
 
-    /// Lays out the normal text in a form, as `text` does, but of the tree after an update.
-    /// `digests` are those that `new_digests` returns. The text borrows them.
+    /// Lays out the normal text in a form, as `text` does, but of the tree after an update. It may
+    /// only be called if `digests` are those that `new_digests` returns for these changes. The text
+    /// borrows them.
     ///
     /// The errors are those of `text`, by the normal text of the updated tree.
     pub fn updated_text<'b>(

@@ -45,15 +45,16 @@ impl<'a> Model for Fit<'a> {
 impl<'a> Fit<'a> {
     /// Reads a flattened image tree. The file may be longer than its blob.
     ///
-    /// Ok exactly if the file is a flattened image tree within the limits, unless memory runs out.
-    /// Else the fault of the first check that fails: those of `Blob::read`; NoImages at the token
-    /// of the root, if it has no child `images`; then for each image node in order that has
-    /// `data-position` or else `data-offset`: BadCell at that property, if its value is not four
-    /// bytes; NoSize there, if there is no `data-size`; BadCell at `data-size`, if its value is not
-    /// four bytes; OutsideFile at the first property, if the payload ends after the file.
+    /// Succeeds exactly if the file is a flattened image tree within the limits, unless memory runs
+    /// out. Otherwise it fails with the fault of the first check that fails: those of `Blob::read`;
+    /// NoImages at the token of the root, if it has no child `images`; then for each image node in
+    /// order that has `data-position` or else `data-offset`: BadCell at that property, if its value
+    /// is not four bytes; NoSize there, if there is no `data-size`; BadCell at `data-size`, if its
+    /// value is not four bytes; OutsideFile at the first property, if the payload ends after the
+    /// file.
     ///
-    /// OutOfMemory comes only if the header and the reservation block have no fault. ReadFailed and
-    /// WriteFailed never come.
+    /// OutOfMemory comes only if the header and the memory reservation block have no fault.
+    /// ReadFailed and WriteFailed never come.
     pub fn read(alloc: Global, file: &'a [u8], limits: Limits) -> Result<Fit<'a>, Error>
         ensures read { IfOk result (IsReadFit limits file.entry.now) }
         ensures failed { IfErr result (IsFitReadError limits file.entry.now) }
@@ -77,14 +78,14 @@ impl<'a> Fit<'a> {
         })
     }
 
-    /// The blob.
+    /// Returns the blob.
     pub fn blob(&self) -> &Blob<'a>
         ensures { result.now ≡ self.now.blob }
     {
         &self.blob
     }
 
-    /// The node `/images`, which each flattened image tree has. Takes constant time.
+    /// Returns the node `/images`, which each flattened image tree has. Takes constant time.
     pub fn images_node<'b>(&'b self) -> NodeRef<'a, 'b>
         ensures node { Some (node_of result)
             ≡ node_named (root_of self.now.blob).children images_name }
@@ -93,21 +94,22 @@ impl<'a> Fit<'a> {
         self.blob.node(self.images_index)
     }
 
-    /// The images, in their order in the file.
+    /// Returns the images, in their order in the file.
     pub fn images(&self) -> &[Image<'a>]
         ensures { map image_model result.now ≡ self.now.images }
     {
         &self.images
     }
 
-    /// The number of the images.
+    /// Returns the number of the images.
     pub fn image_count(&self) -> usize
         ensures { result ≡ length self.now.images }
     {
         self.images.len()
     }
 
-    /// The name of image `index`, from 0. None exactly if there is no such image.
+    /// Returns the name of image `index`, counted from 0. Returns None exactly if there is no such
+    /// image.
     pub fn image_name(&self, index: usize) -> Option<&'a [u8]>
         ensures { option_map (λ name. name.now) result
             ≡ option_map (λ image. image.name) (slice_get self.now.images index) }
@@ -115,15 +117,15 @@ impl<'a> Fit<'a> {
         Some(self.images.get(index)?.name)
     }
 
-    /// The index of the image of this name. None exactly if there is no such image.
+    /// Returns the index of the image of this name. Returns None exactly if there is no such image.
     pub fn image(&self, name: &[u8]) -> Option<usize>
         ensures { result ≡ index_of name.now self.now.images }
     {
         self.indices.get(name).copied()
     }
 
-    /// The payload of image `index`, from 0. None exactly if there is no such image, or it has no
-    /// payload.
+    /// Returns the payload of image `index`, counted from 0. Returns None exactly if there is no
+    /// such image, or it has no payload.
     pub fn payload(&self, index: usize) -> Option<&'a [u8]>
         ensures { option_map (λ payload. payload.now) result
             ≡ option_and_then (λ image. image.payload) (slice_get self.now.images index) }
@@ -131,8 +133,8 @@ impl<'a> Fit<'a> {
         self.images.get(index)?.payload
     }
 
-    /// Where the payload of image `index`, from 0, is in the file. `Place::Absent` exactly if there
-    /// is no such image, or it has no payload.
+    /// Returns where the payload of image `index`, counted from 0, is in the file. Returns
+    /// `Place::Absent` exactly if there is no such image, or it has no payload.
     pub fn place(&self, index: usize) -> Place
         ensures { result ≡ place_or_absent (slice_get self.now.images index) }
     {
@@ -150,7 +152,8 @@ impl<'a> Fit<'a> {
     }
 }
 
-/// The index of each of these images by its name, or that of the first of several with one name.
+/// Returns the index of each of these images by its name, or that of the first of several with one
+/// name.
 fn index_by_name<'a>(
     alloc: Global,
     images: &[Image<'a>],

@@ -3,7 +3,7 @@
 /// Where the payload of an image is in its file. The number is the offset of its first byte.
 #[derive(Clone, Copy, Debug, PartialEq, Eq)]
 pub enum Place {
-    /// There is no payload, or the image is in no file.
+    /// There is no payload, or the image is not in a file.
     Absent,
     /// The payload is the value of the property `data`.
     Data(u32),

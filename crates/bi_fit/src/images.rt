@@ -139,7 +139,8 @@ fn read_region<'a>(
     }
 }
 
-/// The number of a property whose value is one cell. BadCell at the property if it is not.
+/// Returns the number of a property whose value is one cell. Fails with BadCell at the property if
+/// it is not.
 fn read_cell(property: Property<'_>) -> Result<u32, Fault>
     ensures is_cell { IfOk result (λ _. length property.entry.value.now ≡ 4) }
     ensures number { IfOk result (λ number. number

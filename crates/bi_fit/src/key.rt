@@ -22,7 +22,7 @@ pub enum Key {
 }
 
 impl Key {
-    /// The name of the property.
+    /// Returns the name of the property in a configuration node.
     pub fn name(self) -> &'static str
         ensures { result.now ≡ key_name self }
     {
@@ -36,8 +36,8 @@ impl Key {
         }
     }
 
-    /// The name of the type of the images that are listed under this key (U-Boot, boot/image.c:
-    /// `uimage_type`).
+    /// Returns the name of the type of the images that are listed under this key (U-Boot,
+    /// boot/image.c: `uimage_type`).
     pub fn type_name(self) -> &'static str
         ensures { result.now ≡ type_name_of self }
     {

@@ -1,4 +1,4 @@
-//! The digests that hash nodes get by an update.
+//! The digests that an update writes to hash nodes.
 
 ghost use Rattle.std.specs.Prelude.{◌≡◌, ◌++◌, IfOk, IfErr, OnOk};
 ghost use Rattle.std.specs.Option.{option_map};
@@ -17,9 +17,9 @@ use bi_hash::{Algo, PayloadDigests};
 use std::alloc::{AllocError, Global};
 
 impl<'a> Fit<'a> {
-    /// Returns the digests that the hash nodes get by an update, one after another: images in their
-    /// order, and the hash nodes of an image in theirs. There are none if the digests do not
-    /// change. A payload is read once for each algorithm that its hash nodes name.
+    /// Returns the digests that an update writes to the hash nodes, one after another: images in
+    /// their order, and the hash nodes of an image in theirs. It returns none if `changes.hashes`
+    /// is not set. A payload is read once for each algorithm that its hash nodes name.
     ///
     /// The only error is OutOfMemory.
     pub fn new_digests(&self, alloc: Global, changes: Changes) -> Result<Vec<u8>, Error>
@@ -57,8 +57,8 @@ fn append_digests(
     Ok(())
 }
 
-/// Returns the algorithm of a child of an image node. None exactly if it is no hash node, or names
-/// no known algorithm.
+/// Returns the algorithm of a child of an image node. Returns None exactly if it is no hash node,
+/// or names no known algorithm.
 pub(crate) fn hash_algo(node: NodeRef<'_, '_>) -> Option<Algo>
     ensures { result ≡ hash_algorithm
         (node_of node.entry).name

@@ -20,7 +20,7 @@ pub(crate) struct Siblings<'a, 'b> {
 impl<'a, 'b> Siblings<'a, 'b> {
     ghost use Rattle.bi_fit.specs.Siblings.{siblings_left};
 
-    /// The children of a node.
+    /// Returns the children of a node.
     pub(crate) fn children(parent: NodeRef<'a, 'b>) -> Siblings<'a, 'b>
         ensures { siblings_left result ≡ siblings (node_of parent.entry).children }
     {
@@ -50,14 +50,14 @@ impl<'a, 'b> Iterator for Siblings<'a, 'b> {
 impl<'a> Fit<'a> {
     ghost use Rattle.bi_fit.specs.Siblings.{siblings_left};
 
-    /// The image nodes, in their order in the file.
+    /// Returns the image nodes, in their order in the file.
     pub(crate) fn image_nodes<'b>(&'b self) -> Siblings<'a, 'b>
         ensures { siblings_left result ≡ siblings (file_images self.now.blob) }
     {
         Siblings::children(self.images_node())
     }
 
-    /// The node `/configurations`. None exactly if there is no such node.
+    /// Returns the node `/configurations`. Returns None exactly if there is no such node.
     pub(crate) fn configurations_node<'b>(&'b self) -> Option<NodeRef<'a, 'b>>
         ensures { option_map node_of result
             ≡ node_named (root_of self.now.blob).children configurations_name }
@@ -65,7 +65,7 @@ impl<'a> Fit<'a> {
         self.blob().root().child(b"configurations")
     }
 
-    /// The configuration nodes, in their order in the file.
+    /// Returns the configuration nodes, in their order in the file.
     pub(crate) fn configuration_nodes<'b>(&'b self) -> Siblings<'a, 'b>
         ensures { siblings_left result ≡ siblings (file_configurations self.now.blob) }
     {
@@ -75,7 +75,7 @@ impl<'a> Fit<'a> {
         }
     }
 
-    /// The configuration node of this name. None exactly if there is no such node.
+    /// Returns the configuration node of this name. Returns None exactly if there is no such node.
     pub(crate) fn configuration_node<'b>(&'b self, name: &[u8]) -> Option<NodeRef<'a, 'b>>
         ensures { option_map node_of result
             ≡ node_named (file_configurations self.now.blob) name.now }

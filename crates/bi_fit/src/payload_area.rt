@@ -25,7 +25,7 @@ pub(crate) struct PayloadArea {
 }
 
 impl PayloadArea {
-    /// An area without payloads.
+    /// Returns an area without payloads.
     pub(crate) fn new(form: Form) -> PayloadArea
         ensures form { result.form ≡ form }
         ensures end { result.end ≡ 0 }
@@ -51,7 +51,7 @@ impl PayloadArea {
 }
 
 /// Returns how many bytes follow the blob: the payloads of these images in the form External, none
-/// in the form Embedded. TooLarge at the limit, exactly if they are more than that.
+/// in the form Embedded. Fails with TooLarge at the limit, exactly if they are more than that.
 pub(crate) fn length_after_blob(images: &[Image<'_>], form: Form, limit: u32) -> Result<u32, Fault>
     ensures length { IfOk result (λ length.
         length ≡ length_after_blob_of form (payloads_of images.now)) }
@@ -65,7 +65,8 @@ pub(crate) fn length_after_blob(images: &[Image<'_>], form: Form, limit: u32) ->
     }
 }
 
-/// Returns where the payloads of images end. TooLarge at the limit, exactly if that is after it.
+/// Returns where the payloads of images end. Fails with TooLarge at the limit, exactly if that is
+/// after it.
 fn payloads_end(images: &[Image<'_>], limit: u32) -> Result<u32, Fault>
     ensures end { IfOk result (λ end. end ≡ payloads_end_of 0 (payloads_of images.now)) }
     ensures within { IfOk result (λ end. end ≤ limit) }

@@ -13,8 +13,8 @@ use crate::nodes::Siblings;
 use bi_fdt::NodeRef;
 
 impl<'a> Fit<'a> {
-    /// The number of signature nodes: children of image nodes and of configuration nodes whose
-    /// names begin with `signature`. Takes time linear in the number of these children.
+    /// Returns the number of signature nodes: children of image nodes and of configuration nodes
+    /// whose names begin with `signature`. Takes time linear in the number of these children.
     pub fn signature_count(&self) -> usize
         ensures { result ≡ signature_count (tree_of self.now) }
     {
@@ -23,7 +23,7 @@ impl<'a> Fit<'a> {
     }
 }
 
-/// The number of signature nodes among the children of these nodes.
+/// Returns the number of signature nodes among the children of these nodes.
 fn count_signatures(parents: Siblings) -> usize
     requires { length (children_of_each (siblings_left parents)) < 2 ^ 31 }
     ensures count { result ≡ length (flat_map file_signatures (siblings_left parents.entry)) }
@@ -36,7 +36,7 @@ fn count_signatures(parents: Siblings) -> usize
     count
 }
 
-/// The number of signature nodes among the children of a node.
+/// Returns the number of signature nodes among the children of a node.
 fn count_children(parent: NodeRef) -> usize
     requires { length (siblings (node_of parent).children) < 2 ^ 31 }
     ensures { result ≡ length (file_signatures (node_of parent.entry)) }

@@ -76,7 +76,7 @@ impl<'a> FitText<'a> {
         })
     }
 
-    /// The length of the text in bytes.
+    /// Returns the length of the text in bytes, at most 0x7fffffff.
     pub fn size(&self) -> u32
         ensures size { result ≡ length self.now }
         ensures small { result ≤ longest_text }
@@ -84,8 +84,10 @@ impl<'a> FitText<'a> {
         self.size
     }
 
-    /// Appends the text. Fails as the sink does. Takes time linear in the length of the text, and
-    /// allocates nothing itself.
+    /// Appends the text. Takes time linear in the length of the text, and allocates nothing itself.
+    ///
+    /// Fails only as the sink does. After an error of the sink, it is as a failed `put` of the
+    /// whole text leaves it.
     pub fn emit<S: Sink>(&self, sink: &mut S) -> Result<(), Error>
         ensures { Wrote S.appends S.fails sink.old self.now result sink.new }
     {

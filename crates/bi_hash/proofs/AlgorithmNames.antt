@@ -6,6 +6,8 @@ use Rattle.bi_hash.specs.declared.algo.Algo.{Algo}
 use Rattle.bi_hash.specs.declared.algo.Algo.TheVariants.{Crc32, Md5, Sha1, Sha256, Sha384, Sha512}
 use Rattle.bi_hash.specs.Algos.{algorithm_name, all_algorithms, find_algorithm}
 
+-- Proves that an algorithm is found by its name, and by no other.
+
 -- The choice of the first element, where it passes, or else one of the rest that passes, passes.
 chosen_passes : (b : Bool) (p : Algo → Bool) (first : Algo) (rest : Option Algo) (x : Algo) → b ≡ p first
     → (rest ≡ Some x → p x ≡ true) → cond b (Some first) rest ≡ Some x → p x ≡ true

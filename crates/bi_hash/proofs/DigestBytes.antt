@@ -17,6 +17,8 @@ use Rattle.bi_hash.specs.Digests.{digest_of, digest_size}
 use Rattle.bi_base.proofs.ByteLists.{AreBytes-none, AreBytes-append, AreBytes-take}
 use Rattle.bi_hash.proofs.WordBytes.{AreBytes-be_word, AreBytes-le_word, AreBytes-be_long}
 
+-- Proves that a digest is a list of bytes, of the length that its algorithm has.
+
 -- The words of an MD5 hash value are written as bytes.
 AreBytes-md5 : (h : List ℕ) (n : ℕ) → AreBytes (md5_bytes h n)
 unfolding md5_bytes

@@ -3,6 +3,8 @@ use Rattle.std.specs.Int.{to_be_bytes, to_le_bytes, w32, w64}
 use Rattle.bi_base.specs.Cells.{AreBytes}
 use Rattle.bi_base.proofs.ByteLists.{AreBytes-none, AreBytes-cons}
 
+-- Proves that the bytes of a word are bytes.
+
 -- A remainder by 256 before bytes makes bytes.
 AreBytes-remainder : (n : ℕ) (bytes : List ℕ) → AreBytes bytes → AreBytes (n % 256 ∷ bytes)
 AreBytes-remainder n bytes later = let small : n % 256 < 2 ^ 8 = omega arith in AreBytes-cons (n % 256) bytes small later

@@ -41,7 +41,7 @@ impl Algo {
         Algo::Sha512,
     ];
 
-    /// Finds the algorithm with exactly this name. None if no algorithm has it.
+    /// Finds the algorithm with exactly this name. Returns None if no algorithm has it.
     pub fn from_name(name: &[u8]) -> Option<Algo>
         ensures named { (algo : Algo) → (result ≡ Some algo) ↔ (name.now ≡ algorithm_name algo) }
         ensures value { result ≡ find_algorithm name.now }
@@ -49,7 +49,7 @@ impl Algo {
         find_by_name(&Algo::ALL, name)
     }
 
-    /// The name of the algorithm in the property `algo` of a hash node.
+    /// Returns the name of the algorithm in the property `algo` of a hash node.
     pub fn name(self) -> &'static str
         ensures name { result.now ≡ algorithm_name self }
         ensures inverse { find_algorithm result.now ≡ Some self }
@@ -64,7 +64,7 @@ impl Algo {
         }
     }
 
-    /// The length of a digest in bytes: 4, 16, 20, 32, 48 or 64.
+    /// Returns the length of a digest in bytes: 4, 16, 20, 32, 48 or 64.
     pub fn digest_size(self) -> usize
         ensures { result ≡ digest_size self }
     {
@@ -78,7 +78,7 @@ impl Algo {
         }
     }
 
-    /// The index of the algorithm in the order of `Algo`.
+    /// Returns the index of the algorithm in the order of `Algo`.
     pub(crate) fn index(self) -> usize
         ensures { result ≡ algorithm_index self }
     {

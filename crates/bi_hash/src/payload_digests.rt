@@ -24,7 +24,7 @@ struct Digest {
 #[derive(Drop)]
 pub struct PayloadDigests<'a> {
     payload: Option<&'a [u8]>,
-    /// The digest of each algorithm, in the order of `Algo`, if it was made.
+    /// The digest of each algorithm, in the order of `Algo`, if it was computed.
     digests: [Option<Digest>; 6],
 }
 
@@ -42,7 +42,7 @@ impl<'a> Model for PayloadDigests<'a> {
 }
 
 impl<'a> PayloadDigests<'a> {
-    /// Makes no digest yet.
+    /// Returns the digests of a payload, or of none. No digest is computed yet.
     pub fn new(payload: Option<&'a [u8]>) -> PayloadDigests<'a>
         ensures { result ≡ option_copied payload.entry }
     {
@@ -53,7 +53,8 @@ impl<'a> PayloadDigests<'a> {
     }
 
     /// Judges a hash node of the payload by the values of its properties `algo` and `value`, as
-    /// `verdict` does. Reads the payload if the verdict needs a digest that was not made before.
+    /// `verdict` does. Reads the payload if the verdict needs a digest that was not computed
+    /// before.
     #[tactic(auto, unfolding(crate::specs::Verdicts::verdict_of))]
     pub fn verdict(&mut self, algo: Option<&[u8]>, value: Option<&[u8]>) -> Verdict
         ensures verdict { result ≡ verdict_of
@@ -82,8 +83,8 @@ impl<'a> PayloadDigests<'a> {
     }
 
     /// Adds the digest of the payload by this algorithm to the end of `bytes`, or nothing if there
-    /// is no payload. Reads the payload if the digest was not made before. If memory runs out,
-    /// `bytes` is as it was.
+    /// is no payload. Reads the payload if the digest was not computed before. Fails if memory runs
+    /// out, and `bytes` is then unchanged.
     pub fn append_digest(&mut self, algo: Algo, bytes: &mut Vec<u8>) -> Result<(), AllocError>
         ensures added { OnOk result (bytes.new.items
             ≡ bytes.old.items ++ digest_or_nothing algo self.old) }
@@ -96,7 +97,7 @@ impl<'a> PayloadDigests<'a> {
         Ok(())
     }
 
-    /// The digest of the payload. None exactly if there is no payload.
+    /// Returns the digest of the payload. Returns None exactly if there is no payload.
     fn digest(&mut self, algo: Algo) -> Option<Digest>
         ensures digest { IsDigest algo self.old result }
         ensures same { self.new ≡ self.old }

@@ -5,13 +5,13 @@ use Rattle.bi_blob.specs.Layout.{strings_of, blob_header, padding_to_4, length_b
 use Rattle.bi_base.specs.Slices.{bytes_of}
 use Rattle.bi_lay.specs.Items.{reservations_of}
 
--- The bytes of the reservation block and of the strings block, put together of the pieces that are written.
+-- The bytes of the memory reservation block and of the strings block, put together of the pieces that are written.
 
 -- The bytes of a pair.
 abbrev pub bytes_of_pair : ℕ × ℕ → List ℕ
 bytes_of_pair pair = cell8 pair.0 ++ cell8 pair.1
 
--- The pairs of the reservation block.
+-- The pairs of the memory reservation block.
 pub reservations_bytes : (pairs : List (ℕ × ℕ)) → flat_map bytes_of_pair pairs ≡ flat_map pair_bytes (reservations_of pairs)
 reservations_bytes [] = refl
 reservations_bytes (pair ∷ later) = ap (λ l. bytes_of_pair pair ++ l) (reservations_bytes later)

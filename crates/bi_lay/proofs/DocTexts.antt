@@ -148,7 +148,7 @@ same_text doc pairs items names kept are_pairs are_items are_names short =
     fits : length (strings_of doc.names.in_block) < 2 ^ 32
     fits = omega (arith, short, is_text_length doc kept)
 
--- The reservation block has sixteen bytes for each pair and for the end pair.
+-- The memory reservation block has sixteen bytes for each pair and for the end pair.
 length-block : (pairs : List (ℕ × ℕ)) (count : ℕ) → count ≡ length pairs →
     length (reservation_block (reservations_of pairs)) ≡ 16 * count + 16
 length-block pairs count is_count = length-reservation_block (reservations_of pairs) ∙ omega (arith, is_count, length-reservations pairs)

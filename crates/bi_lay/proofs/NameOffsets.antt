@@ -51,7 +51,7 @@ offset_in-new (other ∷ later) name new = by (bytes_eq other name) refl (offset
     by true is behind = absurd (true≢false (rw is at new))
     by false is behind = rw is (omega (arith, behind (rw is at new), length-append other (0 ∷ []), length-append (other ++ 0 ∷ []) (strings_of later)))
 
--- The offset of a name stays where another comes behind.
+-- The offset of a name stays where another comes after it.
 pub offset_in-stays : (names : List (List ℕ)) (name other : List ℕ) → is_among name names ≡ true →
     offset_in (names ++ other ∷ []) name ≡ offset_in names name
 offset_in-stays [] name other among = absurd (true≢false (sym among))
@@ -61,7 +61,7 @@ offset_in-stays (first ∷ later) name other among = by (bytes_eq first name) re
     by true is behind = rw is refl
     by false is behind = rw is (ap (λ n. length first + 1 + n) (behind (rw is at among)))
 
--- The offsets of names, when a name that was not among them comes behind.
+-- The offsets of names, when a name that was not among them comes after them.
 pub offset_among-push : (names : List (List ℕ)) (key name : List ℕ) → is_among key names ≡ false →
     cond (bytes_eq key name) (Some (saturated_usize (length (strings_of names)))) (offset_among names name)
     ≡ offset_among (names ++ key ∷ []) name
@@ -104,7 +104,7 @@ is_eq-key_of_name : (m n : Bor (List ℕ)) →
     is_eq (by_prefix (key_of_name m) (key_of_name n)) ≡ bytes_eq m.now n.now
 is_eq-key_of_name m n = is_eq-before before_bytes before_itself m.now n.now
 
--- The map of offsets, when a name that it lacks comes behind the others.
+-- The map of offsets, when a name that it lacks comes after the others.
 pub placed-push : (old new : BTreeMap (ℕ × ℕ × Bor (List ℕ)) ℕ) (names : List (List ℕ)) (key : Bor (List ℕ))
     → ((name : Bor (List ℕ)) → get by_prefix old (key_of_name name) ≡ offset_among names name.now)
     → Updates by_prefix old new (key_of_name key) (Some (saturated_usize (length (strings_of names))))

@@ -22,7 +22,7 @@ empty_with_names boot_cpu names = record {
   names = names;
 }
 
--- The same, where no name may be given by number.
+-- A document without reservations, in which no node was begun. No name may be given by number.
 abbrev pub empty_content : ℕ → Doc
 empty_content boot_cpu = empty_with_names boot_cpu []
 

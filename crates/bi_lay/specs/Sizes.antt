@@ -6,8 +6,8 @@ use Rattle.bi_lay.specs.Contents.{Doc}
 
 -- The sizes of the blocks of a document's text.
 
--- These are the sizes of the reservation block, the structure block and the strings block of a
--- document's text.
+-- These are the sizes of the memory reservation block, the structure block and the strings block of
+-- a document's text.
 pub record AreBlockSizes (content : Doc) (sizes : BlockSizes) : Type 0 where
   pub reservations : sizes.reservations ≡ length (reservation_block content.reservations)
   pub structure : sizes.structure ≡ length (structure_block content.events)

@@ -47,7 +47,7 @@ impl<'a> Doc<'a> {
 }
 
 impl<'a> ClosedDoc<'a> {
-    /// The length of the text in bytes, which is at most 0x7fffffff.
+    /// Returns the length of the text in bytes, which is at most 0x7fffffff.
     pub fn size(&self) -> u32
         ensures size { result ≡ length (text_of self.now) }
         ensures small { result ≤ longest_text }
@@ -55,8 +55,11 @@ impl<'a> ClosedDoc<'a> {
         self.sizes.total()
     }
 
-    /// Appends the document's text: the header, the reservation block, the structure block, the
-    /// strings block, and zeros up to a multiple of four. Fails as the sink does.
+    /// Appends the document's text: the header, the memory reservation block, the structure block,
+    /// the strings block, and zeros up to a multiple of four.
+    ///
+    /// Fails only as the sink does. After an error of the sink, it is as a failed `put` of the
+    /// whole text leaves it.
     ///
     /// It takes time linear in the length of the text, and allocates nothing itself.
     pub fn emit<S: Sink>(&self, sink: &mut S) -> Result<(), Error>

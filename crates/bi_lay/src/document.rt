@@ -61,8 +61,8 @@ impl<'a> Doc<'a> {
     ghost use Rattle.bi_lay.specs.Sizes.{AreBlockSizes};
     ghost use Rattle.bi_lay.specs.Values.{value_bytes};
 
-    /// A document for this boot processor, without reservations, in which no node was begun. The
-    /// only error is `OutOfMemory`.
+    /// Returns a document for this boot processor, without reservations, in which no node was
+    /// begun. The only error is `OutOfMemory`.
     pub fn new(alloc: Global, boot_cpu: u32) -> Result<Doc<'a>, Error>
         ensures empty { IfOk result (λ doc. doc ≡ empty_content boot_cpu) }
         ensures failed { IfErr result (λ error. error ≡ OutOfMemory) }
@@ -70,10 +70,10 @@ impl<'a> Doc<'a> {
         Doc::with_names(alloc, boot_cpu, Vec::new(alloc))
     }
 
-    /// A document for this boot processor, without reservations, in which no node was begun. The
-    /// name of a property may be given by its number, which is its index among these names. They
-    /// need be neither distinct nor in byte order. Takes time linear in their number. The only
-    /// error is `OutOfMemory`.
+    /// Returns a document for this boot processor, without reservations, in which no node was
+    /// begun. The name of a property may be given by its number, which is its index among these
+    /// names. They need be neither distinct nor in byte order. Takes time linear in their number.
+    /// The only error is `OutOfMemory`.
     pub fn with_names(alloc: Global, boot_cpu: u32, names: Vec<&'a [u8]>) -> Result<Doc<'a>, Error>
         ensures empty { IfOk result (λ doc.
             doc ≡ empty_with_names boot_cpu (bytes_of names.entry.items)) }
@@ -88,8 +88,8 @@ impl<'a> Doc<'a> {
         })
     }
 
-    /// Adds a memory reservation (Devicetree Specification, 5.3): `size` bytes from `address` on,
-    /// which are not both zero.
+    /// Adds a memory reservation (Devicetree Specification, 5.3): `size` bytes from `address` on.
+    /// It may only be called if `address` and `size` are not both 0.
     ///
     /// The only error is `OutOfMemory`, and the document is unchanged then.
     pub fn reserve(&mut self, address: u64, size: u64) -> Result<(), Error>
@@ -137,9 +137,9 @@ impl<'a> Doc<'a> {
     }
 
     /// Adds a property to the innermost open node, by the number of its name: the index among the
-    /// names that `with_names` got. It may only be called if `may_property` is true of this name.
-    /// It takes constant time apart from allocations, except at the first use of a number, which
-    /// looks the name up by its bytes.
+    /// names that were given to `with_names`. It may only be called if `may_property` is true of
+    /// this name. It takes constant time apart from allocations, except at the first use of a
+    /// number, which looks the name up by its bytes.
     ///
     /// The only error is `OutOfMemory`, and the document is unchanged then.
     pub fn property_numbered(&mut self, number: usize, value: Value<'a>) -> Result<(), Error>
@@ -172,9 +172,9 @@ impl<'a> Doc<'a> {
         self.depth -= 1;
     }
 
-    /// Whether `begin` may be called with this name: no node was begun and the name is empty; or 1
-    /// to 63 nodes are open, the name has a byte and neither a zero nor a `/`, and no child of the
-    /// innermost open node has it.
+    /// Returns whether `begin` may be called with this name: no node was begun and the name is
+    /// empty; or 1 to 63 nodes are open, the name has a byte and neither a zero nor a `/`, and no
+    /// child of the innermost open node has it.
     ///
     /// It takes time linear in the number of events, since it looks for a child of the same name.
     /// `begin` itself does not look, so a caller that knows that the names of children differ need
@@ -192,9 +192,9 @@ impl<'a> Doc<'a> {
         is_child_name(name) && is_new_child(&self.items, self.depth, name)
     }
 
-    /// Whether `property` may be called with this name: a node is open and has no child yet, the
-    /// name has a byte and no zero, and it is greater in byte order than that of the node's last
-    /// property.
+    /// Returns whether `property` may be called with this name: a node is open and has no child
+    /// yet, the name has a byte and no zero, and it is greater in byte order than that of the
+    /// node's last property.
     pub fn may_property(&self, name: &[u8]) -> bool
         ensures { IsTrue result ↔ MayHaveNextProperty name.now (stage_of_events self.now.events) }
     {
@@ -205,15 +205,15 @@ impl<'a> Doc<'a> {
         }
     }
 
-    /// Whether `end` may be called: a node is open.
+    /// Returns whether `end` may be called: a node is open.
     pub fn may_end(&self) -> bool
         ensures { IsTrue result ↔ MayEnd (stage_of_events self.now.events) }
     {
         self.depth != 0
     }
 
-    /// Whether the root was begun and ended. The events are then those of exactly one tree that a
-    /// blob can hold, and the properties of each of its nodes come in byte order.
+    /// Returns whether the root was begun and ended. The events are then those of exactly one tree
+    /// that a blob can hold, and the properties of each of its nodes come in byte order.
     pub fn is_closed(&self) -> bool
         ensures ended { IsTrue result ↔ (stage_of_events self.now.events ≡ AfterRoot) }
         ensures tree { IsTrue result → HasOneNormalTree self.now.events }
@@ -234,9 +234,12 @@ impl<'a> Doc<'a> {
         )
     }
 
-    /// Appends the document's text, whose blocks have these sizes: the header, the reservation
-    /// block, the structure block, the strings block, and zeros up to a multiple of four. Fails as
-    /// the sink does.
+    /// Appends the document's text, whose blocks have these sizes: the header, the memory
+    /// reservation block, the structure block, the strings block, and zeros up to a multiple of
+    /// four.
+    ///
+    /// Fails only as the sink does. After an error of the sink, it is as a failed `put` of the
+    /// whole text leaves it.
     ///
     /// It takes time linear in the length of the text, and allocates nothing itself.
     pub(crate) fn put<S: Sink>(&self, sizes: BlockSizes, sink: &mut S) -> Result<(), Error>

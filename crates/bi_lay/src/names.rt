@@ -35,7 +35,7 @@ impl<'a> Names<'a> {
     ghost use Rattle.bi_lay.specs.Names.{with_name, saturated_usize};
     ghost use Rattle.bi_base.specs.Slices.{bytes_of};
 
-    /// No names. It allocates nothing yet.
+    /// Returns an empty list of names. It allocates nothing yet.
     pub(crate) fn new(alloc: Global) -> Names<'a>
         ensures { result ≡ [] }
     {
@@ -46,8 +46,8 @@ impl<'a> Names<'a> {
         }
     }
 
-    /// The length of the strings block in bytes, or the greatest `usize` if it is longer than
-    /// that.
+    /// Returns the length of the strings block in bytes, or the greatest `usize` if it is longer
+    /// than that.
     pub(crate) fn length(&self) -> usize
         ensures { result ≡ saturated_usize (length (strings_of self.now)) }
     {

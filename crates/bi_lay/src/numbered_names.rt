@@ -34,7 +34,8 @@ impl<'a> NumberedNames<'a> {
     ghost use Rattle.bi_lay.specs.Names.{saturated_usize};
     ghost use Rattle.bi_lay.specs.NumberedNames.{with_use};
 
-    /// No names in the strings block. The number of each of these names is its index.
+    /// Returns these names, none of which is in the strings block yet. The number of each is its
+    /// index.
     pub(crate) fn new(
         alloc: Global,
         by_number: Vec<&'a [u8]>,
@@ -50,8 +51,8 @@ impl<'a> NumberedNames<'a> {
         })
     }
 
-    /// The length of the strings block in bytes, or the greatest `usize` if it is longer than
-    /// that.
+    /// Returns the length of the strings block in bytes, or the greatest `usize` if it is longer
+    /// than that.
     pub(crate) fn block_length(&self) -> usize
         ensures { result ≡ saturated_usize (length (strings_of self.now.in_block)) }
     {

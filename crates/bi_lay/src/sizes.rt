@@ -9,7 +9,7 @@ use crate::items::Item;
 use crate::structure::structure_size;
 use bi_base::up4;
 
-/// The most bytes that a text may have before its padding.
+/// The greatest length in bytes of a text before its padding.
 const LONGEST_BEFORE_PADDING: u64 = 0x7fff_fffc;
 
 /// The header's size in bytes (Devicetree Specification, 5.2).
@@ -26,7 +26,7 @@ pub(crate) struct BlockSizes {
 
 impl BlockSizes {
     /// Returns the sizes of the blocks with this many reservations, these items and a strings block
-    /// of this many bytes. None if the text would have more than 0x7fffffff bytes.
+    /// of this many bytes. Returns None if the text would have more than 0x7fffffff bytes.
     pub(crate) fn measure(
         reservation_count: usize,
         items: &[Item<'_>],

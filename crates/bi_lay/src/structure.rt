@@ -106,7 +106,7 @@ fn put_zeros<S: Sink>(count: usize, sink: &mut S) -> Result<(), Error>
     sink.put(&[0; 4][..count])
 }
 
-/// The low 32 bits of a number, which are all that a cell has.
+/// Returns the low 32 bits of a number, which are all that a cell has.
 fn low_cell(number: usize) -> u32
     ensures { result ≡ number % 2 ^ 32 }
 {

@@ -1,5 +1,5 @@
-//! Writing a text: its header, reservation block, structure block and strings block (Devicetree
-//! Specification, chapter 5).
+//! Writing a text: its header, memory reservation block, structure block and strings block
+//! (Devicetree Specification, chapter 5).
 
 ghost use Rattle.std.specs.Prelude.{◌≡◌, ◌++◌, length};
 ghost use Rattle.bi_base.specs.Cells.{cell8};
@@ -15,7 +15,7 @@ use crate::structure::{put_padding, put_string, put_structure};
 use bi_base::{Error, Sink, put_cells};
 use bi_blob::format::MAGIC;
 
-/// The offset of the reservation block, after the header (Devicetree Specification, 5.2).
+/// The offset of the memory reservation block, after the header (Devicetree Specification, 5.2).
 const RESERVATIONS_OFFSET: u32 = 40;
 
 /// The version of the text, and the least version whose readers can read it (Devicetree
@@ -75,8 +75,8 @@ fn put_header<S: Sink>(boot_cpu: u32, sizes: BlockSizes, sink: &mut S) -> Result
     put_cells(sink, &cells)
 }
 
-/// Appends the reservation block, the structure block and the strings block of these parts. Fails
-/// as the sink does.
+/// Appends the memory reservation block, the structure block and the strings block of these parts.
+/// Fails as the sink does.
 fn put_blocks<S: Sink>(parts: Parts<'_>, sink: &mut S) -> Result<(), Error>
     ensures { let parts = parts.entry in
         Wrote S.appends S.fails sink.old
@@ -89,7 +89,7 @@ fn put_blocks<S: Sink>(parts: Parts<'_>, sink: &mut S) -> Result<(), Error>
     put_names(parts.names, sink)
 }
 
-/// Appends the reservation block (Devicetree Specification, 5.3). Fails as the sink does.
+/// Appends the memory reservation block (Devicetree Specification, 5.3). Fails as the sink does.
 fn put_reservations<S: Sink>(reservations: &[(u64, u64)], sink: &mut S) -> Result<(), Error>
     ensures { let reservations = reservations_of reservations.now in
         Wrote S.appends S.fails sink.old (reservation_block reservations) result sink.new }
@@ -100,8 +100,8 @@ fn put_reservations<S: Sink>(reservations: &[(u64, u64)], sink: &mut S) -> Resul
     put_pair(0, 0, sink)
 }
 
-/// Appends a pair of the reservation block (Devicetree Specification, 5.3.2). Fails as the sink
-/// does.
+/// Appends a pair of the memory reservation block (Devicetree Specification, 5.3.2). Fails as the
+/// sink does.
 fn put_pair<S: Sink>(address: u64, size: u64, sink: &mut S) -> Result<(), Error>
     ensures { Wrote S.appends S.fails sink.old (cell8 address ++ cell8 size) result sink.new }
 {

@@ -7,6 +7,8 @@ use Rattle.bi_base.specs.Cells.{u32_at}
 use Rattle.bi_legacy.specs.PartTables.{cells_of, table_sizes}
 use Rattle.bi_legacy.specs.PartRanges.{part_sizes, first_part_offset}
 
+-- Proves that the sizes in a part table are the cells that are read at their offsets.
+
 -- The whole cells of some bytes are a quarter as many.
 pub length-cells : (bytes : List ℕ) → length (cells_of bytes) ≡ length bytes / 4
 length-cells [] = refl

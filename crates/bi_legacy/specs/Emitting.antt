@@ -19,7 +19,7 @@ use Rattle.bi_legacy.specs.Text.{legacy_text}
 abbrev pub image_of_parts : Fields → List (Bor (List ℕ)) → LegacyImage
 image_of_parts fields parts = image_of fields (bytes_of parts)
 
--- The check of a part of a multi or script image, which is part `index`.
+-- The check of a part of a multi-file image or script, which is part `index`.
 pub record EmitPartCheck : Type 0 where
   pub index : ℕ
   pub part : List ℕ

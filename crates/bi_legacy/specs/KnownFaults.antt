@@ -56,7 +56,7 @@ abbrev pub data_with_short_part : List ℕ
 data_with_short_part =
     cell 5 ++ (cell 4 ++ (cell 0 ++ (codes "hello" ++ (0xff ∷ 0xff ∷ 0xff ∷ codes "abc"))))
 
--- Multi and script images with a wrong part table. The checksums are right.
+-- Multi-file images and scripts with a wrong part table. The checksums are right.
 pub record PartTablesHaveFaults : Type 0 where
   pub no_end : HasLegacyFault widest (file_of_data 4 (cell 5)) BadPartTable 64
   pub no_end_of_script : HasLegacyFault widest (file_of_data 6 (cell 5)) BadPartTable 64

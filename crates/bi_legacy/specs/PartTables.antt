@@ -6,7 +6,7 @@ use Rattle.bi_base.specs.declared.fault.Cause.TheVariants.{BadPartTable, BadPart
 use Rattle.bi_base.specs.Cells.{up4}
 use Rattle.bi_legacy.specs.Meaning.{has_part_table}
 
--- The checks of the part table of multi and script images (profile of this project).
+-- The checks of the part table of multi-file images and scripts (profile of this project).
 
 -- The numbers of the whole cells of these bytes, in order.
 abbrev pub cells_of : List ℕ → List ℕ
@@ -40,7 +40,7 @@ part_checks index at [] = []
 part_checks index at (size ∷ sizes) =
     HasPart index (at + size) ∷ part_checks (index + 1) (up4 (at + size)) sizes
 
--- The checks of the data of multi and script images, in their order.
+-- The checks of the data of multi-file images and scripts, in their order.
 abbrev pub table_checks : List ℕ → List TableCheck
 table_checks body =
     let sizes = table_sizes body in HasTableEnd ∷ part_checks 0 (4 * (length sizes + 1)) sizes

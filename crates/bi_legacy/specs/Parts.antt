@@ -32,8 +32,8 @@ pub record HasPartTable (parts : List (List ℕ)) (body : List ℕ) : Type 0 whe
   pub are_table_parts : AllByRecursion IsTablePart parts
   pub padded_parts : ArePaddedParts parts rest
 
--- The data of an image of this type holds these parts: it has their part table, for multi and
--- script images, or else it is itself the one part.
+-- The data of an image of this type holds these parts: it has their part table, for multi-file
+-- images and scripts, or else it is itself the one part.
 abbrev pub HoldsParts : ℕ → List ℕ → List (List ℕ) → Type 0
 HoldsParts image_type body parts =
     MatchBool (has_part_table image_type) (HasPartTable parts body) (parts ≡ body ∷ [])

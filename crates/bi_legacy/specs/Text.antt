@@ -18,8 +18,8 @@ joined_parts [] = []
 joined_parts (part ∷ []) = part
 joined_parts (part ∷ next ∷ later) = with_zeros part ++ joined_parts (next ∷ later)
 
--- The normal data: for multi and script images the part table and the padded parts, else the one
--- part.
+-- The normal data: for multi-file images and scripts the part table and the padded parts, else the
+-- one part.
 abbrev pub normal_body : ℕ → List (List ℕ) → List ℕ
 normal_body image_type parts =
     if has_part_table image_type then part_table parts ++ joined_parts parts else joined_parts parts

@@ -4,8 +4,8 @@ ghost use Rattle.std.specs.Prelude.{◌≡◌, option_map};
 ghost use Rattle.bi_legacy.specs.Codes.{name_of_code, os_names, arch_names, type_names};
 ghost use Rattle.bi_legacy.specs.Codes.{compression_names};
 
-/// The name of an operating system's code (U-Boot, include/image.h: `IH_OS_*`). None if the code
-/// has no name here.
+/// Returns the name of an operating system's code (U-Boot, include/image.h: `IH_OS_*`). Returns
+/// None if the code has no name here.
 pub fn os_name(code: u8) -> Option<&'static str>
     ensures { option_map (λ name. name.now) result ≡ name_of_code os_names code }
 {
@@ -18,8 +18,8 @@ pub fn os_name(code: u8) -> Option<&'static str>
     }
 }
 
-/// The name of a processor architecture's code (U-Boot, include/image.h: `IH_ARCH_*`). None if the
-/// code has no name here.
+/// Returns the name of a processor architecture's code (U-Boot, include/image.h: `IH_ARCH_*`).
+/// Returns None if the code has no name here.
 pub fn arch_name(code: u8) -> Option<&'static str>
     ensures { option_map (λ name. name.now) result ≡ name_of_code arch_names code }
 {
@@ -35,8 +35,8 @@ pub fn arch_name(code: u8) -> Option<&'static str>
     }
 }
 
-/// The name of an image type's code (U-Boot, include/image.h: `IH_TYPE_*`). None if the code has no
-/// name here.
+/// Returns the name of an image type's code (U-Boot, include/image.h: `IH_TYPE_*`). Returns None if
+/// the code has no name here.
 pub fn type_name(code: u8) -> Option<&'static str>
     ensures { option_map (λ name. name.now) result ≡ name_of_code type_names code }
 {
@@ -52,8 +52,8 @@ pub fn type_name(code: u8) -> Option<&'static str>
     }
 }
 
-/// The name of a compression's code (U-Boot, include/image.h: `IH_COMP_*`). None if the code has no
-/// name here.
+/// Returns the name of a compression's code (U-Boot, include/image.h: `IH_COMP_*`). Returns None if
+/// the code has no name here.
 pub fn compression_name(code: u8) -> Option<&'static str>
     ensures { option_map (λ name. name.now) result ≡ name_of_code compression_names code }
 {

@@ -21,20 +21,22 @@ use bi_base::{Cause, Error, Fault, Limits, Sink, refuse, up4};
 
 /// Appends the normal text of a legacy image with these fields and parts (U-Boot, include/image.h).
 ///
-/// The text is the header, with zeros after the name, and the data. The data of multi and script
-/// images is the part table, the size of each part and a size of zero, and then the parts, each but
-/// the last padded with zeros to a multiple of four bytes. Any other image has one part, which is
-/// the data.
+/// The text is the header, with zeros after the name, and the data. The data of a multi-file image
+/// or script is the part table, which is the size of each part and a size of zero, and then the
+/// parts, each but the last padded with zeros to a multiple of four bytes. Any other image has one
+/// part, which is the data.
 ///
 /// Fails with the first of these faults, and then appends nothing:
 ///
 /// - BadField at 32, if the name is longer than 32 bytes or has a zero byte;
-/// - BadField at 30, if the image is neither multi nor script and does not have exactly one part;
+/// - BadField at 30, if the image is neither a multi-file image nor a script and does not have
+///   exactly one part;
 /// - TooLarge at `limits.file()`, if the text is longer than that;
-/// - EmptyPart at `64 + 4 * index`, for the first empty part of a multi or script image.
+/// - EmptyPart at `64 + 4 * index`, for the first empty part of a multi-file image or script.
 ///
-/// Otherwise it fails only as the sink does. It allocates nothing itself, and takes time linear in
-/// the number and the length of the parts.
+/// Otherwise it fails only as the sink does. After an error of the sink, it is as a failed `put` of
+/// the whole text leaves it. It allocates nothing itself, and takes time linear in the number and
+/// the length of the parts.
 pub fn emit<S: Sink>(
     fields: Fields<'_>,
     parts: &[&[u8]],
@@ -49,11 +51,11 @@ pub fn emit<S: Sink>(
 
 /// Appends the normal text of an image that was read, as `emit` does for its fields and parts.
 ///
-/// `parts` are the parts of the image. The CRC-32 of the data is not computed again if the data is
-/// the one part: it was checked when the image was read.
+/// It may only be called if `parts` are the parts of the image. The CRC-32 of the data is not
+/// computed again if the data is the one part: it was checked when the image was read.
 ///
 /// Fails with the same faults as `emit`, and then appends nothing. Otherwise it fails only as the
-/// sink does.
+/// sink does. After an error of the sink, it is as a failed `put` of the whole text leaves it.
 pub fn emit_image<S: Sink>(
     image: &Legacy<'_>,
     parts: &[&[u8]],
@@ -66,8 +68,8 @@ pub fn emit_image<S: Sink>(
     emit_updated_image(image, image.fields().time, parts, limits, sink)
 }
 
-/// Appends the normal text of an image that was read, with this time of creation, as `emit_image`
-/// does for the image as it is.
+/// Appends the normal text of an image that was read with another time of creation: `time`, in
+/// seconds since 1970. It has the condition and the errors of `emit_image`, by the changed image.
 pub fn emit_updated_image<S: Sink>(
     image: &Legacy<'_>,
     time: u32,
@@ -131,21 +133,21 @@ fn check_image(fields: Fields<'_>, parts: &[&[u8]], limits: Limits) -> Result<u3
     Ok(size)
 }
 
-/// Whether this name fits a header.
+/// Returns whether this name fits a header.
 fn is_image_name(name: &[u8]) -> bool
     ensures { IsTrue result ↔ IsImageName name.now }
 {
     name.len() <= NAME_SIZE && !name.contains(&0)
 }
 
-/// Whether an image of this type can have this many parts.
+/// Returns whether an image of this type can have this many parts.
 fn can_have_parts(image_type: u8, part_count: usize) -> bool
     ensures { IsTrue result ↔ MatchBool (has_part_table image_type) ⊤ (part_count ≡ 1) }
 {
     has_part_table(image_type) || part_count == 1
 }
 
-/// The size of the normal data. None exactly if it is more than `most`.
+/// Returns the size of the normal data. Returns None exactly if it is more than `most`.
 fn data_size(image_type: u8, parts: &[&[u8]], most: u32) -> Option<u32>
     ensures { let size = length (normal_body image_type (bytes_of parts.now)) in
         MatchOption result (most < size) (λ n. (n ≡ size) × (n ≤ most)) }
@@ -155,7 +157,7 @@ fn data_size(image_type: u8, parts: &[&[u8]], most: u32) -> Option<u32>
     Some(end as u32)
 }
 
-/// The offset of the first of these parts in the normal data.
+/// Returns the offset of the first of these parts in the normal data.
 fn start_of_parts(image_type: u8, parts: &[&[u8]]) -> usize
     ensures { result ≡ parts_start image_type (bytes_of parts.now) }
 {
@@ -166,8 +168,8 @@ fn start_of_parts(image_type: u8, parts: &[&[u8]]) -> usize
     }
 }
 
-/// The end of the last of these parts. The first begins at `start`, and each later one at the next
-/// multiple of four. None exactly if the end is after `most`.
+/// Returns the end of the last of these parts. The first begins at `start`, and each later one at
+/// the next multiple of four. Returns None exactly if the end is after `most`.
 fn end_within(start: usize, parts: &[&[u8]], most: usize) -> Option<usize>
     requires { most < 2 ^ 32 }
     ensures { let end = parts_end_from start (map length (bytes_of parts.now)) in

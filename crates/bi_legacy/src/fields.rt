@@ -32,7 +32,7 @@ pub struct Fields<'a> {
     pub name: &'a [u8],
 }
 
-/// Whether the data of an image of this type begins with a part table.
+/// Returns whether the data of an image of this type begins with a part table.
 pub(crate) fn has_part_table(image_type: u8) -> bool
     ensures { result ≡ is_part_table_type image_type }
 {

@@ -18,7 +18,7 @@ pub fn legacy_files_have_faults()
     ensures { LegacyFilesHaveFaults }
 {}
 
-/// Multi and script images with a wrong part table have known faults.
+/// Multi-file images and scripts with a wrong part table have known faults.
 pub fn part_tables_have_faults()
     ensures { PartTablesHaveFaults }
 {}

@@ -48,17 +48,17 @@ impl<'a> Model for Legacy<'a> {
 impl<'a> Legacy<'a> {
     /// Reads a legacy image (U-Boot, include/image.h). The file may be longer than the image.
     ///
-    /// Ok exactly if the file is a legacy image of at most `limits.file()` bytes. Otherwise it
-    /// fails with the fault of the first check that fails:
+    /// Succeeds exactly if the file is a legacy image of at most `limits.file()` bytes. Otherwise
+    /// it fails with the fault of the first check that fails:
     ///
     /// - TooLarge at `limits.file()`, if the file is longer;
-    /// - Truncated at 0, if the file is shorter than the magic number;
+    /// - Truncated at 0, if the file has fewer than four bytes;
     /// - BadMagic at 0;
-    /// - Truncated at 0, if the file is shorter than a header;
+    /// - Truncated at 0, if the file has fewer than 64 bytes;
     /// - BadHeaderCrc at 4;
     /// - Truncated at 12, if the data ends after the file;
     /// - BadDataCrc at 24;
-    /// - BadPartTable at 64, for a multi or script image whose part table has no end;
+    /// - BadPartTable at 64, for a multi-file image or script whose part table has no end;
     /// - BadPart at `64 + 4 * k`, for the first part k of such an image that ends after the data.
     pub fn read(file: &'a [u8], limits: Limits) -> Result<Legacy<'a>, Fault>
         ensures read { IfOk result (IsReadLegacy limits file.entry.now) }
@@ -67,22 +67,23 @@ impl<'a> Legacy<'a> {
         parse(file, limits)
     }
 
-    /// The fields of the header.
+    /// Returns the fields of the header.
     pub fn fields(&self) -> Fields<'a>
         ensures { image_of result self.now.image.parts ≡ self.now.image }
     {
         self.fields
     }
 
-    /// The number of parts. It is 1 for any image that is neither multi nor script.
+    /// Returns the number of parts. It is 1 for any image that is neither a multi-file image nor a
+    /// script.
     pub fn part_count(&self) -> usize
         ensures { result ≡ length self.now.image.parts }
     {
         self.table.part_count
     }
 
-    /// The parts in their order, with their offsets. Iterating over all of them takes time linear
-    /// in their number.
+    /// Returns the parts in their order, with their offsets. Iterating over all of them takes time
+    /// linear in their number.
     pub fn parts(&self) -> Parts<'a>
         ensures parts { result ≡ placed_parts self.now.image }
         ensures bytes { map (λ part. part.bytes) result ≡ self.now.image.parts }
@@ -94,24 +95,25 @@ impl<'a> Legacy<'a> {
         )
     }
 
-    /// Part `index`, counted from 0. None exactly if there is no such part. Takes time linear in
-    /// `index`.
+    /// Returns part `index`, counted from 0. Returns None exactly if there is no such part. Takes
+    /// time linear in `index`.
     pub fn part(&self, index: usize) -> Option<&'a [u8]>
         ensures { option_map (λ part. part.now) result ≡ slice_get self.now.image.parts index }
     {
         Some(self.parts().nth(index)?.bytes)
     }
 
-    /// The offset in the file of the first byte of part `index`, counted from 0. None exactly if
-    /// there is no such part. Takes time linear in `index`.
+    /// Returns the offset in the file of the first byte of part `index`, counted from 0. Returns
+    /// None exactly if there is no such part. Takes time linear in `index`.
     pub fn part_place(&self, index: usize) -> Option<u32>
         ensures { result ≡ slice_get (part_places self.now.image) index }
     {
         Some(self.parts().nth(index)?.place)
     }
 
-    /// The CRC-32 of the normal data, for an image whose data is its one part: the header has it.
-    /// None for multi and script images, whose normal data may differ from the data of the file.
+    /// Returns the CRC-32 of the normal data, for an image whose data is its one part: the header
+    /// has it. Returns None for multi-file images and scripts, whose normal data may differ from
+    /// the data of the file.
     pub(crate) fn normal_data_checksum(&self) -> Option<u32>
         ensures { let image = self.now.image in IfSome result (λ checksum.
             checksum ≡ crc32 (normal_body image.image_type image.parts)) }
@@ -123,8 +125,8 @@ impl<'a> Legacy<'a> {
         }
     }
 
-    /// The number of bytes of the file after the last part, or after the part table if there are no
-    /// parts.
+    /// Returns the number of bytes of the file after the last part, or after the part table if
+    /// there are no parts.
     pub fn unused(&self) -> u32
         ensures { result ≡ self.now.unused }
     {
@@ -154,7 +156,7 @@ fn parse<'a>(file: &'a [u8], limits: Limits) -> Result<Legacy<'a>, Fault>
     })
 }
 
-/// The data of a file whose header was checked.
+/// Returns the data of a file whose header was checked.
 fn body_at<'a>(file: &'a [u8]) -> &'a [u8]
     requires whole { 64 ≤ length file.now }
     requires within { 64 + u32_at file.now 12 ≤ length file.now }
@@ -164,7 +166,7 @@ fn body_at<'a>(file: &'a [u8]) -> &'a [u8]
     &file[HEADER_SIZE..HEADER_SIZE + size]
 }
 
-/// The fields of a file whose header was checked.
+/// Returns the fields of a file whose header was checked.
 fn fields_of<'a>(file: &'a [u8]) -> Fields<'a>
     requires { 64 ≤ length file.now }
     ensures { image_of result (read_image file.entry.now).parts ≡ read_image file.entry.now }

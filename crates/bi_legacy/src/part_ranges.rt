@@ -38,7 +38,8 @@ impl<'a> Model for PartRanges<'a> {
 }
 
 impl<'a> PartRanges<'a> {
-    /// The ranges of the parts in the part table, or that of the whole data as the one part.
+    /// Returns the ranges of the parts in the part table, or that of the whole data as the one
+    /// part.
     pub(crate) fn new(body: &'a [u8], has_table: bool, part_count: usize) -> PartRanges<'a>
         requires count { part_count ≡ length (part_sizes has_table body.now) }
         requires room { first_part_offset has_table body.now ≤ length body.now }
@@ -75,7 +76,7 @@ impl<'a> Iterator for PartRanges<'a> {
     }
 }
 
-/// The size of the part table of this many parts, or 0 for data without one.
+/// Returns the size of the part table of this many parts, or 0 for data without one.
 pub(crate) fn table_size(has_table: bool, part_count: usize) -> usize
     requires { 4 * (part_count + 1) < 2 ^ 64 }
     ensures { result ≡ if has_table then 4 * (part_count + 1) else 0 }
@@ -83,7 +84,7 @@ pub(crate) fn table_size(has_table: bool, part_count: usize) -> usize
     if has_table { 4 * (part_count + 1) } else { 0 }
 }
 
-/// The size of part `index`: that in the part table, or the size of the data.
+/// Returns the size of part `index`: that in the part table, or the size of the data.
 fn size_at(body: &[u8], has_table: bool, index: usize) -> usize
     requires within { index < length (part_sizes has_table body.now) }
     requires room { first_part_offset has_table body.now ≤ length body.now }

@@ -1,5 +1,5 @@
-//! The part table of multi and script images: how many parts there are, and where the last one ends
-//! in the data.
+//! The part table of multi-file images and scripts: how many parts there are, and where the last
+//! one ends in the data.
 
 ghost use Rattle.std.specs.Prelude.{◌≡◌, true, ◌+◌, ◌*◌, ◌^◌, ◌<◌, ◌≤◌, ◌↔◌, length, IsSome};
 ghost use Rattle.std.specs.Prelude.{IfSome, IfOk, OnOk, IfErr};
@@ -61,8 +61,8 @@ fn read_part_table(body: &[u8]) -> Result<PartTable, Fault>
     Ok(PartTable { part_count, end })
 }
 
-/// The number of sizes in the part table, which ends at the first cell of zero. None exactly if no
-/// whole cell of the data is zero.
+/// Returns the number of sizes in the part table, which ends at the first cell of zero. Returns
+/// None exactly if no whole cell of the data is zero.
 fn count_sizes(body: &[u8]) -> Option<usize>
     ensures ends { IsSome result ↔ Contains (cells_of body.now) 0 }
     ensures count { IfSome result (λ count. count ≡ length (table_sizes body.now)) }
@@ -78,8 +78,8 @@ fn count_sizes(body: &[u8]) -> Option<usize>
     None
 }
 
-/// The end of the last of the parts in a part table, or of the table itself if there are no parts.
-/// Fails with BadPart for the first part that ends after the data.
+/// Returns the end of the last of the parts in a part table, or of the table itself if there are no
+/// parts. Fails with BadPart for the first part that ends after the data.
 fn end_of_parts(body: &[u8], part_count: usize) -> Result<usize, Fault>
     requires count { part_count ≡ length (table_sizes body.now) }
     requires room { 4 * (part_count + 1) ≤ length body.now }
@@ -102,7 +102,7 @@ fn end_of_parts(body: &[u8], part_count: usize) -> Result<usize, Fault>
     Ok(end)
 }
 
-/// The offset in the file of the size of part `index`, a cell of the part table.
+/// Returns the offset in the file of the size of part `index`, a cell of the part table.
 pub(crate) fn table_offset(index: usize) -> u32
     requires { 64 + 4 * index < 2 ^ 32 }
     ensures { result ≡ 64 + 4 * index }

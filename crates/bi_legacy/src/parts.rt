@@ -38,7 +38,7 @@ impl<'a> Model for Parts<'a> {
 }
 
 impl<'a> Parts<'a> {
-    /// The parts of some data: those in its part table, or the whole as the one part.
+    /// Returns the parts of some data: those in its part table, or the whole as the one part.
     pub(crate) fn new(body: &'a [u8], has_table: bool, table: PartTable) -> Parts<'a>
         requires { IsPartTable has_table body.now table }
         ensures { let body = body.entry.now in

@@ -41,7 +41,7 @@ pub(crate) fn put_image<S: Sink>(
     put_data(fields.image_type, parts, sink)
 }
 
-/// The CRC-32 of the normal data.
+/// Returns the CRC-32 of the normal data.
 pub(crate) fn data_checksum(image_type: u8, parts: &[&[u8]]) -> u32
     requires { length (normal_body image_type (bytes_of parts.now)) < 2 ^ 32 }
     ensures { result ≡ crc32 (normal_body image_type (bytes_of parts.now)) }
@@ -51,7 +51,8 @@ pub(crate) fn data_checksum(image_type: u8, parts: &[&[u8]]) -> u32
     sum.finish()
 }
 
-/// The header checksum to be written: the CRC-32 of the header with zeros in place of its checksum.
+/// Returns the header checksum to be written: the CRC-32 of the header with zeros in place of its
+/// checksum.
 fn checksum_to_write(fields: Fields<'_>, summary: DataSummary) -> u32
     requires { length fields.name.now ≤ 32 }
     ensures { let field = name_field fields.entry.name.now in

@@ -54,8 +54,8 @@ pub record IsTooLong (limits : Limits) (form : Form) (file : List ℕ) : Type 0 
   pub longer : limits.file < length (fit_text form tree)
 
 -- Memory is needed only for a file that passes all checks that need none: a legacy image, or a file
--- that does not begin as one and whose header and reservation block, as those of a blob, have no
--- fault.
+-- that does not begin as one and whose header and memory reservation block, as those of a blob,
+-- have no fault.
 pub data NeedsMemory (limits : Limits) (file : List ℕ) : Type 0 where
   ForLegacyImage : (image : LegacyImage) → LegacyMeans limits file image → NeedsMemory limits file
   ForTree : ¬ (BeginsAs file Legacy) → HasNoFaultBeforeTree limits file → NeedsMemory limits file

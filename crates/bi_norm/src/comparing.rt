@@ -44,14 +44,14 @@ impl<'a> BootImage<'a> {
     }
 }
 
-/// Whether two legacy images have the same fields and the same parts.
+/// Returns whether two legacy images have the same fields and the same parts.
 fn is_same_image(image: &Legacy<'_>, other: &Legacy<'_>) -> bool
     ensures { IsTrue result ↔ (image.now.image ≡ other.now.image) }
 {
     image.fields() == other.fields() && have_same_parts(image, other)
 }
 
-/// Whether two legacy images have the same parts, in the same order.
+/// Returns whether two legacy images have the same parts, in the same order.
 fn have_same_parts(image: &Legacy<'_>, other: &Legacy<'_>) -> bool
     ensures { IsTrue result ↔ (image.now.image.parts ≡ other.now.image.parts) }
 {

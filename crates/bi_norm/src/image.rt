@@ -23,10 +23,10 @@ pub enum BootImage<'a> {
 impl<'a> BootImage<'a> {
     /// Reads a boot image. The file may be longer than the image.
     ///
-    /// Errors, the first that applies: TooLarge at the limit, if the file is longer; Truncated at 0
-    /// below four bytes; BadMagic at 0; those of `Legacy::read` or of `Fit::read`. OutOfMemory
-    /// comes only after the checks of a legacy image, or of the header and the reservation block of
-    /// a blob.
+    /// Errors, the first that applies: TooLarge at the limit, if the file is longer; Truncated at
+    /// 0, if it has fewer than four bytes; BadMagic at 0; those of `Legacy::read` or of
+    /// `Fit::read`. OutOfMemory comes only after the checks of a legacy image, or of the header and
+    /// the memory reservation block of a blob.
     pub fn read(alloc: Global, file: &'a [u8], limits: Limits) -> Result<BootImage<'a>, Error>
         ensures read { IfOk result (IsReadBootImage limits file.entry.now) }
         ensures failed { IfErr result (IsOpenError limits file.entry.now) }
@@ -44,7 +44,7 @@ impl<'a> BootImage<'a> {
     }
 }
 
-/// Whether this is the error of a file that does not begin with the magic number of a tree.
+/// Returns whether this is the error of a file that does not begin with the magic number of a tree.
 fn is_no_tree(error: Error) -> bool
     ensures { IsTrue result ↔ (error ≡ Refused (record { cause = BadMagic; offset = 0 })) }
 {

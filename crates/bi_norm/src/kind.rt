@@ -17,8 +17,8 @@ pub enum Kind {
     Fit,
 }
 
-/// Returns the kind of a file by its first four bytes. Fails with Truncated at 0 below four bytes,
-/// else with BadMagic at 0 if they are not the magic number of a kind.
+/// Returns the kind of a file by its first four bytes. Fails with Truncated at 0, if the file has
+/// fewer than four bytes, or else with BadMagic at 0, if they are not the magic number of a kind.
 pub fn kind_of(file: &[u8]) -> Result<Kind, Fault>
     ensures ok { IfOk result (BeginsAs file.now) }
     ensures exactly { (kind : Kind) → BeginsAs file.now kind → result ≡ Ok kind }

@@ -11,11 +11,12 @@ use bi_base::{Error, Limits, Sink};
 use bi_legacy::{Legacy, emit_updated_image};
 use std::alloc::{AllocError, Global};
 
-/// Appends the normal text of a legacy image that was read under the limits, with this time of
-/// creation.
+/// Appends the normal text of a legacy image that was read under the limits, with another time of
+/// creation: `time`, in seconds since 1970.
 ///
-/// Fails with OutOfMemory, or as the sink does. All allocations but those of the sink are made
-/// before the first byte is appended.
+/// Fails with OutOfMemory, and the sink is then unchanged, or as the sink does. After an error of
+/// the sink, it is as a failed `put` of the text leaves it. All allocations but those of the sink
+/// are made before the first byte is appended.
 pub fn append_legacy<S: Sink>(
     alloc: Global,
     image: &Legacy<'_>,

@@ -22,10 +22,10 @@ use std::io::{Read, Write};
 /// payloads; it has no effect on a legacy image.
 ///
 /// Errors, each `Error::Refused`, the first that applies: TooLarge at the limit, if the file is
-/// longer; Truncated at 0 below four bytes; BadMagic at 0; those of `Legacy::read` or of
-/// `Fit::read`; TooLarge at the limit, if the normal form of a flattened image tree is longer.
-/// OutOfMemory comes only after the checks of a legacy image, or of the header and the reservation
-/// block of a blob. ReadFailed and WriteFailed never come.
+/// longer; Truncated at 0, if it has fewer than four bytes; BadMagic at 0; those of `Legacy::read`
+/// or of `Fit::read`; TooLarge at the limit, if the normal form of a flattened image tree is
+/// longer. OutOfMemory comes only after the checks of a legacy image, or of the header and the
+/// memory reservation block of a blob. ReadFailed and WriteFailed never come.
 pub fn normalise(alloc: Global, file: &[u8], form: Form, limits: Limits) -> Result<Vec<u8>, Error>
     ensures normal_form { IfOk result (λ text. IsNormalForm limits form file.now text.items) }
     ensures failed { IfErr result (IsNormaliseError limits form file.now) }

@@ -2,6 +2,8 @@ use Rattle.std.proofs.Common.{◌≡◌, ◌++◌, ℕ, ◌+◌, ◌<◌, List, 
 use Rattle.std.specs.List.{flat_map}
 use Rattle.std.proofs.lemmas.Grind.{common_steps}
 
+-- Proves that the lines of the causes are written one after the other.
+
 -- One more line after the lines of the first elements of a list.
 pub one_more_cause : {X : Type 0} (f : X → List ℕ) (xs : List X) (d : X) (i : ℕ) (now next : List ℕ) → i < length xs →
     now ≡ flat_map f (take i xs) → next ≡ now ++ f (get_or xs i d) → next ≡ flat_map f (take (i + 1) xs)

@@ -29,7 +29,7 @@ pub line_is_logged : (old new : WriteTrace) (bytes : List ℕ) (result : Result 
 line_is_logged old new bytes (Ok done) wrote = IsLogged wrote
 line_is_logged old new bytes (Err error) wrote = HasStopped error wrote
 
--- A run over traced streams is one over plain streams with what the traces say.
+-- A run over traced streams is one over plain streams with what the traces record.
 pub plain_run : (files : FilePromise) (steps new_steps : Option (List FileStep)) (run : Run)
     (remaining new_remaining contents new_contents errors new_errors : Option (List ℕ)) → IsRun files run
     → ReadsWell run.input → run.input.taken ≡ 0 → WritesWell run.output → WritesWell run.errors

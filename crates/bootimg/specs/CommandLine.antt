@@ -56,7 +56,7 @@ abbrev pub HasLengths : BuildPlan → Type 0
 HasLengths (Legacy plan) = ⊤
 HasLengths (Fit plan) = length plan.payloads.items ≡ length plan.images.items
 
--- The same of what a job builds.
+-- If a job is to build a flattened image tree, there are as many lengths or files as images.
 abbrev pub HasJobLengths : Job → Type 0
 HasJobLengths (Run task source) = ⊤
 HasJobLengths (Compare plan) = ⊤
@@ -292,7 +292,7 @@ IsSelection options escaped (Config name key index) = (argument : List ℕ)
 IsSelection options escaped (Default key index) =
     AreGiven options None None None true × IsEntry options (key, index)
 
--- The same with names that are escaped or not.
+-- The options select this, by names that are escaped or not.
 abbrev pub IsSelected : ArgMatches → Selected → Type 0
 IsSelected options selection =
     (escaped : Bool) × AreEscaped options escaped × IsSelection options escaped selection

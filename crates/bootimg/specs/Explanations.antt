@@ -109,7 +109,7 @@ all_causes =
 abbrev pub explanation_of : Cause → List ℕ
 explanation_of cause = sentence_of cause ++ 10 ∷ []
 
--- The same after the name of the cause.
+-- What a cause means, as a line that begins with the name of the cause.
 abbrev pub line_of_cause : Cause → List ℕ
 line_of_cause cause = name_of cause ++ codes ": " ++ explanation_of cause
 

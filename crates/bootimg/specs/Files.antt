@@ -60,15 +60,15 @@ pub data FileStep : Type 0 where
   NotMade : (name : List ℕ) → FileStep
   -- The file of this name was closed.
   Closed : (name : List ℕ) → (file : WriteTrace) → FileStep
-  -- The same failed.
+  -- Closing the file of this name failed.
   NotClosed : (name : List ℕ) → (file : WriteTrace) → FileStep
   -- The file of the first name took the second one, in place of the file that had it.
   Renamed : (name new_name : List ℕ) → FileStep
-  -- The same failed: each file has the name that it had.
+  -- The file of the first name did not take the second one: each file has the name that it had.
   NotRenamed : (name new_name : List ℕ) → FileStep
   -- The file of this name was removed.
   Removed : (name : List ℕ) → FileStep
-  -- The same failed.
+  -- Removing the file of this name failed.
   NotRemoved : (name : List ℕ) → FileStep
 
 -- These steps were taken between two times, if the steps up to each are known.

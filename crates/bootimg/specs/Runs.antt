@@ -416,8 +416,8 @@ pub record IsRequestRun (files : FilePromise) (request : Request) (run : Run) : 
   pub done : IsOutputRun files request.job request.limits run outcome request.output
   pub end : IsEnd run.errors run.new_errors run.status outcome
 
--- A text that is an answer to the arguments was written: help or the version to standard output, or
--- why the arguments are wrong to standard error. Nothing was read, and no file was changed.
+-- A text about the arguments was written: help or the version to standard output, or why the
+-- arguments are wrong to standard error. Nothing was read, and no file was changed.
 pub data IsTextRun (text : List ℕ) (run : Run) : Type 0 where
   IsWritten : WroteAndFlushed run.output text run.new_output → run.new_errors ≡ run.errors
       → run.new_input ≡ run.input → run.new_steps ≡ run.steps → run.status ≡ 0
@@ -439,7 +439,8 @@ pub data IsRun (files : FilePromise) (run : Run) : Type 0 where
       → IsRun files run
   WroteText : (text : List ℕ) → IsTextRun text run → IsRun files run
 
--- The same over plain streams: what traces of these streams say, which begin when the run does.
+-- The program ran over plain streams: it did what traces of these streams record, which begin when
+-- the run does.
 pub record IsPlainRun (files : FilePromise) (steps new_steps : Option (List FileStep))
     (remaining new_remaining contents new_contents : Option (List ℕ))
     (errors new_errors : Option (List ℕ)) (status : ℕ) : Type 0 where

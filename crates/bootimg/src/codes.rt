@@ -21,7 +21,7 @@ pub enum CodeField {
 }
 
 impl CodeField {
-    /// The name of a code of this field. None if the code has no name.
+    /// Returns the name of a code of this field. Returns None if the code has no name.
     fn name(self, code: u8) -> Option<&'static str>
         ensures { option_map (λ name. name.now) result ≡ name_of_code (codes_of self) code }
     {
@@ -46,7 +46,7 @@ pub fn parse_code(field: CodeField, argument: &str) -> Option<u8>
     }
 }
 
-/// Returns the code of this field that has this name. None exactly if no code has it.
+/// Returns the code of this field that has this name. Returns None exactly if no code has it.
 fn named_code(field: CodeField, name: &str) -> Option<u8>
     ensures some { IfSome result (λ code. name_of_code (codes_of field) code ≡ Some name.now) }
     ensures exactly { (code : ℕ) → name_of_code (codes_of field) code ≡ Some name.now → result

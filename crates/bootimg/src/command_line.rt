@@ -43,7 +43,7 @@ use update::changes;
 /// A command, and the options that only this command has.
 #[derive(Debug, Drop)]
 pub enum Task {
-    /// Write the normal form. A flattened image tree has its payloads where the form says.
+    /// Write the normal form. That of a flattened image tree has this form.
     Normalise(Form),
     /// Write the listing.
     List,
@@ -53,8 +53,7 @@ pub enum Task {
     Verify,
     /// Write the concerns that are not of these kinds.
     Check(Allowed),
-    /// Write the normal form with these changes. A flattened image tree has its payloads where the
-    /// form says.
+    /// Write the normal form with these changes. That of a flattened image tree has this form.
     Update(Changes, Form),
     /// Write what the selection chooses.
     Extract(Selected),
@@ -134,8 +133,8 @@ impl From<Failure> for Outcome {
 ///
 /// Errors, the first that applies: what clap rejects; `extract` without exactly one selection, or
 /// `update` without a change; a number that is malformed or out of range, an unknown code, key or
-/// kind of concerns, or `compare` of standard input with itself; an image of `build-fit` that
-/// cannot be read. A call that allocates may run out of memory.
+/// kind of concerns, or `compare` of standard input with itself; an image of `build-fit` that is
+/// malformed. A call that allocates may run out of memory.
 pub fn parse_arguments<'a>(alloc: Global, arguments: &'a [&'a str]) -> Result<Request<'a>, Outcome>
     ensures request { IfOk result IsRequest }
     ensures failure { IfErr result IsNoRequest }
@@ -203,7 +202,7 @@ fn parse_task(alloc: Global, name: &str, options: &ArgMatches<'_>) -> Result<Tas
     })
 }
 
-/// The outcome of arguments without a command.
+/// Returns the outcome of arguments without a command.
 fn no_command(alloc: Global) -> Result<Outcome, AllocError>
     ensures { IfOk result IsTextOutcome }
 {

@@ -116,7 +116,7 @@ fn put_cause(text: &mut String, cause: Cause) -> Result<(), AllocError>
     Ok(())
 }
 
-/// Returns what a cause means, and what a user can do. The manual page has the same arguments.
+/// Returns what a cause means, and what a user can do. The manual page has the same sentence.
 fn sentence(cause: Cause) -> &'static str
     ensures { result.now ≡ sentence_of cause }
 {

@@ -29,7 +29,7 @@ pub enum Failure {
     NoKey,
     /// The value of the key is not a list of names.
     BadList,
-    /// No image has the name at this index, from 0, of the list.
+    /// No image has the name at this index, counted from 0, of the list.
     Missing(usize),
     /// The list has no entry with this index.
     NoIndex,
@@ -41,7 +41,7 @@ pub enum Failure {
     NoChange,
     /// The value of an option, or a length, is malformed or out of range.
     BadValue,
-    /// The argument at this index, from 0, of `build-fit` is no image.
+    /// The argument at this index, counted from 0, of `build-fit` is no image.
     BadImage(usize),
     /// The file cannot be opened.
     CannotOpen,
@@ -50,8 +50,8 @@ pub enum Failure {
 }
 
 impl Failure {
-    /// Whether the line of the failure begins with the name of the file that the image is read
-    /// from, if it is read from a file, or of the output file.
+    /// Returns whether the line of the failure begins with the name of the file that the image is
+    /// read from, if it is read from a file, or of the output file.
     pub fn is_about_image(self) -> bool
         ensures { result ≡ is_about_image_of self }
     {

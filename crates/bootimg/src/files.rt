@@ -50,7 +50,7 @@ pub trait FileSystem {
         ensures not_made { IfErr result (λ error. error_kind error ≢ AlreadyExists
             → TookSteps (steps self.old) (steps self.new) (NotMade name.now ∷ [])) };
 
-    /// Closes the new file of this name. After a failure it is closed, too, but it may not have the
+    /// Closes the new file of this name. After an error it is closed, too, but may not have the
     /// bytes that were written.
     fn close(&mut self, name: &str, file: Self::Created) -> io::Result<()>
         ensures closed { OnOk result (TookSteps (steps self.old) (steps self.new)
@@ -58,14 +58,15 @@ pub trait FileSystem {
         ensures not_closed { OnErr result (TookSteps (steps self.old) (steps self.new)
             (NotClosed name.now (Self.Created.trace file) ∷ [])) };
 
-    /// Gives the file of the first name the second one, in place of a file that has it.
+    /// Renames a file, and replaces the file of the new name, if there is one. After an error each
+    /// file has the name that it had.
     fn rename(&mut self, name: &str, new_name: &str) -> io::Result<()>
         ensures renamed { OnOk result (TookSteps (steps self.old) (steps self.new)
             (Renamed name.now new_name.now ∷ [])) }
         ensures not_renamed { OnErr result (TookSteps (steps self.old) (steps self.new)
             (NotRenamed name.now new_name.now ∷ [])) };
 
-    /// Removes the file of this name.
+    /// Removes the file of this name. After an error the file may still be there.
     fn remove(&mut self, name: &str) -> io::Result<()>
         ensures removed { OnOk result (TookSteps (steps self.old) (steps self.new)
             (Removed name.now ∷ [])) }

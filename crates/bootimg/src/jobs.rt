@@ -178,7 +178,7 @@ fn compare_images<'a, S: TracedRead, T: TracedWrite, F: FileSystem>(
     compare_files(alloc, plan, &one, &other, limits, output)
 }
 
-/// The end of a job that failed with an image from this source.
+/// Returns the end of a job that failed with an image from this source.
 fn job_failed<'a>(source: ImageSource<'a>, failure: Failure) -> Result<Done, Problem<'a>>
     ensures { result ≡ Err (problem source.entry failure) }
 {

@@ -17,7 +17,7 @@ pub struct NewFile<W> {
 }
 
 impl<W: Write> NewFile<W> {
-    /// A new file with this writer, before the first call.
+    /// Returns a new file with this writer, before the first call.
     pub fn new(writer: W) -> NewFile<W>
         ensures contents { (⟦<NewFile<W> as TracedWrite>⟧.trace result).contents
             ≡ W.contents writer }

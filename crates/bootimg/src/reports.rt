@@ -51,7 +51,8 @@ fn failure_text(
     }
 }
 
-/// The same, if the image is read from the file of this name.
+/// Returns the text of a failure, if the image is read from the file of this name. The text begins
+/// with the name if the failure is about the image.
 fn text_with_name(alloc: Global, file: &str, failure: Failure) -> Result<String, AllocError>
     ensures { IfOk result (λ text. string_bytes text
         ≡ name_text (File file.entry) failure ++ text_of_failure failure) }

@@ -51,7 +51,8 @@ pub fn perform<S: TracedRead, T: TracedWrite, E: TracedWrite, F: FileSystem>(
     }
 }
 
-/// Writes to standard error what there is to say at the end of a job, and returns the exit status.
+/// Writes the note or the line of the failure to standard error, if there is one, and returns the
+/// exit status.
 fn conclude<E: TracedWrite>(alloc: Global, outcome: Result<Done, Problem<'_>>, errors: &mut E) -> u8
     ensures { IsEnd (E.trace errors.old) (E.trace errors.new) result outcome.entry }
 {

@@ -15,12 +15,12 @@ use std::io::ErrorKind;
 /// How many names are tried for a new file.
 const MOST_NAMES: u32 = 10_000;
 
-/// Gives the file of this name these bytes: writes them to a new file beside it, which takes its
-/// name then.
+/// Saves these bytes in the file of this name: writes them to a new file beside it, which then
+/// takes the name.
 ///
 /// Fails with NotWritten if something that is no regular file has the name, or if the new file
-/// cannot be made, written, flushed, closed or renamed, and with OutOfMemory. The file is as it was
-/// then, and the new file is removed; if that fails, it is left.
+/// cannot be made, written, flushed, closed or renamed, and with OutOfMemory. After an error the
+/// file is unchanged, and the new file is removed; if that fails, it is left.
 pub fn save<F: FileSystem>(
     alloc: Global,
     files: &mut F,
@@ -46,7 +46,8 @@ pub fn save<F: FileSystem>(
 }
 
 /// Writes these bytes to the new file of the name `beside`, and gives it the name `name` in place
-/// of a file that has it. Fails with NotWritten, and both have the names that they had then.
+/// of a file that has it. Fails with NotWritten. After an error both files have the names that they
+/// had.
 fn put_in_place<F: FileSystem>(
     files: &mut F,
     beside: &str,
@@ -68,7 +69,7 @@ fn put_in_place<F: FileSystem>(
 }
 
 /// Writes these bytes to the new file of this name, flushes it and closes it. Fails with
-/// NotWritten, and it is closed then, too.
+/// NotWritten. After an error it is closed, too.
 fn fill<F: FileSystem>(
     files: &mut F,
     beside: &str,

@@ -32,7 +32,7 @@ pub struct Done {
 }
 
 impl Done {
-    /// The end of a task without signature nodes, with this exit status.
+    /// Returns the end of a task without signature nodes, with this exit status.
     pub fn with_status(status: u8) -> Done
         ensures { EndedWith status result }
     {

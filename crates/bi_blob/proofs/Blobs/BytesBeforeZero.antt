@@ -9,6 +9,8 @@ use Rattle.bi_blob.specs.Tree.{HasNoZero}
 use Rattle.bi_blob.specs.Tokens.{IsNameAt, name_from}
 use Rattle.bi_blob.specs.BlobFaults.{HasName}
 
+-- Proves that at most one name is at an offset, and that it is the one that is read there.
+
 -- The bytes before the first zero byte.
 abbrev pub before_zero : List ℕ → List ℕ
 before_zero bytes = before_first (λ byte. byte == 0) bytes

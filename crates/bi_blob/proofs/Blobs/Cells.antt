@@ -5,6 +5,8 @@ use Rattle.std.proofs.lemmas.Nat.{be_bytes_8, from_be_bytes-to_be_bytes_4, from_
 use Rattle.bi_base.specs.Cells.{cell, cell8, slice, u32_at, u64_at, AreBytes}
 use Rattle.bi_base.proofs.CellLaws.{length-cell, length-slice, AreBytes-slice, cell-u32_at}
 
+-- Proves what it means that bytes or cells are at an offset of a file, and that they are read there.
+
 -- These bytes are at this offset of a file.
 abbrev pub BytesAt : List ℕ → ℕ → List ℕ → Type 0
 BytesAt file at bytes = slice file at (length bytes) ≡ bytes

@@ -12,6 +12,8 @@ use Rattle.bi_blob.proofs.Blobs.TokenEncoding.{place_after_all, place_after_all-
 use Rattle.bi_blob.proofs.Blobs.PassedTokens.{width-End, place_after_all-reverse, place_after_all-past, ArePassed-stand-push, AllStand-encoded}
 use Rattle.bi_blob.proofs.Blobs.Steps.{IsNext, number_within}
 
+-- Proves that FDT_END after the root ends the structure block.
+
 -- A slice is its first part and the rest.
 slice-split : (file : List ℕ) (at m k n : ℕ) → n ≡ m + k → slice file at n ≡ slice file at m ++ take k (drop m (drop at file))
 slice-split file at m k n e = ap (λ l. take l (drop at file)) e ∙ take-add m k (drop at file)

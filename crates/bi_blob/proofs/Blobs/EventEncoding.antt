@@ -6,6 +6,8 @@ use Rattle.bi_blob.specs.Events.{FileEvent, FileNodeStart, FileNodeProperty, Fil
 use Rattle.bi_blob.proofs.Blobs.BytesBeforeZero.{one_name}
 use Rattle.bi_blob.proofs.Blobs.TokenEncoding.{place_after_all}
 
+-- Proves that tokens encode at most one list of events, and that lists of tokens encode their events one after the other.
+
 -- A token encodes at most one property.
 one_property : (strings : List ℕ) (at o : ℕ) (v : List ℕ) (p q : FileProperty) → EncodesProperty strings at o v p →
     EncodesProperty strings at o v q → p ≡ q

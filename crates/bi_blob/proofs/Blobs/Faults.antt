@@ -17,6 +17,8 @@ use Rattle.bi_blob.proofs.Blobs.Whole.{HasTree, tree_or_fault}
 use Rattle.bi_blob.proofs.Blobs.OneFault.{IsEnded, one_structure_fault, no_fault_in_ended}
 use Rattle.bi_blob.proofs.Blobs.Complete.{tree_ends}
 
+-- Proves that a file is a blob within limits exactly if it has no fault under them, and that it has at most one fault.
+
 -- A blob's header has no fault, nor do its reservations, nor does its structure block.
 pub blob_has_no_fault : BlobHasNoFault
 blob_has_no_fault bounds file fault within (InHeader first) =

@@ -10,6 +10,8 @@ use Rattle.bi_blob.proofs.Blobs.EventEncoding.{one_event_list, EncodeEvents-no_e
 use Rattle.bi_blob.proofs.Blobs.OneTree.{trees_agree}
 use Rattle.bi_blob.proofs.Blobs.Reservations.{reservations_agree}
 
+-- Proves that a file is at most one blob.
+
 -- The tokens of a block's tree are at the block's beginning.
 pub HoldsTree-stand : (blocks : TreeBlocks) (root : Root FileNode) (holds : HoldsTree blocks root) →
     AllStand blocks.file blocks.begin (holds.tokens ++ End ∷ [])

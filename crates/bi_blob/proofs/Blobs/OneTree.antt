@@ -3,6 +3,8 @@ use Rattle.std.proofs.lemmas.List.{append_assoc}
 use Rattle.bi_blob.specs.Tree.{Nodes, none, node, Root, FileProperty, FileNode, as_nodes}
 use Rattle.bi_blob.specs.Events.{FileEvent, FileNodeStart, FileNodeProperty, FileNodeEnd, file_events, file_events_of}
 
+-- Proves that events are those of at most one tree.
+
 -- These events do not begin with the start of a node: a list of siblings has ended.
 pub IsEndOfNodes : List FileEvent → Type 0
 IsEndOfNodes [] = Unit {0}

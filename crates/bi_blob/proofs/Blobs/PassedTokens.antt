@@ -15,6 +15,8 @@ use Rattle.bi_blob.proofs.Blobs.Tokens.{width-at_least}
 use Rattle.bi_blob.proofs.Blobs.TokenEncoding.{place_after_all, place_after_all-append, AllStand}
 use Rattle.bi_blob.proofs.Blobs.EventEncoding.{EncodeEvents-append}
 
+-- Proves that the tokens that pass their checks are in the file, one after the other.
+
 -- FDT_END takes four bytes.
 pub width-End : width End ≡ 4
 width-End = ap up4 (length-cell end_number)

@@ -15,7 +15,7 @@ use Rattle.bi_blob.proofs.Blobs.Cells.{BytesAt, BytesAt-from, BytesAt-left, Byte
 use Rattle.bi_blob.proofs.Blobs.Cells.{u64_at-fits, length-cell8}
 use Rattle.bi_blob.proofs.Blobs.Decided.{IsEndPair_decided}
 
--- Proves that a reservation block has reservations and an end pair, or a fault, and that they are those read at their offsets.
+-- Proves that a memory reservation block has reservations and an end pair, or a fault, and that they are those read at their offsets.
 
 pub length-pair_bytes : (pair : Reservation) → length (pair_bytes pair) ≡ 16
 length-pair_bytes pair = simp (length-append, length-cell8) refl
@@ -119,7 +119,7 @@ IsReservationsFault-cons file at total fault first later =
       is = one_later (λ n. fault ≡ record { cause = Truncated; offset = n }) at later.index later.is;
     }
 
--- What a reservation block has.
+-- What a memory reservation block has.
 pub record HasSome (file : List ℕ) (at total : ℕ) : Type 0 where
   pub count : ℕ
   pub has : HasReservations file at total count

@@ -6,6 +6,8 @@ use Rattle.bi_blob.specs.Blob.{Reservation, IsReservation, pair_bytes, end_pair,
 use Rattle.bi_base.proofs.CellLaws.{parts_agree}
 use Rattle.bi_blob.proofs.Blobs.Cells.{length-cell8, cell8_agree}
 
+-- Proves that a list of bytes begins with the memory reservation block of at most one list of reservations.
+
 -- Both numbers of a pair are read from its bytes.
 pairs_agree : (a b : Reservation) (x y : List ℕ) → a.address < 2 ^ 64 → a.size < 2 ^ 64 → b.address < 2 ^ 64 → b.size < 2 ^ 64 →
     pair_bytes a ++ x ≡ pair_bytes b ++ y → (a ≡ b) × (x ≡ y)

@@ -5,6 +5,8 @@ use Rattle.bi_blob.specs.Tokens.{Token, End, token_bytes, width, IsEncoding, Are
 use Rattle.bi_blob.proofs.Blobs.Cells.{BytesAt-from}
 use Rattle.bi_blob.proofs.Blobs.Tokens.{one_token}
 
+-- Proves that tokens are one after the other in a file where their encodings are, and that at most one list of tokens is at an offset.
+
 -- The offset of the token after these, the first of which is at this offset.
 abbrev pub place_after_all : ℕ → List Token → ℕ
 place_after_all at [] = at

@@ -9,6 +9,8 @@ use Rattle.bi_blob.proofs.Blobs.Cells.{BytesAt, BytesAt-from, BytesAt-drop, Byte
 use Rattle.bi_blob.proofs.Blobs.Cells.{BytesAt-cell, u32_at-BytesAt}
 use Rattle.bi_base.proofs.CellLaws.{u32_at-fits}
 
+-- Proves that at most one token is at an offset, and that its parts are read there.
+
 -- The number of a token.
 abbrev pub number : Token → ℕ
 number (BeginNode name) = begin_node_number

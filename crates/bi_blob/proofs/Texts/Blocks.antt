@@ -48,7 +48,7 @@ unfolding text_of_blocks
 text_parts cpu reserved structure strings rest =
     after_five (blob_header cpu (length reserved) (length structure) (length strings)) reserved structure strings (padding_to_4 (length_before_padding (length reserved) (length structure) (length strings))) rest
 
--- The reservation block is a whole number of pairs.
+-- The memory reservation block is a whole number of pairs.
 pub length-reservations : (reservations : List Reservation) → length (flat_map pair_bytes reservations) ≡ 16 * length reservations
 length-reservations [] = refl
 length-reservations (reservation ∷ later) =

@@ -20,11 +20,11 @@ AreBytes-header cpu reserved structure strings =
     then : {trailing : List ℕ} (n : ℕ) → AreBytes trailing → AreBytes (cell n ++ trailing)
     then {trailing = trailing} n bytes = AreBytes-append (cell n) trailing (AreBytes-cell n) bytes
 
--- A pair of the reservation block is.
+-- A pair of the memory reservation block is.
 pub AreBytes-reservation : (reservation : Reservation) → AreBytes (pair_bytes reservation)
 AreBytes-reservation reservation = AreBytes-append _ _ (AreBytes-cell8 reservation.address) (AreBytes-cell8 reservation.size)
 
--- The reservation block is.
+-- The memory reservation block is.
 pub AreBytes-reserved : (reservations : List Reservation) → AreBytes (reservation_block reservations)
 AreBytes-reserved reservations = AreBytes-append (flat_map pair_bytes reservations) (pair_bytes end_pair) (AreBytes-flat_map pair_bytes reservations (each reservations)) (AreBytes-reservation end_pair)
   where

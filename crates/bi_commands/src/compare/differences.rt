@@ -30,7 +30,7 @@ pub(super) fn differences(alloc: Global, one: &[&str], other: &[&str]) -> Result
     Ok(text)
 }
 
-/// The set of these lines.
+/// Returns the set of these lines.
 fn set_of<'a>(alloc: Global, lines: &[&'a str]) -> Result<BTreeSet<&'a str>, AllocError>
     ensures { IfOk result (IsSetOf (map (λ line. line.now) lines.now)) }
 {
@@ -41,7 +41,7 @@ fn set_of<'a>(alloc: Global, lines: &[&'a str]) -> Result<BTreeSet<&'a str>, All
     Ok(set)
 }
 
-/// The first of these lines for each key, but those that are in the set.
+/// Returns the first of these lines for each key, but those that are in the set.
 fn new_lines_by_key<'a>(
     alloc: Global,
     lines: &[&'a str],
@@ -73,7 +73,7 @@ fn insert_new<'a>(
     Ok(())
 }
 
-/// The counterparts of these lines.
+/// Returns the counterparts of these lines.
 fn counterparts_of<'a>(
     alloc: Global,
     lines: &[&str],
@@ -109,7 +109,7 @@ fn insert_counterpart<'a>(
     }
 }
 
-/// The counterpart of a line, if it has one.
+/// Returns the counterpart of a line, if it has one.
 fn counterpart<'a>(
     line: &str,
     others: &BTreeSet<&str>,
@@ -202,7 +202,7 @@ fn put_line(text: &mut String, sign: &str, line: &str) -> Result<(), AllocError>
     text.push('\n')
 }
 
-/// The key of a line, which names what the line is about.
+/// Returns the key of a line, which names what the line is about.
 fn key_of_line(line: &str) -> &[u8]
     ensures { result.now ≡ key_of line.entry.now }
 {
@@ -222,7 +222,7 @@ fn key_of_line(line: &str) -> &[u8]
     first_words(bytes, 1)
 }
 
-/// The first words of a line, with the spaces between them.
+/// Returns the first words of a line, with the spaces between them.
 fn first_words(line: &[u8], count: usize) -> &[u8]
     ensures { result.now ≡ words_of count line.entry.now }
 {

@@ -28,7 +28,7 @@ pub(super) fn compare_texts(alloc: Global, one: &str, other: &str) -> Result<Str
     }
 }
 
-/// The lines of a text.
+/// Returns the lines of a text.
 fn lines_of<'a>(alloc: Global, text: &'a str) -> Result<Vec<&'a str>, AllocError>
     ensures { IfOk result (λ items. map (λ line. line.now) items.items ≡ lines text.entry.now) }
 {

@@ -31,7 +31,8 @@ impl Sink for LimitedSink {
 
     ghost fails = { HasNoRoom };
 
-    /// Takes these bytes. TooLarge at the limit, if they are more than there is room for.
+    /// Takes these bytes. Fails with TooLarge at the limit, if they are more than there is room
+    /// for.
     fn put(&mut self, bytes: &[u8]) -> Result<(), Error> {
         if bytes.len() > self.room {
             return refuse(Cause::TooLarge, self.limit).map_err(Error::from);

@@ -61,7 +61,7 @@ pub(super) fn remove_payload(properties: &mut ByName<'_>)
     properties.retain(|name, _| !is_payload_name(name));
 }
 
-/// Whether a property of this name holds a payload or names its region.
+/// Returns whether a property of this name holds a payload or names its region.
 fn is_payload_name(name: &[u8]) -> bool
     ensures { result ≡ is_payload_name_of name.now }
 {

@@ -105,7 +105,7 @@ fn put_word<S: Sink>(word: Word, sink: &mut S) -> Result<(), Error>
     }
 }
 
-/// The most bytes whose digits are made at once.
+/// The greatest number of bytes whose digits are made at once.
 const PIECE: usize = 512;
 
 /// Appends a number in decimal digits. Fails as the sink does.

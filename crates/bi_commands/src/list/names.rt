@@ -6,8 +6,8 @@ ghost use Rattle.bi_commands.specs.ReadListing.{first_missing as first_missing_o
 
 use bi_fit::{Fit, split_name};
 
-/// Returns the index of the first name that a value lists and that no image has. None exactly if
-/// there is no such name.
+/// Returns the index of the first name that a value lists and that no image has. Returns None
+/// exactly if there is no such name.
 pub(super) fn first_missing(fit: &Fit, value: &[u8]) -> Option<usize>
     ensures { result ≡ first_missing_of fit.now.images 0 (listed_names value.now) }
 {

@@ -12,8 +12,8 @@ use crate::comparing::role::Role;
 use bi_fdt::NodeRef;
 use std::alloc::{AllocError, Global};
 
-/// Whether two nodes of this role are the same, with all nodes below them: they have the same name,
-/// the same properties by name and the same children in the same order.
+/// Returns whether two nodes of this role are the same, with all nodes below them: they have the
+/// same name, the same properties by name and the same children in the same order.
 #[cycle(same)]
 pub(super) fn are_same_nodes<'a>(
     alloc: Global,
@@ -37,8 +37,8 @@ pub(super) fn are_same_nodes<'a>(
     )
 }
 
-/// Whether two nodes have the same children in the same order, with all nodes below them. The
-/// children have this role.
+/// Returns whether two nodes have the same children in the same order, with all nodes below them.
+/// The children have this role.
 #[cycle(same)]
 fn have_same_children<'a>(
     alloc: Global,

@@ -11,7 +11,7 @@ use crate::fit::Fit;
 use crate::image::{Image, Place};
 use std::alloc::{AllocError, Global};
 
-/// Whether the images of two trees have the same payloads, or none, in the same order.
+/// Returns whether the images of two trees have the same payloads, or none, in the same order.
 ///
 /// It takes time n log n in the number of images, and time linear in the bytes of the first file
 /// for each distance between the offsets of two payloads. So regions that many images share are
@@ -36,8 +36,9 @@ pub(super) fn have_same_payloads(
     Ok(have_same_bytes(file, other_file, &pairs))
 }
 
-/// Returns the pairs of the payloads of these images, which are in these files. None if not as many
-/// images are in both, or if two payloads differ in length, or if only one of them is there.
+/// Returns the pairs of the payloads of these images, which are in these files. Returns None if not
+/// as many images are in both, or if two payloads differ in length, or if only one of them is
+/// there.
 fn pair_payloads(
     alloc: Global,
     file: &[u8],
@@ -68,7 +69,7 @@ fn pair_payloads(
 }
 
 /// Returns the pair of the payloads of two images, which are in these files. It is empty if both
-/// have none. None if the payloads differ in length, or if only one of them is there.
+/// have none. Returns None if the payloads differ in length, or if only one of them is there.
 fn pair_of_payloads(
     file: &[u8],
     other_file: &[u8],
@@ -104,7 +105,7 @@ fn pair_of_payloads(
     }
 }
 
-/// The offset of the first byte of a payload, or zero if there is none.
+/// Returns the offset of the first byte of a payload, or zero if there is none.
 fn begin_of(place: Place) -> usize
     ensures offset { (offset : ℕ) → offset_of_place place ≡ Some offset → result ≡ offset }
     ensures small { result < 2 ^ 32 }

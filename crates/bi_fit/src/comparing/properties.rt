@@ -12,8 +12,8 @@ use crate::comparing::role::Role;
 use bi_fdt::NodeRef;
 use std::alloc::{AllocError, Global};
 
-/// Whether two nodes of this role have the same properties by name, without those that are not
-/// compared.
+/// Returns whether two nodes of this role have the same properties by name, without those that are
+/// not compared.
 ///
 /// Makes n log n comparisons of numbers, for n properties. Each value is compared once at most.
 pub(super) fn have_same_properties<'a>(

@@ -15,9 +15,9 @@ pub(super) struct RegionPair {
     pub(super) end: usize,
 }
 
-/// Whether the two regions of each of these pairs have the same bytes. Pairs of one distance that
-/// follow one another in the order of their offsets, as after a sort, are compared in time linear
-/// in the bytes of the file that they have, also if they share bytes.
+/// Returns whether the two regions of each of these pairs have the same bytes. Pairs of one
+/// distance that follow one another in the order of their offsets, as after a sort, are compared in
+/// time linear in the bytes of the file that they have, also if they share bytes.
 pub(super) fn have_same_bytes(file: &[u8], other: &[u8], pairs: &[RegionPair]) -> bool
     requires small { length other.now + length file.now < 2 ^ 64 }
     requires within { AllByRecursion (AreInFiles file.now other.now) pairs.now }
@@ -71,14 +71,14 @@ fn compare_pair(
     is_same_pair(file, other, rest).then_some(both)
 }
 
-/// Whether a pair of the same distance begins within another pair, or at its end.
+/// Returns whether a pair of the same distance begins within another pair, or at its end.
 fn begins_within(compared: RegionPair, pair: RegionPair) -> bool
     ensures { IsTrue result ↔ BeginsWithin compared pair }
 {
     pair.distance == compared.distance && compared.begin <= pair.begin && pair.begin <= compared.end
 }
 
-/// Whether the two regions of a pair have the same bytes.
+/// Returns whether the two regions of a pair have the same bytes.
 fn is_same_pair(file: &[u8], other: &[u8], pair: RegionPair) -> bool
     requires small { length other.now + length file.now < 2 ^ 64 }
     requires within { AreInFiles file.now other.now pair }

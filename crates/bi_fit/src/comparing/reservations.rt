@@ -4,7 +4,7 @@ ghost use Rattle.std.specs.Prelude.{◌≡◌, ◌↔◌, IsTrue};
 
 use bi_fdt::Blob;
 
-/// Whether both blobs have the same memory reservations in the same order.
+/// Returns whether both blobs have the same memory reservations in the same order.
 pub(super) fn have_same_reservations(own: &Blob<'_>, other: &Blob<'_>) -> bool
     ensures { IsTrue result ↔ (own.now.reservations ≡ other.now.reservations) }
 {

@@ -100,8 +100,8 @@ fn add_image_nodes<'a>(
     Ok(())
 }
 
-/// The properties of an image node, with those that give its payload. `begin` is the offset of an
-/// external payload from the end of the blob.
+/// Returns the properties of an image node, with those that give its payload. `begin` is the offset
+/// of an external payload from the end of the blob.
 fn image_properties<'a>(
     alloc: Global,
     node: RankedNode<'a, '_>,
@@ -123,7 +123,7 @@ fn image_properties<'a>(
     Ok(properties)
 }
 
-/// Whether the hash nodes of an image with this payload get new digests.
+/// Returns whether the hash nodes of an image with this payload get new digests.
 fn is_hashed(changes: Changes, payload: Option<&[u8]>) -> bool
     ensures { result
         ≡ is_hashed_of changes.hashes (option_map (λ payload. payload.now) payload.entry) }
@@ -194,7 +194,8 @@ fn add_image_children<'a>(
 }
 
 /// Adds a child of an image node, with all nodes below it. If the image is hashed, and this is a
-/// hash node of a known algorithm, it gets the first of these digests. Returns the bytes after it.
+/// hash node of a known algorithm, its value is the first of these digests. Returns the bytes after
+/// it.
 fn add_image_child<'a>(
     alloc: Global,
     doc: &mut Doc<'a>,

@@ -61,7 +61,7 @@ impl<'a> Model for PropertyMap<'a> {
 }
 
 impl<'a> PropertyMap<'a> {
-    /// A map without properties. It allocates nothing.
+    /// Returns a map without properties. It allocates nothing.
     pub(crate) fn new(alloc: Global) -> PropertyMap<'a>
         ensures { result ≡ without_numbers empty }
     {
@@ -70,7 +70,8 @@ impl<'a> PropertyMap<'a> {
         }
     }
 
-    /// The properties of a node, with the ranks of their names as numbers. Compares no names.
+    /// Returns the properties of a node, with the ranks of their names as numbers. Compares no
+    /// names.
     pub(super) fn from_node(
         alloc: Global,
         node: RankedNode<'a, '_>,
@@ -252,8 +253,8 @@ fn entry_at<'a>(node: RankedNode<'a, '_>, rank: usize, index: usize) -> MapEntry
     }
 }
 
-/// The index of the first of these entries, which are in byte order of their names, whose name is
-/// not before this one. Their number if there is none.
+/// Returns the index of the first of these entries, which are in byte order of their names, whose
+/// name is not before this one. Returns their number if there is none.
 fn find_index(entries: &[MapEntry<'_>], name: &[u8]) -> usize
     ensures { result ≡ index_of_name entries.now name.now }
 {
@@ -265,7 +266,7 @@ fn find_index(entries: &[MapEntry<'_>], name: &[u8]) -> usize
     entries.len()
 }
 
-/// Whether there is an entry at this index, and it has this name.
+/// Returns whether there is an entry at this index, and it has this name.
 fn has_name_at(entries: &[MapEntry<'_>], index: usize, name: &[u8]) -> bool
     ensures { result ≡ is_entry_named (slice_get entries.now index) name.now }
 {
@@ -275,7 +276,7 @@ fn has_name_at(entries: &[MapEntry<'_>], index: usize, name: &[u8]) -> bool
     }
 }
 
-/// Whether a property of this name holds a payload or names its region.
+/// Returns whether a property of this name holds a payload or names its region.
 pub(crate) fn is_payload_name(name: &[u8]) -> bool
     ensures { result ≡ is_payload_name_of name.now }
 {

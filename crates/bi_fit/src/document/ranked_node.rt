@@ -20,15 +20,15 @@ pub(super) struct RankedNode<'a, 'b> {
 impl<'a, 'b> RankedNode<'a, 'b> {
     ghost use Rattle.bi_fit.specs.RankedNodes.{sibling_of, HasRanks};
 
-    /// The name.
+    /// Returns the name.
     pub(super) fn name(self) -> &'a [u8]
         ensures { result.now ≡ (sibling_of self.entry).name }
     {
         self.node.name()
     }
 
-    /// The name and value of property `index`, from 0, in the order of the file. None exactly if
-    /// there is no such property. Takes constant time.
+    /// Returns the name and value of property `index`, counted from 0, in the order of the file.
+    /// Returns None exactly if there is no such property. Takes constant time.
     pub(super) fn property_at(self, index: usize) -> Option<(&'a [u8], &'a [u8])>
         ensures { option_map (λ property. (property.0.now, property.1.now)) result
             ≡ slice_get (properties_of (sibling_of self.entry).own) index }
@@ -36,7 +36,7 @@ impl<'a, 'b> RankedNode<'a, 'b> {
         self.node.property_at(index)
     }
 
-    /// The ranks of the names of the properties, in their order in the file.
+    /// Returns the ranks of the names of the properties, in their order in the file.
     pub(super) fn name_ranks(self) -> &'b [usize]
         requires { (names : List (List ℕ)) × HasRanks names self }
         ensures { (names : List (List ℕ)) → HasRanks names self.entry →
@@ -45,7 +45,7 @@ impl<'a, 'b> RankedNode<'a, 'b> {
         self.node.name_numbers(self.ranks)
     }
 
-    /// The first child. None exactly if there is no child.
+    /// Returns the first child. Returns None exactly if there is no child.
     pub(super) fn first_child(self) -> Option<RankedNode<'a, 'b>>
         ensures child { option_map sibling_of result ≡ node_at (sibling_of self.entry).children 0 }
         ensures ranks { (names : List (List ℕ)) → HasRanks names self.entry →
@@ -55,7 +55,8 @@ impl<'a, 'b> RankedNode<'a, 'b> {
         Some(self.with_node(node))
     }
 
-    /// The next child of the node's parent. None exactly for the last child, and for the root.
+    /// Returns the next child of the node's parent. Returns None exactly for the last child, and
+    /// for the root.
     pub(super) fn next_sibling(self) -> Option<RankedNode<'a, 'b>>
         ensures sibling { option_map sibling_of result ≡ node_at (sibling_of self.entry).later 0 }
         ensures ranks { (names : List (List ℕ)) → HasRanks names self.entry →
@@ -65,7 +66,7 @@ impl<'a, 'b> RankedNode<'a, 'b> {
         Some(self.with_node(node))
     }
 
-    /// Another node of the blob.
+    /// Returns another node of the blob, with the same ranks.
     fn with_node(self, node: NodeRef<'a, 'b>) -> RankedNode<'a, 'b>
         ensures { result ≡ record self.entry { node = node.entry } }
     {

@@ -106,7 +106,7 @@ fn check_image<'a>(image: &ImageSpec<'a>, index: u32) -> Result<NamedImage<'a>, 
     Ok(named)
 }
 
-/// Returns an image with the names of its codes. None exactly if one of them has no name.
+/// Returns an image with the names of its codes. Returns None exactly if one of them has no name.
 fn name_codes<'a>(image: &ImageSpec<'a>) -> Option<NamedImage<'a>>
     ensures { MatchOption result (¬ (HasNames image.now))
         (λ named. HasNames image.now × (named_model named ≡ spec_model image.now)) }
@@ -124,7 +124,7 @@ fn name_codes<'a>(image: &ImageSpec<'a>) -> Option<NamedImage<'a>>
     })
 }
 
-/// Returns the key under which images of a type are listed. Kernel, if the type has none.
+/// Returns the key under which images of a type are listed. Returns Kernel if the type has none.
 fn key_of_type(image_type: u8) -> Key
     ensures { result ≡ first_key (keys_of_type_of image_type) }
 {

@@ -23,12 +23,12 @@ use std::alloc::Global;
 /// What is to be extracted: a `Select` that owns its name.
 #[derive(Debug, Drop)]
 pub enum Selected {
-    /// The part of this index, from 0, of a legacy image.
+    /// The part of this index, counted from 0, of a legacy image.
     Part(u32),
     /// The payload of the image of this name of a flattened image tree.
     Image(Vec<u8>),
     /// A payload that a configuration of a flattened image tree lists: by the name of the
-    /// configuration, the key, and the index, from 0, in what it lists under the key.
+    /// configuration, the key, and the index, counted from 0, in what it lists under the key.
     Config(Vec<u8>, Key, u32),
     /// The same of the default configuration.
     Default(Key, u32),

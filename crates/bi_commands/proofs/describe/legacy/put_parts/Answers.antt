@@ -8,7 +8,7 @@ use Rattle.bi_commands.proofs.DescriptionPieces.{parts_from}
 use Rattle.bi_commands.proofs.LineChains.{next_fails}
 use Rattle.bi_commands.proofs.describe.legacy.put_parts.Goals as goal
 
--- The digest that stands in where there is none.
+-- The digest that is used where there is none.
 abbrev no_digest : made.PayloadDigest
 no_digest = record { size = 0; sha256 = [] }
 

@@ -11,7 +11,7 @@ use Rattle.bi_lay.proofs.names.Names.add.Goals as goal
 abbrev before : goal.After-self-1 → List (List ℕ)
 before c = map (λ name. name.now) c.self.inside.names.items
 
--- A name that was not there comes behind the others.
+-- A name that was not there comes after the others.
 abbrev appended : goal.After-self-1 → Type 0
 appended c = map (λ name. name.now) c.push.new.self.items ≡ before c ++ c.args.name.now ∷ []
 
