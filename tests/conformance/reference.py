@@ -284,12 +284,14 @@ class Fit:
     kind = "fit"
 
     def __init__(self, file):
-        self.file, self.blob = file, Blob(file)
+        self.blob = Blob(file)
         root = self.blob.root
         if not root.child(b"images"):
             refuse("NoImages", root.place)
         self.images = [(node, *self.payload(file, node)) for node in root.child(b"images").children]
         self.configurations = root.child(b"configurations") or Node(b"")
+        ends = [place + len(payload) for _, payload, _, place in self.images if payload is not None]
+        self.after = file[max([self.blob.total, *ends]):]
 
     def payload(self, file, node):
         """The payload of an image node, the property that gives it, and its place."""
@@ -350,10 +352,6 @@ class Fit:
                 algo, value = child.properties.get(b"algo"), child.properties.get(b"value")
                 name = algo.split(b"\0")[0] if algo is not None and b"\0" in algo else None
                 yield child, name, judged(name, value, payload), value
-
-    def after(self):
-        """The bytes of the file after the blob and after each payload."""
-        return self.file[max([self.blob.total, *(place + len(payload) for _, payload, _, place in self.images if payload is not None)]):]
 
     def signatures(self):
         nodes = [node for node, _, _, _ in self.images] + self.configurations.children
@@ -682,9 +680,8 @@ def check(file, options):
     image = read(file, options["limit"])
     image.check_payloads(options["limit"])
     lines = [] if isinstance(image, Legacy) else list(concerns_of_fit(image))
-    after = image.after if isinstance(image, Legacy) else image.after()
-    if after.strip(b"\0"):
-        lines.append(f"trailing {len(after)}")
+    if image.after.strip(b"\0"):
+        lines.append(f"trailing {len(image.after)}")
     lines = [line for line in lines if line.split(" ")[0] not in options.get("allow", [])]
     return int(bool(lines)), text_of(lines), b""
 
@@ -704,7 +701,7 @@ def concerns_of_fit(fit):
             yield " ".join(["weak-hash", shown(node.name), *map(shown, good)])
     for node in fit.configurations.children:
         for key in KEYS:
-            names, reason = fit.listed(node, key) if key.encode() in node.properties else ([], None)
+            reason = fit.listed(node, key)[1] if key.encode() in node.properties else None
             if reason == "bad list":
                 yield f"bad-list {shown(node.name)} {key}"
             elif reason:
