@@ -10,8 +10,12 @@ from vectors import LEGACY_MAGIC, Run
 
 COMMANDS = (
     "list", "verify", "normalise", "normalise --external", "normalise --limit 200", "normalise --external --limit 300", "convert",
-    "extract --part 0", "extract --image a", "extract --config conf-1",
+    "extract --part 0", "extract --image a", "extract --config conf-1", "extract --default", "describe", "describe --limit 400",
+    "check", "check --limit 200", "check --allow unhashed,trailing", "update --time 5", "update --time 5 --limit 200",
+    "update --hashes", "update --hashes --external --limit 400", "update --hashes --time 0x10 --external",
 )
+# Commands that compare a changed file with the file that it was.
+COMPARING = ("compare - NAME", "compare NAME -", "compare --quiet - NAME", "compare - NAME --limit 500")
 # The longest file that is changed.
 LONGEST = 2500
 
@@ -46,17 +50,20 @@ def change(file, source):
 
 
 def changed_runs(vectors, count):
-    """Runs over changed files, each with its file. They are the same ones for the same vectors."""
+    """Runs over changed files, each with its file. They are the same ones for the same vectors. Every second file is one that is accepted
+    before it is changed."""
     source = random.Random(1)
     names = [name for name in sorted(vectors.bodies) if 0 < len(vectors.bytes(name)) <= LONGEST]
+    accepted = [name for name in names if reference.main(["list"], vectors.bytes(name))[0] == 0]
     for number in range(count):
-        name = source.choice(names)
+        name = source.choice(source.choice([names, accepted]))
         file = bytearray(vectors.bytes(name))
         for _ in range(source.choice([1, 1, 1, 2, 3])):
             change(file, source)
         if file[:4] == LEGACY_MAGIC and len(file) >= 64 and source.random() < 0.8:
             with_sums(file)
-        arguments = shlex.split(source.choice(COMMANDS))
-        status, output, errors = reference.main(arguments, bytes(file))
+        command = source.choice(COMMANDS + COMPARING)
+        arguments = [name if word == "NAME" else word for word in shlex.split(command)]
+        status, output, errors = reference.main(arguments, bytes(file), vectors.named)
         line = errors.decode().removeprefix("bootimg: ").removesuffix("\n")
         yield Run(f"change {number}", name, arguments, status, output, line), bytes(file)

@@ -6,11 +6,13 @@ the program that is tried: each was worked out from the formats, or by this prog
 with the vectors.
 """
 
+import contextlib
 import hashlib
 import re
 import struct
 import sys
 import zlib
+from pathlib import Path
 
 CODES = {
     "os": {2: "netbsd", 5: "linux", 14: "vxworks", 17: "u-boot"},
@@ -27,6 +29,10 @@ DIGESTS = {
     **{name: lambda data, n=name: hashlib.new(n.decode(), data).digest() for name in (b"md5", b"sha1", b"sha256", b"sha384", b"sha512")},
 }
 VERDICTS = ("good", "bad", "unknown-algorithm", "no-payload", "malformed")
+STRONG = (b"sha256", b"sha384", b"sha512")
+CONCERNS = ("bad-hash", "unhashed", "weak-hash", "bad-list", "missing", "bad-default", "trailing")
+# How many fields of a line of a description are its key; those of a line of another kind is its first.
+FIELDS_OF_KEY = {"property": 3, "node": 2, "payload": 2, "part": 2, "reservation": 3}
 
 
 class Refused(Exception):
@@ -66,6 +72,8 @@ def shown(name):
 
 
 class Legacy:
+    kind = "legacy"
+
     def __init__(self, file):
         if len(file) < 4:
             refuse("Truncated", 0)
@@ -92,6 +100,7 @@ class Legacy:
         if self.parts:
             self.parts_end = self.parts[-1][0] + len(self.parts[-1][1])
         self.unused = len(file) - self.parts_end
+        self.after = file[self.parts_end:]
 
     @staticmethod
     def ranges(data):
@@ -110,6 +119,12 @@ class Legacy:
 
     def payloads(self):
         return [part for _, part in self.parts]
+
+    def meaning(self):
+        return self.time, self.load, self.entry, self.codes, self.name, self.payloads()
+
+    def check_payloads(self, limit):
+        """The parts are never longer than a limit that the file is within."""
 
 
 def legacy_text(time, load, entry, codes, name, parts, limit):
@@ -266,6 +281,8 @@ def blob_text(cpu, reservations, root):
 
 
 class Fit:
+    kind = "fit"
+
     def __init__(self, file):
         self.blob = Blob(file)
         root = self.blob.root
@@ -273,6 +290,8 @@ class Fit:
             refuse("NoImages", root.place)
         self.images = [(node, *self.payload(file, node)) for node in root.child(b"images").children]
         self.configurations = root.child(b"configurations") or Node(b"")
+        ends = [place + len(payload) for _, payload, _, place in self.images if payload is not None]
+        self.after = file[max([self.blob.total, *ends]):]
 
     def payload(self, file, node):
         """The payload of an image node, the property that gives it, and its place."""
@@ -307,6 +326,32 @@ class Fit:
     def default(self):
         value = self.configurations.properties.get(b"default", b"")
         return value.split(b"\0")[0] if b"\0" in value else None
+
+    def payloads(self):
+        return [payload for _, payload, _, _ in self.images]
+
+    def check_payloads(self, limit):
+        """Refuses payloads that together are longer than the limit. Each image counts, also where several share bytes."""
+        if sum(len(payload) for payload in self.payloads() if payload is not None) > limit:
+            refuse("TooLarge", limit)
+
+    def properties(self, node):
+        """The properties of a node, in byte order of their names. Those that give a payload are not among them."""
+        is_image = any(node is image for image, _, _, _ in self.images)
+        return [(name, value) for name, value in sorted(node.properties.items()) if not is_image or name not in PLACES]
+
+    def meaning(self):
+        def tree(node):
+            return node.name, self.properties(node), [tree(child) for child in node.children]
+        return self.blob.cpu, self.blob.reservations, tree(self.blob.root), self.payloads()
+
+    def verdicts(self, image, payload):
+        """For each hash node of an image its node, its algorithm or None, its verdict and its value or None."""
+        for child in image.children:
+            if child.name.startswith(b"hash"):
+                algo, value = child.properties.get(b"algo"), child.properties.get(b"value")
+                name = algo.split(b"\0")[0] if algo is not None and b"\0" in algo else None
+                yield child, name, judged(name, value, payload), value
 
     def signatures(self):
         nodes = [node for node, _, _, _ in self.images] + self.configurations.children
@@ -355,9 +400,53 @@ def built_fit(description, time, images, external, limit):
 # The commands.
 
 
-def read(file, limit):
+class Files:
+    """Standard input, and the call that returns the bytes of the file of a name, or None if it cannot be opened."""
+
+    def __init__(self, standard_input, bytes_of):
+        self.standard_input, self.bytes_of = standard_input, bytes_of
+
+    def named(self, name):
+        file = self.bytes_of(name)
+        if file is None:
+            raise Refused("cannot be opened")
+        return file
+
+    def image(self, name):
+        return self.standard_input if name == "-" else self.named(name)
+
+
+@contextlib.contextmanager
+def about(name):
+    """The refusals in its body name the file."""
+    try:
+        yield
+    except Refused as line:
+        raise Refused(f"{shown(name.encode())}: {line}") from None
+
+
+def about_image(name):
+    """The same for an image, which may be that of standard input."""
+    return contextlib.nullcontext() if name == "-" else about(name)
+
+
+def of_image(call):
+    """The command that makes this call on one image."""
+    def command(files, options):
+        name = (options["words"] or ["-"])[0]
+        with about_image(name):
+            return call(files.image(name), options)
+    return command
+
+
+def within(file, limit):
     if len(file) > limit:
         refuse("TooLarge", limit)
+    return file
+
+
+def read(file, limit):
+    within(file, limit)
     if file[:4] == b"\xd0\x0d\xfe\xed":
         return Fit(file)
     return Legacy(file)
@@ -367,24 +456,35 @@ def word_of(field, code):
     return CODES[field].get(code, str(code))
 
 
-def list_image(file, options):
-    image = read(file, options["limit"])
-    lines = list_legacy(image) if isinstance(image, Legacy) else list_fit(image)
+def text_of(lines):
     return "".join(line + "\n" for line in lines).encode()
 
 
-def list_legacy(image):
+def list_image(file, options):
+    image = read(file, options["limit"])
+    return text_of(list_legacy(image) if isinstance(image, Legacy) else list_fit(image))
+
+
+def fields_of(image):
     yield from ["kind legacy", f"name {shown(image.name)}", f"time {image.time}"]
     yield from [f"load 0x{image.load:08x}", f"entry 0x{image.entry:08x}"]
     yield from [f"{field} {word_of(field, image.codes[field])}" for field in FIELDS]
+
+
+def list_legacy(image):
+    yield from fields_of(image)
     yield f"parts {len(image.parts)}"
     yield from [f"part {i} size {len(part)} at {at}" for i, (at, part) in enumerate(image.parts)]
     yield f"unused {image.unused}"
 
 
+def reservation_line(pair):
+    return "reservation 0x{:016x} 0x{:016x}".format(*pair)
+
+
 def list_fit(fit):
     yield from ["kind fit", f"boot-cpu {fit.blob.cpu}", f"total-size {fit.blob.total}"]
-    yield from [f"reservation 0x{address:016x} 0x{size:016x}" for address, size in fit.blob.reservations]
+    yield from map(reservation_line, fit.blob.reservations)
     for node, payload, given, place in fit.images:
         what = "none" if payload is None else f"size {len(payload)} {given.decode()} at {place}"
         yield f"image {shown(node.name)} {what}"
@@ -405,15 +505,11 @@ def verify(file, options):
         return b"header crc32 good\ndata crc32 good\n"
     lines, counts = [], dict.fromkeys(VERDICTS, 0)
     for node, payload, _, _ in image.images:
-        for child in node.children:
-            if child.name.startswith(b"hash"):
-                algo, value = child.properties.get(b"algo"), child.properties.get(b"value")
-                name = algo.split(b"\0")[0] if algo is not None and b"\0" in algo else None
-                found = judged(name, value, payload)
-                counts[found] += 1
-                lines.append(f"{shown(node.name)} {shown(child.name)} {shown(name or b'')} {found} {(value or b'').hex() or '-'}")
+        for child, name, found, value in image.verdicts(node, payload):
+            counts[found] += 1
+            lines.append(f"{shown(node.name)} {shown(child.name)} {shown(name or b'')} {found} {(value or b'').hex() or '-'}")
     lines.append("summary " + " ".join(f"{verdict} {counts[verdict]}" for verdict in VERDICTS))
-    return int(counts["good"] != sum(counts.values())), "".join(line + "\n" for line in lines).encode(), b""
+    return int(counts["good"] != sum(counts.values())), text_of(lines), b""
 
 
 def judged(name, value, payload):
@@ -434,7 +530,7 @@ def extract(file, options):
         if options["part"] >= len(image.parts):
             raise Refused("no such part")
         return image.payloads()[options["part"]]
-    name = options["image"].encode() if "image" in options else configured(image, options)
+    name = options["image"] if "image" in options else configured(image, options)
     found = [payload for node, payload, _, _ in image.images if node.name == name]
     if not found:
         raise Refused("no such image")
@@ -444,7 +540,8 @@ def extract(file, options):
 
 
 def configured(fit, options):
-    configuration = fit.configurations.child(options["config"].encode())
+    name = options["config"] if "config" in options else fit.default()
+    configuration = fit.configurations.child(name)
     if configuration is None:
         raise Refused("no such configuration")
     if options["key"].encode() not in configuration.properties:
@@ -462,20 +559,160 @@ def normalise(file, options):
     if isinstance(image, Legacy):
         parts = image.payloads()
         return legacy_text(image.time, image.load, image.entry, image.codes, image.name, parts, options["limit"])
+    return normal_fit(image, options)
+
+
+def normal_fit(image, options):
     blob = image.blob
     for node, _, _, _ in image.images:
-        node.properties = {name: value for name, value in node.properties.items() if name not in PLACES}
-    payloads = [payload for _, payload, _, _ in image.images]
-    text = fit_text(blob.cpu, blob.reservations, blob.root, payloads, options["external"], options["limit"])
+        node.properties = dict(image.properties(node))
+    text = fit_text(blob.cpu, blob.reservations, blob.root, image.payloads(), options["external"], options["limit"])
     if image.signatures():
         return 0, text, f"bootimg: note: {image.signatures()} signature nodes carried, not checked\n".encode()
     return text
 
 
+def update(file, options):
+    image, time = read(file, options["limit"]), options.get("time")
+    if isinstance(image, Legacy):
+        time = image.time if time is None else time
+        return legacy_text(time, image.load, image.entry, image.codes, image.name, image.payloads(), options["limit"])
+    if options["hashes"]:
+        image.check_payloads(options["limit"])
+        for node, payload, _, _ in image.images:
+            for child, name, _, _ in image.verdicts(node, payload):
+                if payload is not None and name in DIGESTS:
+                    child.properties[b"value"] = DIGESTS[name](payload)
+    if time is not None:
+        image.blob.root.properties[b"timestamp"] = cell(time)
+    return normal_fit(image, options)
+
+
+def size_and_digest(payload):
+    return f"size {len(payload)} sha256 {hashlib.sha256(payload).hexdigest()}"
+
+
+def description(image, limit):
+    """The lines of the description of an image."""
+    image.check_payloads(limit)
+    lines = list(describe_legacy(image) if isinstance(image, Legacy) else describe_fit(image))
+    if len(text_of(lines)) > limit:
+        refuse("TooLarge", limit)
+    return lines
+
+
+def describe(file, options):
+    return text_of(description(read(file, options["limit"]), options["limit"]))
+
+
+def describe_legacy(image):
+    yield from fields_of(image)
+    yield from [f"part {i} {size_and_digest(part)}" for i, part in enumerate(image.payloads())]
+
+
+def describe_fit(fit):
+    yield from ["kind fit", f"boot-cpu {fit.blob.cpu}", *map(reservation_line, fit.blob.reservations)]
+
+    def lines_of(node, path):
+        yield f"node {path}"
+        for image, payload, _, _ in fit.images:
+            if image is node:
+                yield f"payload {path} none" if payload is None else f"payload {path} {size_and_digest(payload)}"
+        for name, value in fit.properties(node):
+            yield " ".join([f"property {path} {shown(name)}", *value_text(value)])
+        for child in node.children:
+            yield from lines_of(child, f"{path.removesuffix('/')}/{shown(child.name)}")
+    yield from lines_of(fit.blob.root, "/")
+
+
+def value_text(value):
+    """The text of a value in a list, which is empty if the value is."""
+    if re.fullmatch(rb"([\x20-\x7e]+\0)+", value):
+        return ['"' + re.sub(r'(["\\])', r"\\\1", text.decode()) + '"' for text in value[:-1].split(b"\0")]
+    return ["0x" + value.hex()] if value else []
+
+
+def compare(files, options):
+    names, limit = options["words"], options["limit"]
+    contents, images, descriptions = [], [], []
+    for name in names:
+        with about_image(name):
+            contents.append(within(files.image(name), limit))
+    for name, file in zip(names, contents):
+        with about_image(name):
+            images.append(read(file, limit))
+    one, other = images
+    if one.kind == other.kind and one.meaning() == other.meaning():
+        return b""
+    if options["quiet"]:
+        return 1, b"", b""
+    for name, image in zip(names, images):
+        with about_image(name):
+            descriptions.append(description(image, limit))
+    if one.kind != other.kind:
+        return 1, text_of([f"-kind {one.kind}", f"+kind {other.kind}"]), b""
+    return 1, text_of(differences(*descriptions)), b""
+
+
+def key_of(line):
+    fields = line.split(" ")
+    return fields[:FIELDS_OF_KEY.get(fields[0], 1)]
+
+
+def differences(lines, others):
+    """The differences of two descriptions of one kind."""
+    found, added = [], [line for line in others if line not in lines]
+    for line in lines:
+        if line not in others:
+            found.append("-" + line)
+            changed = [other for other in added if key_of(other) == key_of(line)]
+            found += ["+" + other for other in changed]
+            added = [other for other in added if other not in changed]
+    found += ["+" + other for other in added]
+    if found:
+        return found
+    if lines != others:
+        return ["the same lines in another order or number"]
+    return ["payloads differ that have the same size and SHA-256"]
+
+
+def check(file, options):
+    image = read(file, options["limit"])
+    image.check_payloads(options["limit"])
+    lines = [] if isinstance(image, Legacy) else list(concerns_of_fit(image))
+    if image.after.strip(b"\0"):
+        lines.append(f"trailing {len(image.after)}")
+    lines = [line for line in lines if line.split(" ")[0] not in options.get("allow", [])]
+    return int(bool(lines)), text_of(lines), b""
+
+
+def concerns_of_fit(fit):
+    """The concerns about the images and the configurations."""
+    for node, payload, _, _ in fit.images:
+        good = []
+        for child, name, found, _ in fit.verdicts(node, payload):
+            if found == "good":
+                good.append(name)
+            else:
+                yield f"bad-hash {shown(node.name)} {shown(child.name)} {shown(name or b'')} {found}"
+        if payload is not None and not good:
+            yield f"unhashed {shown(node.name)}"
+        elif payload is not None and not set(good) & set(STRONG):
+            yield " ".join(["weak-hash", shown(node.name), *map(shown, good)])
+    for node in fit.configurations.children:
+        for key in KEYS:
+            reason = fit.listed(node, key)[1] if key.encode() in node.properties else None
+            if reason == "bad list":
+                yield f"bad-list {shown(node.name)} {key}"
+            elif reason:
+                yield f"missing {shown(node.name)} {key} {reason.removeprefix('missing image ')}"
+    name = fit.default()
+    if fit.configurations.children and not fit.configurations.child(name):
+        yield f"bad-default {'-' if name is None else shown(name)}"
+
+
 def convert(file, options):
-    if len(file) > options["limit"]:
-        refuse("TooLarge", options["limit"])
-    image = Legacy(file)
+    image = Legacy(within(file, options["limit"]))
     for at, field in enumerate(FIELDS, 28):
         if image.codes[field] not in CODES[field]:
             refuse("NoCodeName", at)
@@ -508,19 +745,30 @@ def cut(data, lengths):
     return pieces
 
 
-def build_legacy(data, options):
-    if len(data) > options["limit"]:
-        refuse("TooLarge", options["limit"])
-    parts = cut(data, options["words"]) if options["words"] else [data]
+def parts_of(files, lengths, limit):
+    """The parts that are given by these lengths, each a number or the name of a file. The numbers cut standard input."""
+    parts = []
+    for length in lengths:
+        if isinstance(length, str):
+            with about(length):
+                parts.append(within(files.named(length), limit))
+    numbers = [length for length in lengths if not isinstance(length, str)]
+    if numbers or not lengths:
+        of_input = cut(within(files.standard_input, limit), numbers)
+        parts = [parts.pop(0) if isinstance(length, str) else of_input.pop(0) for length in lengths]
+    return parts
+
+
+def build_legacy(files, options):
+    limit = options["limit"]
+    parts = parts_of(files, options["words"], limit) if options["words"] else [within(files.standard_input, limit)]
     codes = {field: options[field] for field in FIELDS}
-    return legacy_text(options["time"], options["load"], options["entry"], codes, options["name"].encode(), parts, options["limit"])
+    return legacy_text(options["time"], options["load"], options["entry"], codes, options["name"].encode(), parts, limit)
 
 
-def build_fit(data, options):
+def build_fit(files, options):
     limit, images = options["limit"], options["words"]
-    if len(data) > limit:
-        refuse("TooLarge", limit)
-    payloads = cut(data, [length for *_, length in images])
+    payloads = parts_of(files, [length for *_, length in images], limit)
     if len(images) > limit:
         refuse("TooLarge", limit)
     names = []
@@ -559,6 +807,28 @@ def key(text):
     return text
 
 
+def kinds(text):
+    if not set(text.split(",")) <= set(CONCERNS):
+        raise Refused("usage: bad value")
+    return text.split(",")
+
+
+def name_of(text, is_escaped):
+    """The name that is given by this argument."""
+    if not is_escaped:
+        return text.encode()
+    unescaped = re.sub(rb"%([0-9A-F]{2})", lambda found: bytes.fromhex(found[1].decode()), text.encode())
+    name = b"" if text == "-" else unescaped
+    if shown(name) != text:
+        raise Refused("usage: bad value")
+    return name
+
+
+def length_of(text):
+    """The length of a part, or the name of its file."""
+    return text[1:] if text.startswith("@") else number(text)
+
+
 def image_word(i, text):
     fields = text.split(":")
     try:
@@ -568,7 +838,7 @@ def image_word(i, text):
         codes = {"type": code("type", kind), "arch": code("arch", arch), "os": code("os", system)}
         codes["compression"] = code("compression", compression)
         addresses = [None if it == "-" else number(it) for it in (load, entry)]
-        return (name.encode(), codes, *addresses, number(length))
+        return (name.encode(), codes, *addresses, length_of(length))
     except Refused:
         raise Refused(f"usage: bad image {i}") from None
 
@@ -581,11 +851,17 @@ def limit_of(text):
 # is required.
 FLAG = None
 COMMANDS = {
-    "list": (list_image, {}),
-    "verify": (verify, {}),
-    "extract": (extract, {"part": (number, ()), "image": (str, ()), "config": (str, ()), "key": (key, "kernel"), "index": (number, "0")}),
-    "normalise": (normalise, {"external": FLAG}),
-    "convert": (convert, {}),
+    "list": (of_image(list_image), {}),
+    "describe": (of_image(describe), {}),
+    "compare": (compare, {"quiet": FLAG}),
+    "verify": (of_image(verify), {}),
+    "check": (of_image(check), {"allow": (kinds, ())}),
+    "update": (of_image(update), {"time": (number, ()), "hashes": FLAG, "external": FLAG}),
+    "extract": (of_image(extract), {
+        "part": (number, ()), "image": (str, ()), "config": (str, ()), "default": FLAG, "key": (key, "kernel"), "index": (number, "0"),
+        "escaped": FLAG}),
+    "normalise": (of_image(normalise), {"external": FLAG}),
+    "convert": (of_image(convert), {}),
     "build-legacy": (build_legacy, {
         "os": (lambda text: code("os", text), ...), "arch": (lambda text: code("arch", text), ...),
         "type": (lambda text: code("type", text), ...), "compression": (lambda text: code("compression", text), "none"),
@@ -599,19 +875,19 @@ def split_arguments(name, options, arguments):
     given, words, arguments = {}, [], list(arguments)
     while arguments:
         word = arguments.pop(0)
-        if not word.startswith("-"):
+        if not word.startswith("-") or word == "-":
             words.append(word)
             continue
         option, equals, text = word[2:].partition("=")
         if not word.startswith("--") or option not in options or option in given or options[option] is FLAG and equals:
             raise Unusable(f"unexpected argument {word}")
         if options[option] is not FLAG and not equals:
-            if not arguments or arguments[0].startswith("-"):
+            if not arguments or arguments[0].startswith("-") and arguments[0] != "-":
                 raise Unusable(f"no value for {word}")
             text = arguments.pop(0)
         given[option] = text
-    if words and not name.startswith("build-"):
-        raise Unusable(f"unexpected argument {words[0]}")
+    if name == "compare" and len(words) != 2 or len(words) > 1 and not name.startswith(("build-", "compare")):
+        raise Unusable("wrong number of arguments")
     return given, words
 
 
@@ -625,26 +901,33 @@ def parse(arguments):
     missing = [option for option, how in options.items() if how and how[1] is ... and option not in given]
     if missing:
         raise Unusable(f"--{missing[0]} is missing")
-    if name == "extract" and len({"part", "image", "config"} & set(given)) != 1:
+    if name == "extract" and len({"part", "image", "config", "default"} & set(given)) != 1:
         raise Refused("usage: give one of --part, --image, --config")
-    values = {}
+    if name == "update" and not {"time", "hashes"} & set(given):
+        raise Refused("usage: give --time or --hashes")
+    if name == "compare" and words == ["-", "-"]:
+        raise Refused("usage: bad value")
+    values = {"words": words}
     for option, how in options.items():
         if how is FLAG:
             values[option] = option in given
         elif option in given or how[1] != ():
             values[option] = how[0](given.get(option, how[1]))
+    for option in {"image", "config"} & set(values):
+        values[option] = name_of(values[option], values["escaped"])
     if name == "build-legacy":
-        values["words"] = [number(word) for word in words]
+        values["words"] = [length_of(word) for word in words]
     if name == "build-fit":
         values["words"] = [image_word(i, word) for i, word in enumerate(words)]
     return command, values
 
 
-def main(arguments, file):
-    """The exit status, the output and the text on standard error."""
+def main(arguments, file, bytes_of=lambda name: None):
+    """The exit status, the output and the text on standard error. `file` is standard input, and `bytes_of` returns the bytes of the
+    file of a name, or None if it cannot be opened."""
     try:
         command, options = parse(arguments)
-        result = command(file, options)
+        result = command(Files(file, bytes_of), options)
     except Refused as line:
         return 2, b"", f"bootimg: {line}\n".encode()
     except Unusable as text:
@@ -652,8 +935,15 @@ def main(arguments, file):
     return result if isinstance(result, tuple) else (0, result, b"")
 
 
+def bytes_of_path(name):
+    try:
+        return Path(name).read_bytes() if name else None
+    except OSError:
+        return None
+
+
 if __name__ == "__main__":
-    status, output, errors = main(sys.argv[1:], sys.stdin.buffer.read())
+    status, output, errors = main(sys.argv[1:], sys.stdin.buffer.read(), bytes_of_path)
     sys.stdout.buffer.write(output)
     sys.stderr.buffer.write(errors)
     sys.exit(status)

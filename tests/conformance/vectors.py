@@ -13,7 +13,10 @@ from typing import NamedTuple
 
 WORD = re.compile(r'"[^"]*"(?:\*\d+)?|\S+')
 # The commands that a line `refused` is short for. convert comes after them, for a file that begins with the legacy magic number.
-READING = ("list", "verify", "normalise", "normalise --external", "extract --part 0", "extract --image a")
+READING = (
+    "list", "describe", "verify", "check", "update --time 0", "update --hashes", "normalise", "normalise --external", "extract --part 0",
+    "extract --image a",
+)
 LEGACY_MAGIC = b"\x27\x05\x19\x56"
 
 
@@ -199,7 +202,7 @@ class Vectors:
             self.refused.append((group, file, text))
             self.runs.append((group, where, file, None, [(where, "! " + text)]))
         elif kind == "run":
-            self.runs.append((group, where, file, text, body))
+            self.runs += [(group, where, name, text, body) for name in file.split()]
         else:
             raise ValueError(f"{where}: no kind of entry: {kind}")
         return body
@@ -216,6 +219,10 @@ class Vectors:
                         raise ValueError(f"{where}: {statement}: {error}") from error
             self.made[name] = bytes(maker.file)
         return self.made[name]
+
+    def named(self, name):
+        """The bytes of a file that an argument names, or None if there is none."""
+        return self.bytes(name) if name in self.bodies else None
 
     def expected(self, body):
         """The status, the output and the line on standard error that a run wants."""

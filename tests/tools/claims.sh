@@ -98,6 +98,9 @@ examples=$root/examples
 check "a weak hash" writes 'weak-hash ramdisk-1 crc32\n' 1 check "$examples/board.itb"
 check "a weak hash that is allowed" writes '' 0 check --allow weak-hash "$examples/board.itb"
 check "zeros after the last payload are nothing" writes 'weak-hash ramdisk-1 crc32\n' 1 check "$examples/board-external.itb"
+check "its last payload" prints "image fdt-1 size 106 data-offset at 1716" 0 list "$examples/board-external.itb"
+check "two zeros follow it" sh -c '[ "$(wc -c < "$1")" = 1824 ] && tail -c 2 "$1" | od -A n -t x1 | grep -qx " 00 00"' \
+    sh "$examples/board-external.itb"
 check "bytes after a legacy image" writes 'trailing 50\n' 1 check "$examples/kernel-padded.uimage"
 check "bytes that are allowed" writes '' 0 check --allow trailing,trailing "$examples/kernel-padded.uimage"
 check "a legacy image with nothing after it" writes '' 0 check "$kernel"
@@ -123,6 +126,7 @@ same_payload() {
 check "the kernel of the default configuration" same_payload
 check "and its length" sh -c '"$1" extract --default "$2" | wc -c | grep -qx 468' sh "$root/bootimg" "$examples/board.itb"
 check "the devicetree of the default configuration" same_payload --key fdt
+check "and its length" sh -c '"$1" extract --default --key fdt "$2" | wc -c | grep -qx 106' sh "$root/bootimg" "$examples/board.itb"
 check "an entry that the default configuration does not have" says "$examples/board.itb: no such entry" \
     extract --default --key ramdisk --index 1 "$examples/board.itb"
 check "a default configuration of a legacy image" says "good: the selection does not fit this kind of image" extract --default good

@@ -1,5 +1,5 @@
 #!/bin/sh
-# Tries the vectors of tests/conformance: over the program as both compilers build it, over the reference in python3, and over four
+# Tries the vectors of tests/conformance: over the program as both compilers build it, over the reference in python3, and over five
 # programs with one fault each, which have to fail. Both builds also do with changed files what the reference does. The calls that read
 # an image return the fault of each file, in the program tests/tools/read_image. The table in
 # docs/CONFORMANCE.md has to be the one that tests/conformance/tools prints; that is tried only with the versions of the tools that the
@@ -45,14 +45,14 @@ fails() {
 
 program=$root/crates/bootimg/out/bootimg
 passes "$suite/run" "$program"
-passes "$suite/run" --changes 2000 "$program"
+passes "$suite/run" --changes 4000 "$program"
 passes "$suite/run" --reference
 
 # `rt ci` builds the program with Rattle's own compiler, too. If ./test runs it first, it sets `rt_ci`.
 other=$program.by-rattle
 if is_current "$other"; then
     passes "$suite/run" "$other"
-    passes "$suite/run" --changes 2000 "$other"
+    passes "$suite/run" --changes 4000 "$other"
 elif [ -n "${rt_ci-}" ]; then
     check "rt ci builds the program with Rattle's own compiler" is_current "$other"
 else
@@ -69,10 +69,12 @@ faulty status '[ $status = 1 ] && status=0'
 faulty byte 'tr "\021" "\020" < $t/out > $t/changed; mv $t/changed $t/out'
 faulty offset 'sed -i "s/BadPart at 68/BadPart at 64/" $t/errors'
 faulty output '[ $status = 2 ] && echo > $t/out'
+faulty line 'sed -i "/^trailing/d" $t/out'
 check "a wrong status is found" fails ": verify" status "fit: hash-short: verify"
 check "a wrong byte is found" fails ": normalise --external" byte "blob: smallest: normalise --external"
 check "a wrong offset is found" fails "legacy: part-" offset "legacy: part-1: list"
 check "output beside a refusal is found" fails "kernel: " output "legacy: kernel: list --limit 72"
+check "a line that is left out is found" fails ": check" line "meanings: kernel-loose: check"
 
 # The table, and the versions that it was made with.
 versions=$("$suite/tools" --versions)

@@ -148,6 +148,21 @@ check "the description of a legacy image" sh -c 'bootimg describe multi.uimage |
 printf -- '-kind legacy\n+kind fit\n' > wanted
 check "the differences of two kinds" differs multi.uimage inside.itb
 
+# Images of the repository.
+echo 'kind legacy
+name two%20parts
+time 1700000000
+load 0x00008000
+entry 0x00008000
+os linux
+arch arm
+type multi
+compression none
+part 0 size 15 sha256 165c20c59211509ff30f2c8197cfcd3666bf0ae629a0690061ad86ec2871eae4
+part 1 size 14 sha256 547af08074e091f043f8964d61e3c1ebff6a09f7f12f29f79c33b2808d3db601' > wanted
+check "the description of an example" sh -c 'bootimg describe "$1" | diff wanted -' sh "$root/examples/two-parts.uimage"
+check "no differences of two examples" same "$root/examples/kernel.uimage" "$root/examples/kernel-padded.uimage"
+
 # Changed properties. What fdtput writes has no payloads after the blob.
 cp inside.itb changed.itb
 fdtput -t x changed.itb /images/kernel-1 load 9000

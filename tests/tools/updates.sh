@@ -95,7 +95,7 @@ check "its times are numbers below 2^32" sh -c 'bootimg update --time 4294967296
 
 # A tree that build-fit makes, and its time.
 built() {
-    printf helloabc | bootimg build-fit --description example "$@" kernel-1:kernel:arm:linux:none:0x8000:0x8000:5 \
+    printf helloabc | bootimg build-fit --description k "$@" kernel-1:kernel:arm:linux:none:0x8000:0x8000:5 \
         ramdisk-1:ramdisk:arm:linux:none:-:-:3
 }
 built > first
