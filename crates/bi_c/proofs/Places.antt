@@ -6,7 +6,9 @@ use Rattle.bi_base.specs.Limits.{Limits}
 use Rattle.bi_base.specs.Cells.{up4}
 use Rattle.bi_fit.specs.declared.image.Place.{Place}
 use Rattle.bi_fit.specs.Content.{FitModel, ImageModel, IsHeld, index_of, tree_of, place_or_absent, offset_of_place, ArePlaced}
+use Rattle.bi_fit.specs.Judgement.{ListedImage, ListedImages, default_of, listed_of}
 use Rattle.bi_fit.specs.Payloads.{IsAt, IsAtPlace}
+use Rattle.bi_fit.specs.declared.key.Key.{Key}
 use Rattle.bi_fit.proofs.Meanings.{same_in_some}
 use Rattle.bi_legacy.specs.Meaning.{LegacyImage}
 use Rattle.bi_legacy.specs.Parts.{parts_start, parts_end_from, part_table}
@@ -19,7 +21,7 @@ use Rattle.bi_commands.specs.declared.extract.ExtractError.TheVariants.{NoPart, 
 use Rattle.bi_commands.specs.Extracting.{Choice, HasNoPayload, IsReason, choice_of_part, choice_of_payload, choice_by_name}
 use Rattle.bi_commands.proofs.Choices.{choice_at, chosen_by_name}
 use Rattle.bi_c.specs.declared.regions.Region.{Region}
-use Rattle.bi_c.specs.Extracting.{IsChosenAt, IsNamedOffset}
+use Rattle.bi_c.specs.Extracting.{IsChosenAt, IsNamedOffset, IsListedOffset, IsDefaultOffset}
 
 -- Where the parts and payloads of images that were read are.
 
@@ -137,12 +139,24 @@ pub named_offset : (content : FitModel) (name : List ℕ) (index : ℕ) (found :
 named_offset content name index None is_named is = tt
 named_offset content name index (Some region) is_named is = record { index = index; is_named = sym is_named; is_offset = is }
 
--- The image of some name is one of a name that is listed.
-pub listed_offset : {E : Type 0} (content : FitModel) (name : List ℕ) (result : Result Region E)
-    → IfOk result (λ region. IsNamedOffset content name region.offset)
-    → IfOk result (λ region. (listed : List ℕ) × IsNamedOffset content listed region.offset)
-listed_offset content name (Ok region) is = (name, is)
-listed_offset content name (Err error) is = tt
+-- The offset of the image that an entry of a list names is that of the entry.
+pub listed_offset : {E : Type 0} (content : FitModel) (configuration : List ℕ) (key : Key) (index : ℕ) (listed : List ListedImage)
+    (entry : ListedImage) (result : Result Region E) →
+    listed_of (tree_of content) configuration key ≡ ListedImages listed → slice_get listed index ≡ Some entry
+    → IfOk result (λ region. IsNamedOffset content entry.name region.offset)
+    → IfOk result (λ region. IsListedOffset content configuration key index region.offset)
+listed_offset content configuration key index listed entry (Ok region) is_listed is_entry is =
+    record { listed = listed; is_listed = is_listed; entry = entry; is_entry = is_entry; is_offset = is }
+listed_offset content configuration key index listed entry (Err error) is_listed is_entry is = tt
+
+-- The offset of an entry of the configuration that is the default is that of the default's entry.
+pub default_offset : {E : Type 0} (content : FitModel) (configuration : List ℕ) (key : Key) (index : ℕ) (result : Result Region E) →
+    default_of (tree_of content) ≡ Some configuration
+    → IfOk result (λ region. IsListedOffset content configuration key index region.offset)
+    → IfOk result (λ region. IsDefaultOffset content key index region.offset)
+default_offset content configuration key index (Ok region) is_default is =
+    record { configuration = configuration; is_default = is_default; is_offset = is }
+default_offset content configuration key index (Err error) is_default is = tt
 
 -- The offset of a part of an image that was read is that of the part in the file.
 pub part_offset : (limits : Limits) (file : List ℕ) (image : LegacyModel) (index : ℕ) (found : Option Region) →

@@ -1,8 +1,10 @@
 use Rattle.std.specs.Prelude.{ℕ, ◌≡◌, List, length, slice_get, Some}
 use Rattle.bi_base.specs.declared.fault.Error.TheVariants as error
 use Rattle.bi_base.specs.Limits.{Limits}
-use Rattle.bi_fit.specs.Content.{FitModel, index_of, place_or_absent, offset_of_place}
+use Rattle.bi_fit.specs.Content.{FitModel, index_of, place_or_absent, offset_of_place, tree_of}
 use Rattle.bi_fit.specs.Reading.{IsReadFit}
+use Rattle.bi_fit.specs.Judgement.{ListedImage, ListedImages, default_of, listed_of}
+use Rattle.bi_fit.specs.declared.key.Key.{Key}
 use Rattle.bi_legacy.specs.Reading.{LegacyModel, IsReadLegacy, part_places}
 use Rattle.bi_fit.specs.Payloads.{IsAt}
 use Rattle.bi_fit.specs.declared.configurations.ConfigError.TheVariants as list
@@ -29,15 +31,30 @@ pub record IsNamedOffset (content : FitModel) (name : List ℕ) (offset : ℕ) :
   pub is_named : index_of name content.images ≡ Some index
   pub is_offset : offset_of_place (place_or_absent (slice_get content.images index)) ≡ Some offset
 
+-- The offset is that of the payload of the image that the entry at this index names, of those that
+-- the configuration of this name lists under a key.
+pub record IsListedOffset (content : FitModel) (configuration : List ℕ) (key : Key) (index : ℕ)
+    (offset : ℕ) : Type 0 where
+  pub listed : List ListedImage
+  pub is_listed : listed_of (tree_of content) configuration key ≡ ListedImages listed
+  pub entry : ListedImage
+  pub is_entry : slice_get listed index ≡ Some entry
+  pub is_offset : IsNamedOffset content entry.name offset
+
+-- The same of the default configuration.
+pub record IsDefaultOffset (content : FitModel) (key : Key) (index offset : ℕ) : Type 0 where
+  pub configuration : List ℕ
+  pub is_default : default_of (tree_of content) ≡ Some configuration
+  pub is_offset : IsListedOffset content configuration key index offset
+
 -- The offset is that of the payload of an image: of the one that is selected by its name, or of the
--- one of some name that is listed.
+-- one that the selected entry of a configuration's list names.
 abbrev pub IsPayloadOffset : Select → FitModel → (offset : ℕ) → Type 0
 IsPayloadOffset (Part index) content offset = ⊥
 IsPayloadOffset (Image name) content offset = IsNamedOffset content name.now offset
 IsPayloadOffset (Config name key index) content offset =
-    (listed : List ℕ) × IsNamedOffset content listed offset
-IsPayloadOffset (Default key index) content offset =
-    (listed : List ℕ) × IsNamedOffset content listed offset
+    IsListedOffset content name.now key index offset
+IsPayloadOffset (Default key index) content offset = IsDefaultOffset content key index offset
 
 -- The offset is that of what is selected in the file: of the part of this index, or of a payload.
 abbrev pub IsOffset : Limits → Select → List ℕ → (offset : ℕ) → Type 0

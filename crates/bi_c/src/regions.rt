@@ -13,8 +13,8 @@ ghost use Rattle.bi_commands.specs.declared.extract.ExtractError.TheVariants.{Fa
 ghost use Rattle.bi_commands.specs.Extracting.{HasNoPayload, IsExtractError, IsReason, choice_of};
 ghost use Rattle.bi_commands.specs.Extracting.{choice_by_configuration, choice_by_default};
 ghost use Rattle.bi_commands.specs.Extracting.{choice_by_name, choice_of_part, choice_of_payload};
-ghost use Rattle.bi_c.specs.Extracting.{IsChosenAt, IsFound, IsNamedOffset, IsOffset};
-ghost use Rattle.bi_c.specs.Extracting.{IsPayloadOffset};
+ghost use Rattle.bi_c.specs.Extracting.{IsChosenAt, IsDefaultOffset, IsFound, IsListedOffset};
+ghost use Rattle.bi_c.specs.Extracting.{IsNamedOffset, IsOffset, IsPayloadOffset};
 
 use bi_base::Limits;
 use bi_commands::extract::{ExtractError, Select};
@@ -168,7 +168,7 @@ fn find_by_configuration(
         (choice_by_configuration (tree_of fit.now) name.now key index) region.size
         region.offset) }
     ensures offset { IfOk result (λ region.
-        (listed : List ℕ) × IsNamedOffset fit.now listed region.offset) }
+        IsListedOffset fit.now name.now key index region.offset) }
     ensures failed { IfErr result (λ error.
         IsReason error (choice_by_configuration (tree_of fit.now) name.now key index)
         ⊎ (error ≡ Failed OutOfMemory)) }
@@ -191,7 +191,7 @@ fn find_by_default(
     ensures found { IfOk result (λ region. IsChosenAt fit.now.blob.file
         (choice_by_default (tree_of fit.now) key index) region.size region.offset) }
     ensures offset { IfOk result (λ region.
-        (listed : List ℕ) × IsNamedOffset fit.now listed region.offset) }
+        IsDefaultOffset fit.now key index region.offset) }
     ensures failed { IfErr result (λ error.
         IsReason error (choice_by_default (tree_of fit.now) key index)
         ⊎ (error ≡ Failed OutOfMemory)) }

@@ -24,4 +24,9 @@ returns-clause-failed c =
     reason_of_entry c.find_by_name.result _ _ same c.find_by_name.ensures.failed
 
 pub returns-clause-offset : goal.returns-clause-offset
-returns-clause-offset c = listed_offset c.args.fit.now c.in_ok-named.named.now.name.now c.find_by_name.result c.find_by_name.ensures.offset
+returns-clause-offset c =
+    let items = c.in_ok-listed.listed.items in
+    let named = c.in_ok-named.named in
+    let found = listed_entry_read items c.deref.result.now c.args.index c.get.result named c.deref.ensures.value c.get.ensures.lookup.3 c.in_ok-named.ensures.value in
+    listed_offset c.args.fit.now c.args.name.now c.args.key c.args.index (map listed_image items) (listed_image named.now) c.find_by_name.result
+    c.in_ok-listed.ensures.listed found c.find_by_name.ensures.offset
