@@ -23,6 +23,8 @@ pub mod FilledParts
 pub mod NotBegun
 pub mod LegacyOutputs
 pub mod FitOutputs
+pub mod DescriptionFacts
+pub mod DifferenceFacts
 pub mod TextFacts
 pub mod LineSets
 pub mod LongNames

@@ -16,8 +16,9 @@ use Rattle.bi_fit.specs.KnownJudgements.{configuration_lists, other_lists, defau
 use Rattle.bi_fit.proofs.JudgementFacts.{lists_are_read, find-properties}
 use Rattle.bi_commands.specs.Extracting.{choice_of_listed}
 use Rattle.bi_commands.specs.Reports.{hash_line, summary_line}
-use Rattle.bi_commands.specs.KnownConcerns.{ConcernsAreKnown}
-use Rattle.bi_commands.specs.KnownTexts.{second_default, second_kernel, NamesAreShown, ChoicesAreKnown, ReportsAreKnown, LegacyListingsAreKnown, FitListingIsKnown, ConfigurationLinesAreKnown}
+use Rattle.bi_commands.specs.KnownConcerns.{ConcernsAreKnown, StrongAlgorithmsAreKnown, TrailingBytesAreKnown, AllowedKindsAreKnown}
+use Rattle.bi_commands.specs.KnownTexts.{first_lists, second_default, second_kernel, NamesAreShown, ChoicesAreKnown, ReportsAreKnown}
+use Rattle.bi_commands.specs.KnownTexts.{LegacyListingsAreKnown, FitListingIsKnown, EachSourceIsListed, ConfigurationLinesAreKnown}
 
 -- What the definitions compute for small boot images.
 
@@ -49,6 +50,9 @@ choices_are_known = record {
   no_image = refl;
   no_payload = refl;
   entry = ap (λ listed. choice_of_listed listed 0) lists_are_read.listed;
+  first_entry = rw (find-properties first_lists (key_name Fdt)) refl;
+  second_entry = rw (find-properties first_lists (key_name Fdt)) refl;
+  no_third_entry = rw (find-properties first_lists (key_name Fdt)) refl;
   no_entry = ap (λ listed. choice_of_listed listed 1) lists_are_read.listed;
   missing = ap (λ listed. choice_of_listed listed 0) lists_are_read.missing;
   bad_list = ap (λ listed. choice_of_listed listed 0) lists_are_read.no_zero;
@@ -94,6 +98,7 @@ reports_are_known = record {
   legacy = refl;
   no_hashes = refl;
   hashes = ap report hashes_are_known ∙ refl;
+  counts = refl;
 }
 
 pub legacy_listings_are_known : LegacyListingsAreKnown
@@ -106,6 +111,10 @@ legacy_listings_are_known = record {
 pub fit_listing_is_known : FitListingIsKnown
 unfolding digits text_of_events text_of_blocks cell cell8 u32_at
 fit_listing_is_known = refl
+
+pub each_source_is_listed : EachSourceIsListed
+unfolding digits text_of_events text_of_blocks cell cell8 u32_at
+each_source_is_listed = refl
 
 pub configuration_lines_are_known : ConfigurationLinesAreKnown
 unfolding digits text_before_nul
@@ -122,4 +131,40 @@ concerns_are_known = record {
   last_payload_ends = refl;
   zeros = refl;
   end = refl;
+}
+
+pub strong_algorithms_are_known : StrongAlgorithmsAreKnown
+strong_algorithms_are_known = record {
+  crc32 = refl;
+  md5 = refl;
+  sha1 = refl;
+  sha256 = refl;
+  sha384 = refl;
+  sha512 = refl;
+  weak = refl;
+  with_strong = refl;
+  bad_strong = refl;
+  all_bad = refl;
+}
+
+pub trailing_bytes_are_known : TrailingBytesAreKnown
+unfolding digits text_of_events text_of_blocks cell cell8 u32_at
+trailing_bytes_are_known = record {
+  end = refl;
+  nothing = refl;
+  zeros = refl;
+  one = refl;
+  after_zero = refl;
+}
+
+pub allowed_kinds_are_known : AllowedKindsAreKnown
+allowed_kinds_are_known = record {
+  nothing = refl;
+  bad_hash = refl;
+  unhashed = refl;
+  weak_hash = refl;
+  bad_list = refl;
+  missing = refl;
+  bad_default = refl;
+  trailing = refl;
 }

@@ -1,17 +1,22 @@
-use Rattle.std.specs.Prelude.{◌≡◌, ℕ, List, [], ◌∷◌, ◌++◌, Some, codes}
+use Rattle.std.specs.Prelude.{◌≡◌, ℕ, List, [], ◌∷◌, ◌++◌, None, Some, codes, map}
 use Rattle.std.specs.Option.{option_map}
 use Rattle.std.specs.Borrow.{Bor}
 use Rattle.std.specs.FinMap.{empty, from_entries}
-use Rattle.bi_blob.specs.Layout.{tree_with_places}
-use Rattle.bi_blob.specs.Tree.{none, node, Root, FileNode, Property}
+use Rattle.bi_base.specs.Cells.{cell}
+use Rattle.bi_blob.specs.Blob.{Reservation}
+use Rattle.bi_blob.specs.Layout.{text_of_tree, tree_with_places}
+use Rattle.bi_blob.specs.Tree.{Nodes, none, node, Root, FileNode, Property}
 use Rattle.bi_fit.specs.declared.key.Key.{Key}
 use Rattle.bi_fit.specs.declared.key.Key.TheVariants.{Kernel, Fdt, Ramdisk, Script}
 use Rattle.bi_fit.specs.KnownFiles.{plain_tree, tree_with_images, region_of}
 use Rattle.bi_fit.specs.KnownFiles.{three_external, three_tree}
 use Rattle.bi_fit.specs.ImageTree.{ImageTree, image_nodes}
-use Rattle.bi_fit.specs.Judgement.{default_of}
+use Rattle.bi_fit.specs.Judgement.{CheckedHash, default_of}
 use Rattle.bi_fit.specs.KnownJudgements.{configured_tree, hashed_tree}
 use Rattle.bi_fit.specs.Names.{images_name, configurations_name, default_name}
+use Rattle.bi_fit.specs.Names.{data_name, data_position_name, data_size_name}
+use Rattle.bi_hash.specs.declared.verdicts.Verdict.{Verdict}
+use Rattle.bi_hash.specs.declared.verdicts.Verdict.TheVariants.{Good, Bad, NoPayload, Malformed}
 use Rattle.bi_legacy.specs.KnownImages.{kernel_image, multi_image}
 use Rattle.bi_norm.specs.Meaning.{OfLegacy, OfFit}
 use Rattle.bi_commands.specs.declared.extract.Select.{Select}
@@ -22,7 +27,7 @@ use Rattle.bi_commands.specs.Extracting.{HasMissingImage, NoSuchEntry, HasNoPayl
 use Rattle.bi_commands.specs.Extracting.{choice_of}
 use Rattle.bi_commands.specs.FitListing.{configuration_lines, default_line, fit_listing}
 use Rattle.bi_commands.specs.Listing.{legacy_listing}
-use Rattle.bi_commands.specs.Reports.{fit_report, legacy_report}
+use Rattle.bi_commands.specs.Reports.{fit_report, legacy_report, summary_line}
 use Rattle.bi_commands.specs.Shown.{shown_text}
 
 -- Small boot images with what the commands write of them, by which a reader can judge the
@@ -67,8 +72,11 @@ abbrev pub choice_of_hashed : Select → Choice
 choice_of_hashed select = choice_of select (OfFit hashed_tree)
 
 -- The properties of two configurations, and the second one as the default.
-abbrev pub first_kernel : List Property
-first_kernel = (codes "kernel", codes "a" ++ 0 ∷ []) ∷ []
+abbrev pub first_lists : List Property
+first_lists =
+    (codes "kernel", codes "a" ++ 0 ∷ [])
+    ∷ (codes "fdt", codes "b" ++ 0 ∷ codes "a" ++ 0 ∷ [])
+    ∷ []
 
 abbrev pub second_kernel : List Property
 second_kernel = (codes "kernel", codes "b" ++ 0 ∷ []) ∷ []
@@ -77,7 +85,8 @@ abbrev pub second_default : List Property
 second_default = (default_name, codes "conf-2" ++ 0 ∷ []) ∷ []
 
 -- A tree with the images `a` and `b`, whose payloads are their names: the second of two
--- configurations is the default, and lists `b` as its kernel. The first one lists `a`.
+-- configurations is the default, and lists `b` as its kernel. The first one lists `a`, and `b` and
+-- then `a` as its devicetrees.
 abbrev pub second_tree : ImageTree
 second_tree = record {
   cpu = 0;
@@ -87,7 +96,7 @@ second_tree = record {
     children = node images_name empty
         (node (codes "a") empty none (node (codes "b") empty none none))
         (node configurations_name (from_entries second_default)
-        (node (codes "conf-1") (from_entries first_kernel) none
+        (node (codes "conf-1") (from_entries first_lists) none
         (node (codes "conf-2") (from_entries second_kernel) none none))
         none);
   };
@@ -112,6 +121,10 @@ pub record ChoicesAreKnown : Type 0 where
   pub no_payload : choice_of_hashed (image_selection (codes "b")) ≡ HasNoPayload
   pub entry : choice_of_configured (entry_selection (codes "conf-1") Kernel 0)
       ≡ Chosen (codes "abc")
+  pub first_entry : choice_of_second (entry_selection (codes "conf-1") Fdt 0) ≡ Chosen (codes "b")
+  pub second_entry : choice_of_second (entry_selection (codes "conf-1") Fdt 1)
+      ≡ Chosen (codes "a")
+  pub no_third_entry : choice_of_second (entry_selection (codes "conf-1") Fdt 2) ≡ NoSuchEntry
   pub no_entry : choice_of_configured (entry_selection (codes "conf-1") Kernel 1) ≡ NoSuchEntry
   pub missing : choice_of_configured (entry_selection (codes "conf-1") Fdt 0) ≡ HasMissingImage 1
   pub bad_list : choice_of_configured (entry_selection (codes "conf-1") Ramdisk 0) ≡ HasBadList
@@ -130,8 +143,24 @@ abbrev pub lines : List (List ℕ) → List ℕ
 lines [] = []
 lines (text ∷ later) = text ++ 10 ∷ lines later
 
+-- A hash node with this verdict.
+abbrev pub hash_with : Verdict → CheckedHash
+hash_with verdict = record {
+  image = codes "a";
+  node_name = codes "hash-1";
+  algo = None;
+  value = None;
+  verdict = verdict;
+}
+
+-- Another number of each verdict: two, one, none, three and four.
+abbrev pub counted_verdicts : List Verdict
+counted_verdicts =
+    Malformed ∷ Good ∷ NoPayload ∷ Malformed ∷ NoPayload ∷ Bad ∷ Malformed ∷ Good ∷ NoPayload
+    ∷ Malformed ∷ []
+
 -- The reports on a legacy image, on a tree without hash nodes, and on a tree with a hash node of
--- each verdict.
+-- each verdict; and the last line of a report on hash nodes with another number of each.
 pub record ReportsAreKnown : Type 0 where
   pub legacy : legacy_report
       ≡ lines (codes "header crc32 good" ∷ codes "data crc32 good" ∷ [])
@@ -147,6 +176,9 @@ pub record ReportsAreKnown : Type 0 where
       ∷ codes "b hash-1 crc32 no-payload 352441c2"
       ∷ codes "summary good 1 bad 1 unknown-algorithm 1 no-payload 1 malformed 1"
       ∷ [])
+  pub counts : summary_line (map hash_with counted_verdicts)
+      ≡ lines
+      (codes "summary good 2 bad 1 unknown-algorithm 0 no-payload 3 malformed 4" ∷ [])
 
 -- The listings of a kernel image, and of a multi-file image whose file goes on after the last part.
 pub record LegacyListingsAreKnown : Type 0 where
@@ -206,6 +238,53 @@ FitListingIsKnown =
     ∷ codes "image a size 5 data-offset at 244"
     ∷ codes "image b size 0 data-offset at 252"
     ∷ codes "image c size 1 data-offset at 252"
+    ∷ []))
+
+-- Image nodes whose payloads are given by `data`, by `data-position` and by `data-offset`, and one
+-- without a payload.
+abbrev pub each_source : Nodes (List Property)
+each_source =
+    node (codes "a") ((data_name, codes "abc") ∷ []) none
+    (node (codes "b") ((data_position_name, cell 8) ∷ (data_size_name, cell 2) ∷ []) none
+    (node (codes "c") (region_of 4 3) none
+    (node (codes "d") [] none none)))
+
+-- A memory reservation.
+abbrev pub listed_reservation : List Reservation
+listed_reservation = record { address = 0x1000; size = 0x20 } ∷ []
+
+-- A file with these image nodes and this reservation, with the boot processor 3, and with seven
+-- bytes after its blob of 276 bytes.
+abbrev pub source_file : List ℕ
+source_file = text_of_tree 3 listed_reservation (tree_with_images each_source) ++ codes "1234xyz"
+
+abbrev pub source_root : Root FileNode
+source_root = tree_with_places listed_reservation (tree_with_images each_source)
+
+-- What it means.
+abbrev pub source_tree : ImageTree
+source_tree =
+    record
+    (plain_tree
+    (codes "a" ∷ codes "b" ∷ codes "c" ∷ codes "d" ∷ [])
+    (Some (codes "abc") ∷ Some (0 ∷ 0 ∷ []) ∷ Some (codes "xyz") ∷ None ∷ [])) {
+      cpu = 3;
+      reservations = listed_reservation;
+    }
+
+-- The listing of this file.
+abbrev pub EachSourceIsListed : Type 0
+EachSourceIsListed =
+    option_map (λ images. fit_listing source_file images source_tree) (image_nodes source_root)
+    ≡ Some (lines
+    (codes "kind fit"
+    ∷ codes "boot-cpu 3"
+    ∷ codes "total-size 276"
+    ∷ codes "reservation 0x0000000000001000 0x0000000000000020"
+    ∷ codes "image a size 3 data at 112"
+    ∷ codes "image b size 2 data-position at 8"
+    ∷ codes "image c size 3 data-offset at 280"
+    ∷ codes "image d none"
     ∷ []))
 
 -- The lines of the configurations of a tree and of its default.

@@ -24,6 +24,8 @@ pub mod ReadDescription
 pub mod ReadListing
 pub mod Reports
 pub mod KnownConcerns
+pub mod KnownDescriptions
+pub mod KnownDifferences
 pub mod KnownTexts
 pub mod SortedProperties
 pub mod TreeEntries

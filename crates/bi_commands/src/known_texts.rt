@@ -1,10 +1,13 @@
 //! Small boot images with what the commands write of them. Each function does nothing: what it
 //! ensures is a fact about the definitions.
 
-ghost use Rattle.bi_commands.specs.KnownConcerns.{ConcernsAreKnown};
+ghost use Rattle.bi_commands.specs.KnownConcerns.{ConcernsAreKnown, StrongAlgorithmsAreKnown};
+ghost use Rattle.bi_commands.specs.KnownConcerns.{TrailingBytesAreKnown, AllowedKindsAreKnown};
+ghost use Rattle.bi_commands.specs.KnownDescriptions.{ValuesAreShown, DescriptionsAreKnown};
+ghost use Rattle.bi_commands.specs.KnownDifferences.{DifferencesAreKnown, ComparisonsAreKnown};
 ghost use Rattle.bi_commands.specs.KnownTexts.{NamesAreShown, ChoicesAreKnown, ReportsAreKnown};
 ghost use Rattle.bi_commands.specs.KnownTexts.{LegacyListingsAreKnown, FitListingIsKnown};
-ghost use Rattle.bi_commands.specs.KnownTexts.{ConfigurationLinesAreKnown};
+ghost use Rattle.bi_commands.specs.KnownTexts.{EachSourceIsListed, ConfigurationLinesAreKnown};
 
 /// Names are shown as known words: an empty one, `-`, a space, `%`, the first and the last byte
 /// that is shown as it is and those next to them, the greatest byte, and a plain name.
@@ -33,6 +36,12 @@ pub fn fit_listing_is_known()
     ensures { FitListingIsKnown }
 {}
 
+/// The listing of a file with images whose payloads are given by `data`, `data-position` and
+/// `data-offset`, with a memory reservation and another boot processor than 0, is a known text.
+pub fn each_source_is_listed()
+    ensures { EachSourceIsListed }
+{}
+
 /// The lines of the configurations of a small tree, and of its default, are a known text, with a
 /// line for each way in which a key lists images or none.
 pub fn configuration_lines_are_known()
@@ -43,4 +52,42 @@ pub fn configuration_lines_are_known()
 /// kind, a default that names no configuration, and bytes after an image.
 pub fn concerns_are_known()
     ensures { ConcernsAreKnown }
+{}
+
+/// An image whose good verdicts are by CRC-32, MD5 or SHA-1 alone has a line, and one with a good
+/// verdict by SHA-256, SHA-384 or SHA-512 has none.
+pub fn strong_algorithms_are_known()
+    ensures { StrongAlgorithmsAreKnown }
+{}
+
+/// The bytes after the payload that ends last, here that of the first image, are those that have a
+/// line.
+pub fn trailing_bytes_are_known()
+    ensures { TrailingBytesAreKnown }
+{}
+
+/// Each kind of concerns is allowed by its own name.
+pub fn allowed_kinds_are_known()
+    ensures { AllowedKindsAreKnown }
+{}
+
+/// The differences of small lists of lines are known texts.
+pub fn differences_are_known()
+    ensures { DifferencesAreKnown }
+{}
+
+/// Values of properties are shown as known words: texts in quotes, and other bytes in hexadecimal
+/// digits.
+pub fn values_are_shown()
+    ensures { ValuesAreShown }
+{}
+
+/// The descriptions of small boot images are known texts.
+pub fn descriptions_are_known()
+    ensures { DescriptionsAreKnown }
+{}
+
+/// What differs between small boot images are known texts.
+pub fn comparisons_are_known()
+    ensures { ComparisonsAreKnown }
 {}

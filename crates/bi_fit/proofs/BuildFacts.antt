@@ -20,16 +20,16 @@ use Rattle.bi_fit.proofs.FileFacts.{no_entries}
 -- What the definitions compute for a small built tree.
 
 -- Properties put in order one by one.
-abbrev put_in_order : List Property → List Property
+abbrev pub put_in_order : List Property → List Property
 put_in_order [] = []
 put_in_order (property ∷ later) = put (slice_cmp nat_cmp) property.0 property.1 (put_in_order later)
 
 -- Properties by name are in this order.
-in_order : (properties : List Property) → entries (from_entries {R = slice_cmp nat_cmp} properties) ≡ put_in_order properties
-in_order [] = no_entries
-in_order (property ∷ later) =
+pub entries_in_order : (properties : List Property) → entries (from_entries {R = slice_cmp nat_cmp} properties) ≡ put_in_order properties
+entries_in_order [] = no_entries
+entries_in_order (property ∷ later) =
     entries-insert nat_list_cmp_total (from_entries later) property.0 property.1
-    ∙ ap (put (slice_cmp nat_cmp) property.0 property.1) (in_order later)
+    ∙ ap (put (slice_cmp nat_cmp) property.0 property.1) (entries_in_order later)
 
 -- Both digests.
 abbrev hello_digest : List ℕ
@@ -41,15 +41,15 @@ abc_digest = digest_of Sha256 (codes "abc")
 known_is_tree : normal_tree Embedded (built_tree known_head (known_kernel ∷ known_ramdisk ∷ [])) ≡ known_tree hello_digest abc_digest
 known_is_tree =
     λ i. record {
-      own = in_order (root_properties known_head) i;
+      own = entries_in_order (root_properties known_head) i;
       children = node (codes "images") (no_entries i)
-          (node (codes "kernel-1") (in_order ((data_name, codes "hello") ∷ built_image_properties known_head known_kernel) i)
-          (node (codes "hash-1") (in_order (hash_properties (codes "hello")) i) none none)
-          (node (codes "ramdisk-1") (in_order ((data_name, codes "abc") ∷ built_image_properties known_head known_ramdisk) i)
-          (node (codes "hash-1") (in_order (hash_properties (codes "abc")) i) none none)
+          (node (codes "kernel-1") (entries_in_order ((data_name, codes "hello") ∷ built_image_properties known_head known_kernel) i)
+          (node (codes "hash-1") (entries_in_order (hash_properties (codes "hello")) i) none none)
+          (node (codes "ramdisk-1") (entries_in_order ((data_name, codes "abc") ∷ built_image_properties known_head known_ramdisk) i)
+          (node (codes "hash-1") (entries_in_order (hash_properties (codes "abc")) i) none none)
           none))
-          (node (codes "configurations") (in_order ((default_name, text_value configuration_name) ∷ []) i)
-          (node (codes "conf-1") (in_order (configuration_properties known_head (known_kernel ∷ known_ramdisk ∷ [])) i) none none)
+          (node (codes "configurations") (entries_in_order ((default_name, text_value configuration_name) ∷ []) i)
+          (node (codes "conf-1") (entries_in_order (configuration_properties known_head (known_kernel ∷ known_ramdisk ∷ [])) i) none none)
           none);
     }
 

@@ -18,6 +18,7 @@ pub mod FileFacts
 pub mod FaultFacts
 pub mod JudgementFacts
 pub mod BuildFacts
+pub mod UpdateFacts
 pub mod NameLists
 pub mod BuiltConfigurations
 pub mod ReadErrors
@@ -53,6 +54,7 @@ pub mod ValuePairs
 pub mod NumberedValues
 pub mod ComparedTrees
 pub mod UpdatedVerdicts
+pub mod UpdateChanges
 pub mod Appending
 pub mod WholeTexts
 pub mod AppendedPayloads

@@ -66,11 +66,11 @@ image_nodes-with_new_digests true payloads nodes =
     ∙ images_or_none payloads (children_of images_name nodes)
 
 -- Image nodes and their payloads as images, if the digests change.
-abbrev new_images_with : (hashes : Bool) → List (Option (List ℕ)) → Nodes PropertyMap → List Image
+abbrev pub new_images_with : (hashes : Bool) → List (Option (List ℕ)) → Nodes PropertyMap → List Image
 new_images_with hashes payloads nodes = images_with (siblings (new_images hashes payloads nodes)) payloads
 
 -- The images of an updated tree.
-images_of-updated : (changes : Changes) (tree : ImageTree) →
+pub images_of-updated : (changes : Changes) (tree : ImageTree) →
     images_of (with_changes changes tree) ≡ new_images_with changes.hashes tree.payloads (nodes_or_none (image_nodes tree.root))
 images_of-updated changes tree =
     ap (λ nodes. images_with (siblings nodes) tree.payloads)

@@ -34,3 +34,4 @@ pub mod KnownFiles
 pub mod KnownFaults
 pub mod KnownJudgements
 pub mod KnownBuilds
+pub mod KnownUpdates

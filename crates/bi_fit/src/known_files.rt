@@ -11,6 +11,7 @@ ghost use Rattle.bi_fit.specs.KnownFiles.{UnusedHaveNoMeaning};
 ghost use Rattle.bi_fit.specs.KnownFaults.{WithoutImages, RegionsHaveFaults, FirstFaultCounts};
 ghost use Rattle.bi_fit.specs.KnownJudgements.{ListsAreRead, HashesAreJudged};
 ghost use Rattle.bi_fit.specs.KnownBuilds.{BuiltIsKnown, EachKeyIsKnown};
+ghost use Rattle.bi_fit.specs.KnownUpdates.{UpdatesAreKnown};
 
 /// A file of 88 bytes with a root and its child `images` is a flattened image tree, and is its own
 /// text in both forms.
@@ -115,4 +116,10 @@ pub fn built_is_known()
 /// lists the images of each of them in this order.
 pub fn each_key_is_known()
     ensures keys { EachKeyIsKnown }
+{}
+
+/// A small tree has known nodes and properties after an update of the time, of the digests and of
+/// both.
+pub fn updates_are_known()
+    ensures updates { UpdatesAreKnown }
 {}

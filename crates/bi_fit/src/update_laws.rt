@@ -1,6 +1,7 @@
 //! Laws of updates of flattened image trees. Each is the contract of a function that does nothing.
 
-ghost use Rattle.bi_fit.specs.UpdateLaws.{EachUpdateHasItsJudgement, NoChangeKeepsTree};
+ghost use Rattle.bi_fit.specs.UpdateLaws.{EachUpdateHasItsChanges, EachUpdateHasItsJudgement};
+ghost use Rattle.bi_fit.specs.UpdateLaws.{NoChangeKeepsTree};
 ghost use Rattle.bi_fit.specs.UpdateLaws.{UpdatedIsAccepted, UpdatedIsImageTree};
 
 /// An update without changes keeps the tree. So its text is the normal text.
@@ -25,4 +26,11 @@ pub fn updated_is_accepted()
 /// the default and the number of signature nodes.
 pub fn each_update_has_its_judgement()
     ensures { EachUpdateHasItsJudgement }
+{}
+
+/// An update of the time changes the property `timestamp` of the root and nothing else. One of the
+/// digests changes the property `value` of each hash node of an image with a payload and a known
+/// algorithm, and nothing else.
+pub fn each_update_has_its_changes()
+    ensures { EachUpdateHasItsChanges }
 {}

@@ -2,6 +2,7 @@
 //! definitions.
 
 ghost use Rattle.bi_hash.specs.KnownVerdicts.{VerdictsAreKnown, VerdictsHaveOrder};
+ghost use Rattle.bi_hash.specs.KnownVerdicts.{EachAlgorithmIsKnown};
 
 /// Small hash nodes have known verdicts: each verdict is the one on some of them.
 pub fn verdicts_are_known()
@@ -12,4 +13,9 @@ pub fn verdicts_are_known()
 /// and UnknownAlgo before NoPayload.
 pub fn verdicts_have_order()
     ensures { VerdictsHaveOrder }
+{}
+
+/// The name of each algorithm stands for its digest, as the standards state that of `abc`.
+pub fn each_algorithm_is_known()
+    ensures { EachAlgorithmIsKnown }
 {}

@@ -1,9 +1,10 @@
-use Rattle.std.proofs.Common.{◌≡◌, ◌+◌, ◌^◌, ◌<◌, ◌≤◌, ℕ, List, length, arith}
+use Rattle.std.proofs.Common.{◌≡◌, ◌+◌, ◌^◌, ◌<◌, ◌≤◌, ℕ, List, length, refl, arith}
 use Rattle.bi_base.specs.Limits.{Limits}
 use Rattle.bi_legacy.specs.Meaning.{LegacyImage, FitsFields, with_new_time}
 use Rattle.bi_legacy.specs.Parts.{parts_end}
 use Rattle.bi_legacy.specs.File.{LegacyMeans}
 use Rattle.bi_legacy.specs.Text.{IsLegacyImage, legacy_text}
+use Rattle.bi_legacy.specs.Laws.{UpdatedHasNewTime}
 use Rattle.bi_legacy.specs.NormalForm.{HasNormalForm}
 use Rattle.bi_legacy.proofs.ImageOfFile.{image_of_file, text_no_longer}
 use Rattle.bi_legacy.proofs.NormalForms.{has_normal_form}
@@ -11,6 +12,19 @@ use Rattle.bi_legacy.proofs.NormalLength.{length-legacy_text}
 use Rattle.bi_legacy.proofs.TextMeans.{legacy_text_means}
 
 -- Images of files with another time.
+
+pub updated_has_new_time : UpdatedHasNewTime
+updated_has_new_time image time = record {
+  time_is = refl;
+  load = refl;
+  entry = refl;
+  os = refl;
+  arch = refl;
+  image_type = refl;
+  compression = refl;
+  name = refl;
+  parts = refl;
+}
 
 -- An image with another time fits the format.
 is_updated_image : (image : LegacyImage) (time : ℕ) → time < 2 ^ 32 → IsLegacyImage image → IsLegacyImage (with_new_time time image)

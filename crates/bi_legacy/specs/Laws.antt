@@ -91,6 +91,23 @@ UpdatedHasNormalForm =
     LegacyMeans limits file image → time < 2 ^ 32 →
     HasNormalForm limits (with_new_time time image)
 
+-- The image has this time, and all else of it is as it was.
+pub record HasNewTime (time : ℕ) (old new : LegacyImage) : Type 0 where
+  pub time_is : new.time ≡ time
+  pub load : new.load ≡ old.load
+  pub entry : new.entry ≡ old.entry
+  pub os : new.os ≡ old.os
+  pub arch : new.arch ≡ old.arch
+  pub image_type : new.image_type ≡ old.image_type
+  pub compression : new.compression ≡ old.compression
+  pub name : new.name ≡ old.name
+  pub parts : new.parts ≡ old.parts
+
+-- An image with another time has this time, and all else is as it was.
+abbrev pub UpdatedHasNewTime : Type 0
+UpdatedHasNewTime =
+    (image : LegacyImage) (time : ℕ) → HasNewTime time image (with_new_time time image)
+
 -- An image that a file means within the limits can be written within them.
 abbrev pub MeaningCanBeWritten : Type 0
 MeaningCanBeWritten =

@@ -8,6 +8,7 @@ ghost use Rattle.bi_legacy.specs.Laws.{OneLegacyFault, ImagesOfFiles, TextMeansI
 ghost use Rattle.bi_legacy.specs.Laws.{TextIsNoLonger};
 ghost use Rattle.bi_legacy.specs.Laws.{TextIsItsOwnNormalForm, TextsDiffer, MeaningCanBeWritten};
 ghost use Rattle.bi_legacy.specs.Laws.{WrittenTextMeansImage, UpdatedHasNormalForm};
+ghost use Rattle.bi_legacy.specs.Laws.{UpdatedHasNewTime};
 ghost use Rattle.bi_legacy.specs.KnownImages.{HasKernelText, HasMultiText, HasFirmwareText};
 
 /// A file means at most one image.
@@ -75,6 +76,11 @@ pub fn texts_differ()
 /// its normal text means it.
 pub fn updated_has_normal_form()
     ensures { UpdatedHasNormalForm }
+{}
+
+/// An image with another time has this time, and all else of it is as it was.
+pub fn updated_has_new_time()
+    ensures { UpdatedHasNewTime }
 {}
 
 /// An image that a file means within the limits can be written within them.

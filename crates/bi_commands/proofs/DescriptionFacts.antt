@@ -1,0 +1,40 @@
+use Rattle.std.proofs.Common.{refl, nat_cmp}
+use Rattle.std.specs.Cmp.Lexicographic.{slice_cmp}
+use Rattle.std.specs.Fmt.{digits}
+use Rattle.std.specs.FinMap.{entries-from_sorted}
+use Rattle.bi_base.specs.Cells.{cell, cell8}
+use Rattle.bi_fit.proofs.FileFacts.{no_entries}
+use Rattle.bi_commands.specs.KnownDescriptions.{described_properties, load_and_os, only_algo, only_data_value}
+use Rattle.bi_commands.specs.KnownDescriptions.{ValuesAreShown, DescriptionsAreKnown}
+
+-- What the definitions compute for small boot images.
+
+pub values_are_shown : ValuesAreShown
+values_are_shown = record {
+  no_bytes = refl;
+  text = refl;
+  escaped = refl;
+  two_texts = refl;
+  first = refl;
+  before_first = refl;
+  last = refl;
+  after_last = refl;
+  no_ascii = refl;
+  newline = refl;
+  no_zero = refl;
+  only_zero = refl;
+  two_zeros = refl;
+  zero_first = refl;
+  one_text_of_two = refl;
+  a_cell = refl;
+  digits = refl;
+}
+
+pub descriptions_are_known : DescriptionsAreKnown
+unfolding digits cell cell8
+descriptions_are_known = record {
+  no_parts = refl;
+  two_parts = refl;
+  properties = rw (entries-from_sorted (slice_cmp nat_cmp) described_properties tt, no_entries) refl;
+  images = rw (entries-from_sorted (slice_cmp nat_cmp) load_and_os tt, entries-from_sorted (slice_cmp nat_cmp) only_algo tt, entries-from_sorted (slice_cmp nat_cmp) only_data_value tt, no_entries) refl;
+}

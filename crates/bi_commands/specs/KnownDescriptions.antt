@@ -1,0 +1,175 @@
+use Rattle.std.specs.Prelude.{◌≡◌, ℕ, List, [], ◌∷◌, ◌++◌, codes, Some, None}
+use Rattle.std.specs.FinMap.{empty, from_sorted}
+use Rattle.bi_blob.specs.Tree.{none, node, Property}
+use Rattle.bi_fit.specs.ImageTree.{ImageTree}
+use Rattle.bi_fit.specs.Names.{images_name}
+use Rattle.bi_hash.specs.declared.algo.Algo.TheVariants.{Sha256}
+use Rattle.bi_hash.specs.Digests.{digest_of}
+use Rattle.bi_legacy.specs.KnownImages.{firmware_image}
+use Rattle.bi_norm.specs.Meaning.{OfLegacy, OfFit}
+use Rattle.bi_commands.specs.Descriptions.{description, description_texts}
+use Rattle.bi_commands.specs.KnownTexts.{lines}
+use Rattle.bi_commands.specs.ValueTexts.{value_words, hexadecimal_digits}
+
+-- The descriptions of small boot images, by which a reader can judge the definitions.
+
+-- Values of properties as they are printed. A text is in quotes if it has a byte, if each of its
+-- bytes is one of 0x20 to 0x7e, and if a zero follows it.
+pub record ValuesAreShown : Type 0 where
+  pub no_bytes : value_words [] ≡ []
+  pub text : value_words (codes "a-b c" ++ 0 ∷ []) ≡ codes "\"a-b c\"" ∷ []
+  pub escaped : value_words (codes "say \"hi\" in C:\\" ++ 0 ∷ [])
+      ≡ codes "\"say \\\"hi\\\" in C:\\\\\"" ∷ []
+  pub two_texts : value_words (codes "x" ++ 0 ∷ codes "y z" ++ 0 ∷ [])
+      ≡ codes "\"x\"" ∷ codes "\"y z\"" ∷ []
+  pub first : value_words (0x20 ∷ 0 ∷ []) ≡ codes "\" \"" ∷ []
+  pub before_first : value_words (0x1f ∷ 0 ∷ []) ≡ codes "0x1f00" ∷ []
+  pub last : value_words (0x7e ∷ 0 ∷ []) ≡ codes "\"~\"" ∷ []
+  pub after_last : value_words (0x7f ∷ 0 ∷ []) ≡ codes "0x7f00" ∷ []
+  pub no_ascii : value_words (0x80 ∷ 0 ∷ []) ≡ codes "0x8000" ∷ []
+  pub newline : value_words (codes "x\n" ++ 0 ∷ []) ≡ codes "0x780a00" ∷ []
+  pub no_zero : value_words (codes "x") ≡ codes "0x78" ∷ []
+  pub only_zero : value_words (0 ∷ []) ≡ codes "0x00" ∷ []
+  pub two_zeros : value_words (codes "x" ++ 0 ∷ 0 ∷ []) ≡ codes "0x780000" ∷ []
+  pub zero_first : value_words (0 ∷ codes "x" ++ 0 ∷ []) ≡ codes "0x007800" ∷ []
+  pub one_text_of_two : value_words (codes "x" ++ 0 ∷ 1 ∷ 0 ∷ []) ≡ codes "0x78000100" ∷ []
+  pub a_cell : value_words (0 ∷ 0 ∷ 0 ∷ 1 ∷ []) ≡ codes "0x00000001" ∷ []
+  pub digits : value_words (0xab ∷ 0xcd ∷ 0xef ∷ []) ≡ codes "0xabcdef" ∷ []
+
+-- A root with properties of each of these forms, in byte order of their names.
+abbrev pub described_properties : List Property
+described_properties =
+    (codes "a", codes "say \"hi\" in C:\\" ++ 0 ∷ [])
+    ∷ (codes "b", [])
+    ∷ (codes "c", 0 ∷ [])
+    ∷ (codes "d", codes "x" ++ 0 ∷ codes "y z" ++ 0 ∷ [])
+    ∷ (codes "e", codes "x\n" ++ 0 ∷ [])
+    ∷ (codes "f", codes "x")
+    ∷ (codes "g", codes "x" ++ 0 ∷ 0 ∷ [])
+    ∷ (codes "p q/r", 0 ∷ 0 ∷ 0 ∷ 1 ∷ [])
+    ∷ []
+
+-- A tree with this root, the boot processor 1, one memory reservation, and the nodes `images` and
+-- `-` without properties.
+abbrev pub described_tree : ImageTree
+described_tree = record {
+  cpu = 1;
+  reservations = record { address = 0x1000; size = 0x20 } ∷ [];
+  root = record {
+    own = from_sorted described_properties;
+    children = node images_name empty none (node (codes "-") empty none none);
+  };
+  payloads = [];
+}
+
+-- The properties of an image node, of its hash node, and of a node of a configuration.
+abbrev pub load_and_os : List Property
+load_and_os =
+    (codes "load", 0 ∷ 0 ∷ 0x80 ∷ 0 ∷ []) ∷ (codes "os", codes "linux" ++ 0 ∷ []) ∷ []
+
+abbrev pub only_algo : List Property
+only_algo = (codes "algo", codes "sha256" ++ 0 ∷ []) ∷ []
+
+abbrev pub only_data_value : List Property
+only_data_value = (codes "data", codes "q") ∷ []
+
+-- A tree with the image `a`, whose payload is `abc` and which has a hash node and a node below
+-- that, the image `b` with an empty payload, and the image `c` without one. Another node has a
+-- child `images`, whose child is no image.
+abbrev pub images_tree : ImageTree
+images_tree = record {
+  cpu = 0;
+  reservations = [];
+  root = record {
+    own = empty;
+    children = node (codes "other") empty
+        (node images_name empty (node (codes "n") (from_sorted only_data_value) none none) none)
+        (node images_name empty
+        (node (codes "a") (from_sorted load_and_os)
+        (node (codes "hash-1") (from_sorted only_algo) (node (codes "x") empty none none) none)
+        (node (codes "b") empty none (node (codes "c") empty none none)))
+        (node (codes "last") empty none none));
+  };
+  payloads = Some (codes "abc") ∷ Some [] ∷ None ∷ [];
+}
+
+-- The digits of the SHA-256 of a payload.
+abbrev pub sha256_digits : List ℕ → List ℕ
+sha256_digits payload = hexadecimal_digits (digest_of Sha256 payload)
+
+-- The descriptions of a multi-file image without parts, and of the tree with a property of each
+-- form; and the lines of the descriptions of an image with two parts, whose load address is not
+-- its entry point, and of the tree with three images.
+pub record DescriptionsAreKnown : Type 0 where
+  pub no_parts : description (OfLegacy (record firmware_image { image_type = 4; parts = [] }))
+      ≡ lines
+      (codes "kind legacy"
+      ∷ codes "name firmware"
+      ∷ codes "time 1"
+      ∷ codes "load 0x00008000"
+      ∷ codes "entry 0x00008040"
+      ∷ codes "os linux"
+      ∷ codes "arch arm"
+      ∷ codes "type multi"
+      ∷ codes "compression gzip"
+      ∷ [])
+  pub two_parts : description_texts
+      (OfLegacy
+      (record firmware_image {
+        time = 1700000000;
+        os = 200;
+        image_type = 4;
+        name = codes "two parts";
+        parts = codes "hello" ∷ codes "abc" ∷ [];
+      }))
+      ≡ codes "kind legacy"
+      ∷ codes "name two%20parts"
+      ∷ codes "time 1700000000"
+      ∷ codes "load 0x00008000"
+      ∷ codes "entry 0x00008040"
+      ∷ codes "os 200"
+      ∷ codes "arch arm"
+      ∷ codes "type multi"
+      ∷ codes "compression gzip"
+      ∷ (codes "part 0 size 5 sha256 " ++ sha256_digits (codes "hello"))
+      ∷ (codes "part 1 size 3 sha256 " ++ sha256_digits (codes "abc"))
+      ∷ []
+  pub properties : description (OfFit described_tree)
+      ≡ lines
+      (codes "kind fit"
+      ∷ codes "boot-cpu 1"
+      ∷ codes "reservation 0x0000000000001000 0x0000000000000020"
+      ∷ codes "node /"
+      ∷ codes "property / a \"say \\\"hi\\\" in C:\\\\\""
+      ∷ codes "property / b"
+      ∷ codes "property / c 0x00"
+      ∷ codes "property / d \"x\" \"y z\""
+      ∷ codes "property / e 0x780a00"
+      ∷ codes "property / f 0x78"
+      ∷ codes "property / g 0x780000"
+      ∷ codes "property / p%20q/r 0x00000001"
+      ∷ codes "node /images"
+      ∷ codes "node /%2D"
+      ∷ [])
+  pub images : description_texts (OfFit images_tree)
+      ≡ codes "kind fit"
+      ∷ codes "boot-cpu 0"
+      ∷ codes "node /"
+      ∷ codes "node /other"
+      ∷ codes "node /other/images"
+      ∷ codes "node /other/images/n"
+      ∷ codes "property /other/images/n data 0x71"
+      ∷ codes "node /images"
+      ∷ codes "node /images/a"
+      ∷ (codes "payload /images/a size 3 sha256 " ++ sha256_digits (codes "abc"))
+      ∷ codes "property /images/a load 0x00008000"
+      ∷ codes "property /images/a os \"linux\""
+      ∷ codes "node /images/a/hash-1"
+      ∷ codes "property /images/a/hash-1 algo \"sha256\""
+      ∷ codes "node /images/a/hash-1/x"
+      ∷ codes "node /images/b"
+      ∷ (codes "payload /images/b size 0 sha256 " ++ sha256_digits [])
+      ∷ codes "node /images/c"
+      ∷ codes "payload /images/c none"
+      ∷ codes "node /last"
+      ∷ []
