@@ -14,7 +14,7 @@ use Rattle.bootimg.specs.CodeWords.{IsCode}
 use Rattle.clap.specs.Matches.{raw_values}
 use Rattle.clap.specs.declared.parser.matches.MatchedArg.{MatchedArg}
 use Rattle.bootimg.specs.CommandLine.{given_count, list_of, option_of, parts_of, texts_of, AreEscaped, AreGiven, AreImages, ArePartSources}
-use Rattle.bootimg.specs.CommandLine.{IsFailureOutcome, IsEntry, IsFirstBad, IsSelection, IsSelectionFailure, IsTaskFailure, IsTaskOutcome}
+use Rattle.bootimg.specs.CommandLine.{IsFailureOutcome, IsEntry, IsFirstBad, IsSelection, IsSelectionFailure}
 use Rattle.bootimg.specs.CommandLine.{IsAddress, IsBadValue, IsImage, IsImageText, IsNameOf, IsPartSource, NoneIs, SelectsDefault}
 use Rattle.bootimg.specs.Numbers.{IsNumber}
 use Rattle.bootimg.specs.declared.codes.CodeField.TheVariants.{Os, Arch, ImageType, Compression}
@@ -242,18 +242,6 @@ outcome_weaker P Q (Err given) (outcome.Text text) is fails weaker = absurd fail
 outcome_weaker P Q (Err given) (outcome.Failure failure) is fails weaker =
     subst (λ o. IsFailureOutcome Q o) (sym is) (elim fails [
       | inl holds ↦ inl (weaker failure holds)
-      | inr memory ↦ inr memory
-    ])
-
--- The outcome of a command.
-pub task_outcome : {T : Type 0} (name : List ℕ) (options : ArgMatches) (P : Failure → Type 0) (result : Result T Outcome)
-    (failed : Outcome) → IsErrAnd result (λ given. given ≡ failed) → IsFailureOutcome P failed →
-    ((failure : Failure) → P failure → IsTaskFailure name options failure) → IfErr result (IsTaskOutcome name options)
-task_outcome name options P (Ok value) failed is fails task = tt
-task_outcome name options P (Err given) (outcome.Text text) is fails task = absurd fails
-task_outcome name options P (Err given) (outcome.Failure failure) is fails task =
-    subst (λ o. IsTaskOutcome name options o) (sym is) (elim fails [
-      | inl holds ↦ inl (task failure holds)
       | inr memory ↦ inr memory
     ])
 

@@ -10,5 +10,6 @@ pub mod SameStreams
 pub mod Selected
 pub mod BesideNames
 pub mod NewFiles
+pub mod ProgramFacts
 pub mod NoRequests
 pub mod CauseLines

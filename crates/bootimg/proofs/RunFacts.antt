@@ -1,4 +1,7 @@
-use Rattle.std.proofs.Common.{◌≡◌, ◌++◌, ℕ, List, Option, Result, Ok, Err, refl, subst}
+use Rattle.std.proofs.Common.{◌≡◌, ◌++◌, ℕ, Bool, false, List, Option, Result, Ok, Err, inl, inr, refl, subst}
+use Rattle.std.specs.Prelude.{◌↔◌, IsTrue}
+use Rattle.clap.specs.declared.error.kind.ErrorKind.{ErrorKind}
+use Rattle.clap.specs.declared.error.kind.ErrorKind.TheVariants.{DisplayHelp, DisplayVersion}
 use Rattle.bi_base.specs.BufferedSinks.{wrote_in_turn, stopped_after}
 use Rattle.bi_base.specs.Sinks.{Wrote}
 use Rattle.bi_base.specs.Traces.{ReadsWell, WriteTrace, WritesWell}
@@ -12,7 +15,7 @@ use Rattle.bootimg.specs.declared.failure.Failure.{Failure}
 use Rattle.bootimg.specs.Files.{FileStep, FilePromise}
 use Rattle.bootimg.specs.declared.tasks.Done.{Done}
 use Rattle.bootimg.specs.Runs.{IsPlainRun, IsRun, IsTaskWork, Logs, IsLogged, HasStopped, IsRejection, Reports, Run, Work, Succeeded}
-use Rattle.bootimg.specs.Runs.{HasFailed, problem}
+use Rattle.bootimg.specs.Runs.{HasFailed, IsAskedFor, IsMistake, problem}
 use Rattle.bootimg.specs.Tasks.{task_promise}
 
 -- What the program did to its streams, from what its calls did.
@@ -29,16 +32,24 @@ pub line_is_logged : (old new : WriteTrace) (bytes : List ℕ) (result : Result 
 line_is_logged old new bytes (Ok done) wrote = IsLogged wrote
 line_is_logged old new bytes (Err error) wrote = HasStopped error wrote
 
+-- A text that is no reason why the arguments are wrong is what they ask for.
+pub asked_for : (kind : ErrorKind) (is_usage : Bool) → IsTrue is_usage ↔ IsMistake kind → is_usage ≡ false → IsAskedFor kind
+asked_for DisplayHelp is_usage says fails = inl refl
+asked_for DisplayVersion is_usage says fails = inr refl
+asked_for other is_usage says fails =
+    let why : IsTrue is_usage = says.1 (λ help. cc, λ version. cc) in
+    absurd (let none : IsTrue false = subst (λ test. IsTrue test) fails why in cc)
+
 -- A run over traced streams is one over plain streams with what the traces record.
-pub plain_run : (files : FilePromise) (steps new_steps : Option (List FileStep)) (run : Run)
-    (remaining new_remaining contents new_contents errors new_errors : Option (List ℕ)) → IsRun files run
+pub plain_run : (arguments : List (List ℕ)) (files : FilePromise) (steps new_steps : Option (List FileStep)) (run : Run)
+    (remaining new_remaining contents new_contents errors new_errors : Option (List ℕ)) → IsRun arguments files run
     → ReadsWell run.input → run.input.taken ≡ 0 → WritesWell run.output → WritesWell run.errors
     → run.steps ≡ steps → run.new_steps ≡ new_steps
     → run.input.remaining ≡ remaining → run.new_input.remaining ≡ new_remaining
     → run.output.contents ≡ contents → run.new_output.contents ≡ new_contents
     → run.errors.contents ≡ errors → run.new_errors.contents ≡ new_errors
-    → IsPlainRun files steps new_steps remaining new_remaining contents new_contents errors new_errors run.status
-plain_run files steps new_steps run remaining new_remaining contents new_contents errors new_errors is reads taken writes logs ch nch r nr c nc e ne = record {
+    → IsPlainRun arguments files steps new_steps remaining new_remaining contents new_contents errors new_errors run.status
+plain_run arguments files steps new_steps run remaining new_remaining contents new_contents errors new_errors is reads taken writes logs ch nch r nr c nc e ne = record {
   run = run;
   is_run = is;
   is_status = refl;

@@ -1,4 +1,5 @@
 use Rattle.std.proofs.Common.{◌≡◌, ◌∙◌, ℕ, List, Option, Bor, Result, ap}
+use Rattle.clap.specs.declared.error.kind.ErrorKind.{ErrorKind}
 use Rattle.bi_base.specs.declared.fault.Cause.{Cause}
 use Rattle.bi_base.specs.Limits.{Limits}
 use Rattle.bi_base.specs.Traces.{ReadTrace, WriteTrace}
@@ -169,25 +170,25 @@ request_run_keeps files request run is =
     let keeps = output_run_keeps files request.job request.limits run is.outcome request.output is.done in
     record { reader = keeps.reader; writer = keeps.writer; log = end_keeps _ _ _ _ is.end }
 
-text_run_keeps : (text : List ℕ) (run : Run) → IsTextRun text run → KeepsStreams run
-text_run_keeps text run (IsWritten wrote errors input steps status) = record {
+text_run_keeps : (kind : ErrorKind) (text : List ℕ) (run : Run) → IsTextRun kind text run → KeepsStreams run
+text_run_keeps kind text run (IsWritten asked wrote errors input steps status) = record {
   reader = ap (λ trace. trace.reader) input;
   writer = wrote.same_writer;
   log = ap (λ trace. trace.writer) errors;
 }
-text_run_keeps text run (IsNotWritten error stopped reports input steps status) = record {
+text_run_keeps kind text run (IsNotWritten asked error stopped reports input steps status) = record {
   reader = ap (λ trace. trace.reader) input;
   writer = stopped.same_writer;
   log = reports_keep _ _ _ _ reports;
 }
-text_run_keeps text run (IsUsage logs output input steps status) = record {
+text_run_keeps kind text run (IsUsage why logs output input steps status) = record {
   reader = ap (λ trace. trace.reader) input;
   writer = ap (λ trace. trace.writer) output;
   log = logs_keep _ _ _ logs;
 }
 
 -- A run keeps its streams.
-pub run_keeps : (files : FilePromise) (run : Run) → IsRun files run → KeepsStreams run
-run_keeps files run (RanJob request is lengths ran) = request_run_keeps _ request _ ran
-run_keeps files run (Rejected failure why rejection) = rejection_keeps _ _ _ rejection
-run_keeps files run (WroteText text is) = text_run_keeps _ _ is
+pub run_keeps : (arguments : List (List ℕ)) (files : FilePromise) (run : Run) → IsRun arguments files run → KeepsStreams run
+run_keeps arguments files run (RanJob request is lengths ran) = request_run_keeps _ request _ ran
+run_keeps arguments files run (Rejected failure why rejection) = rejection_keeps _ _ _ rejection
+run_keeps arguments files run (WroteText kind text answers is) = text_run_keeps _ _ _ is

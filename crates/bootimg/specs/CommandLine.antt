@@ -47,7 +47,16 @@ use Rattle.bootimg.specs.declared.failure.Failure.{Failure}
 use Rattle.bootimg.specs.declared.failure.Failure.TheVariants.{Call, NoSelection, NoChange}
 use Rattle.bootimg.specs.declared.failure.Failure.TheVariants.{BadValue, BadImage}
 use Rattle.clap.specs.Matches.{found_of, matched_of, first_value, one_text, raw_values}
+use Rattle.clap.specs.Faults.{fault_of}
+use Rattle.clap.specs.Kinds.{IsAmong}
+use Rattle.clap.specs.Simple.{subcommand_of}
+use Rattle.clap.specs.Values.{kind_of}
+use Rattle.clap.specs.Walk.{rows_of}
+use Rattle.clap.specs.declared.error.Error.{Error as ClapError}
+use Rattle.clap.specs.declared.error.kind.ErrorKind.{ErrorKind}
+use Rattle.clap.specs.declared.error.kind.ErrorKind.TheVariants as error_kind
 use Rattle.clap.specs.declared.parser.matches.ArgMatches.{ArgMatches}
+use Rattle.bootimg.specs.Program.{program_app}
 
 -- What the arguments of the program request (profile of this project).
 
@@ -474,41 +483,45 @@ pub data IsTaskFailure (name : List ℕ) (options : ArgMatches) (failure : Failu
       → IsBadValue (IsExplained (option_of options (codes "cause"))) failure
       → IsTaskFailure name options failure
 
--- The names of the commands.
-abbrev pub command_names : List (List ℕ)
-command_names = codes "normalise" ∷ codes "list" ∷ codes "describe" ∷ codes "verify"
-    ∷ codes "check" ∷ codes "update" ∷ codes "extract" ∷ codes "convert"
-    ∷ codes "build-legacy" ∷ codes "build-fit" ∷ codes "compare" ∷ codes "explain" ∷ []
+-- ---- the arguments
 
--- The outcome of a command whose options are no task. It is a text only if no command has the name.
-abbrev pub IsTaskOutcome : List ℕ → ArgMatches → Outcome → Type 0
-IsTaskOutcome name options (outcome.Failure failure) =
-    IsTaskFailure name options failure ⊎ (failure ≡ Call OutOfMemory)
-IsTaskOutcome name options (outcome.Text text) = ¬ (Contains command_names name)
+-- clap accepts the arguments, and they give this command these options.
+pub record Gives (arguments : List (List ℕ)) (name : List ℕ) (options : ArgMatches) : Type 0 where
+  pub accepted : fault_of program_app arguments ≡ []
+  pub given : subcommand_of program_app arguments ≡ Some (name, rows_of (found_of options))
 
--- The outcome is a text.
-abbrev pub IsTextOutcome : Outcome → Type 0
-IsTextOutcome (outcome.Text text) = ⊤
-IsTextOutcome (outcome.Failure failure) = ⊥
+-- What becomes of an error of clap: a failure if memory ran out, and else its text is the outcome.
+pub data IsOutcomeOf (error : ClapError) (given : Outcome) : Type 0 where
+  HasText : kind_of error ≢ error_kind.OutOfMemory → given ≡ outcome.Text error
+      → IsOutcomeOf error given
+  HasNoText : kind_of error ≡ error_kind.OutOfMemory → given ≡ outcome.Failure (Call OutOfMemory)
+      → IsOutcomeOf error given
 
--- Why the arguments request nothing: the options of a command are no job or no limits, or memory
--- ran out.
-pub data IsRejected (failure : Failure) : Type 0 where
-  NoJob : (name : List ℕ) (options : ArgMatches) → IsTaskFailure name options failure
-      → IsRejected failure
-  NoLimits : (name : List ℕ) (options : ArgMatches) (job : Job) → IsJob name options job
-      → IsBadValue (IsLimits (limit_of options)) failure → IsRejected failure
-  NoMemory : failure ≡ Call OutOfMemory → IsRejected failure
+-- Why the arguments request nothing, though clap accepts them: the options of the command are no
+-- job or no limits, or memory ran out.
+pub data IsRejected (arguments : List (List ℕ)) (failure : Failure) : Type 0 where
+  NoJob : (name : List ℕ) (options : ArgMatches) → Gives arguments name options
+      → IsTaskFailure name options failure → IsRejected arguments failure
+  NoLimits : (name : List ℕ) (options : ArgMatches) (job : Job) → Gives arguments name options
+      → IsJob name options job → IsBadValue (IsLimits (limit_of options)) failure
+      → IsRejected arguments failure
+  NoMemory : failure ≡ Call OutOfMemory → IsRejected arguments failure
 
--- The outcome is such a failure, or a text.
-abbrev pub IsNoRequest : Outcome → Type 0
-IsNoRequest (outcome.Text text) = ⊤
-IsNoRequest (outcome.Failure failure) = IsRejected failure
+-- The text is one that clap has for the arguments: its kind is that of the first thing wrong with
+-- them, or help or the version, if they ask for that first.
+abbrev pub IsTextFor : List (List ℕ) → ErrorKind → Type 0
+IsTextFor arguments kind = IsAmong kind (fault_of program_app arguments)
 
--- The command of some name, with some options, requests this.
-pub record IsRequest (request : Request) : Type 0 where
+-- The outcome is such a failure, or such a text.
+abbrev pub IsNoRequest : List (List ℕ) → Outcome → Type 0
+IsNoRequest arguments (outcome.Text error) = IsTextFor arguments (kind_of error)
+IsNoRequest arguments (outcome.Failure failure) = IsRejected arguments failure
+
+-- The command and the options that the arguments give request this.
+pub record IsRequest (arguments : List (List ℕ)) (request : Request) : Type 0 where
   pub name : List ℕ
   pub options : ArgMatches
+  pub given : Gives arguments name options
   pub job : IsJob name options request.job
   pub limits : IsLimits (limit_of options) request.limits
   pub output : option_map (λ name. name.now) request.output ≡ option_of options (codes "output")

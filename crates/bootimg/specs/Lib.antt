@@ -1,5 +1,7 @@
 pub mod CodeWords
 pub mod CommandLine
+pub mod Program
+pub mod Table
 pub mod ComparedFiles
 pub mod Failures
 pub mod Files

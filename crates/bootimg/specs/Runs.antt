@@ -1,4 +1,5 @@
-use Rattle.std.specs.Prelude.{◌≡◌, ◌++◌, ◌+◌, ◌<◌, ◌≤◌, ℕ, Bool, true, false, List, [], ◌∷◌}
+use Rattle.std.specs.Prelude.{◌≡◌, ◌≢◌, ◌⊎◌, ◌++◌, ◌+◌, ◌<◌, ◌≤◌, ℕ, Bool, true, false, List, []}
+use Rattle.std.specs.Prelude.{◌∷◌}
 use Rattle.std.specs.Prelude.{Option, None, Some}
 use Rattle.std.specs.Prelude.{Result, Ok, Err, codes, length}
 use Rattle.std.specs.Borrow.{Bor}
@@ -17,6 +18,8 @@ use Rattle.bi_commands.specs.BuildCommands.{build_legacy_promise, build_fit_prom
 use Rattle.bi_commands.specs.declared.compare.CompareError.{CompareError}
 use Rattle.bi_commands.specs.declared.parts.Part.{Part}
 use Rattle.bi_commands.specs.declared.parts.Part.TheVariants.{Bytes, Length}
+use Rattle.clap.specs.declared.error.kind.ErrorKind.{ErrorKind}
+use Rattle.clap.specs.declared.error.kind.ErrorKind.TheVariants.{DisplayHelp, DisplayVersion}
 use Rattle.bootimg.specs.declared.command_line.Job.{Job}
 use Rattle.bootimg.specs.declared.command_line.Job.TheVariants.{Run as RunTask, Compare, Build}
 use Rattle.bootimg.specs.declared.command_line.Job.TheVariants.{Explain}
@@ -33,8 +36,8 @@ use Rattle.bootimg.specs.declared.failure.Failure.{Failure}
 use Rattle.bootimg.specs.declared.failure.Failure.TheVariants.{Call, CannotOpen}
 use Rattle.bootimg.specs.declared.jobs.Problem.{Problem}
 use Rattle.bootimg.specs.declared.tasks.Done.{Done}
-use Rattle.bootimg.specs.CommandLine.{HasJobLengths, IsRejected, IsRequest, reads_input}
-use Rattle.bootimg.specs.CommandLine.{sources_of}
+use Rattle.bootimg.specs.CommandLine.{HasJobLengths, IsTextFor, IsRejected, IsRequest}
+use Rattle.bootimg.specs.CommandLine.{reads_input, sources_of}
 use Rattle.bootimg.specs.ComparedFiles.{IsCompareOutput, IsCompareFailure, compare_status}
 use Rattle.bootimg.specs.ComparedFiles.{failure_of_comparing, refused_source}
 use Rattle.bootimg.specs.Explanations.{explain_text}
@@ -416,36 +419,48 @@ pub record IsRequestRun (files : FilePromise) (request : Request) (run : Run) : 
   pub done : IsOutputRun files request.job request.limits run outcome request.output
   pub end : IsEnd run.errors run.new_errors run.status outcome
 
--- A text about the arguments was written: help or the version to standard output, or why the
--- arguments are wrong to standard error. Nothing was read, and no file was changed.
-pub data IsTextRun (text : List ℕ) (run : Run) : Type 0 where
-  IsWritten : WroteAndFlushed run.output text run.new_output → run.new_errors ≡ run.errors
-      → run.new_input ≡ run.input → run.new_steps ≡ run.steps → run.status ≡ 0
-      → IsTextRun text run
-  IsNotWritten : (error : Error) → WriteOrFlushStopped run.output text run.new_output error
+-- A text of this kind is what the arguments ask for: help or the version.
+abbrev pub IsAskedFor : ErrorKind → Type 0
+IsAskedFor kind = (kind ≡ DisplayHelp) ⊎ (kind ≡ DisplayVersion)
+
+-- A text of this kind is the reason why the arguments are wrong.
+abbrev pub IsMistake : ErrorKind → Type 0
+IsMistake kind = (kind ≢ DisplayHelp) × (kind ≢ DisplayVersion)
+
+-- A text of this kind about the arguments was written: help or the version to standard
+-- output, or why the arguments are wrong to standard error. Nothing was read, and no file was
+-- changed.
+pub data IsTextRun (kind : ErrorKind) (text : List ℕ) (run : Run) : Type 0 where
+  IsWritten : IsAskedFor kind → WroteAndFlushed run.output text run.new_output
+      → run.new_errors ≡ run.errors → run.new_input ≡ run.input → run.new_steps ≡ run.steps
+      → run.status ≡ 0 → IsTextRun kind text run
+  IsNotWritten : IsAskedFor kind → (error : Error)
+      → WriteOrFlushStopped run.output text run.new_output error
       → Reports Standard (Call error) run.errors run.new_errors
       → run.new_input ≡ run.input → run.new_steps ≡ run.steps → run.status ≡ 2
-      → IsTextRun text run
-  IsUsage : Logs run.errors text run.new_errors → run.new_output ≡ run.output
+      → IsTextRun kind text run
+  IsUsage : IsMistake kind → Logs run.errors text run.new_errors → run.new_output ≡ run.output
       → run.new_input ≡ run.input → run.new_steps ≡ run.steps → run.status ≡ 2
-      → IsTextRun text run
+      → IsTextRun kind text run
 
--- The program ran: it did the job that the arguments request, rejected the arguments, or wrote a
--- text of the command line.
-pub data IsRun (files : FilePromise) (run : Run) : Type 0 where
-  RanJob : (request : Request) → IsRequest request → HasJobLengths request.job
-      → IsRequestRun files request run → IsRun files run
-  Rejected : (failure : Failure) → IsRejected failure → IsRejection Standard failure run
-      → IsRun files run
-  WroteText : (text : List ℕ) → IsTextRun text run → IsRun files run
+-- The program ran with these arguments: it did the job that they request, rejected them, or wrote a
+-- text that clap has for them.
+pub data IsRun (arguments : List (List ℕ)) (files : FilePromise) (run : Run) : Type 0 where
+  RanJob : (request : Request) → IsRequest arguments request → HasJobLengths request.job
+      → IsRequestRun files request run → IsRun arguments files run
+  Rejected : (failure : Failure) → IsRejected arguments failure
+      → IsRejection Standard failure run → IsRun arguments files run
+  WroteText : (kind : ErrorKind) (text : List ℕ) → IsTextFor arguments kind
+      → IsTextRun kind text run → IsRun arguments files run
 
 -- The program ran over plain streams: it did what traces of these streams record, which begin when
 -- the run does.
-pub record IsPlainRun (files : FilePromise) (steps new_steps : Option (List FileStep))
+pub record IsPlainRun (arguments : List (List ℕ)) (files : FilePromise)
+    (steps new_steps : Option (List FileStep))
     (remaining new_remaining contents new_contents : Option (List ℕ))
     (errors new_errors : Option (List ℕ)) (status : ℕ) : Type 0 where
   pub run : Run
-  pub is_run : IsRun files run
+  pub is_run : IsRun arguments files run
   pub is_status : run.status ≡ status
   pub reads_well : ReadsWell run.input
   pub none_taken : run.input.taken ≡ 0

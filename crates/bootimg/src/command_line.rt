@@ -13,9 +13,10 @@ mod update;
 
 ghost use Rattle.std.specs.Prelude.{◌≡◌, ◌≢◌, IfOk, IfErr, codes};
 ghost use Rattle.bi_base.specs.declared.fault.Error.TheVariants.{OutOfMemory};
-ghost use Rattle.bootimg.specs.CommandLine.{HasJobLengths, IsJob, IsNoRequest, IsRequest};
-ghost use Rattle.bootimg.specs.CommandLine.{IsTask, IsTaskOutcome};
-ghost use Rattle.bootimg.specs.CommandLine.{IsTextOutcome};
+ghost use Rattle.bootimg.specs.CommandLine.{HasJobLengths, IsFailureOutcome, IsJob, IsNoRequest};
+ghost use Rattle.bootimg.specs.CommandLine.{IsOutcomeOf, IsRequest, IsTask, IsTaskFailure};
+ghost use Rattle.bootimg.specs.CommandLine.{texts_of};
+ghost use Rattle.bootimg.specs.Program.{IsCommandName};
 ghost use Rattle.bootimg.specs.declared.command_line.Outcome.TheVariants as outcome;
 ghost use Rattle.bootimg.specs.declared.failure.Failure.TheVariants.{Call};
 
@@ -95,7 +96,7 @@ pub enum Outcome {
 }
 
 impl From<clap::Error> for Outcome {
-    ghost from_gives = { λ _ result. IsNoRequest result };
+    ghost from_gives = { λ error result. IsOutcomeOf error result };
 
     fn from(error: clap::Error) -> Outcome {
         match error.kind() {
@@ -136,14 +137,14 @@ impl From<Failure> for Outcome {
 /// kind of concerns, or `compare` of standard input with itself; an image of `build-fit` that is
 /// malformed. A call that allocates may run out of memory.
 pub fn parse_arguments<'a>(alloc: Global, arguments: &'a [&'a str]) -> Result<Request<'a>, Outcome>
-    ensures request { IfOk result IsRequest }
-    ensures failure { IfErr result IsNoRequest }
+    ensures request { IfOk result (IsRequest (texts_of arguments.entry.now)) }
+    ensures failure { IfErr result (IsNoRequest (texts_of arguments.entry.now)) }
     ensures lengths { IfOk result (λ request. HasJobLengths request.job) }
     ensures depth { IfOk result (λ request. request.limits.depth ≡ 64) }
 {
     let matches = program(alloc)?.try_get_matches_from(arguments)?;
     let Some((name, options)) = matches.subcommand() else {
-        return Err(no_command(alloc)?);
+        unreachable!()
     };
     let job = parse_job(alloc, name, options)?;
     let limits = limits(options)?;
@@ -156,9 +157,10 @@ pub fn parse_arguments<'a>(alloc: Global, arguments: &'a [&'a str]) -> Result<Re
 
 /// Returns what the command of this name does with the options. Fails as `parse_arguments` does.
 fn parse_job<'a>(alloc: Global, name: &str, options: &ArgMatches<'a>) -> Result<Job<'a>, Outcome>
+    requires { IsCommandName name.now }
     ensures job { IfOk result (IsJob name.now options.now) }
     ensures lengths { IfOk result (λ job. HasJobLengths job) }
-    ensures failure { IfErr result (IsTaskOutcome name.now options.now) }
+    ensures failure { IfErr result (IsFailureOutcome (IsTaskFailure name.now options.now)) }
 {
     if name == "compare" {
         return Ok(Job::Compare(compare_plan(options)?));
@@ -182,12 +184,13 @@ fn parse_job<'a>(alloc: Global, name: &str, options: &ArgMatches<'a>) -> Result<
 
 /// Returns the task of the command of this name with the options. Fails as `parse_arguments` does.
 fn parse_task(alloc: Global, name: &str, options: &ArgMatches<'_>) -> Result<Task, Outcome>
+    requires command { IsCommandName name.now }
     requires no_comparison { name.now ≢ codes "compare" }
     requires no_explanation { name.now ≢ codes "explain" }
     requires no_build_legacy { name.now ≢ codes "build-legacy" }
     requires no_build_fit { name.now ≢ codes "build-fit" }
     ensures task { IfOk result (IsTask name.now options.now) }
-    ensures failure { IfErr result (IsTaskOutcome name.now options.now) }
+    ensures failure { IfErr result (IsFailureOutcome (IsTaskFailure name.now options.now)) }
 {
     Ok(match name {
         "normalise" => Task::Normalise(form(options)),
@@ -198,14 +201,6 @@ fn parse_task(alloc: Global, name: &str, options: &ArgMatches<'_>) -> Result<Tas
         "update" => Task::Update(changes(options)?, form(options)),
         "extract" => Task::Extract(selection(alloc, options)?),
         "convert" => Task::Convert,
-        _ => return Err(no_command(alloc)?),
+        _ => unreachable!(),
     })
-}
-
-/// Returns the outcome of arguments without a command.
-fn no_command(alloc: Global) -> Result<Outcome, AllocError>
-    ensures { IfOk result IsTextOutcome }
-{
-    let text = program(alloc)?.error(ErrorKind::MissingSubcommand, "a command is required")?;
-    Ok(Outcome::Text(text))
 }

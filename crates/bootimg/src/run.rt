@@ -1,9 +1,11 @@
 //! The program, over any files and any three streams.
 
-ghost use Rattle.std.specs.Prelude.{List, None, Option};
+ghost use Rattle.std.specs.Prelude.{◌↔◌, IsTrue, List, None, Option};
 ghost use Rattle.bi_base.specs.Traces.{ReadTrace};
 ghost use Rattle.bootimg.specs.Files.{FileStep, SavesNothing, no_files};
-ghost use Rattle.bootimg.specs.Runs.{IsPlainRun, IsRun, IsTextRun};
+ghost use Rattle.bootimg.specs.CommandLine.{texts_of};
+ghost use Rattle.bootimg.specs.Runs.{IsPlainRun, IsRun, IsTextRun, IsMistake};
+ghost use Rattle.clap.specs.declared.error.kind.ErrorKind.{ErrorKind};
 
 use crate::command_line::{ImageSource, Outcome, parse_arguments};
 use crate::failure::Failure;
@@ -28,7 +30,8 @@ pub fn run<'a, R: Read, W: Write, E: Write>(
     writer: &mut W,
     errors: &mut E,
 ) -> u8
-    ensures run { IsPlainRun no_files None None (R.remaining reader.old) (R.remaining reader.new)
+    ensures run { IsPlainRun (texts_of arguments.entry.now) no_files None None
+        (R.remaining reader.old) (R.remaining reader.new)
         (W.contents writer.old) (W.contents writer.new)
         (E.contents errors.old) (E.contents errors.new) result }
     ensures saves_nothing { SavesNothing no_files }
@@ -59,7 +62,8 @@ pub fn run_with_files<'a, R: Read, W: Write, E: Write, F: FileSystem>(
     writer: &mut W,
     errors: &mut E,
 ) -> u8
-    ensures { IsPlainRun (F.promise files.old) (F.steps files.old) (F.steps files.new)
+    ensures { IsPlainRun (texts_of arguments.entry.now) (F.promise files.old)
+        (F.steps files.old) (F.steps files.new)
         (R.remaining reader.old) (R.remaining reader.new)
         (W.contents writer.old) (W.contents writer.new)
         (E.contents errors.old) (E.contents errors.new) result }
@@ -80,7 +84,7 @@ pub fn run_traced<'a, S: TracedRead, T: TracedWrite, E: TracedWrite, F: FileSyst
     output: &mut T,
     errors: &mut E,
 ) -> u8
-    ensures { IsRun (F.promise files.old) (record {
+    ensures { IsRun (texts_of arguments.entry.now) (F.promise files.old) (record {
       input = S.trace input.old;
       new_input = S.trace input.new;
       output = T.trace output.old;
@@ -119,8 +123,9 @@ fn print<T: TracedWrite, E: TracedWrite>(
     output: &mut T,
     errors: &mut E,
 ) -> u8
-    ensures { (input : ReadTrace) (steps : Option (List FileStep))
-        → IsTextRun text.now (record {
+    ensures { (kind : ErrorKind) (input : ReadTrace) (steps : Option (List FileStep))
+        → IsTrue is_usage ↔ IsMistake kind
+        → IsTextRun kind text.now (record {
           input = input;
           new_input = input;
           output = T.trace output.old;

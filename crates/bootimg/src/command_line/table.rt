@@ -1,5 +1,12 @@
 //! The program with its commands and options: a table, and what builds clap's command of it.
 
+ghost use Rattle.std.specs.Prelude.{◌≡◌, false, IfOk, map};
+ghost use Rattle.clap.specs.Words.{app_of, new_rule, rule_of, shape_of};
+ghost use Rattle.bootimg.specs.Program.{building_commands, changing_commands, program_app};
+ghost use Rattle.bootimg.specs.Program.{reading_commands, value_option};
+ghost use Rattle.bootimg.specs.Table.{rule_of_option, shape_of_text, with_subcommands};
+ghost use Rattle.clap.specs.declared.builder.command.Command.TheViews.{out-Command};
+
 use clap::{Arg, ArgAction, Command};
 use std::alloc::{AllocError, Global};
 
@@ -74,7 +81,9 @@ struct CommandText {
 }
 
 /// Builds the program with its commands and options. Fails if memory runs out.
-pub fn program<'a>(alloc: Global) -> Result<Command<'a>, AllocError> {
+pub fn program<'a>(alloc: Global) -> Result<Command<'a>, AllocError>
+    ensures { IfOk result (λ program. app_of program ≡ program_app) }
+{
     let program = Command::new(alloc, "bootimg")
         .bin_name("bootimg")?
         .no_binary_name(true)
@@ -89,10 +98,10 @@ pub fn program<'a>(alloc: Global) -> Result<Command<'a>, AllocError> {
 }
 
 /// Adds the commands that show what an image is.
-fn with_reading_commands<'a>(
-    alloc: Global,
-    program: Command<'a>,
-) -> Result<Command<'a>, AllocError> {
+fn with_reading_commands<'a>(alloc: Global, program: Command<'a>) -> Result<Command<'a>, AllocError>
+    ensures { IfOk result (λ all. app_of all
+        ≡ with_subcommands (app_of program.entry) reading_commands) }
+{
     with_commands(alloc, program, &READING_COMMANDS)
 }
 
@@ -100,7 +109,10 @@ fn with_reading_commands<'a>(
 fn with_changing_commands<'a>(
     alloc: Global,
     program: Command<'a>,
-) -> Result<Command<'a>, AllocError> {
+) -> Result<Command<'a>, AllocError>
+    ensures { IfOk result (λ all. app_of all
+        ≡ with_subcommands (app_of program.entry) changing_commands) }
+{
     with_commands(alloc, program, &CHANGING_COMMANDS)
 }
 
@@ -108,7 +120,10 @@ fn with_changing_commands<'a>(
 fn with_building_commands<'a>(
     alloc: Global,
     program: Command<'a>,
-) -> Result<Command<'a>, AllocError> {
+) -> Result<Command<'a>, AllocError>
+    ensures { IfOk result (λ all. app_of all
+        ≡ with_subcommands (app_of program.entry) building_commands) }
+{
     with_commands(alloc, program, &BUILDING_COMMANDS)
 }
 
@@ -117,7 +132,10 @@ fn with_commands<'a>(
     alloc: Global,
     mut program: Command<'a>,
     texts: &[CommandText],
-) -> Result<Command<'a>, AllocError> {
+) -> Result<Command<'a>, AllocError>
+    ensures { IfOk result (λ all. app_of all
+        ≡ with_subcommands (app_of program.entry) (map shape_of_text texts.now)) }
+{
     for text in texts {
         program = program.subcommand(command(alloc, text)?)?;
     }
@@ -125,7 +143,10 @@ fn with_commands<'a>(
 }
 
 /// Builds a command with its options.
-fn command<'a>(alloc: Global, text: &CommandText) -> Result<Command<'a>, AllocError> {
+fn command<'a>(alloc: Global, text: &CommandText) -> Result<Command<'a>, AllocError>
+    ensures shape { IfOk result (λ command. shape_of command ≡ shape_of_text text.now) }
+    ensures local { IfOk result (λ command. (out-Command command).has_globals ≡ false) }
+{
     let mut command = Command::new(alloc, text.name)
         .about(text.about)
         .override_usage(text.usage)
@@ -137,7 +158,10 @@ fn command<'a>(alloc: Global, text: &CommandText) -> Result<Command<'a>, AllocEr
 }
 
 /// Builds an option.
-fn argument<'a>(alloc: Global, option: &OptionText) -> Arg<'a> {
+fn argument<'a>(alloc: Global, option: &OptionText) -> Arg<'a>
+    ensures rule { rule_of result ≡ rule_of_option option.now }
+    ensures local { result.global ≡ false }
+{
     let argument = Arg::new(alloc, option.name).help(option.help);
     match option.form {
         OptionForm::Flag => argument.long(option.name).action(ArgAction::SetTrue),
@@ -155,7 +179,11 @@ fn argument<'a>(alloc: Global, option: &OptionText) -> Arg<'a> {
 }
 
 /// Makes the option take a value.
-fn with_value<'a>(argument: Arg<'a>, option: &OptionText) -> Arg<'a> {
+fn with_value<'a>(argument: Arg<'a>, option: &OptionText) -> Arg<'a>
+    ensures rule { rule_of argument.entry ≡ new_rule option.now.name.now
+        → rule_of result ≡ value_option option.now.name.now }
+    ensures local { result.global ≡ argument.entry.global }
+{
     argument
         .long(option.name)
         .value_name(option.value_name)

@@ -1,21 +1,53 @@
-use Rattle.bootimg.proofs.NoRequests.{no_job, no_limits}
+use Rattle.std.proofs.Common.{◌≡◌, ◌∙◌, false, true}
+use Rattle.clap.specs.Words.{app_of}
+use Rattle.bootimg.specs.CommandLine.{texts_of}
+use Rattle.bootimg.proofs.NoRequests.{arguments_give, given_is_command, no_job, no_limits, rejected_by_clap, subcommand_is_there}
 use Rattle.bootimg.proofs.command_line.parse_arguments.Goals as goal
+
+pub returns-in_err-matches-clause-failure : goal.returns-in_err-matches-clause-failure
+returns-in_err-matches-clause-failure c =
+    rejected_by_clap (app_of c.in_ok-program.field-0) (texts_of c.args.arguments.now) c.in_err-matches.field-0.0
+    c.from_residual-in_err-matches.result c.in_ok-program.ensures c.in_err-matches.ensures.kinds c.from_residual-in_err-matches.ensures.1
+
+pub unreachable-requires : goal.unreachable-requires
+unreachable-requires c =
+    let there = subcommand_is_there (app_of c.in_ok-program.field-0) (texts_of c.args.arguments.now) c.in_ok-matches.matches
+    c.in_ok-program.ensures c.in_ok-matches.ensures.kinds c.in_ok-matches.ensures.matches in
+    let bad : false ≡ true = c.in_default.ensures.variant ∙ there in
+    cc
+
+pub parse_job-requires : goal.parse_job-requires
+parse_job-requires c =
+    given_is_command (texts_of c.args.arguments.now) c.in-Some.name.now c.in-Some.options.now
+    (arguments_give (app_of c.in_ok-program.field-0) (texts_of c.args.arguments.now) c.in_ok-matches.matches c.subcommand.result c.in-Some.name
+    c.in-Some.options c.in_ok-program.ensures c.in_ok-matches.ensures.kinds c.in_ok-matches.ensures.matches c.in-Some.is
+    c.subcommand.ensures.name c.subcommand.ensures.rows)
+
+pub returns-in_err-job-clause-failure : goal.returns-in_err-job-clause-failure
+returns-in_err-job-clause-failure c =
+    no_job (texts_of c.args.arguments.now) c.in-Some.name.now c.in-Some.options.now c.from_residual-in_err-job.result c.in_err-job.field-0.0
+    (arguments_give (app_of c.in_ok-program.field-0) (texts_of c.args.arguments.now) c.in_ok-matches.matches c.subcommand.result c.in-Some.name
+    c.in-Some.options c.in_ok-program.ensures c.in_ok-matches.ensures.kinds c.in_ok-matches.ensures.matches c.in-Some.is
+    c.subcommand.ensures.name c.subcommand.ensures.rows)
+    c.from_residual-in_err-job.ensures.1 c.in_err-job.ensures.failure
+
+pub returns-in_err-limits-clause-failure : goal.returns-in_err-limits-clause-failure
+returns-in_err-limits-clause-failure c =
+    no_limits (texts_of c.args.arguments.now) c.in-Some.name.now c.in-Some.options.now c.in_ok-job.job c.from_residual-in_err-limits.result
+    c.in_err-limits.field-0.0
+    (arguments_give (app_of c.in_ok-program.field-0) (texts_of c.args.arguments.now) c.in_ok-matches.matches c.subcommand.result c.in-Some.name
+    c.in-Some.options c.in_ok-program.ensures c.in_ok-matches.ensures.kinds c.in_ok-matches.ensures.matches c.in-Some.is
+    c.subcommand.ensures.name c.subcommand.ensures.rows)
+    c.from_residual-in_err-limits.ensures.1 c.in_ok-job.ensures.job c.in_err-limits.ensures.bad
 
 pub returns-clause-request : goal.returns-clause-request
 returns-clause-request c = record {
   name = c.in-Some.name.now;
   options = c.in-Some.options.now;
+  given = arguments_give (app_of c.in_ok-program.field-0) (texts_of c.args.arguments.now) c.in_ok-matches.matches c.subcommand.result
+      c.in-Some.name c.in-Some.options c.in_ok-program.ensures c.in_ok-matches.ensures.kinds c.in_ok-matches.ensures.matches c.in-Some.is
+      c.subcommand.ensures.name c.subcommand.ensures.rows;
   job = c.in_ok-job.ensures.job;
   limits = c.in_ok-limits.ensures.value;
   output = c.get_str.ensures;
 }
-
-pub returns-in_err-job-clause-failure : goal.returns-in_err-job-clause-failure
-returns-in_err-job-clause-failure c =
-    no_job c.in-Some.name.now c.in-Some.options.now c.from_residual-in_err-job.result c.in_err-job.field-0.0
-    c.from_residual-in_err-job.ensures.1 c.in_err-job.ensures.failure
-
-pub returns-in_err-limits-clause-failure : goal.returns-in_err-limits-clause-failure
-returns-in_err-limits-clause-failure c =
-    no_limits c.in-Some.name.now c.in-Some.options.now c.in_ok-job.job c.from_residual-in_err-limits.result c.in_err-limits.field-0.0
-    c.from_residual-in_err-limits.ensures.1 c.in_ok-job.ensures.job c.in_err-limits.ensures.bad

@@ -1,14 +1,14 @@
-use Rattle.std.proofs.Common.{refl, subst}
+use Rattle.std.proofs.Common.{refl, rules, subst}
 use Rattle.bi_base.specs.Sinks.{Wrote}
 use Rattle.bi_base.specs.Writing.{WroteAll, WriteStopped, WriteOrFlushStopped}
 use Rattle.bootimg.specs.Runs.{IsUsage, IsNotWritten}
-use Rattle.bootimg.proofs.RunFacts.{line_is_logged}
+use Rattle.bootimg.proofs.RunFacts.{asked_for, line_is_logged}
 use Rattle.bootimg.proofs.run.print.Goals as goal
 
 pub returns-then-is_usage : goal.returns-then-is_usage
-returns-then-is_usage g c input steps =
+returns-then-is_usage g c kind input steps is_usage =
     let trace = g.E.TracedWrite.trace in
-    IsUsage
+    IsUsage (is_usage.0 (search rules))
     (line_is_logged (trace c.args.errors.now) (trace c.write_all.new.target) c.args.text.now c.write_all.result
     (subst
     (λ bytes. Wrote WroteAll WriteStopped (trace c.args.errors.now) bytes c.write_all.result (trace c.write_all.new.target))
@@ -16,9 +16,9 @@ returns-then-is_usage g c input steps =
     refl refl refl refl
 
 pub returns-in-Err : goal.returns-in-Err
-returns-in-Err g c input steps =
+returns-in-Err g c kind input steps is_usage =
     let trace = g.T.TracedWrite.trace in
-    IsNotWritten c.in-Err.error
+    IsNotWritten (asked_for kind c.args.is_usage is_usage (search rules)) c.in-Err.error
     (subst (λ bytes. WriteOrFlushStopped (trace c.args.output.now) bytes (trace c.write_and_flush.new.target) c.in-Err.error)
     c.as_bytes-2.ensures.value c.in-Err.ensures)
     c.report.ensures.line refl refl c.report.ensures.status

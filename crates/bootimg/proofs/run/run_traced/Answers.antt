@@ -1,5 +1,6 @@
 use Rattle.std.proofs.Common.{◌≡◌, ap, refl, rules, subst}
-use Rattle.bootimg.specs.CommandLine.{IsNoRequest, NoMemory}
+use Rattle.clap.specs.Values.{kind_of}
+use Rattle.bootimg.specs.CommandLine.{texts_of, IsNoRequest, NoMemory}
 use Rattle.bootimg.specs.declared.command_line.Outcome.TheVariants as outcome
 use Rattle.bootimg.specs.declared.failure.Failure.TheVariants.{Call}
 use Rattle.bootimg.specs.Runs.{RanJob, Rejected, WroteText}
@@ -12,11 +13,14 @@ returns-in-Ok g c = RanJob c.in-Ok.request c.in-Ok.ensures.request c.in-Ok.ensur
 pub returns-in-Err-Failure : goal.returns-in-Err-Failure
 returns-in-Err-Failure g c =
     let is : c.in-Err-Failure.field-0 ≡ outcome.Failure c.in-Err-Failure.failure = search rules in
-    Rejected c.in-Err-Failure.failure (subst (λ o. IsNoRequest o) is c.in-Err-Failure.ensures.failure)
+    Rejected c.in-Err-Failure.failure (subst (λ o. IsNoRequest (texts_of c.args.arguments.now) o) is c.in-Err-Failure.ensures.failure)
     (run_is_rejected _ _ _ refl refl refl c.report.ensures.line c.report.ensures.status)
 
 pub returns-in-Ok-clap_text : goal.returns-in-Ok-clap_text
-returns-in-Ok-clap_text g c = WroteText _ (c.print.ensures _ _)
+returns-in-Ok-clap_text g c =
+    let is : c.in-Err-Text.field-0 ≡ outcome.Text c.in-Err-Text.text = search rules in
+    WroteText (kind_of c.in-Err-Text.text) _ (subst (λ o. IsNoRequest (texts_of c.args.arguments.now) o) is c.in-Err-Text.ensures.failure)
+    (c.print.ensures (kind_of c.in-Err-Text.text) _ _ c.use_stderr.ensures)
 
 pub returns : goal.returns
 returns g c =

@@ -1,0 +1,181 @@
+use Rattle.std.specs.Prelude.{◌≡◌, ◌⊎◌, ℕ, List, [], ◌∷◌, ◌++◌, Some, true, false, codes}
+use Rattle.std.specs.Prelude.{map}
+use Rattle.clap.specs.Lexer.{usize_max}
+use Rattle.clap.specs.Walk.{Rule}
+use Rattle.clap.specs.Simple.{App, Shape, new_rule, new_shape}
+use Rattle.clap.specs.declared.builder.action.ArgAction.TheVariants.{Append, Set, SetTrue}
+
+-- The command line of the program, as clap defines what a command is (profile of this project). The
+-- words of a rule and of a shape that are not written here are those of an argument and of a
+-- command without any setting. clap adds `--help` to each command, `--version` to the program, and
+-- the command `help`.
+
+-- ---- options
+
+-- `--NAME`.
+abbrev pub flag_option : (name : List ℕ) → Rule
+flag_option name = record (new_rule name) { long = Some name; action = Some SetTrue }
+
+-- `--NAME VALUE`.
+abbrev pub value_option : (name : List ℕ) → Rule
+value_option name = record (new_rule name) {
+  long = Some name;
+  value_names = 1;
+  action = Some Set;
+}
+
+-- `--NAME VALUE`, which has to be given.
+abbrev pub required_option : (name : List ℕ) → Rule
+required_option name = record (value_option name) { required = true }
+
+-- `--NAME VALUE`. This value stands for one that is not given.
+abbrev pub option_with_default : (name value : List ℕ) → Rule
+option_with_default name value = record (value_option name) { defaults = value ∷ [] }
+
+-- `--NAME VALUE`, or `-LETTER VALUE`.
+abbrev pub short_option : (name : List ℕ) (letter : ℕ) → Rule
+short_option name letter = record (value_option name) { short = Some letter }
+
+-- One argument that is no option. It may be left out.
+abbrev pub word : (name : List ℕ) → Rule
+word name = record (new_rule name) { value_names = 1 }
+
+-- One argument that is no option, which has to be given.
+abbrev pub required_word : (name : List ℕ) → Rule
+required_word name = record (word name) { required = true }
+
+-- Any number of arguments that are no options.
+abbrev pub words : (name : List ℕ) → Rule
+words name = record (word name) {
+  range = Some (record { start_inclusive = 0; end_inclusive = usize_max });
+  action = Some Append;
+}
+
+-- ---- options of several commands
+
+-- `--limit`.
+abbrev pub limit : Rule
+limit = option_with_default (codes "limit") (codes "2147483647")
+
+-- `--output`, or `-o`.
+abbrev pub output : Rule
+output = short_option (codes "output") 111
+
+-- `--external`.
+abbrev pub external : Rule
+external = flag_option (codes "external")
+
+-- The file of an image.
+abbrev pub file : Rule
+file = word (codes "file")
+
+-- ---- commands
+
+-- A command of this name with these options.
+abbrev pub command : (name : List ℕ) → List Rule → Shape
+command name rules = record (new_shape name) { rules = rules }
+
+-- `normalise`.
+abbrev pub normalise : Shape
+normalise = command (codes "normalise") (external ∷ limit ∷ output ∷ file ∷ [])
+
+-- `list`.
+abbrev pub list : Shape
+list = command (codes "list") (limit ∷ output ∷ file ∷ [])
+
+-- `describe`.
+abbrev pub describe : Shape
+describe = command (codes "describe") (limit ∷ output ∷ file ∷ [])
+
+-- `compare`.
+abbrev pub compare : Shape
+compare = command (codes "compare")
+    (flag_option (codes "quiet") ∷ limit ∷ output ∷ required_word (codes "one")
+    ∷ required_word (codes "other") ∷ [])
+
+-- `verify`.
+abbrev pub verify : Shape
+verify = command (codes "verify") (limit ∷ output ∷ file ∷ [])
+
+-- `check`.
+abbrev pub check : Shape
+check = command (codes "check") (value_option (codes "allow") ∷ limit ∷ output ∷ file ∷ [])
+
+-- `update`.
+abbrev pub update : Shape
+update = command (codes "update")
+    (value_option (codes "time") ∷ flag_option (codes "hashes") ∷ external ∷ limit ∷ output ∷ file
+    ∷ [])
+
+-- `extract`.
+abbrev pub extract : Shape
+extract = command (codes "extract")
+    (value_option (codes "part") ∷ value_option (codes "image") ∷ value_option (codes "config")
+    ∷ flag_option (codes "default") ∷ option_with_default (codes "key") (codes "kernel")
+    ∷ option_with_default (codes "index") (codes "0") ∷ flag_option (codes "escaped") ∷ limit
+    ∷ output ∷ file ∷ [])
+
+-- `convert`.
+abbrev pub convert : Shape
+convert = command (codes "convert") (limit ∷ output ∷ file ∷ [])
+
+-- `build-legacy`.
+abbrev pub build_legacy : Shape
+build_legacy = command (codes "build-legacy")
+    (required_option (codes "os") ∷ required_option (codes "arch")
+    ∷ required_option (codes "type") ∷ option_with_default (codes "compression") (codes "none")
+    ∷ value_option (codes "name") ∷ option_with_default (codes "time") (codes "0")
+    ∷ option_with_default (codes "load") (codes "0")
+    ∷ option_with_default (codes "entry") (codes "0") ∷ limit ∷ output
+    ∷ words (codes "lengths") ∷ [])
+
+-- `build-fit`.
+abbrev pub build_fit : Shape
+build_fit = command (codes "build-fit")
+    (external ∷ value_option (codes "description")
+    ∷ option_with_default (codes "time") (codes "0") ∷ limit ∷ output ∷ words (codes "images")
+    ∷ [])
+
+-- `explain`.
+abbrev pub explain : Shape
+explain = command (codes "explain") (output ∷ word (codes "cause") ∷ [])
+
+-- ---- the program
+
+-- The commands that show what an image is, and the one that normalises it.
+abbrev pub reading_commands : List Shape
+reading_commands = normalise ∷ list ∷ describe ∷ compare ∷ verify ∷ check ∷ []
+
+-- The commands that make something else of an image.
+abbrev pub changing_commands : List Shape
+changing_commands = update ∷ extract ∷ convert ∷ []
+
+-- The commands that build an image.
+abbrev pub building_commands : List Shape
+building_commands = build_legacy ∷ build_fit ∷ []
+
+-- All commands.
+abbrev pub commands : List Shape
+commands = reading_commands ++ (changing_commands ++ (building_commands ++ explain ∷ []))
+
+-- The name is one of these.
+abbrev pub IsAmongNames : List (List ℕ) → List ℕ → Type 0
+IsAmongNames [] name = ⊥
+IsAmongNames (other ∷ names) name = (name ≡ other) ⊎ IsAmongNames names name
+
+-- The name is that of a command.
+abbrev pub IsCommandName : List ℕ → Type 0
+IsCommandName name = IsAmongNames (map (λ (shape : Shape). shape.name) commands) name
+
+-- The program. It has a version, and one of the commands has to be given. The arguments are without
+-- the program's own name.
+unfoldable pub program_app : App
+program_app = record {
+  top = record (new_shape (codes "bootimg")) {
+    no_binary_name = true;
+    has_version = true;
+    subcommand_required = true;
+    is_leaf = false;
+  };
+  subs = commands;
+}

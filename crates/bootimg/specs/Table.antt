@@ -1,0 +1,38 @@
+use Rattle.std.specs.Prelude.{ℕ, List, [], fold, map}
+use Rattle.clap.specs.Walk.{Rule}
+use Rattle.clap.specs.Simple.{App, Shape, with_subcommand}
+use Rattle.bootimg.specs.Program.{command, flag_option, option_with_default, required_option}
+use Rattle.bootimg.specs.Program.{required_word, short_option, value_option, word, words}
+use Rattle.bootimg.specs.declared.command_line.table.CommandText.{CommandText}
+use Rattle.bootimg.specs.declared.command_line.table.OptionForm.{OptionForm}
+use Rattle.bootimg.specs.declared.command_line.table.OptionForm.TheVariants as form
+use Rattle.bootimg.specs.declared.command_line.table.OptionText.{OptionText}
+
+-- What the table of commands and options means.
+
+-- The option of this name and form.
+abbrev pub rule_of_form : OptionForm → List ℕ → Rule
+rule_of_form form.Flag name = flag_option name
+rule_of_form form.Required name = required_option name
+rule_of_form form.Optional name = value_option name
+rule_of_form (form.Short letter) name = short_option name letter
+rule_of_form (form.Default value) name = option_with_default name value.now
+rule_of_form form.Word name = word name
+rule_of_form form.RequiredWord name = required_word name
+rule_of_form form.Words name = words name
+
+-- The option of a text.
+abbrev pub rule_of_option : OptionText → Rule
+rule_of_option option = rule_of_form option.form option.name.now
+
+-- The command of a text.
+abbrev pub shape_of_text : CommandText → Shape
+shape_of_text text = command text.name.now (map rule_of_option text.options.now)
+
+-- The program with these commands more.
+abbrev pub with_subcommands : App → List Shape → App
+with_subcommands program shapes = fold with_subcommand program shapes
+
+-- A command of this name with these options, by itself.
+abbrev pub app_of_command : List ℕ → List Rule → App
+app_of_command name rules = record { top = command name rules; subs = [] }
