@@ -47,7 +47,8 @@ nodes_with nothing hash other kept =
     (node (codes "a") nothing
     (node (codes "hash-1") hash (node (codes "hash") kept none none)
     (node (codes "hash@2") other none
-    (node (codes "other") kept none none)))
+    (node (codes "other") kept none
+    (node (codes "hash-3") hash none none))))
     (node (codes "b") nothing
     (node (codes "hash-1") kept none none)
     none))

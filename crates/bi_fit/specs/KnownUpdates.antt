@@ -24,7 +24,8 @@ hash_to_update =
     ∷ []
 
 -- The tree. The image `a` has the payload `abc`, a hash node with a hash node below it, one whose
--- algorithm is not known, and a node that is no hash node. The image `b` has no payload.
+-- algorithm is not known, a node that is no hash node, and another hash node. The image `b` has no
+-- payload.
 abbrev pub tree_to_update : ImageTree
 tree_to_update = record {
   cpu = 1;
@@ -36,7 +37,8 @@ tree_to_update = record {
         (node (codes "hash-1") (from_entries hash_to_update)
         (node (codes "hash") (from_entries hash_to_update) none none)
         (node (codes "hash@2") (from_entries other_crc) none
-        (node (codes "other") (from_entries hash_to_update) none none)))
+        (node (codes "other") (from_entries hash_to_update) none
+        (node (codes "hash-3") (from_entries hash_to_update) none none))))
         (node (codes "b") empty
         (node (codes "hash-1") (from_entries hash_to_update) none none)
         none))
@@ -53,7 +55,8 @@ hash_with_value value =
     ∷ (value_name, value)
     ∷ []
 
--- The nodes of the tree in byte order, with this time and this value of the first hash node.
+-- The nodes of the tree, with the properties of each in byte order, with this time, and with this
+-- value of the two hash nodes that an update changes.
 abbrev pub nodes_after_update : (time : ℕ) → (value : List ℕ) → Root (List Property)
 nodes_after_update time value = record {
   own = (codes "description", codes "k" ++ 0 ∷ []) ∷ (timestamp_name, cell time) ∷ [];
@@ -64,7 +67,8 @@ nodes_after_update time value = record {
       (node (codes "hash@2")
       ((algo_name, codes "crc16-ccitt" ++ 0 ∷ []) ∷ (value_name, 0 ∷ 0 ∷ []) ∷ [])
       none
-      (node (codes "other") (hash_with_value (1 ∷ 2 ∷ 3 ∷ [])) none none)))
+      (node (codes "other") (hash_with_value (1 ∷ 2 ∷ 3 ∷ [])) none
+      (node (codes "hash-3") (hash_with_value value) none none))))
       (node (codes "b") []
       (node (codes "hash-1") (hash_with_value (1 ∷ 2 ∷ 3 ∷ [])) none none)
       none))
