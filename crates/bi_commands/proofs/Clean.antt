@@ -2,4 +2,5 @@
 pub mod NoLines
 pub mod CleanImages
 pub mod CleanConfigurations
+pub mod ContentEnds
 pub mod EmptyIsClean

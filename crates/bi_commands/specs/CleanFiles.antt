@@ -1,18 +1,20 @@
-use Rattle.std.specs.Prelude.{ℕ, ◌-◌, ◌≡◌, ◌≢◌, ◌↔◌, IsFalse, IsSome, Some, List, []}
-use Rattle.std.specs.Prelude.{drop, length}
-use Rattle.std.specs.List.{AllByRecursion, Contains}
+use Rattle.std.specs.Prelude.{ℕ, ◌+◌, ◌-◌, ◌≡◌, ◌≢◌, ◌≤◌, ◌↔◌, IsFalse, IsSome, IfSome, Option}
+use Rattle.std.specs.Prelude.{Some, List, [], drop, length}
+use Rattle.std.specs.List.{AllByRecursion, AllZip, Contains, slice_get}
 use Rattle.bi_base.specs.Limits.{Limits}
-use Rattle.bi_blob.specs.Tree.{names}
+use Rattle.bi_blob.specs.Blob.{totalsize}
+use Rattle.bi_blob.specs.Tree.{Nodes, FileNode, names}
 use Rattle.bi_fit.specs.declared.key.Key.{Key}
 use Rattle.bi_fit.specs.File.{FitMeans}
-use Rattle.bi_fit.specs.ImageTree.{ImageTree}
+use Rattle.bi_fit.specs.ImageTree.{ImageTree, each_own}
 use Rattle.bi_fit.specs.Judgement.{Image, images_of, CheckedHash, verdicts_of, BadList}
 use Rattle.bi_fit.specs.Judgement.{Missing, configuration_nodes, listed_of, default_of}
+use Rattle.bi_fit.specs.Payloads.{source_of, payload_place, IsAt}
 use Rattle.bi_hash.specs.declared.verdicts.Verdict.TheVariants.{Good}
 use Rattle.bi_legacy.specs.Reading.{LegacyModel, IsReadLegacy}
 use Rattle.bi_commands.specs.declared.check.Allowed.{Allowed}
 use Rattle.bi_commands.specs.CheckedFiles.{IsChecked}
-use Rattle.bi_commands.specs.Checking.{hashes_of_image, strong_algorithms, content_end}
+use Rattle.bi_commands.specs.Checking.{hashes_of_image, strong_algorithms}
 use Rattle.bi_commands.specs.Reports.{AreGood}
 
 -- What a clean boot image is: one in which everything is protected, but for what is allowed
@@ -76,6 +78,28 @@ pub record IsCleanTree (allowed : Allowed) (tree : ImageTree) : Type 0 where
 abbrev pub AreZeros : List ℕ → Type 0
 AreZeros bytes = AllByRecursion (λ byte. byte ≡ 0) bytes
 
+-- A payload of an image node is in a file at the place that the node gives it, and ends at or before
+-- this index, wherever that place is. A payload of no bytes ends where it begins.
+pub record EndsBy (file : List ℕ) (index : ℕ) (own : FileNode) (payload : List ℕ) : Type 0 where
+  pub place : ℕ
+  pub is_place : payload_place file (source_of own) ≡ Some place
+  pub is_at : IsAt file place payload
+  pub is_before : place + length payload ≤ index
+
+-- An index of a file is after an image tree with these image nodes and payloads: at or after the end
+-- of the blob, and at or after the end of each payload.
+pub record IsAfterContent (file : List ℕ) (images : Nodes FileNode)
+    (payloads : List (Option (List ℕ))) (index : ℕ) : Type 0 where
+  pub after_blob : totalsize file ≤ index
+  pub after_payloads : AllZip (λ own payload. IfSome payload (EndsBy file index own))
+      (each_own images) payloads
+
+-- Each byte of a file after such an image tree is zero.
+abbrev pub HasZerosAfter : List ℕ → Nodes FileNode → List (Option (List ℕ)) → Type 0
+HasZerosAfter file images payloads =
+    (index byte : ℕ) → IsAfterContent file images payloads index
+    → slice_get file index ≡ Some byte → byte ≡ 0
+
 -- Nothing in a file is a concern, but for what is allowed: it is a legacy image, or a flattened
 -- image tree in which nothing is, and no byte after the image is other than zero.
 pub data IsClean (allowed : Allowed) (limits : Limits) (file : List ℕ) : Type 0 where
@@ -85,7 +109,7 @@ pub data IsClean (allowed : Allowed) (limits : Limits) (file : List ℕ) : Type 
   CleanImageTree : (tree : ImageTree) → (means : FitMeans limits file tree)
       → IsCleanTree allowed tree
       → (IsFalse allowed.trailing
-      → AreZeros (drop (content_end file means.is_file.images tree.payloads) file))
+      → HasZerosAfter file means.is_file.images tree.payloads)
       → IsClean allowed limits file
 
 -- The law that checking a file writes nothing exactly if the file is clean.

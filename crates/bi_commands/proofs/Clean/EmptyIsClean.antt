@@ -3,11 +3,12 @@ use Rattle.std.proofs.Common.{subst, ◌∙◌, arith}
 use Rattle.std.specs.List.{list_all}
 use Rattle.std.proofs.lemmas.Bool.{and_parts, eqb-true}
 use Rattle.bi_base.specs.Limits.{Limits}
-use Rattle.bi_blob.specs.Tree.{Nodes, FileNode, names}
+use Rattle.bi_blob.specs.Tree.{names}
 use Rattle.bi_blob.proofs.Blobs.OneBlob.{one_blob}
 use Rattle.bi_fit.specs.File.{FitMeans}
 use Rattle.bi_fit.specs.ImageTree.{ImageTree, image_nodes}
 use Rattle.bi_fit.specs.Judgement.{configuration_nodes, default_of, images_of}
+use Rattle.bi_fit.proofs.FilePayloads.{payloads_are_at_places}
 use Rattle.bi_fit.proofs.Meanings.{one_fit_meaning, same_in_some}
 use Rattle.bi_legacy.specs.Meaning.{LegacyImage}
 use Rattle.bi_legacy.specs.Parts.{parts_end}
@@ -16,10 +17,11 @@ use Rattle.bi_norm.proofs.Opening.{means_legacy, means_tree}
 use Rattle.bi_commands.specs.declared.check.Allowed.{Allowed}
 use Rattle.bi_commands.specs.Checking.{Concern, AreConcerns, OfLegacyImage, OfImageTree, concern_lines, configuration_concerns, content_end}
 use Rattle.bi_commands.specs.Checking.{default_concerns, image_concerns, trailing, trailing_concerns, tree_concerns}
-use Rattle.bi_commands.specs.CleanFiles.{AreZeros, CleanImageTree, CleanLegacyImage, EmptyIsClean, IsClean, IsCleanTree, NamesConfiguration}
+use Rattle.bi_commands.specs.CleanFiles.{AreZeros, CleanImageTree, CleanLegacyImage, EmptyIsClean, HasZerosAfter, IsClean, IsCleanTree, NamesConfiguration}
 use Rattle.bi_commands.proofs.Clean.CleanConfigurations.{clean_configurations_have_none, configurations_are_clean, default_has_none}
 use Rattle.bi_commands.proofs.Clean.CleanConfigurations.{default_is_there}
 use Rattle.bi_commands.proofs.Clean.CleanImages.{clean_images_have_none, images_are_clean}
+use Rattle.bi_commands.proofs.Clean.ContentEnds.{zeros_after, zeros_from_end}
 use Rattle.bi_commands.proofs.Clean.NoLines.{HaveNoLine, all_have_none, both_have_none, each_has_none, parts_have_none, passed_has_none}
 use Rattle.bi_commands.proofs.Clean.NoLines.{test_is_passed}
 
@@ -104,7 +106,8 @@ file_is_clean allowed limits file concerns (OfLegacyImage parsed opened is) none
 file_is_clean allowed limits file concerns (OfImageTree tree means is) none =
     let rest = drop (content_end file means.is_file.images tree.payloads) file in
     let both = parts_have_none allowed (tree_concerns tree) (trailing_concerns rest) (sym (ap (concern_lines allowed) is) ∙ none) in
-    CleanImageTree tree means (tree_is_clean allowed tree both.0) (end_is_clean allowed rest both.1)
+    CleanImageTree tree means (tree_is_clean allowed tree both.0)
+    (λ refused. zeros_after file means.is_file.images tree.payloads (end_is_clean allowed rest both.1 refused))
 
 -- A clean file has no line.
 clean_file_has_none : (allowed : Allowed) (limits : Limits) (file : List ℕ) (concerns : List Concern) → AreConcerns limits file concerns →
@@ -120,12 +123,13 @@ clean_file_has_none allowed limits file concerns (OfImageTree tree means is) (Cl
 clean_file_has_none allowed limits file concerns (OfImageTree tree means is) (CleanImageTree other also clean zeros) =
     let same : other ≡ tree = one_fit_meaning file other tree also.is_file means.is_file in
     let nodes : also.is_file.images ≡ means.is_file.images = one_list_of_nodes limits file other tree also means in
-    let end : content_end file also.is_file.images other.payloads ≡ content_end file means.is_file.images tree.payloads =
-    ap₂ (λ (nodes : Nodes FileNode) (t : ImageTree). content_end file nodes t.payloads) nodes same in
     ap (concern_lines allowed) is
     ∙ both_have_none allowed (tree_concerns tree) (trailing_concerns (drop (content_end file means.is_file.images tree.payloads) file))
     (clean_tree_has_none allowed tree (subst (IsCleanTree allowed) same clean))
-    (clean_end_has_none allowed (drop (content_end file means.is_file.images tree.payloads) file) (subst (λ end. IsFalse allowed.trailing → AreZeros (drop end file)) end zeros))
+    (clean_end_has_none allowed (drop (content_end file means.is_file.images tree.payloads) file) (λ refused.
+    zeros_from_end file means.is_file.images tree.payloads (payloads_are_at_places file tree means.is_file)
+    (subst (λ found. HasZerosAfter file found tree.payloads) nodes
+    (subst (λ (t : ImageTree). HasZerosAfter file also.is_file.images t.payloads) same (zeros refused)))))
 
 pub empty_is_clean : EmptyIsClean
 empty_is_clean allowed limits file text checked = (
