@@ -172,8 +172,8 @@ complete bootimg explain "" > completed
 check "the completion has the causes" sh -c 'grep -v "^-" completed | sort > got && sort causes | diff - got'
 awk '/^These lines have no offset/ { on = 1 } /^\.Sh SEE/ { on = 0 } on && /^\.It Li/' "$page" |
     sed 's/^\.It Li //; /^usage/!s/ , /\n/g' > got
-sed -n '/for Failure {/,$p' "$root/crates/bootimg/src/failure.rt" | grep -oE '(write_str\(|write!\(f, )"[^"]*"' |
-    sed 's/.*"\(.*\)"/\1/; /^{name}/d; s/{index}/N/' > lines
+sed -n '/fn put_text/,/^    }$/p' "$root/crates/bootimg/src/failure.rt" | grep -oE '(put|put_numbered)\(b"[^"]*"(, index)?' |
+    sed 's/.*"\(.*\)", index$/\1N/; s/.*"\(.*\)"$/\1/' > lines
 check "the page has the other lines of failures, of the code" same lines got
 for status in 0 1 2; do
     check "the page has the exit status $status" grep -Fqx ".It $status" "$page"

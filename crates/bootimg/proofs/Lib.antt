@@ -5,7 +5,7 @@ pub mod CommandLines
 pub mod RunFacts
 pub mod ImageRuns
 pub mod BuildRuns
-pub mod FailureTexts
+pub mod ErrorLines
 pub mod SameStreams
 pub mod Selected
 pub mod BesideNames

@@ -14,7 +14,7 @@ use Rattle.bootimg.specs.Files.{FileStep, FilePromise}
 use Rattle.bootimg.specs.declared.command_line.Request.{Request}
 use Rattle.bootimg.specs.declared.jobs.Problem.{Problem}
 use Rattle.bootimg.specs.declared.tasks.Done.{Done}
-use Rattle.bootimg.specs.Runs.{Run, Work, work_of, with_input, Logs, IsLogged, HasStopped, Reports, ReportsFailure, ReportsMemory, Notes}
+use Rattle.bootimg.specs.Runs.{Run, Work, work_of, with_input, Logs, IsLogged, HasStopped, Notes}
 use Rattle.bootimg.specs.Runs.{HasNone, HasSome, IsRejection, IsTaskWork, Succeeded, HasFailed, IsImageWork, DoneOnInput, DoneOnFile}
 use Rattle.bootimg.specs.Runs.{FileNotOpened, IsImageRead, InputRead, FileRead, IsImageNotRead, InputNotRead, FileNotRead, IsComparedWork}
 use Rattle.bootimg.specs.Runs.{WroteDifferences, NotAllWritten, NotCompared, IsCompareWork, BothRead, OneNotRead, OtherNotRead}
@@ -36,11 +36,6 @@ logs_keep : (old new : WriteTrace) (bytes : List ℕ) → Logs old bytes new →
 logs_keep old new bytes (IsLogged wrote) = wrote.same_writer
 logs_keep old new bytes (HasStopped error stopped) = stopped.same_writer
 
-reports_keep : (source : ImageSource) (failure : Failure) (old new : WriteTrace) → Reports source failure old new
-    → new.writer ≡ old.writer
-reports_keep source failure old new (ReportsFailure logs) = logs_keep _ _ _ logs
-reports_keep source failure old new (ReportsMemory logs) = logs_keep _ _ _ logs
-
 notes_keep : (signatures : ℕ) (old new : WriteTrace) → Notes signatures old new → new.writer ≡ old.writer
 notes_keep signatures old new (HasNone none same) = ap (λ trace. trace.writer) same
 notes_keep signatures old new (HasSome some logs) = logs_keep _ _ _ logs
@@ -60,7 +55,7 @@ rejection_keeps : (source : ImageSource) (failure : Failure) (run : Run) → IsR
 rejection_keeps source failure run is = record {
   reader = ap (λ trace. trace.reader) is.nothing_read;
   writer = ap (λ trace. trace.writer) is.nothing_written;
-  log = reports_keep _ _ _ _ is.reports;
+  log = logs_keep _ _ _ is.reports;
 }
 
 -- The input and the output of work are the same before and after it.
@@ -162,7 +157,7 @@ output_run_keeps files job limits run outcome output (ToFile name saved same) =
 end_keeps : (errors new_errors : WriteTrace) (status : ℕ) (outcome : Result Done Problem) → IsEnd errors new_errors status outcome
     → new_errors.writer ≡ errors.writer
 end_keeps errors new_errors status outcome (EndsWell done same notes is) = notes_keep _ _ _ notes
-end_keeps errors new_errors status outcome (EndsWithFailure failed same reports is) = reports_keep _ _ _ _ reports
+end_keeps errors new_errors status outcome (EndsWithFailure failed same reports is) = logs_keep _ _ _ reports
 
 request_run_keeps : (files : FilePromise) (request : Request) (run : Run) → IsRequestRun files request run → KeepsStreams run
 request_run_keeps files request run is =
@@ -178,7 +173,7 @@ text_run_keeps text run (IsWritten wrote errors input steps status) = record {
 text_run_keeps text run (IsNotWritten error stopped reports input steps status) = record {
   reader = ap (λ trace. trace.reader) input;
   writer = stopped.same_writer;
-  log = reports_keep _ _ _ _ reports;
+  log = logs_keep _ _ _ reports;
 }
 text_run_keeps text run (IsUsage logs output input steps status) = record {
   reader = ap (λ trace. trace.reader) input;

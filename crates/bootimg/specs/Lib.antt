@@ -9,3 +9,4 @@ pub mod Tasks
 pub mod Runs
 pub mod Selections
 pub mod Explanations
+pub mod ErrorLines

@@ -55,11 +55,9 @@ abbrev pub failure_line : ImageSource → Failure → List ℕ
 failure_line source failure =
     codes "bootimg: " ++ ((name_text source failure ++ failure_text failure) ++ 10 ∷ [])
 
--- The line of a failure was written; if memory for its text ran out, the line of that.
-pub data Reports (source : ImageSource) (failure : Failure) (old new : WriteTrace) : Type 0 where
-  ReportsFailure : Logs old (failure_line source failure) new → Reports source failure old new
-  ReportsMemory : Logs old (failure_line Standard (Call OutOfMemory)) new
-      → Reports source failure old new
+-- The line of a failure was written.
+abbrev pub Reports : ImageSource → Failure → (old new : WriteTrace) → Type 0
+Reports source failure old new = Logs old (failure_line source failure) new
 
 -- The line on the signature nodes of a normal form.
 abbrev pub note_line : (signatures : ℕ) → List ℕ

@@ -1,18 +1,20 @@
 //! The failures of the program, and the text of each.
 
-ghost use Rattle.std.specs.Prelude.{◌≡◌, Some};
-ghost use Rattle.bi_base.specs.declared.fault.Error.TheVariants.{OutOfMemory};
+ghost use Rattle.std.specs.Prelude.{◌≡◌, ◌++◌};
+ghost use Rattle.std.specs.Fmt.{decimal};
+ghost use Rattle.bi_base.specs.declared.fault.Error.TheVariants.{OutOfMemory, Refused};
 ghost use Rattle.bootimg.specs.declared.failure.Failure.TheVariants.{Call};
-ghost use Rattle.bootimg.specs.Failures.{failure_of, failure_text};
+ghost use Rattle.bootimg.specs.ErrorLines.{Extends, line_of};
+ghost use Rattle.bootimg.specs.Failures.{error_text, failure_of, failure_text};
 ghost use Rattle.bootimg.specs.Failures.{is_about_image as is_about_image_of};
 
-use bi_base::{Error, Fault};
+use crate::error_line::ErrorLine;
+use bi_base::{Error, Fault, TracedWrite};
 use bi_commands::extract::ExtractError;
 use bi_fit::ConfigError;
 use std::alloc::AllocError;
-use std::fmt;
 
-/// Why the program failed. Its `Display` is the text that the program prints after `bootimg: `.
+/// Why the program failed.
 #[derive(Clone, Copy, Debug, PartialEq, Eq)]
 pub enum Failure {
     /// The image is refused, memory ran out, or a read or write failed.
@@ -62,6 +64,52 @@ impl Failure {
             _ => true,
         }
     }
+
+    /// Appends the text of the failure, which the program prints after `bootimg: ` and the name of
+    /// the file, if the failure is about an image in a file.
+    pub fn put_text<T: TracedWrite>(self, line: &mut ErrorLine<'_, T>)
+        ensures { Extends (line_of T.trace line.old) (failure_text self) (line_of T.trace line.new) }
+    {
+        match self {
+            Failure::Call(Error::Refused(fault)) => put_fault(fault, line),
+            Failure::Call(Error::OutOfMemory) => line.put(b"out of memory"),
+            Failure::Call(Error::ReadFailed) => line.put(b"read failed"),
+            Failure::Call(Error::WriteFailed) => line.put(b"write failed"),
+            Failure::WrongKind => line.put(b"the selection does not fit this kind of image"),
+            Failure::NoPart => line.put(b"no such part"),
+            Failure::NoImage => line.put(b"no such image"),
+            Failure::NoConfig => line.put(b"no such configuration"),
+            Failure::NoKey => line.put(b"no such key"),
+            Failure::BadList => line.put(b"bad list"),
+            Failure::Missing(index) => put_numbered(b"missing image ", index, line),
+            Failure::NoIndex => line.put(b"no such entry"),
+            Failure::NoPayload => line.put(b"no payload"),
+            Failure::NoSelection => line.put(b"usage: give one of --part, --image, --config"),
+            Failure::NoChange => line.put(b"usage: give --time or --hashes"),
+            Failure::BadValue => line.put(b"usage: bad value"),
+            Failure::BadImage(index) => put_numbered(b"usage: bad image ", index, line),
+            Failure::CannotOpen => line.put(b"cannot be opened"),
+            Failure::NotWritten => line.put(b"write failed"),
+        }
+    }
+}
+
+/// Appends a cause and an offset.
+fn put_fault<T: TracedWrite>(fault: Fault, line: &mut ErrorLine<'_, T>)
+    ensures { Extends (line_of T.trace line.old) (error_text (Refused fault))
+        (line_of T.trace line.new) }
+{
+    line.put(fault.cause.name().as_bytes());
+    put_numbered(b" at ", fault.offset as usize, line);
+}
+
+/// Appends these bytes, and a number in decimal digits.
+fn put_numbered<T: TracedWrite>(bytes: &[u8], number: usize, line: &mut ErrorLine<'_, T>)
+    ensures { Extends (line_of T.trace line.old) (bytes.now ++ decimal number)
+        (line_of T.trace line.new) }
+{
+    line.put(bytes);
+    line.put_number(number);
 }
 
 impl From<Error> for Failure {
@@ -96,37 +144,6 @@ impl From<ExtractError> for Failure {
             ExtractError::Config(ConfigError::OutOfMemory) => Failure::Call(Error::OutOfMemory),
             ExtractError::NoIndex => Failure::NoIndex,
             ExtractError::NoPayload => Failure::NoPayload,
-        }
-    }
-}
-
-impl fmt::Display for Failure {
-    ghost output = { λ failure. Some (failure_text failure) };
-
-    fn fmt<W: fmt::Write>(&self, f: &mut fmt::Formatter<W>) -> fmt::Result {
-        match self {
-            Failure::Call(Error::Refused(Fault { cause, offset })) => {
-                let name = cause.name();
-                write!(f, "{name} at {offset}")
-            }
-            Failure::Call(Error::OutOfMemory) => f.write_str("out of memory"),
-            Failure::Call(Error::ReadFailed) => f.write_str("read failed"),
-            Failure::Call(Error::WriteFailed) => f.write_str("write failed"),
-            Failure::WrongKind => f.write_str("the selection does not fit this kind of image"),
-            Failure::NoPart => f.write_str("no such part"),
-            Failure::NoImage => f.write_str("no such image"),
-            Failure::NoConfig => f.write_str("no such configuration"),
-            Failure::NoKey => f.write_str("no such key"),
-            Failure::BadList => f.write_str("bad list"),
-            Failure::Missing(index) => write!(f, "missing image {index}"),
-            Failure::NoIndex => f.write_str("no such entry"),
-            Failure::NoPayload => f.write_str("no payload"),
-            Failure::NoSelection => f.write_str("usage: give one of --part, --image, --config"),
-            Failure::NoChange => f.write_str("usage: give --time or --hashes"),
-            Failure::BadValue => f.write_str("usage: bad value"),
-            Failure::BadImage(index) => write!(f, "usage: bad image {index}"),
-            Failure::CannotOpen => f.write_str("cannot be opened"),
-            Failure::NotWritten => f.write_str("write failed"),
         }
     }
 }

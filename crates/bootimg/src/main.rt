@@ -5,6 +5,7 @@
 mod builds;
 mod codes;
 mod command_line;
+mod error_line;
 mod explanations;
 mod failure;
 mod files;

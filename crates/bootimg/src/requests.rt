@@ -42,17 +42,17 @@ pub fn perform<S: TracedRead, T: TracedWrite, E: TracedWrite, F: FileSystem>(
     match request.output {
         None => {
             let outcome = do_job(alloc, job, limits, files, input, output);
-            conclude(alloc, outcome, errors)
+            conclude(outcome, errors)
         }
         Some(name) => {
             let outcome = do_job_to_file(alloc, job, limits, name, files, input);
-            conclude(alloc, outcome, errors)
+            conclude(outcome, errors)
         }
     }
 }
 
 /// Writes to standard error what there is to say at the end of a job, and returns the exit status.
-fn conclude<E: TracedWrite>(alloc: Global, outcome: Result<Done, Problem<'_>>, errors: &mut E) -> u8
+fn conclude<E: TracedWrite>(outcome: Result<Done, Problem<'_>>, errors: &mut E) -> u8
     ensures { IsEnd (E.trace errors.old) (E.trace errors.new) result outcome.entry }
 {
     match outcome {
@@ -60,7 +60,7 @@ fn conclude<E: TracedWrite>(alloc: Global, outcome: Result<Done, Problem<'_>>, e
             note_signatures(done.signatures, errors);
             done.status
         }
-        Err(problem) => report(alloc, problem.source, problem.failure, errors),
+        Err(problem) => report(problem.source, problem.failure, errors),
     }
 }
 

@@ -49,8 +49,7 @@ pub fn run<'a, R: Read, W: Write, E: Write>(
 /// A failure is written to `errors`: one line, or clap's text if it rejects the arguments. The line
 /// has the name of the file, if the failure is about an image in a file or the output file. After
 /// the normal form of a flattened image tree with signature nodes, also an updated one, a note with
-/// their number is written to `errors`. A failed write to `errors` is ignored. If memory for the
-/// text of a failure runs out, the line is that of running out of memory.
+/// their number is written to `errors`. A failed write to `errors` is ignored.
 pub fn run_with_files<'a, R: Read, W: Write, E: Write, F: FileSystem>(
     alloc: Global,
     arguments: &'a [&'a str],
@@ -94,12 +93,12 @@ pub fn run_traced<'a, S: TracedRead, T: TracedWrite, E: TracedWrite, F: FileSyst
 {
     match parse_arguments(alloc, arguments) {
         Ok(request) => perform(alloc, &request, files, input, output, errors),
-        Err(Outcome::Failure(failure)) => report(alloc, ImageSource::Standard, failure, errors),
+        Err(Outcome::Failure(failure)) => report(ImageSource::Standard, failure, errors),
         Err(Outcome::Text(text)) => match clap_text(alloc, &text) {
-            Ok(bytes) => print(alloc, &bytes, text.use_stderr(), output, errors),
+            Ok(bytes) => print(&bytes, text.use_stderr(), output, errors),
             Err(error) => {
                 let failure = Failure::Call(Error::from(error));
-                report(alloc, ImageSource::Standard, failure, errors)
+                report(ImageSource::Standard, failure, errors)
             }
         },
     }
@@ -113,7 +112,6 @@ fn clap_text(alloc: Global, text: &clap::Error) -> Result<String, AllocError> {
 /// Writes a text of the command line, to standard error or standard output, and returns the exit
 /// status.
 fn print<T: TracedWrite, E: TracedWrite>(
-    alloc: Global,
     text: &str,
     is_usage: bool,
     output: &mut T,
@@ -138,6 +136,6 @@ fn print<T: TracedWrite, E: TracedWrite>(
     }
     match write_and_flush(output, text.as_bytes()) {
         Ok(()) => SUCCESS,
-        Err(error) => report(alloc, ImageSource::Standard, Failure::Call(error), errors),
+        Err(error) => report(ImageSource::Standard, Failure::Call(error), errors),
     }
 }

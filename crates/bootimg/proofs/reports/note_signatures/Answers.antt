@@ -1,17 +1,17 @@
-use Rattle.std.proofs.Common.{◌++◌, ◌∷◌, [], codes, subst, arith}
-use Rattle.bi_base.specs.Sinks.{Wrote}
-use Rattle.bi_base.specs.Writing.{WroteAll, WriteStopped}
+use Rattle.std.proofs.Common.{◌∙◌, arith, rules}
+use Rattle.bootimg.specs.ErrorLines.{line_of}
 use Rattle.bootimg.specs.Runs.{HasSome, note_line}
-use Rattle.bootimg.proofs.RunFacts.{line_is_logged}
+use Rattle.bootimg.proofs.ErrorLines.{line_is_written}
 use Rattle.bootimg.proofs.reports.note_signatures.Goals as goal
 
 pub returns-then-signatures-gt0 : goal.returns-then-signatures-gt0
 returns-then-signatures-gt0 g c =
     let trace = g.E.TracedWrite.trace in
+    let line = c.new-line.ensures in
+    let put = c.put_note.ensures in
+    let end = c.write_held.ensures in
+    let same_borrow = end.extends.same_borrow ∙ put.same_borrow ∙ line.same_borrow in
     HasSome (omega (arith, c.if-signatures-gt0.true))
-    (line_is_logged (trace c.args.errors.now) (trace c.write_line.new.errors) (note_line c.args.signatures) c.write_line.result
-    (subst
-    (λ digits. Wrote WroteAll WriteStopped (trace c.args.errors.now)
-    (codes "bootimg: note: " ++ (digits ++ (codes " signature nodes carried, not checked" ++ 10 ∷ []))) c.write_line.result
-    (trace c.write_line.new.errors))
-    c.format-digits.ensures.text c.write_line.ensures))
+    (line_is_written (trace c.args.errors.now) _ (line_of trace c.new-line.result) (line_of trace c.put_note.new.line)
+    (line_of trace c.write_held.new.self) (note_line c.args.signatures) line.same_trace line.none_held line.not_failed put end.extends
+    end.none_held (search rules))
