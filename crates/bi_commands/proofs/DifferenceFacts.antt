@@ -11,7 +11,8 @@ use Rattle.bi_norm.specs.Meaning.{OfFit}
 use Rattle.bi_commands.specs.Comparing.{comparison, other_order_line, other_payloads_line}
 use Rattle.bi_commands.specs.Descriptions.{Words, description_lines, description_texts}
 use Rattle.bi_commands.specs.Differences.{differences}
-use Rattle.bi_commands.specs.KnownDifferences.{two_properties, bare_tree, tree_with_names, reserved_once, reserved_twice, images_in_order, images_exchanged}
+use Rattle.bi_commands.specs.KnownDifferences.{two_properties, bare_tree, tree_with_names, reserved_once, reserved_twice}
+use Rattle.bi_commands.specs.KnownDifferences.{images_in_order, images_exchanged}
 use Rattle.bi_commands.specs.KnownDifferences.{DifferencesAreKnown, ComparisonsAreKnown}
 use Rattle.bi_commands.specs.KnownTexts.{lines}
 use Rattle.bi_commands.specs.Shown.{line}

@@ -117,8 +117,8 @@ pub record DifferencesAreKnown : Type 0 where
       ∷ codes "+type kernel"
       ∷ [])
 
--- A tree with these memory reservations, these properties of the root, and one image, `a`, without a
--- payload.
+-- A tree with these memory reservations and these properties of the root. It has one image, `a`,
+-- without a payload.
 abbrev pub tree_to_compare : List Reservation → PropertyMap → ImageTree
 tree_to_compare reservations properties = record {
   cpu = 0;

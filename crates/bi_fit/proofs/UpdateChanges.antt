@@ -92,7 +92,8 @@ nodes_are : (changes : Changes) (tree : ImageTree) → (hashes : Bool) → chang
 nodes_are changes tree false is = rw is refl
 nodes_are changes tree true is = record {
   children = rw is (root_children_are (images_with_digests tree.payloads) tree.root.children);
-  images = subst (λ images. AllZip IsUpdatedImage (images_of tree) images) (sym (images_of-updated changes tree)) (rw is (images_are tree.payloads (nodes_or_none (image_nodes tree.root))));
+  images = subst (λ images. AllZip IsUpdatedImage (images_of tree) images) (sym (images_of-updated changes tree))
+      (rw is (images_are tree.payloads (nodes_or_none (image_nodes tree.root))));
 }
 
 pub each_update_has_its_changes : EachUpdateHasItsChanges

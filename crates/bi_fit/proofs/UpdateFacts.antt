@@ -58,7 +58,8 @@ pub updates_are_known : UpdatesAreKnown
 updates_are_known = record {
   time = λ i. record {
     own = entries_in_order ((timestamp_name, cell 5) ∷ head_to_update) i;
-    children = nodes_with (no_entries i) (entries_in_order hash_to_update i) (entries_in_order other_crc i) (entries_in_order hash_to_update i);
+    children = nodes_with (no_entries i) (entries_in_order hash_to_update i) (entries_in_order other_crc i)
+        (entries_in_order hash_to_update i);
   };
   hashes = λ i. record {
     own = entries_in_order head_to_update i;
