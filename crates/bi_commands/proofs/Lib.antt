@@ -7,6 +7,7 @@ pub mod LineChains
 pub mod DescriptionPieces
 pub mod HashCounts
 pub mod Reported
+pub mod FirstWords
 pub mod FitLines
 pub mod FitListings
 pub mod PartLines

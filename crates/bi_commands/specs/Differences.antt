@@ -1,19 +1,19 @@
-use Rattle.std.specs.Prelude.{ℕ, ◌==◌, ◌-◌, ◌&&◌, ◌||◌, Bool, false, not, List, [], ◌∷◌, ◌++◌}
-use Rattle.std.specs.Prelude.{Option, Some, None, codes, flat_map, bytes_eq, if◌then◌else◌}
-use Rattle.std.specs.List.{find, list_any, starts_with}
+use Rattle.std.specs.Prelude.{ℕ, ◌==◌, ◌&&◌, ◌||◌, Bool, false, not, List, [], ◌∷◌, ◌++◌}
+use Rattle.std.specs.Prelude.{Option, Some, None, codes, take, flat_map, bytes_eq, if◌then◌else◌}
+use Rattle.std.specs.List.{find, join_with_byte, list_any, slice_split, starts_with}
 use Rattle.std.specs.Prelude.{nat_eq}
 
 -- The differences of two lists of lines (profile of this project). A line is given as its bytes
 -- without the newline.
 
+-- The words of a line: the pieces between its spaces.
+abbrev pub words_of_line : List ℕ → List (List ℕ)
+words_of_line line = slice_split (λ byte. byte == 32) line
+
 -- The first words of a line, with the spaces between them: all of it if it has no more words than
 -- that.
 abbrev pub first_words : (count : ℕ) → List ℕ → List ℕ
-first_words count [] = []
-first_words count (byte ∷ later) =
-    if byte == 32
-    then (if count == 1 then [] else byte ∷ first_words (count - 1) later)
-    else byte ∷ first_words count later
+first_words count line = join_with_byte 32 (take count (words_of_line line))
 
 -- The line begins with this word and a space.
 abbrev pub begins_with_word : List ℕ → List ℕ → Bool

@@ -1,7 +1,8 @@
 //! The differences of two lists of lines.
 
 ghost use Rattle.std.specs.Prelude.{◌≡◌, ◌++◌, ◌∷◌, ◌&&◌, ◌||◌, [], List, ℕ, Some, IfOk, OnOk};
-ghost use Rattle.std.specs.Prelude.{map, flat_map, string_bytes, bytes_eq, not, if◌then◌else◌};
+ghost use Rattle.std.specs.Prelude.{map, flat_map, max, string_bytes, bytes_eq, not};
+ghost use Rattle.std.specs.Prelude.{if◌then◌else◌};
 ghost use Rattle.std.specs.List.{list_any};
 ghost use Rattle.std.specs.Option.{option_map};
 ghost use Rattle.bi_commands.specs.Differences.{differences as differences_of};
@@ -222,17 +223,17 @@ fn key_of_line(line: &str) -> &[u8]
     first_words(bytes, 1)
 }
 
-/// Returns the first words of a line, with the spaces between them.
+/// Returns the first words of a line, at least one, with the spaces between them.
 fn first_words(line: &[u8], count: usize) -> &[u8]
-    ensures { result.now ≡ words_of count line.entry.now }
+    ensures { result.now ≡ words_of (max count 1) line.entry.now }
 {
     let mut left = count;
     for (index, byte) in line.iter().enumerate() {
         if *byte == b' ' {
-            if left == 1 {
+            if left <= 1 {
                 return &line[..index];
             }
-            left = left.saturating_sub(1);
+            left -= 1;
         }
     }
     line
