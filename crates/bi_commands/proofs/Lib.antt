@@ -41,3 +41,6 @@ pub mod ListedFiles
 pub mod ListedNames
 pub mod ConfigurationNodes
 pub mod UnshownNames
+pub mod AsciiTexts
+pub mod AsciiDescriptions
+pub mod AsciiListings

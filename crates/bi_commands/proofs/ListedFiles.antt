@@ -74,7 +74,7 @@ fit_pieces content blob images same_blob same_images =
     ++ (flat_map read_image_line others ++ later))) (sym same_images)
 
 -- Memory may run out for a file that has a listing.
-pub listing_needs_memory : (limits : Limits) (file text : List ℕ) → IsListing limits file text → NeedsMemory limits file
+listing_needs_memory : (limits : Limits) (file text : List ℕ) → IsListing limits file text → NeedsMemory limits file
 listing_needs_memory limits file text (OfLegacyImage parsed is same) = ForLegacyImage parsed.image is.means
 listing_needs_memory limits file text (OfImageTree is) = needs_memory limits file (OfFit is.tree) is.means
 

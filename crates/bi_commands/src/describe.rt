@@ -1,6 +1,6 @@
 //! The description of a boot image: a text that depends on its meaning alone.
 
-ghost use Rattle.std.specs.Prelude.{◌≡◌, ⊤, IfOk, OnOk, IfErr, string_bytes};
+ghost use Rattle.std.specs.Prelude.{◌≡◌, ⊤, IfOk, OnOk, IfErr, IsAscii, string_bytes};
 ghost use Rattle.bi_base.specs.Commands.{Appended, AppendFailed};
 ghost use Rattle.bi_base.specs.Pipes.{IsPiped};
 ghost use Rattle.bi_norm.specs.OpenedMeaning.{meaning_of};
@@ -23,7 +23,7 @@ mod properties;
 mod values;
 mod words;
 
-use bi_base::{Command, Error, Limits, Sink, VecSink, pipe_to};
+use bi_base::{Command, Error, Limits, Sink, VecSink, are_bytes, pipe_to};
 use bi_norm::BootImage;
 pub(crate) use digests::{check_payloads, length_of};
 use fit::describe_fit;
@@ -114,10 +114,20 @@ pub(crate) fn describe_image(
 {
     let mut sink = VecSink::new(alloc);
     describe_into(alloc, image, limits, &mut sink)?;
+    description_is_ascii(image);
     match String::from_utf8(sink.into_vec()) {
         Ok(text) => Ok(text),
-        // Each byte of a description is ASCII, so this does not happen.
-        Err(_) => Err(Error::OutOfMemory),
+        Err(_) => unreachable!(),
+    }
+}
+
+/// Does nothing. Its contract states that the description of an image that was read is ASCII.
+fn description_is_ascii(image: &BootImage)
+    requires held { IsHeldImage image.now }
+    ensures { IsAscii (description (meaning_of image.now)) }
+{
+    if let BootImage::Legacy(image) = image {
+        are_bytes(image.fields().name);
     }
 }
 

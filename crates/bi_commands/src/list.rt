@@ -33,8 +33,7 @@ pub fn listing(alloc: Global, file: &[u8], limits: Limits) -> Result<String, Err
     list_into(alloc, file, limits, &mut sink)?;
     match String::from_utf8(sink.into_vec()) {
         Ok(text) => Ok(text),
-        // Each byte of a listing is ASCII, so this does not happen.
-        Err(_) => Err(Error::OutOfMemory),
+        Err(_) => unreachable!(),
     }
 }
 
