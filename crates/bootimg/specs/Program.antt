@@ -5,10 +5,10 @@ use Rattle.clap.specs.Walk.{Rule}
 use Rattle.clap.specs.Simple.{App, Shape, new_rule, new_shape}
 use Rattle.clap.specs.declared.builder.action.ArgAction.TheVariants.{Append, Set, SetTrue}
 
--- The command line of the program, as clap defines what a command is (profile of this project). The
--- words of a rule and of a shape that are not written here are those of an argument and of a
--- command without any setting. clap adds `--help` to each command, `--version` to the program, and
--- the command `help`.
+-- The command line of the program, as clap defines what a command is (profile of this project): its
+-- commands with their options. Fields that are not named here are those of a new argument or a new
+-- command of clap. clap adds `--help` to each command, `--version` to the program, and the command
+-- `help`.
 
 -- ---- options
 
