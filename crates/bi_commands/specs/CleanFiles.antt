@@ -78,16 +78,16 @@ pub record IsCleanTree (allowed : Allowed) (tree : ImageTree) : Type 0 where
 abbrev pub AreZeros : List ℕ → Type 0
 AreZeros bytes = AllByRecursion (λ byte. byte ≡ 0) bytes
 
--- A payload of an image node is in a file at the place that the node gives it, and ends at or before
--- this index, wherever that place is. A payload of no bytes ends where it begins.
+-- A payload of an image node is in a file at the place that the node gives it, and ends at or
+-- before this index, wherever that place is. A payload of no bytes ends where it begins.
 pub record EndsBy (file : List ℕ) (index : ℕ) (own : FileNode) (payload : List ℕ) : Type 0 where
   pub place : ℕ
   pub is_place : payload_place file (source_of own) ≡ Some place
   pub is_at : IsAt file place payload
   pub is_before : place + length payload ≤ index
 
--- An index of a file is after an image tree with these image nodes and payloads: at or after the end
--- of the blob, and at or after the end of each payload.
+-- An index of a file is after an image tree with these image nodes and payloads: at or after the
+-- end of the blob, and at or after the end of each payload.
 pub record IsAfterContent (file : List ℕ) (images : Nodes FileNode)
     (payloads : List (Option (List ℕ))) (index : ℕ) : Type 0 where
   pub after_blob : totalsize file ≤ index

@@ -95,7 +95,7 @@ abbrev pub verdict_on_abc : (algorithm value : List ℕ) → Verdict
 verdict_on_abc algorithm value =
     verdict_of (Some (algorithm ++ 0 ∷ [])) (Some value) known_payload
 
--- The name of each algorithm, with the digest of `abc` that it stands for.
+-- The name of each algorithm, with the digest of `abc` that it gives.
 pub record EachAlgorithmIsKnown : Type 0 where
   pub by_crc32 : verdict_on_abc (codes "crc32") (0x35 ∷ 0x24 ∷ 0x41 ∷ 0xc2 ∷ []) ≡ Good
   pub by_md5 : verdict_on_abc (codes "md5") md5_of_abc ≡ Good

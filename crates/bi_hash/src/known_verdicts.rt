@@ -15,7 +15,7 @@ pub fn verdicts_have_order()
     ensures { VerdictsHaveOrder }
 {}
 
-/// The name of each algorithm stands for its digest, as the standards state that of `abc`.
+/// The name of each algorithm gives the digest of `abc` that the standards state.
 pub fn each_algorithm_is_known()
     ensures { EachAlgorithmIsKnown }
 {}

@@ -28,7 +28,7 @@ value_option name = record (new_rule name) {
 abbrev pub required_option : (name : List ℕ) → Rule
 required_option name = record (value_option name) { required = true }
 
--- `--NAME VALUE`. This value stands for one that is not given.
+-- `--NAME VALUE`. Without it the value is this one.
 abbrev pub option_with_default : (name value : List ℕ) → Rule
 option_with_default name value = record (value_option name) { defaults = value ∷ [] }
 

@@ -5,7 +5,7 @@ ghost use Rattle.std.specs.Fmt.{decimal};
 ghost use Rattle.bi_base.specs.declared.fault.Error.TheVariants.{OutOfMemory, Refused};
 ghost use Rattle.bootimg.specs.declared.failure.Failure.TheVariants.{Call};
 ghost use Rattle.bootimg.specs.ErrorLines.{Extends, line_of};
-ghost use Rattle.bootimg.specs.Failures.{error_text, failure_of, failure_text};
+ghost use Rattle.bootimg.specs.Failures.{error_text, failure_of, failure_text as text_of};
 ghost use Rattle.bootimg.specs.Failures.{is_about_image as is_about_image_of};
 
 use crate::error_line::ErrorLine;
@@ -68,7 +68,7 @@ impl Failure {
     /// Appends the text of the failure, which the program prints after `bootimg: ` and the name of
     /// the file, if the failure is about an image in a file.
     pub fn put_text<T: TracedWrite>(self, line: &mut ErrorLine<'_, T>)
-        ensures { Extends (line_of T.trace line.old) (failure_text self) (line_of T.trace line.new) }
+        ensures { Extends (line_of T.trace line.old) (text_of self) (line_of T.trace line.new) }
     {
         match self {
             Failure::Call(Error::Refused(fault)) => put_fault(fault, line),
