@@ -42,15 +42,15 @@ lint() {
 check "mandoc finds nothing wrong in the page" lint
 mandoc -Tascii "$page" | sed 's/.\x08//g' > text
 
-# The version is that of the page, of the newest changes, of the header for C, and of its package. The kit is the one that builds.
+# The version is that of the page, of the newest changes, of the header for C, and of its package. The logic is that of the installed kit.
 "$root/bootimg" --version > version
 version=$(cut -d ' ' -f 2 version)
-kit=$(cut -d ' ' -f 1 "$(dirname "$(rt doc)")/KIT-ID")
+logic=$(rt version | cut -d ' ' -f 2-)
 check "the program has the version of the page" grep -Fqx "This page is that of version $version." "$page"
 check "and of the newest changes" sh -c 'grep -m 1 "^## \[" "$0" | grep -Fq "## [$1] "' "$root/CHANGELOG.md" "$version"
 check "and of the header for C" grep -Fqx "#define BOOTIMG_VERSION \"$version\"" "$root/include/bootimg.h"
 check "and of its package" grep -Fqx "Version: $version" "$root/bootimg.pc.in"
-check "the program names the kit that builds it" test "$(cat version)" = "bootimg $version ($kit)"
+check "the program names the logic of the kit" test "$(cat version)" = "bootimg $version (Rattle $logic)"
 
 # Commands.
 "$root/bootimg" --help > help

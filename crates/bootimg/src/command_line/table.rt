@@ -22,8 +22,8 @@ pub const NO_COMPRESSION: &str = "none";
 /// The default of each option for an address, a time or an index.
 pub const ZERO: &str = "0";
 
-/// The version that `--version` prints, and the kit that the program is built with.
-const VERSION: &str = "0.2.0 (rattle-kit-13b)";
+/// The version that `--version` prints, and the logic of the kit that the program is proved with.
+const VERSION: &str = "0.2.0 (Rattle logic dac8208d650f15bf)";
 
 /// The text of `--help` before the usage.
 const ABOUT: &str =
