@@ -1,7 +1,7 @@
 //! The nodes of a blob.
 
 ghost use Rattle.std.specs.Prelude.{◌≡◌, ◌<◌, ◌^◌, ℕ, List, drop, length, slice_get, IsTrue};
-ghost use Rattle.std.specs.Prelude.{IfSome};
+ghost use Rattle.std.specs.Prelude.{IfSome, Some};
 ghost use Rattle.std.specs.List.{AllZip};
 ghost use Rattle.std.specs.Option.{option_map};
 ghost use Rattle.bi_blob.specs.Tree.{properties_of};
@@ -248,11 +248,28 @@ impl<'a, 'b> NodeRef<'a, 'b> {
         ensures same_table { IfSome result
             (λ child. table_of_node child ≡ table_of_node self.entry) }
     {
+        let (_, child) = self.find_child(name)?;
+        Some(child)
+    }
+
+    /// Returns the child of this name, after its position among the children, counted from 0.
+    /// Returns None exactly if there is no such child. Looks at the children up to it, and
+    /// compares their names.
+    pub fn find_child(self, name: &[u8]) -> Option<(usize, NodeRef<'a, 'b>)>
+        ensures child { option_map (λ found. node_of found.1) result
+            ≡ node_named (node_of self.entry).children name.now }
+        ensures position { IfSome result
+            (λ found. node_at (node_of self.entry).children found.0 ≡ Some (node_of found.1)) }
+        ensures same_table { IfSome result
+            (λ found. table_of_node found.1 ≡ table_of_node self.entry) }
+    {
+        let mut position = 0;
         let mut next = self.first_child();
         while let Some(child) = next {
             if child.name() == name {
-                return Some(child);
+                return Some((position, child));
             }
+            position += 1;
             next = child.next_sibling();
         }
         None
