@@ -4,13 +4,15 @@ use Rattle.std.specs.Cmp.Lexicographic.{slice_cmp}
 use Rattle.std.specs.FinMap.{from_entries, entries, get-from_entries}
 use Rattle.std.proofs.lemmas.Cmp.{nat_list_cmp_total}
 use Rattle.bi_base.specs.Cells.{up4}
-use Rattle.bi_blob.specs.Tree.{node, PropertyMap}
+use Rattle.bi_blob.specs.Tree.{none, node, PropertyMap}
 use Rattle.bi_blob.specs.Events.{Event, events, events_of, NodeEnd}
 use Rattle.bi_blob.specs.Following.{AreClosedEvents, MayFollowInText, MayEnd, stage_of_events}
 use Rattle.bi_blob.specs.Stages.{AfterRoot}
 use Rattle.bi_blob.proofs.Blobs.EventTrees.{same_events}
 use Rattle.bi_blob.proofs.Texts.Normal.{has_one_order}
 use Rattle.bi_blob.proofs.Texts.NormalEvents.{normal_events_have_one_tree}
+use Rattle.bi_hash.specs.declared.algo.Algo.TheVariants.{Sha256}
+use Rattle.bi_hash.specs.Digests.{digest_of}
 use Rattle.bi_lay.specs.Contents.{Doc, empty_content, with_event}
 use Rattle.bi_fit.specs.declared.form.Form.{Form}
 use Rattle.bi_fit.specs.declared.form.Form.TheVariants.{Embedded, External}
@@ -31,7 +33,7 @@ use Rattle.std.proofs.lemmas.List.{at_drop_more}
 use Rattle.bi_base.proofs.ListMembers.{each-append}
 use Rattle.bi_fit.specs.declared.building.NamedImage.{NamedImage}
 use Rattle.bi_fit.specs.NamedImages.{named_model, named_models}
-use Rattle.bi_fit.specs.BuiltNodes.{built_payloads, hash_node, placed_properties, built_image_nodes, images_node, configurations_node}
+use Rattle.bi_fit.specs.BuiltNodes.{built_payloads, hash_node, hash_node_with, placed_properties, image_node, built_image_nodes, images_node, configurations_node}
 
 -- The document of a tree to be built.
 
@@ -59,6 +61,17 @@ properties_placed form begin head image made set is_made is_set =
     is_set
     ∙ ap (λ properties. with_payload form begin (Some image.payload) (without_payload properties)) is_made
     ∙ ap (with_payload form begin (Some image.payload)) (properties_apart head image)
+
+-- An image node of a specification that is added is that of the text.
+pub same_built_image : (one form : Form) (begin : ℕ) (head : HeadModel) (image : ImageSpecModel) (made : PropertyMapModel) (digest : List ℕ) →
+    one ≡ form → made ≡ without_numbers (from_entries (built_image_properties head image)) → digest ≡ digest_of Sha256 image.payload →
+    node image.name (entries (with_payload one begin (Some image.payload) (without_payload made.by_name))) (hash_node_with digest) none
+    ≡ image_node form begin head image
+same_built_image one form begin head image made digest same_form is_made is_digest =
+    ap (λ one. node image.name (entries (with_payload one begin (Some image.payload) (without_payload made.by_name))) (hash_node_with digest) none) same_form
+    ∙ ap (λ own. node image.name (entries own) (hash_node_with digest) none)
+    (properties_placed form begin head image made.by_name (with_payload form begin (Some image.payload) (without_payload made.by_name)) (ap (λ properties. properties.by_name) is_made) refl)
+    ∙ ap (λ digest. node image.name (entries (placed_properties form begin head image)) (hash_node_with digest) none) is_digest
 
 -- Embedded payloads have no offsets.
 embedded_anywhere : (one other : ℕ) (head : HeadModel) (images : List ImageSpecModel) →

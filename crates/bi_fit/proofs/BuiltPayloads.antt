@@ -1,6 +1,8 @@
 use Rattle.std.proofs.Common.{◌≡◌, ℕ, ◌+◌, ◌<◌, ◌≤◌, List, ◌∷◌, [], map, drop, get_or, length, Option, Some, None, refl, ap, ◌∙◌}
-use Rattle.std.proofs.lemmas.List.{at_drop_more}
+use Rattle.std.proofs.lemmas.List.{at_drop_more, get_or-map}
 use Rattle.bi_blob.specs.Layout.{longest_text}
+use Rattle.bi_hash.specs.declared.algo.Algo.TheVariants.{Sha256}
+use Rattle.bi_hash.specs.Digests.{digest_of}
 use Rattle.bi_fit.specs.declared.building.NamedImage.{NamedImage}
 use Rattle.bi_fit.specs.declared.form.Form.{Form}
 use Rattle.bi_fit.specs.declared.form.Form.TheVariants.{Embedded, External}
@@ -46,3 +48,10 @@ placed_payloads (image ∷ later) = ap (λ l. Some image.payload.now ∷ l) (pla
 pub payloads_to_place : (list : List Image) (images : List NamedImage) → list ≡ map image_to_place images →
     payloads_of list ≡ built_payloads (named_models images)
 payloads_to_place list images is = ap payloads_of is ∙ placed_payloads images
+
+-- The digest at the index of an image is that of its payload.
+pub digest_at : (images : List NamedImage) (digests : List (List ℕ)) (index : ℕ) → index < length images →
+    digests ≡ map (λ image. digest_of Sha256 image.payload.now) images →
+    get_or digests index [] ≡ digest_of Sha256 (get_or images index no_named_image).payload.now
+digest_at images digests index within is =
+    ap (λ digests. get_or digests index []) is ∙ get_or-map (λ image. digest_of Sha256 image.payload.now) images index no_named_image [] within

@@ -9,10 +9,11 @@ use Rattle.bi_hash.specs.declared.algo.Algo.{Algo}
 use Rattle.bi_fit.specs.declared.form.Form.{Form}
 use Rattle.bi_fit.specs.declared.form.Form.TheVariants.{Embedded, External}
 use Rattle.bi_fit.specs.Names.{data_name}
-use Rattle.bi_fit.specs.ImageTree.{without_payloads}
-use Rattle.bi_fit.specs.Text.{with_payloads, end_after, payloads_end}
+use Rattle.bi_fit.specs.ImageTree.{without_payload, without_payloads}
+use Rattle.bi_fit.specs.Text.{with_payload, with_payloads, end_after, payloads_end}
 use Rattle.bi_fit.specs.TakenDigests.{algorithm_if_hashed, with_first_digest, images_with_digests_from}
-use Rattle.bi_fit.specs.NormalNodes.{HasCellSize, next_end, AreWithin, properties_by_name, nodes_by_name, begin_events, sorted_images}
+use Rattle.bi_fit.specs.NormalNodes.{HasCellSize, next_end, AreWithin, properties_by_name, nodes_by_name, begin_events, image_properties}
+use Rattle.bi_fit.specs.NormalNodes.{sorted_image, sorted_image_children, sorted_images}
 use Rattle.bi_fit.proofs.PayloadAreas.{payloads_end-le}
 use Rattle.bi_fit.proofs.AddedEvents.{begin_events-same}
 
@@ -79,3 +80,14 @@ pub within_later : (form : Form) (end : ℕ) (payload : Option (List ℕ)) (payl
     AreWithin form end (payload ∷ payloads) → AreWithin form (next_end form end payload) payloads
 within_later Embedded end payload payloads within = tt
 within_later External end payload payloads within = within
+
+-- An image node of a file that is added is that of the text.
+pub same_image : (one form : Form) (begin : ℕ) (payload : Option (List ℕ)) (digests : List ℕ) (s : Sibling FileNode) (name : List ℕ) (own : PropertyMap) (was hashed : Bool) →
+    one ≡ form → name ≡ s.name → own ≡ properties_by_name s.own → was ≡ hashed →
+    node name (entries (with_payload one begin payload (without_payload own))) (sorted_image_children was digests s.children) none
+    ≡ sorted_image (image_properties form begin payload s.own) hashed digests s
+same_image one form begin payload digests s name own was hashed same_form same_name same_own same_hashed =
+    ap (λ one. node name (entries (with_payload one begin payload (without_payload own))) (sorted_image_children was digests s.children) none) same_form
+    ∙ ap (λ name. node name (entries (with_payload form begin payload (without_payload own))) (sorted_image_children was digests s.children) none) same_name
+    ∙ ap (λ own. node s.name (entries (with_payload form begin payload (without_payload own))) (sorted_image_children was digests s.children) none) same_own
+    ∙ ap (λ was. node s.name (entries (image_properties form begin payload s.own)) (sorted_image_children was digests s.children) none) same_hashed

@@ -59,6 +59,7 @@ pub mod Appending
 pub mod WholeTexts
 pub mod AppendedPayloads
 pub mod ListedNames
+pub mod PassedOn
 pub mod BuiltPayloads
 pub mod BuiltProperties
 pub mod BuiltDocuments

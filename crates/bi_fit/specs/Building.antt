@@ -75,10 +75,14 @@ built_image_properties head image =
     ∷ (codes "type", text_value (type_name image.key))
     ∷ (cell_property (codes "load") image.load ++ cell_property (codes "entry") image.entry)
 
+-- The properties of a hash node with this SHA-256.
+abbrev pub sha256_properties : (digest : List ℕ) → List Property
+sha256_properties digest =
+    (algo_name, text_value (algorithm_name Sha256)) ∷ (value_name, digest) ∷ []
+
 -- The properties of the hash node of a payload: its SHA-256.
 abbrev pub hash_properties : List ℕ → List Property
-hash_properties payload =
-    (algo_name, text_value (algorithm_name Sha256)) ∷ (value_name, digest_of Sha256 payload) ∷ []
+hash_properties payload = sha256_properties (digest_of Sha256 payload)
 
 -- The name of the hash node of each image.
 abbrev pub hash_node_name : List ℕ

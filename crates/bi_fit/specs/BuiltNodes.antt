@@ -11,7 +11,8 @@ use Rattle.bi_fit.specs.declared.form.Form.{Form}
 use Rattle.bi_fit.specs.declared.key.Key.TheVariants.{Kernel, Fdt, Ramdisk, Firmware, Loadables}
 use Rattle.bi_fit.specs.declared.key.Key.TheVariants.{Script}
 use Rattle.bi_fit.specs.Building.{HeadModel, ImageSpecModel, CanBeBuilt, built_image_properties}
-use Rattle.bi_fit.specs.Building.{hash_properties, hash_node_name, configuration_name, text_value}
+use Rattle.bi_fit.specs.Building.{sha256_properties, hash_node_name, configuration_name}
+use Rattle.bi_fit.specs.Building.{text_value}
 use Rattle.bi_fit.specs.Building.{built_images, names_under, configuration_properties}
 use Rattle.bi_fit.specs.Names.{images_name, configurations_name, default_name}
 use Rattle.bi_fit.specs.Text.{with_payload, with_payloads}
@@ -39,9 +40,13 @@ in_order properties = entries {R = slice_cmp nat_cmp} (from_entries properties)
 abbrev pub built_payloads : List ImageSpecModel → List (Option (List ℕ))
 built_payloads images = map (λ image. Some image.payload) images
 
+-- The hash node with this SHA-256.
+abbrev pub hash_node_with : (digest : List ℕ) → Nodes (List Property)
+hash_node_with digest = node hash_node_name (in_order (sha256_properties digest)) none none
+
 -- The hash node of an image with this payload.
 abbrev pub hash_node : List ℕ → Nodes (List Property)
-hash_node payload = node hash_node_name (in_order (hash_properties payload)) none none
+hash_node payload = hash_node_with (digest_of Sha256 payload)
 
 -- The properties of an image node, with those that give its payload.
 abbrev pub placed_properties : Form → (begin : ℕ) → HeadModel → ImageSpecModel → PropertyMap
@@ -80,10 +85,6 @@ configurations_node head images =
 abbrev pub with_cell_property : List ℕ → Option ℕ → PropertyMapModel → PropertyMapModel
 with_cell_property name None properties = properties
 with_cell_property name (Some number) properties = with_property_value name (cell number) properties
-
--- A node of this name with these properties and no children, without its siblings.
-abbrev pub leaf : List ℕ → PropertyMap → Nodes (List Property)
-leaf name properties = node name (entries properties) none none
 
 -- What the document of a tree borrows is prepared: the tree can be built, and the digests and the
 -- lists are those of the images.

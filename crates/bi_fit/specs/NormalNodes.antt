@@ -55,6 +55,10 @@ sorted_nodes nodes = with_each entries (nodes_by_name nodes)
 abbrev pub begin_events : List ℕ → PropertyMap → List Event
 begin_events name properties = NodeStart name ∷ map NodeProperty (entries properties)
 
+-- A node of this name with these properties and no children, without its siblings.
+abbrev pub leaf : List ℕ → PropertyMap → Nodes (List Property)
+leaf name properties = node name (entries properties) none none
+
 -- The payload of each of these images, if it has one.
 abbrev pub payloads_of : List Image → List (Option (List ℕ))
 payloads_of images = map (λ image. image.payload) (map image_model images)

@@ -3,7 +3,6 @@
 ghost use Rattle.std.specs.Prelude.{◌≡◌, OnOk, IfOk, IfErr};
 ghost use Rattle.std.specs.List.{AllByRecursion};
 ghost use Rattle.bi_base.specs.Errors.{IsFaultOrNoMemory};
-ghost use Rattle.bi_base.specs.declared.fault.Error.TheVariants.{OutOfMemory};
 ghost use Rattle.bi_blob.specs.Blob.{IsReservation};
 ghost use Rattle.bi_blob.specs.Stages.{AfterRoot};
 ghost use Rattle.bi_blob.specs.Following.{stage_of_events};
@@ -14,6 +13,8 @@ ghost use Rattle.bi_fit.specs.NewDigests.{new_digests};
 ghost use Rattle.bi_fit.specs.Documents.{document_of, IsTextOfTree, IsTextFault, IsTextError};
 ghost use Rattle.bi_fit.specs.NormalNodes.{with_reservations, AreWithin};
 
+mod hash_nodes;
+mod image_node;
 mod image_nodes;
 mod name_ranks;
 mod nodes;
@@ -22,20 +23,22 @@ mod ranked_node;
 mod tree;
 
 use crate::changes::Changes;
+pub(crate) use crate::document::image_node::{ImageChildren, ImageNode, add_image_node};
 use crate::document::name_ranks::rank_names_of;
-pub(crate) use crate::document::nodes::begin_with;
+pub(crate) use crate::document::nodes::{add_leaf, begin_with};
 pub(crate) use crate::document::property_map::{PropertyMap, is_payload_name};
 use crate::document::ranked_node::RankedNode;
 use crate::document::tree::add_tree;
 use crate::fit::Fit;
 use crate::form::Form;
 use crate::image::Image;
+use crate::memory::only_memory;
 use crate::payload_area::length_after_blob;
 use crate::text::FitText;
 use bi_base::{Error, Limits};
 use bi_fdt::{Blob, NameRanks};
 use bi_lay::Doc;
-use std::alloc::Global;
+use std::alloc::{AllocError, Global};
 
 impl<'a> Fit<'a> {
     /// Lays out the normal text in a form. The boot processor, the memory reservations and the
@@ -131,16 +134,15 @@ impl<'a> Fit<'a> {
 }
 
 /// Adds the memory reservations of a blob.
-fn add_reservations(doc: &mut Doc<'_>, blob: &Blob<'_>) -> Result<(), Error>
+fn add_reservations(doc: &mut Doc<'_>, blob: &Blob<'_>) -> Result<(), AllocError>
     requires { AllByRecursion IsReservation blob.now.reservations }
     ensures added { OnOk result (doc.new ≡ with_reservations doc.old blob.now.reservations) }
-    ensures failed { IfErr result (λ error. error ≡ OutOfMemory) }
 {
     for index in 0..blob.reservation_count() {
         let Some((address, size)) = blob.reservation(index) else {
             unreachable!();
         };
-        doc.reserve(address, size)?;
+        only_memory(doc.reserve(address, size))?;
     }
     Ok(())
 }

@@ -17,6 +17,7 @@ pub mod known_files;
 pub mod laws;
 mod lists;
 mod long_names;
+mod memory;
 mod new_digests;
 mod nodes;
 mod payload_area;

@@ -19,7 +19,7 @@ use bi_base::{Cause, Error, Fault, Sink, refuse, up4};
 /// form Embedded.
 #[derive(Clone, Copy)]
 pub(crate) struct PayloadArea {
-    form: Form,
+    pub(crate) form: Form,
     /// Where it ends.
     end: usize,
 }

@@ -4,12 +4,9 @@ ghost use Rattle.std.specs.Prelude.{◌≡◌, ◌++◌, ◌∷◌, [], ℕ, Lis
 ghost use Rattle.std.specs.FinMap.{from_entries};
 ghost use Rattle.bi_blob.specs.Layout.{strings_of};
 ghost use Rattle.bi_blob.specs.Tree.{Property};
-ghost use Rattle.bi_hash.specs.declared.algo.Algo.TheVariants.{Sha256};
-ghost use Rattle.bi_hash.specs.Digests.{digest_of};
 ghost use Rattle.bi_fit.specs.Building.{ImageSpecModel, list_property};
 ghost use Rattle.bi_fit.specs.Building.{root_properties as root_properties_of};
 ghost use Rattle.bi_fit.specs.Building.{built_image_properties as image_properties_of};
-ghost use Rattle.bi_fit.specs.Building.{hash_properties as hash_properties_of};
 ghost use Rattle.bi_fit.specs.Building.{configuration_properties as configuration_properties_of};
 ghost use Rattle.bi_fit.specs.Building.{configuration_name, text_value};
 ghost use Rattle.bi_fit.specs.Names.{default_name};
@@ -21,7 +18,6 @@ use crate::building::lists::KeyLists;
 use crate::building::{Head, NamedImage};
 use crate::document::PropertyMap;
 use crate::key::Key;
-use bi_hash::Algo;
 use bi_lay::Value;
 use std::alloc::{AllocError, Global};
 
@@ -61,21 +57,6 @@ pub(super) fn image_properties<'a>(
     properties.insert(b"description", Value::Text(head.description))?;
     properties.insert(b"compression", Value::Text(image.compression.as_bytes()))?;
     properties.insert(b"arch", Value::Text(image.arch.as_bytes()))?;
-    Ok(properties)
-}
-
-/// Returns the properties of a hash node with this SHA-256.
-pub(super) fn hash_properties(
-    alloc: Global,
-    digest: &[u8; 32],
-) -> Result<PropertyMap<'_>, AllocError>
-    ensures { (payload : List ℕ) → digest.entry.now ≡ digest_of Sha256 payload →
-        IfOk result (λ properties. properties
-        ≡ without_numbers (from_entries (hash_properties_of payload))) }
-{
-    let mut properties = PropertyMap::new(alloc);
-    properties.insert(b"value", Value::Slice(digest))?;
-    properties.insert(b"algo", Value::Text(Algo::Sha256.name().as_bytes()))?;
     Ok(properties)
 }
 

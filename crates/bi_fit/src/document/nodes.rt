@@ -1,26 +1,25 @@
 //! Adding nodes to a document.
 
-ghost use Rattle.std.specs.Prelude.{◌≡◌, OnOk, IfErr};
-ghost use Rattle.bi_base.specs.declared.fault.Error.TheVariants.{OutOfMemory};
+ghost use Rattle.std.specs.Prelude.{◌≡◌, OnOk};
 ghost use Rattle.bi_blob.specs.Tree.{EachOwn};
 ghost use Rattle.bi_blob.specs.Events.{events};
 ghost use Rattle.bi_fit.specs.NormalNodes.{MayAdd, with_events, HasDistinctNames, alone};
-ghost use Rattle.bi_fit.specs.NormalNodes.{begin_events, properties_by_name, sorted_nodes};
+ghost use Rattle.bi_fit.specs.NormalNodes.{begin_events, properties_by_name, sorted_nodes, leaf};
 ghost use Rattle.bi_fit.specs.PropertyMapModels.{HaveNumbers};
 ghost use Rattle.bi_fit.specs.RankedNodes.{sibling_of, HasRanks};
 
 use crate::document::property_map::PropertyMap;
 use crate::document::ranked_node::RankedNode;
-use bi_base::Error;
+use crate::memory::only_memory;
 use bi_lay::Doc;
-use std::alloc::Global;
+use std::alloc::{AllocError, Global};
 
 /// Begins a node with its properties, as a child of the innermost open node or as the root.
 pub(super) fn begin_node<'a>(
     alloc: Global,
     doc: &mut Doc<'a>,
     node: RankedNode<'a, '_>,
-) -> Result<(), Error>
+) -> Result<(), AllocError>
     requires ranks { HasRanks doc.old.names node }
     requires distinct { HasDistinctNames (sibling_of node).own }
     requires may { let properties = properties_by_name (sibling_of node).own in
@@ -28,7 +27,6 @@ pub(super) fn begin_node<'a>(
     ensures added { let properties = properties_by_name (sibling_of node.entry).own in
         OnOk result (doc.new ≡ with_events doc.old
         (begin_events (sibling_of node.entry).name properties)) }
-    ensures failed { IfErr result (λ error. error ≡ OutOfMemory) }
 {
     let properties = PropertyMap::from_node(alloc, node)?;
     begin_with(doc, node.name(), &properties)
@@ -41,20 +39,36 @@ pub(super) fn begin_node<'a>(
 /// the name, and the name of each property has a byte and no zero. A number in the properties is
 /// that of the name in the document.
 ///
-/// The only error is `OutOfMemory`. It is not specified which of the events the document has then.
+/// It fails if memory runs out. It is not specified which of the events the document has then.
 pub(crate) fn begin_with<'a>(
     doc: &mut Doc<'a>,
     name: &'a [u8],
     properties: &PropertyMap<'a>,
-) -> Result<(), Error>
+) -> Result<(), AllocError>
     requires numbers { HaveNumbers doc.old.names properties.now }
     requires may { MayAdd doc.old (begin_events name.now properties.now.by_name) }
     ensures added { OnOk result (doc.new ≡ with_events doc.old
         (begin_events name.entry.now properties.entry.now.by_name)) }
-    ensures failed { IfErr result (λ error. error ≡ OutOfMemory) }
 {
-    doc.begin(name)?;
+    only_memory(doc.begin(name))?;
     properties.add_to(doc)
+}
+
+/// Adds a node of this name with these properties and no children, as a child of the innermost open
+/// node.
+pub(crate) fn add_leaf<'a>(
+    doc: &mut Doc<'a>,
+    name: &'a [u8],
+    properties: &PropertyMap<'a>,
+) -> Result<(), AllocError>
+    requires numbers { HaveNumbers doc.old.names properties.now }
+    requires may { MayAdd doc.old (events (leaf name.now properties.now.by_name)) }
+    ensures added { OnOk result (doc.new ≡ with_events doc.old
+        (events (leaf name.entry.now properties.entry.now.by_name))) }
+{
+    begin_with(doc, name, properties)?;
+    doc.end();
+    Ok(())
 }
 
 /// Adds a node, with all nodes below it, as a child of the innermost open node.
@@ -63,13 +77,12 @@ pub(super) fn add_node<'a>(
     alloc: Global,
     doc: &mut Doc<'a>,
     node: RankedNode<'a, '_>,
-) -> Result<(), Error>
+) -> Result<(), AllocError>
     requires ranks { HasRanks doc.old.names node }
     requires distinct { EachOwn HasDistinctNames (alone (sibling_of node)) }
     requires may { MayAdd doc.old (events (sorted_nodes (alone (sibling_of node)))) }
     ensures added { OnOk result (doc.new ≡ with_events doc.old
         (events (sorted_nodes (alone (sibling_of node.entry))))) }
-    ensures failed { IfErr result (λ error. error ≡ OutOfMemory) }
 {
     begin_node(alloc, doc, node)?;
     add_children(alloc, doc, node)?;
@@ -83,13 +96,12 @@ pub(super) fn add_children<'a>(
     alloc: Global,
     doc: &mut Doc<'a>,
     node: RankedNode<'a, '_>,
-) -> Result<(), Error>
+) -> Result<(), AllocError>
     requires ranks { HasRanks doc.old.names node }
     requires distinct { EachOwn HasDistinctNames (sibling_of node).children }
     requires may { MayAdd doc.old (events (sorted_nodes (sibling_of node).children)) }
     ensures added { OnOk result (doc.new ≡ with_events doc.old
         (events (sorted_nodes (sibling_of node.entry).children))) }
-    ensures failed { IfErr result (λ error. error ≡ OutOfMemory) }
 {
     let mut next = node.first_child();
     while let Some(child) = next {

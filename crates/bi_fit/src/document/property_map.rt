@@ -1,9 +1,8 @@
 //! The properties of a node, by name.
 
-ghost use Rattle.std.specs.Prelude.{◌≡◌, ◌<◌, ℕ, List, length, map, slice_get, OnOk, IfOk, IfErr};
+ghost use Rattle.std.specs.Prelude.{◌≡◌, ◌<◌, ℕ, List, length, map, slice_get, OnOk, IfOk};
 ghost use Rattle.std.specs.FinMap.{empty, entries};
 ghost use Rattle.std.specs.Option.{option_map};
-ghost use Rattle.bi_base.specs.declared.fault.Error.TheVariants.{OutOfMemory};
 ghost use Rattle.bi_blob.specs.Events.{NodeProperty};
 ghost use Rattle.bi_blob.specs.Following.{stage_of_events, MayHaveNextProperty};
 ghost use Rattle.bi_lay.specs.Contents.{with_event};
@@ -24,7 +23,7 @@ ghost use Rattle.bi_fit.specs.EntryOrder.{index_of_name, is_entry_named, IsEntry
 
 use crate::document::ranked_node::RankedNode;
 use crate::form::Form;
-use bi_base::Error;
+use crate::memory::only_memory;
 use bi_hash::Algo;
 use bi_lay::{Doc, Value};
 use std::alloc::{AllocError, Global};
@@ -197,14 +196,13 @@ impl<'a> PropertyMap<'a> {
     /// It may only be called if these events may come next in the document: for each property in
     /// turn, `Doc::may_property` is true of its name after those before it were added.
     ///
-    /// The only error is `OutOfMemory`. It is not specified which of the properties the document
-    /// has then.
-    pub(crate) fn add_to(&self, doc: &mut Doc<'a>) -> Result<(), Error>
+    /// It fails if memory runs out. It is not specified which of the properties the document has
+    /// then.
+    pub(crate) fn add_to(&self, doc: &mut Doc<'a>) -> Result<(), AllocError>
         requires numbers { HaveNumbers doc.old.names self.now }
         requires may { MayAdd doc.old (map NodeProperty (entries self.now.by_name)) }
         ensures added { OnOk result (doc.new ≡ with_events doc.old
             (map NodeProperty (entries self.now.by_name))) }
-        ensures failed { IfErr result (λ error. error ≡ OutOfMemory) }
     {
         for entry in &self.entries {
             add_entry(doc, *entry)?;
@@ -213,17 +211,16 @@ impl<'a> PropertyMap<'a> {
     }
 }
 
-/// Adds a property to the innermost open node.
-fn add_entry<'a>(doc: &mut Doc<'a>, entry: MapEntry<'a>) -> Result<(), Error>
+/// Adds a property to the innermost open node. It fails if memory runs out.
+fn add_entry<'a>(doc: &mut Doc<'a>, entry: MapEntry<'a>) -> Result<(), AllocError>
     requires number { AreNumbersIn doc.old.names (number_in entry) }
     requires may { MayHaveNextProperty entry.name.now (stage_of_events doc.old.events) }
     ensures added { OnOk result (doc.new ≡ with_event doc.old
         (NodeProperty (entry.entry.name.now, value_bytes entry.entry.value))) }
-    ensures failed { IfErr result (λ error. error ≡ OutOfMemory) }
 {
     match entry.number {
-        Some(number) => doc.property_numbered(number, entry.value),
-        None => doc.property(entry.name, entry.value),
+        Some(number) => only_memory(doc.property_numbered(number, entry.value)),
+        None => only_memory(doc.property(entry.name, entry.value)),
     }
 }
 

@@ -12,7 +12,7 @@ use bi_fdt::NodeRef;
 /// A node of a blob, with the ranks of the names of all properties of the blob. A name that is
 /// greater in byte order has a greater rank.
 #[derive(Clone, Copy)]
-pub(super) struct RankedNode<'a, 'b> {
+pub(crate) struct RankedNode<'a, 'b> {
     pub(super) node: NodeRef<'a, 'b>,
     pub(super) ranks: &'b [usize],
 }

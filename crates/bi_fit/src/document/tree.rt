@@ -1,7 +1,6 @@
 //! Adding the tree of the normal text to a document.
 
-ghost use Rattle.std.specs.Prelude.{◌≡◌, OnOk, IfErr};
-ghost use Rattle.bi_base.specs.declared.fault.Error.TheVariants.{OutOfMemory};
+ghost use Rattle.std.specs.Prelude.{◌≡◌, OnOk};
 ghost use Rattle.bi_blob.specs.Tree.{EachOwn};
 ghost use Rattle.bi_blob.specs.Events.{events};
 ghost use Rattle.bi_fit.specs.NormalNodes.{MayAdd, with_events, HasDistinctNames, AreWithin};
@@ -16,9 +15,8 @@ use crate::document::property_map::PropertyMap;
 use crate::document::ranked_node::RankedNode;
 use crate::form::Form;
 use crate::image::Image;
-use bi_base::Error;
 use bi_lay::Doc;
-use std::alloc::Global;
+use std::alloc::{AllocError, Global};
 
 /// Adds the tree with this root, whose images are these, with changes. The hash nodes get these
 /// digests, if the digests change.
@@ -30,7 +28,7 @@ pub(super) fn add_tree<'a>(
     digests: &'a [u8],
     form: Form,
     images: &[Image<'a>],
-) -> Result<(), Error>
+) -> Result<(), AllocError>
     requires ranks { HasRanks doc.old.names root }
     requires images { HaveImageNodes (AreImageNodes changes.hashes images.now digests.now)
         (sibling_of root).children }
@@ -42,7 +40,6 @@ pub(super) fn add_tree<'a>(
         let bytes = digests.entry.now in
         OnOk result (doc.new ≡ with_events doc.old
         (events (sorted_root changes form payloads bytes (sibling_of root.entry)))) }
-    ensures failed { IfErr result (λ error. error ≡ OutOfMemory) }
 {
     let mut properties = PropertyMap::from_node(alloc, root)?;
     properties.set_time(changes.time)?;
@@ -61,7 +58,7 @@ fn add_root_children<'a>(
     digests: &'a [u8],
     form: Form,
     images: &[Image<'a>],
-) -> Result<(), Error>
+) -> Result<(), AllocError>
     requires ranks { HasRanks doc.old.names root }
     requires images { HaveImageNodes (AreImageNodes changes.hashes images.now digests.now)
         (sibling_of root).children }
@@ -75,7 +72,6 @@ fn add_root_children<'a>(
         let nodes = (sibling_of root.entry).children in
         OnOk result (doc.new ≡ with_events doc.old
         (events (sorted_root_children changes.hashes form payloads digests.entry.now nodes))) }
-    ensures failed { IfErr result (λ error. error ≡ OutOfMemory) }
 {
     let mut next = root.first_child();
     while let Some(child) = next {
@@ -95,7 +91,7 @@ fn add_root_child<'a>(
     digests: &'a [u8],
     form: Form,
     images: &[Image<'a>],
-) -> Result<(), Error>
+) -> Result<(), AllocError>
     requires ranks { HasRanks doc.old.names node }
     requires images { HaveImageNodes (AreImageNodes changes.hashes images.now digests.now)
         (alone (sibling_of node)) }
@@ -109,7 +105,6 @@ fn add_root_child<'a>(
         let nodes = alone (sibling_of node.entry) in
         OnOk result (doc.new ≡ with_events doc.old
         (events (sorted_root_children changes.hashes form payloads digests.entry.now nodes))) }
-    ensures failed { IfErr result (λ error. error ≡ OutOfMemory) }
 {
     if node.name() == b"images".as_slice() {
         add_images(alloc, doc, node, changes, digests, form, images)

@@ -1,36 +1,43 @@
-use Rattle.std.proofs.Common.{◌≡◌, ℕ, ◌+◌, ◌≤◌, List, ◌∷◌, drop, get_or, Option, Some, sym, ap, subst, ◌∙◌, arith}
-use Rattle.std.specs.FinMap.{entries}
+use Rattle.std.proofs.Common.{◌≡◌, ℕ, ◌+◌, ◌≤◌, List, [], ◌∷◌, drop, get_or, Option, Some, sym, ap, subst, ◌∙◌, arith}
+use Rattle.std.specs.FinMap.{entries, from_entries}
 use Rattle.bi_base.specs.Cells.{up4}
 use Rattle.bi_blob.specs.Events.{events}
 use Rattle.bi_blob.specs.Layout.{longest_text}
-use Rattle.bi_fit.specs.NormalNodes.{MayAdd, with_events, next_end, AreWithin}
+use Rattle.bi_fit.specs.NormalNodes.{MayAdd, with_events, next_end, AreWithin, HasCellSize}
 use Rattle.bi_fit.specs.Text.{end_after}
 use Rattle.bi_fit.proofs.ImageNodes.{within_sized, within_first, within_later}
 use Rattle.bi_fit.proofs.NodeEvents.{IsAdding, may_add_first, adding_later}
+use Rattle.bi_fit.specs.Building.{built_image_properties}
 use Rattle.bi_fit.specs.NamedImages.{head_model, named_model, named_models}
 use Rattle.bi_fit.specs.BuiltNodes.{built_payloads, hash_node, placed_properties, image_node, built_image_nodes}
-use Rattle.bi_fit.proofs.BuiltDocuments.{nodes_later, nodes_at}
-use Rattle.bi_fit.proofs.BuiltPayloads.{no_named_image, built_payloads_from}
+use Rattle.bi_fit.proofs.BuiltDocuments.{nodes_later, nodes_at, have_no_numbers, same_built_image}
+use Rattle.bi_fit.proofs.BuiltPayloads.{no_named_image, built_payloads_from, digest_at}
 use Rattle.bi_fit.proofs.building.document.add_built_image_nodes.Goals as goal
 
-pub add_built_image_node-requires-clause-sized : goal.add_built_image_node-requires-clause-sized
-add_built_image_node-requires-clause-sized c =
-    let images = c.args.parts.images.now in
-    let index = c.loop-index.index in
-    within_sized c.args.form c.loop-index.area.end (Some (get_or images index no_named_image).payload.now) (built_payloads (named_models (drop (index + 1) images)))
-    (subst (AreWithin c.args.form c.loop-index.area.end) (built_payloads_from images index no_named_image c.loop-index-test.true) c.loop-index.invariant.within)
-
-pub add_built_image_node-requires-clause-may : goal.add_built_image_node-requires-clause-may
-add_built_image_node-requires-clause-may c =
+pub add_image_node-requires : goal.add_image_node-requires
+add_image_node-requires c =
     let images = c.args.parts.images.now in
     let index = c.loop-index.index in
     let head = head_model c.args.parts.head in
     let image = named_model (get_or images index no_named_image) in
+    let end = c.loop-index.area.end in
     let target = with_events c.args.doc.now (events (built_image_nodes c.args.form 0 head (named_models images))) in
-    let later = built_image_nodes c.args.form (end_after c.loop-index.area.end (Some image.payload)) head (named_models (drop (index + 1) images)) in
-    subst (λ begin. MayAdd c.loop-index.doc (events (image_node c.args.form begin head image))) (sym c.place-begin.ensures.begin)
-    (may_add_first c.loop-index.doc target image.name (entries (placed_properties c.args.form (up4 c.loop-index.area.end) head image)) (hash_node image.payload) later
-    (subst (IsAdding c.loop-index.doc target) (nodes_at c.args.form c.loop-index.area.end head images index no_named_image c.loop-index-test.true) c.loop-index.invariant.adding))
+    let later = built_image_nodes c.args.form (end_after end (Some image.payload)) head (named_models (drop (index + 1) images)) in
+    let digest = digest_at images c.args.parts.digests.now index c.loop-index-test.true c.requires.prepared.digests in
+    let same = same_built_image c.loop-index.area.form c.args.form (up4 end) head image c.in_ok-image_properties.field-0 (get_or c.args.parts.digests.now index [])
+    c.loop-index.invariant.form c.in_ok-image_properties.ensures digest in
+    let sized : HasCellSize c.args.form (Some image.payload) =
+    within_sized c.args.form end (Some image.payload) (built_payloads (named_models (drop (index + 1) images)))
+    (subst (AreWithin c.args.form end) (built_payloads_from images index no_named_image c.loop-index-test.true) c.loop-index.invariant.within) in
+    record {
+      numbers = have_no_numbers c.loop-index.doc.names c.in_ok-image_properties.field-0 (from_entries (built_image_properties head image)) c.in_ok-image_properties.ensures;
+      small = c.loop-index.invariant.small;
+      sized = subst (λ form. HasCellSize form (Some image.payload)) (sym c.loop-index.invariant.form) sized;
+      children = tt;
+      may = subst (λ nodes. MayAdd c.loop-index.doc (events nodes)) (sym same)
+          (may_add_first c.loop-index.doc target image.name (entries (placed_properties c.args.form (up4 end) head image)) (hash_node image.payload) later
+          (subst (IsAdding c.loop-index.doc target) (nodes_at c.args.form end head images index no_named_image c.loop-index-test.true) c.loop-index.invariant.adding));
+    }
 
 pub loop-index-preserved : goal.loop-index-preserved
 loop-index-preserved c =
@@ -47,15 +54,18 @@ loop-index-preserved c =
     let within : AreWithin c.args.form c.loop-index.area.end (payload ∷ built_payloads rest) =
     subst (AreWithin c.args.form c.loop-index.area.end) (built_payloads_from images index no_named_image c.loop-index-test.true) c.loop-index.invariant.within in
     let small : next_end c.args.form c.loop-index.area.end payload ≤ longest_text = within_first c.args.form c.loop-index.area.end payload (built_payloads rest) within c.loop-index.invariant.small in
-    let at : c.place-begin.new.self.end ≡ next_end c.args.form c.loop-index.area.end payload =
+    let at : c.add_image_node.new.area.end ≡ next_end c.args.form c.loop-index.area.end payload =
     let is : next_end c.loop-index.area.form c.loop-index.area.end payload ≡ next_end c.args.form c.loop-index.area.end payload = ap (λ form. next_end form c.loop-index.area.end payload) c.loop-index.invariant.form in
-    omega (arith, c.place-begin.ensures.end) in
-    let added : c.add_built_image_node.new.doc ≡ with_events c.loop-index.doc (events (image_node c.args.form (up4 c.loop-index.area.end) head image)) =
-    c.in_ok-add_built_image_node.ensures.added ∙ ap (λ begin. with_events c.loop-index.doc (events (image_node c.args.form begin head image))) c.place-begin.ensures.begin in
+    omega (arith, c.in_ok-add_image_node.ensures.end) in
+    let digest = digest_at images c.args.parts.digests.now index c.loop-index-test.true c.requires.prepared.digests in
+    let same = same_built_image c.loop-index.area.form c.args.form (up4 c.loop-index.area.end) head image c.in_ok-image_properties.field-0 (get_or c.args.parts.digests.now index [])
+    c.loop-index.invariant.form c.in_ok-image_properties.ensures digest in
+    let added : c.add_image_node.new.doc ≡ with_events c.loop-index.doc (events (image_node c.args.form (up4 c.loop-index.area.end) head image)) =
+    c.in_ok-add_image_node.ensures.added ∙ ap (λ nodes. with_events c.loop-index.doc (events nodes)) same in
     rw at (record {
-      adding = subst (IsAdding c.add_built_image_node.new.doc target) (nodes_later c.args.form c.loop-index.area.end image.payload head rest)
-          (adding_later c.loop-index.doc target image.name (entries (placed_properties c.args.form (up4 c.loop-index.area.end) head image)) (hash_node image.payload) later adding c.add_built_image_node.new.doc added);
+      adding = subst (IsAdding c.add_image_node.new.doc target) (nodes_later c.args.form c.loop-index.area.end image.payload head rest)
+          (adding_later c.loop-index.doc target image.name (entries (placed_properties c.args.form (up4 c.loop-index.area.end) head image)) (hash_node image.payload) later adding c.add_image_node.new.doc added);
       within = within_later c.args.form c.loop-index.area.end payload (built_payloads rest) within;
       small = small;
-      form = c.place-begin.ensures.form ∙ c.loop-index.invariant.form;
+      form = c.in_ok-add_image_node.ensures.form ∙ c.loop-index.invariant.form;
     })

@@ -40,10 +40,10 @@ end-requires c =
     c.in_ok-begin_with.ensures.added ∙ ap (with_events c.args.doc.now) begins in
     may_end c.args.doc.now (begin_events images_name own) children c.begin_with.new.doc c.add_built_image_nodes.new.doc begun c.in_ok-add_built_image_nodes.ensures.added c.requires.may
 
-pub returns-clause-added : goal.returns-clause-added
-returns-clause-added c =
+pub returns : goal.returns
+returns c =
     let children = events (built_image_nodes c.args.form 0 (head_model c.args.parts.head) (named_models c.args.parts.images.now)) in
     let begins : begin_events images_name c.new-properties.result.by_name ≡ begin_events images_name own = ap (λ properties. begin_events images_name properties.by_name) c.new-properties.ensures in
     let begun : c.begin_with.new.doc ≡ with_events c.args.doc.now (begin_events images_name own) =
     c.in_ok-begin_with.ensures.added ∙ ap (with_events c.args.doc.now) begins in
-    c.end.ensures ∙ whole_added c.args.doc.now (begin_events images_name own) children c.begin_with.new.doc c.add_built_image_nodes.new.doc begun c.in_ok-add_built_image_nodes.ensures.added
+    record { added = c.end.ensures ∙ whole_added c.args.doc.now (begin_events images_name own) children c.begin_with.new.doc c.add_built_image_nodes.new.doc begun c.in_ok-add_built_image_nodes.ensures.added }

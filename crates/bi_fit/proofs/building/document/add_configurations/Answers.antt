@@ -2,12 +2,12 @@ use Rattle.std.proofs.Common.{◌≡◌, [], ◌∷◌, sym, ap, subst, ◌∙�
 use Rattle.std.specs.FinMap.{from_entries}
 use Rattle.bi_blob.specs.Events.{events}
 use Rattle.bi_blob.specs.Tree.{PropertyMap}
-use Rattle.bi_fit.specs.NormalNodes.{MayAdd, with_events, begin_events}
+use Rattle.bi_fit.specs.NormalNodes.{MayAdd, with_events, begin_events, leaf}
 use Rattle.bi_fit.specs.Building.{configuration_name, configuration_properties, text_value}
 use Rattle.bi_fit.specs.Names.{configurations_name, default_name}
 use Rattle.bi_fit.proofs.AddedEvents.{may_begin, may_have_children, may_end, whole_added}
 use Rattle.bi_fit.specs.NamedImages.{head_model, named_models}
-use Rattle.bi_fit.specs.BuiltNodes.{configuration_node, leaf}
+use Rattle.bi_fit.specs.BuiltNodes.{configuration_node}
 use Rattle.bi_fit.proofs.BuiltDocuments.{have_no_numbers}
 use Rattle.bi_fit.proofs.building.document.add_configurations.Goals as goal
 
@@ -61,8 +61,8 @@ end-requires c =
     c.in_ok-add_leaf.ensures.added ∙ ap (with_events c.begin_with.new.doc) leaf_is in
     may_end c.args.doc.now (begin_events configurations_name own) children c.begin_with.new.doc c.add_leaf.new.doc begun filled c.requires.may
 
-pub returns-clause-added : goal.returns-clause-added
-returns-clause-added c =
+pub returns : goal.returns
+returns c =
     let images = named_models c.args.parts.images.now in
     let head = head_model c.args.parts.head in
     let begins : begin_events configurations_name c.in_ok-properties.properties.by_name ≡ begin_events configurations_name own =
@@ -74,4 +74,4 @@ returns-clause-added c =
     ap (λ properties. events (leaf configuration_name properties.by_name)) (c.in_ok-properties-2.ensures images c.requires.prepared.lists) in
     let filled : c.add_leaf.new.doc ≡ with_events c.begin_with.new.doc children =
     c.in_ok-add_leaf.ensures.added ∙ ap (with_events c.begin_with.new.doc) leaf_is in
-    c.end.ensures ∙ whole_added c.args.doc.now (begin_events configurations_name own) children c.begin_with.new.doc c.add_leaf.new.doc begun filled
+    record { added = c.end.ensures ∙ whole_added c.args.doc.now (begin_events configurations_name own) children c.begin_with.new.doc c.add_leaf.new.doc begun filled }

@@ -8,7 +8,7 @@ use Rattle.bi_fit.specs.TakenDigests.{HaveDigests, after_digests}
 use Rattle.bi_fit.specs.NormalNodes.{with_events, HasDistinctNames, nodes_by_name, sorted_image_children}
 use Rattle.bi_fit.proofs.AddedEvents.{HasNextRanks}
 use Rattle.bi_fit.proofs.NodeEvents.{nodes_from, IsAdding}
-use Rattle.bi_fit.proofs.document.image_nodes.add_image_children.Given as goal
+use Rattle.bi_fit.proofs.document.hash_nodes.add_children_with_digests.Given as goal
 
 abbrev pub invariant-loop-next : goal.invariant-loop-next
 invariant-loop-next l = record {

@@ -10,7 +10,7 @@ use Rattle.bi_fit.specs.NormalNodes.{with_events, HasDistinctNames, properties_b
 use Rattle.bi_fit.proofs.AddedEvents.{still_ranked_next, HasNextRanks}
 use Rattle.bi_fit.proofs.NodeEvents.{nodes_from, nodes_from_first, IsAdding, adding_all, may_add_first, adding_later}
 use Rattle.bi_fit.proofs.ImageNodes.{child_properties}
-use Rattle.bi_fit.proofs.document.image_nodes.add_image_children.Goals as goal
+use Rattle.bi_fit.proofs.document.hash_nodes.add_children_with_digests.Goals as goal
 
 pub loop-next-init : goal.loop-next-init
 loop-next-init c =
@@ -24,8 +24,8 @@ loop-next-init c =
       same_end = refl;
     })
 
-pub add_image_child-requires : goal.add_image_child-requires
-add_image_child-requires c =
+pub add_child_with_digest-requires : goal.add_child_with_digest-requires
+add_child_with_digest-requires c =
     let s = sibling_of c.in-Some.child in
     let target = with_events c.args.doc.now (events (sorted_image_children c.args.hashed c.args.digests.now (sibling_of c.args.node).children)) in
     let here : nodes_from (option_map sibling_of c.loop-next.next) ≡ nodes_from (Some s) = ap (λ next. nodes_from (option_map sibling_of next)) c.in-Some.is in
@@ -65,8 +65,8 @@ loop-next-preserved c =
     rw (rest, c.in_ok-left.ensures.left) (record {
       adding = adding_later c.loop-next.doc target s.name (entries (child_properties c.args.hashed c.loop-next.left.now s)) (sorted_nodes s.children) (sorted_image_children c.args.hashed left s.later)
           (subst (λ nodes. IsAdding c.loop-next.doc target (sorted_image_children c.args.hashed c.loop-next.left.now nodes)) here c.loop-next.invariant.adding)
-          c.add_image_child.new.doc c.in_ok-left.ensures.added;
-      ranks = still_ranked_next c.next_sibling-next.result c.loop-next.doc c.add_image_child.new.doc _ c.in_ok-left.ensures.added
+          c.add_child_with_digest.new.doc c.in_ok-left.ensures.added;
+      ranks = still_ranked_next c.next_sibling-next.result c.loop-next.doc c.add_child_with_digest.new.doc _ c.in_ok-left.ensures.added
           (c.next_sibling-next.ensures.ranks c.loop-next.doc.names (subst (HasNextRanks c.loop-next.doc.names) c.in-Some.is c.loop-next.invariant.ranks));
       distinct = distinct.2;
       has_digests = has.1;

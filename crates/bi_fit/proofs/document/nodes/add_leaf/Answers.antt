@@ -1,7 +1,7 @@
 use Rattle.std.proofs.Common.{[], sym}
 use Rattle.bi_fit.specs.NormalNodes.{begin_events}
 use Rattle.bi_fit.proofs.AddedEvents.{with_events-none, may_begin, may_end}
-use Rattle.bi_fit.proofs.building.document.add_leaf.Goals as goal
+use Rattle.bi_fit.proofs.document.nodes.add_leaf.Goals as goal
 
 pub begin_with-requires-clause-may : goal.begin_with-requires-clause-may
 begin_with-requires-clause-may c = may_begin c.args.doc.now (begin_events c.args.name.now c.args.properties.now.by_name) [] c.requires.may

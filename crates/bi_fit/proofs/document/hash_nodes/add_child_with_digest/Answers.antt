@@ -6,8 +6,8 @@ use Rattle.bi_fit.specs.TakenDigests.{algorithm_if_hashed}
 use Rattle.bi_fit.specs.NormalNodes.{MayAdd, with_events, begin_events, properties_by_name, sorted_nodes}
 use Rattle.bi_fit.proofs.AddedEvents.{still_ranked, may_begin, may_have_children, may_end}
 use Rattle.bi_fit.proofs.ImageNodes.{child_begin, child_begins}
-use Rattle.bi_fit.proofs.document.image_nodes.add_image_child.Goals as goal
-use Rattle.bi_fit.proofs.document.image_nodes.add_image_child.Goals.{After-name, then-hashed, else-hashed}
+use Rattle.bi_fit.proofs.document.hash_nodes.add_child_with_digest.Goals as goal
+use Rattle.bi_fit.proofs.document.hash_nodes.add_child_with_digest.Goals.{After-name, then-hashed, else-hashed}
 
 -- The events with which the node begins.
 begins : (c : After-name) → begin_events c.name.result.now c.set_digest.new.self.by_name

@@ -1,0 +1,66 @@
+use Rattle.std.specs.Prelude.{◌≡◌, ℕ, ◌≤◌, ⊤, List, [], Option, option_map}
+use Rattle.std.specs.FinMap.{entries}
+use Rattle.bi_base.specs.Cells.{up4}
+use Rattle.bi_blob.specs.Tree.{Nodes, none, node, Property, PropertyMap, EachOwn}
+use Rattle.bi_blob.specs.Events.{events}
+use Rattle.bi_blob.specs.Layout.{longest_text}
+use Rattle.bi_lay.specs.Contents.{Doc}
+use Rattle.bi_fit.specs.declared.document.image_node.ImageChildren.{ImageChildren}
+use Rattle.bi_fit.specs.declared.document.image_node.ImageChildren.TheVariants.{OfNode, Hash}
+use Rattle.bi_fit.specs.declared.document.image_node.ImageNode.{ImageNode}
+use Rattle.bi_fit.specs.declared.form.Form.{Form}
+use Rattle.bi_fit.specs.declared.payload_area.PayloadArea.{PayloadArea}
+use Rattle.bi_fit.specs.BuiltNodes.{hash_node_with}
+use Rattle.bi_fit.specs.ImageTree.{without_payload}
+use Rattle.bi_fit.specs.NormalNodes.{MayAdd, HasDistinctNames, HasCellSize, nodes_by_name}
+use Rattle.bi_fit.specs.NormalNodes.{sorted_image_children}
+use Rattle.bi_fit.specs.PropertyMapModels.{HaveNumbers}
+use Rattle.bi_fit.specs.RankedNodes.{sibling_of, HasRanks}
+use Rattle.bi_fit.specs.TakenDigests.{HaveDigests, after_digests}
+use Rattle.bi_fit.specs.Text.{with_payload}
+
+-- Image nodes that are added to a document, of a file or of a specification.
+
+-- The payload of an image node, if it has one.
+abbrev pub added_payload : ImageNode → Option (List ℕ)
+added_payload image = option_map (λ payload. payload.now) image.payload
+
+-- The children that are added, with the properties of each in byte order.
+abbrev pub added_children : ImageChildren → Nodes (List Property)
+added_children (OfNode of) =
+    sorted_image_children of.hashed of.digests.now (sibling_of of.node).children
+added_children (Hash digest) = hash_node_with digest.now
+
+-- The digests that are left after those of their hash nodes.
+abbrev pub digests_left : ImageChildren → List ℕ
+digests_left (OfNode of) =
+    after_digests of.hashed of.digests.now (nodes_by_name (sibling_of of.node).children)
+digests_left (Hash digest) = []
+
+-- What has to hold of the children, where these names may be given by number.
+abbrev pub AreAddable : List (List ℕ) → ImageChildren → Type 0
+AreAddable names (OfNode of) =
+    HasRanks names of.node
+    × HaveDigests of.hashed of.digests.now (nodes_by_name (sibling_of of.node).children)
+    × EachOwn HasDistinctNames (sibling_of of.node).children
+AreAddable names (Hash digest) = ⊤
+
+-- The properties that are added, with those that give the payload. `begin` is the offset of an
+-- external payload from the end of the blob.
+abbrev pub added_properties : Form → (begin : ℕ) → ImageNode → PropertyMap
+added_properties form begin image =
+    with_payload form begin (added_payload image) (without_payload image.properties.by_name)
+
+-- The image node that is added, without its siblings.
+abbrev pub added_image : Form → (begin : ℕ) → ImageNode → Nodes (List Property)
+added_image form begin image =
+    node image.name.now (entries (added_properties form begin image))
+    (added_children image.children) none
+
+-- An image node may be added to a document, with its payload after those of the area.
+pub record IsAddable (document : Doc) (area : PayloadArea) (image : ImageNode) : Type 0 where
+  pub numbers : HaveNumbers document.names image.properties
+  pub small : area.end ≤ longest_text
+  pub sized : HasCellSize area.form (added_payload image)
+  pub children : AreAddable document.names image.children
+  pub may : MayAdd document (events (added_image area.form (up4 area.end) image))

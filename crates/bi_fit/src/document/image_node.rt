@@ -1,0 +1,108 @@
+//! Adding an image node to a document: of a file, or of a specification.
+
+ghost use Rattle.std.specs.Prelude.{◌≡◌, ◌-◌, ◌^◌, min, OnOk, IfOk};
+ghost use Rattle.bi_base.specs.Cells.{up4 as up4_of};
+ghost use Rattle.bi_blob.specs.Events.{events};
+ghost use Rattle.bi_fit.specs.NormalNodes.{MayAdd, with_events, next_end};
+ghost use Rattle.bi_fit.specs.AddedImages.{IsAddable, added_image, added_payload};
+ghost use Rattle.bi_fit.specs.AddedImages.{AreAddable, added_children, digests_left};
+
+use crate::document::hash_nodes::{add_children_with_digests, add_hash_node};
+use crate::document::nodes::begin_with;
+use crate::document::property_map::PropertyMap;
+use crate::document::ranked_node::RankedNode;
+use crate::payload_area::PayloadArea;
+use bi_lay::Doc;
+use std::alloc::{AllocError, Global};
+
+/// An image node that a document gets.
+#[derive(Drop)]
+pub(crate) struct ImageNode<'a, 'b> {
+    /// The name.
+    pub(crate) name: &'a [u8],
+    /// The properties. The four that can give a payload are left out.
+    pub(crate) properties: PropertyMap<'a>,
+    /// The payload, if there is one.
+    pub(crate) payload: Option<&'a [u8]>,
+    /// The children.
+    pub(crate) children: ImageChildren<'a, 'b>,
+}
+
+/// The children of an image node that a document gets.
+#[derive(Clone, Copy)]
+pub(crate) enum ImageChildren<'a, 'b> {
+    /// Those of a node of a file.
+    OfNode(NodeChildren<'a, 'b>),
+    /// One hash node, `hash-1`, with this SHA-256.
+    Hash(&'a [u8; 32]),
+}
+
+/// The children of an image node of a file. If the image is hashed, its hash nodes get the first of
+/// these digests.
+#[derive(Clone, Copy)]
+pub(crate) struct NodeChildren<'a, 'b> {
+    /// The image node.
+    pub(crate) node: RankedNode<'a, 'b>,
+    /// Whether the hash nodes get new digests.
+    pub(crate) hashed: bool,
+    /// The digests that are left.
+    pub(crate) digests: &'a [u8],
+}
+
+/// Adds an image node, with all nodes below it, as a child of the innermost open node. Its payload
+/// follows those of the area, and the node has the properties that give it. Returns the digests
+/// that are left after those of its hash nodes.
+///
+/// It fails if memory runs out. It is not specified what the document has then.
+pub(crate) fn add_image_node<'a>(
+    alloc: Global,
+    doc: &mut Doc<'a>,
+    area: &mut PayloadArea,
+    image: ImageNode<'a, '_>,
+) -> Result<&'a [u8], AllocError>
+    requires { IsAddable doc.old area.old image }
+    ensures left { IfOk result (λ left. left.now ≡ digests_left image.entry.children) }
+    ensures added { let image = added_image area.old.form (up4_of area.old.end) image.entry in
+        OnOk result (doc.new ≡ with_events doc.old (events image)) }
+    ensures form { area.new.form ≡ area.old.form }
+    ensures end { let end = next_end area.old.form area.old.end (added_payload image.entry) in
+        area.new.end ≡ min end (2 ^ 64 - 1) }
+{
+    let ImageNode {
+        name,
+        mut properties,
+        payload,
+        children,
+    } = image;
+    let form = area.form;
+    let begin = area.place(payload) as u32;
+    properties.set_payload(form, begin, payload)?;
+    begin_with(doc, name, &properties)?;
+    let left = add_image_children(alloc, doc, children)?;
+    doc.end();
+    Ok(left)
+}
+
+/// Adds the children of an image node, with all nodes below them. Returns the digests that are left
+/// after those of the hash nodes.
+fn add_image_children<'a>(
+    alloc: Global,
+    doc: &mut Doc<'a>,
+    children: ImageChildren<'a, '_>,
+) -> Result<&'a [u8], AllocError>
+    requires addable { AreAddable doc.old.names children }
+    requires may { MayAdd doc.old (events (added_children children)) }
+    ensures left { IfOk result (λ left. left.now ≡ digests_left children.entry) }
+    ensures added { OnOk result
+        (doc.new ≡ with_events doc.old (events (added_children children.entry))) }
+{
+    match children {
+        ImageChildren::OfNode(of) => {
+            add_children_with_digests(alloc, doc, of.node, of.hashed, of.digests)
+        }
+        ImageChildren::Hash(digest) => {
+            add_hash_node(alloc, doc, digest)?;
+            Ok(&[])
+        }
+    }
+}
