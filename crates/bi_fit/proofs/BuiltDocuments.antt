@@ -63,7 +63,8 @@ properties_placed form begin head image made set is_made is_set =
     ∙ ap (with_payload form begin (Some image.payload)) (properties_apart head image)
 
 -- An image node of a specification that is added is that of the text.
-pub same_built_image : (one form : Form) (begin : ℕ) (head : HeadModel) (image : ImageSpecModel) (made : PropertyMapModel) (digest : List ℕ) →
+pub same_built_image : (one form : Form) (begin : ℕ) (head : HeadModel) (image : ImageSpecModel)
+    (made : PropertyMapModel) (digest : List ℕ) →
     one ≡ form → made ≡ without_numbers (from_entries (built_image_properties head image)) → digest ≡ digest_of Sha256 image.payload →
     node image.name (entries (with_payload one begin (Some image.payload) (without_payload made.by_name))) (hash_node_with digest) none
     ≡ image_node form begin head image

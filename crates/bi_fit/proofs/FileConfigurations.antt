@@ -71,7 +71,7 @@ default_is content =
     of_file (Some found) = ap (option_and_then text_before_nul) (get-by_name (properties_of found.own) default_name)
 
 -- Nodes that a tree may have have distinct names.
-distinct_names : {Own : Type 0} (IsOwn : Own → Type 0) (nodes : Nodes Own) → AreNodes IsOwn nodes → AreDistinct (names nodes)
+pub distinct_names : {Own : Type 0} (IsOwn : Own → Type 0) (nodes : Nodes Own) → AreNodes IsOwn nodes → AreDistinct (names nodes)
 distinct_names IsOwn none are = tt
 distinct_names IsOwn (node name own children later) are = (are.0.is_new, distinct_names IsOwn later are.2)
 

@@ -82,11 +82,12 @@ within_later Embedded end payload payloads within = tt
 within_later External end payload payloads within = within
 
 -- An image node of a file that is added is that of the text.
-pub same_image : (one form : Form) (begin : ℕ) (payload : Option (List ℕ)) (digests : List ℕ) (s : Sibling FileNode) (name : List ℕ) (own : PropertyMap) (was hashed : Bool) →
+pub added_is_sorted : (one form : Form) (begin : ℕ) (payload : Option (List ℕ)) (digests : List ℕ)
+    (s : Sibling FileNode) (name : List ℕ) (own : PropertyMap) (was hashed : Bool) →
     one ≡ form → name ≡ s.name → own ≡ properties_by_name s.own → was ≡ hashed →
     node name (entries (with_payload one begin payload (without_payload own))) (sorted_image_children was digests s.children) none
     ≡ sorted_image (image_properties form begin payload s.own) hashed digests s
-same_image one form begin payload digests s name own was hashed same_form same_name same_own same_hashed =
+added_is_sorted one form begin payload digests s name own was hashed same_form same_name same_own same_hashed =
     ap (λ one. node name (entries (with_payload one begin payload (without_payload own))) (sorted_image_children was digests s.children) none) same_form
     ∙ ap (λ name. node name (entries (with_payload form begin payload (without_payload own))) (sorted_image_children was digests s.children) none) same_name
     ∙ ap (λ own. node s.name (entries (with_payload form begin payload (without_payload own))) (sorted_image_children was digests s.children) none) same_own

@@ -47,6 +47,7 @@ pub mod TakenDigests
 pub mod RegionPairs
 pub mod NormalTrees
 pub mod LongNames
+pub mod ImagesPositions
 pub mod NormalDocuments
 pub mod PlacedImages
 pub mod PairedPayloads

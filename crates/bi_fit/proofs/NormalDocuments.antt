@@ -1,4 +1,4 @@
-use Rattle.std.proofs.Common.{◌≡◌, ℕ, List, map, sym, ap, subst, ◌∙◌}
+use Rattle.std.proofs.Common.{◌≡◌, ℕ, List, map, Some, sym, ap, subst, ◌∙◌}
 use Rattle.bi_blob.specs.Tree.{FileNode, EachOwn}
 use Rattle.bi_blob.specs.Lookups.{Sibling, root_node}
 use Rattle.bi_blob.specs.Events.{Event, events, events_of}
@@ -10,13 +10,15 @@ use Rattle.bi_fit.specs.declared.changes.Changes.{Changes}
 use Rattle.bi_fit.specs.declared.form.Form.{Form}
 use Rattle.bi_fit.specs.declared.image.Image.{Image}
 use Rattle.bi_fit.specs.Text.{normal_tree}
-use Rattle.bi_fit.specs.Content.{FitModel, image_model, tree_of, IsHeld}
+use Rattle.bi_fit.specs.Content.{FitModel, image_model, tree_of, IsHeld, IsImagesPosition}
+use Rattle.bi_fit.specs.TextNodes.{HaveImagesAfter}
 use Rattle.bi_fit.specs.Updating.{with_changes}
 use Rattle.bi_fit.specs.NewDigests.{new_digests}
 use Rattle.bi_fit.specs.Documents.{document_of}
 use Rattle.bi_fit.specs.NormalNodes.{MayAdd, with_events, with_reservations, HasDistinctNames, HaveImageNodes, AreImageNodes, alone}
 use Rattle.bi_fit.specs.NormalNodes.{payloads_of, sorted_root}
 use Rattle.bi_fdt.specs.Numbers.{AreRanks}
+use Rattle.bi_fit.proofs.ImagesPositions.{position_there}
 use Rattle.bi_fit.proofs.NormalTrees.{held_distinct, held_images, held_events, held_closed}
 
 -- The document of a normal text, as it is built of a blob, its root and its images.
@@ -34,6 +36,11 @@ module _ (content : FitModel) (held : IsHeld content) (changes : Changes) (form 
   images_there =
       subst (λ root. HaveImageNodes (AreImageNodes changes.hashes images digests) root.children) (sym same_root)
       (held_images content held changes digests is_digests images is_images)
+
+  -- One child of the root, and no other, has the name `images`.
+  pub images_position_there : (position : ℕ) → IsImagesPosition content.blob position → HaveImagesAfter (Some position) root.children
+  images_position_there position at =
+      subst (λ root. HaveImagesAfter (Some position) root.children) (sym same_root) (position_there content held position at)
 
   -- The names of each node's properties are distinct.
   pub names_distinct : EachOwn HasDistinctNames (alone root)

@@ -10,7 +10,7 @@ use Rattle.bi_base.specs.Checks.{IsFirstFault}
 use Rattle.bi_base.specs.Limits.{Limits}
 use Rattle.bi_base.specs.Errors.{IsFaultOrNoMemory}
 use Rattle.bi_blob.specs.Tree.{Nodes, none, node, FileProperty, FileNode}
-use Rattle.bi_blob.specs.Lookups.{Sibling, siblings, root_node, node_named, property_named}
+use Rattle.bi_blob.specs.Lookups.{Sibling, siblings, root_node, node_at, node_named, property_named}
 use Rattle.bi_blob.specs.Blob.{IsBlob, IsWithin, IsBlobWithin, totalsize}
 use Rattle.bi_blob.specs.Layout.{longest_text}
 use Rattle.bi_blob.specs.Following.{most_open_nodes}
@@ -24,7 +24,7 @@ use Rattle.bi_fit.specs.ImageTree.{image_nodes, nodes_or_none, each_own}
 use Rattle.bi_fit.specs.Payloads.{HasPayload}
 use Rattle.bi_fit.specs.File.{FitMeans}
 use Rattle.bi_fit.specs.Faults.{FitPasses, fit_fault, image_checks, images_checks, InTree}
-use Rattle.bi_fit.specs.Content.{ImageModel, FitModel, tree_of, IsReadImage, IsHeld, HasImagesAt}
+use Rattle.bi_fit.specs.Content.{ImageModel, FitModel, tree_of, IsReadImage, IsHeld, HasImagesAt, IsImagesPosition}
 use Rattle.bi_fit.specs.Reading.{IsReadFit, IsFitReadError, IsOnlyFitFault}
 use Rattle.bi_fit.specs.Images.{HasDataInFile}
 use Rattle.bi_fit.proofs.Faults.{fit_has_no_fault}
@@ -35,36 +35,52 @@ use Rattle.bi_fit.proofs.ReadErrors.{only_fit_fault, none_before_tree}
 -- What is read of a blob within limits.
 
 -- The image nodes of a blob, by its node `images`.
-pub found_images : (root : NodeRef) (blob : Blob) (child : Option NodeRef) → node_of root ≡ root_node (root_of blob) →
-    option_map node_of child ≡ node_named (node_of root).children images_name →
-    image_nodes (root_of blob) ≡ option_map (λ images. (node_of images).children) child
-found_images root blob child is_root is_child =
+pub found_images : (root : NodeRef) (blob : Blob) (found : Option (ℕ × NodeRef)) → node_of root ≡ root_node (root_of blob) →
+    option_map (λ found. node_of found.1) found ≡ node_named (node_of root).children images_name →
+    image_nodes (root_of blob) ≡ option_map (λ found. (node_of found.1).children) found
+found_images root blob found is_root is_child =
     ap (λ (node : Sibling FileNode). option_map (λ (images : Sibling FileNode). images.children) (node_named node.children images_name)) (sym is_root)
     ∙ ap (option_map (λ (images : Sibling FileNode). images.children)) (sym is_child)
-    ∙ by child
+    ∙ by found
   where
-    by : (child : Option NodeRef) → option_map (λ (images : Sibling FileNode). images.children) (option_map node_of child) ≡ option_map (λ images. (node_of images).children) child
+    by : (found : Option (ℕ × NodeRef)) → option_map (λ (images : Sibling FileNode). images.children) (option_map (λ found. node_of found.1) found) ≡ option_map (λ found. (node_of found.1).children) found
     by None = refl
-    by (Some child) = refl
+    by (Some found) = refl
 
--- The index of the node `images` is that of the child of the root.
-pub images_at : (blob : Blob) (root : NodeRef) (child : Option NodeRef) (images : NodeRef) (index : ℕ) →
-    node_of root ≡ root_node (root_of blob) → table_of_node root ≡ blob.table →
-    option_map node_of child ≡ node_named (node_of root).children images_name →
-    IfSome child (λ child. table_of_node child ≡ table_of_node root) → child ≡ Some images →
-    HasNodeAt (table_of_node images) index → node_in (table_of_node images) index ≡ node_of images → HasImagesAt blob index
-images_at blob root child images index is_root root_table is_child child_table found there is_node =
-    let same : table_of_node images ≡ blob.table =
-    subst (λ o. IfSome o (λ child. table_of_node child ≡ table_of_node root)) found child_table ∙ root_table in
-    record {
-      there = subst (λ table. HasNodeAt table index) same there;
-      is_images =
-          ap (λ table. Some (node_in table index)) (sym same)
-          ∙ ap (λ (node : Sibling FileNode). Some node) is_node
-          ∙ sym (ap (option_map node_of) found)
-          ∙ is_child
-          ∙ ap (λ (node : Sibling FileNode). node_named node.children images_name) is_root;
-    }
+-- The node `images`, which was found at a position among the children of the root.
+module _ (blob : Blob) (root : NodeRef) (found : Option (ℕ × NodeRef)) (position : ℕ) (images : NodeRef)
+    (is_root : node_of root ≡ root_node (root_of blob))
+    (is_child : option_map (λ found. node_of found.1) found ≡ node_named (node_of root).children images_name)
+    (is_found : found ≡ Some (position, images)) where
+  -- The child of the root.
+  named_images : Some (node_of images) ≡ node_named (root_of blob).children images_name
+  named_images =
+      sym (ap (option_map (λ found. node_of found.1)) is_found)
+      ∙ is_child
+      ∙ ap (λ (node : Sibling FileNode). node_named node.children images_name) is_root
+
+  -- Its index is that of the child of the root.
+  pub images_at : (index : ℕ) → table_of_node root ≡ blob.table →
+      IfSome found (λ found. table_of_node found.1 ≡ table_of_node root) →
+      HasNodeAt (table_of_node images) index → node_in (table_of_node images) index ≡ node_of images → HasImagesAt blob index
+  images_at index root_table child_table there is_node =
+      let same : table_of_node images ≡ blob.table =
+      subst (λ o. IfSome o (λ found. table_of_node found.1 ≡ table_of_node root)) is_found child_table ∙ root_table in
+      record {
+        there = subst (λ table. HasNodeAt table index) same there;
+        is_images =
+            ap (λ table. Some (node_in table index)) (sym same)
+            ∙ ap (λ (node : Sibling FileNode). Some node) is_node
+            ∙ named_images;
+      }
+
+  -- Its position is that of the child of the root.
+  pub is_images_position : IfSome found (λ found. node_at (node_of root).children found.0 ≡ Some (node_of found.1)) →
+      IsImagesPosition blob position
+  is_images_position at =
+      ap (λ (node : Sibling FileNode). node_at node.children position) (sym is_root)
+      ∙ subst (λ o. IfSome o (λ found. node_at (node_of root).children found.0 ≡ Some (node_of found.1))) is_found at
+      ∙ named_images
 
 -- Nodes that have the values of their properties in the file begin their `data` there.
 have_data : (file : List ℕ) (nodes : Nodes FileNode) → HaveValues file nodes →

@@ -1,4 +1,4 @@
-use Rattle.std.specs.Prelude.{◌≡◌, ℕ, ◌≤◌, ⊤, List, [], Option, option_map}
+use Rattle.std.specs.Prelude.{ℕ, ◌≤◌, ⊤, List, [], Option, option_map}
 use Rattle.std.specs.FinMap.{entries}
 use Rattle.bi_base.specs.Cells.{up4}
 use Rattle.bi_blob.specs.Tree.{Nodes, none, node, Property, PropertyMap, EachOwn}

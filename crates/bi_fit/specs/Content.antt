@@ -6,7 +6,7 @@ use Rattle.std.specs.Cmp.Lexicographic.{slice_cmp}
 use Rattle.std.specs.BTreeMap.{BTreeMap, get_by}
 use denote.Ref.{Bor}
 use Rattle.bi_blob.specs.Tree.{FileNode, depth_of, tree_without_places, tree_without_order}
-use Rattle.bi_blob.specs.Lookups.{Sibling, siblings, node_named}
+use Rattle.bi_blob.specs.Lookups.{Sibling, siblings, node_at, node_named}
 use Rattle.bi_blob.specs.Blob.{IsBlob, totalsize}
 use Rattle.bi_blob.specs.Layout.{longest_text}
 use Rattle.bi_blob.specs.Following.{most_open_nodes}
@@ -95,6 +95,11 @@ pub record HasIndices (indices : BTreeMap (Bor (List ℕ)) ℕ) (images : List I
 pub record HasImagesAt (blob : Blob) (index : ℕ) : Type 0 where
   pub there : HasNodeAt blob.table index
   pub is_images : Some (node_in blob.table index) ≡ node_named (root_of blob).children images_name
+
+-- The child `images` of the root is at this position among its children, counted from 0.
+abbrev pub IsImagesPosition : Blob → (position : ℕ) → Type 0
+IsImagesPosition blob position =
+    node_at (root_of blob).children position ≡ node_named (root_of blob).children images_name
 
 -- The place of the image at an index, where there is one.
 abbrev pub place_or_absent : Option ImageModel → Place

@@ -28,6 +28,7 @@ pub mod FitTexts
 pub mod PropertyMapModels
 pub mod PropertyMaps
 pub mod RankedNodes
+pub mod TextNodes
 pub mod AddedImages
 pub mod EntryOrder
 pub mod Laws

@@ -20,6 +20,7 @@ mod name_ranks;
 mod nodes;
 mod property_map;
 mod ranked_node;
+mod text_parts;
 mod tree;
 
 use crate::changes::Changes;
@@ -28,6 +29,7 @@ use crate::document::name_ranks::rank_names_of;
 pub(crate) use crate::document::nodes::{add_leaf, begin_with};
 pub(crate) use crate::document::property_map::{PropertyMap, is_payload_name};
 use crate::document::ranked_node::RankedNode;
+use crate::document::text_parts::TextParts;
 use crate::document::tree::add_tree;
 use crate::fit::Fit;
 use crate::form::Form;
@@ -128,7 +130,14 @@ impl<'a> Fit<'a> {
             node: blob.root(),
             ranks: &ranks,
         };
-        add_tree(alloc, &mut doc, root, changes, digests, form, images)?;
+        let parts = TextParts {
+            images,
+            images_position: self.images_position(),
+            form,
+            changes,
+            digests,
+        };
+        add_tree(alloc, &mut doc, root, parts)?;
         Ok(doc)
     }
 }

@@ -8,7 +8,7 @@ ghost use Rattle.bi_fdt.specs.Content.{root_of};
 ghost use Rattle.bi_fdt.specs.Views.{node_of, table_of_node};
 ghost use Rattle.bi_fit.specs.Names.{images_name};
 ghost use Rattle.bi_fit.specs.Content.{index_of, place_or_absent, image_model};
-ghost use Rattle.bi_fit.specs.Content.{HasIndices, IsHeld};
+ghost use Rattle.bi_fit.specs.Content.{HasIndices, IsHeld, IsImagesPosition};
 ghost use Rattle.bi_fit.specs.Reading.{IsReadFit, IsFitReadError};
 
 use crate::image::{Image, Place};
@@ -25,6 +25,8 @@ pub struct Fit<'a> {
     blob: Blob<'a>,
     /// The index of the node `/images` in the table of the blob.
     images_index: usize,
+    /// The position of the node `/images` among the children of the root, counted from 0.
+    images_position: usize,
     images: Vec<Image<'a>>,
     /// The index of each image by its name.
     indices: BTreeMap<&'a [u8], usize>,
@@ -61,7 +63,7 @@ impl<'a> Fit<'a> {
     {
         let blob = Blob::read(alloc, file, limits)?;
         let root = blob.root();
-        let Some(node) = root.child(b"images") else {
+        let Some((images_position, node)) = root.find_child(b"images") else {
             return Err(Error::Refused(Fault {
                 cause: Cause::NoImages,
                 offset: root.place(),
@@ -73,6 +75,7 @@ impl<'a> Fit<'a> {
         Ok(Fit {
             blob,
             images_index,
+            images_position,
             images,
             indices,
         })
@@ -92,6 +95,13 @@ impl<'a> Fit<'a> {
         ensures same_table { table_of_node result ≡ self.now.blob.table }
     {
         self.blob.node(self.images_index)
+    }
+
+    /// Returns the position of the node `/images` among the children of the root, counted from 0.
+    pub(crate) fn images_position(&self) -> usize
+        ensures { IsImagesPosition self.now.blob result }
+    {
+        self.images_position
     }
 
     /// Returns the images, in their order in the file.

@@ -36,17 +36,17 @@ option_with_default name value = record (value_option name) { defaults = value �
 abbrev pub short_option : (name : List ℕ) (letter : ℕ) → Rule
 short_option name letter = record (value_option name) { short = Some letter }
 
--- One argument that is no option. It may be left out.
-abbrev pub word : (name : List ℕ) → Rule
-word name = record (new_rule name) { value_names = 1 }
+-- A positional argument, which may be left out.
+abbrev pub positional : (name : List ℕ) → Rule
+positional name = record (new_rule name) { value_names = 1 }
 
--- One argument that is no option, which has to be given.
-abbrev pub required_word : (name : List ℕ) → Rule
-required_word name = record (word name) { required = true }
+-- A positional argument, which has to be given.
+abbrev pub required_positional : (name : List ℕ) → Rule
+required_positional name = record (positional name) { required = true }
 
--- Any number of arguments that are no options.
-abbrev pub words : (name : List ℕ) → Rule
-words name = record (word name) {
+-- Any number of positional arguments.
+abbrev pub positionals : (name : List ℕ) → Rule
+positionals name = record (positional name) {
   range = Some (record { start_inclusive = 0; end_inclusive = usize_max });
   action = Some Append;
 }
@@ -67,7 +67,7 @@ external = flag_option (codes "external")
 
 -- The file of an image.
 abbrev pub file : Rule
-file = word (codes "file")
+file = positional (codes "file")
 
 -- ---- commands
 
@@ -90,8 +90,8 @@ describe = command (codes "describe") (limit ∷ output ∷ file ∷ [])
 -- `compare`.
 abbrev pub compare : Shape
 compare = command (codes "compare")
-    (flag_option (codes "quiet") ∷ limit ∷ output ∷ required_word (codes "one")
-    ∷ required_word (codes "other") ∷ [])
+    (flag_option (codes "quiet") ∷ limit ∷ output ∷ required_positional (codes "one")
+    ∷ required_positional (codes "other") ∷ [])
 
 -- `verify`.
 abbrev pub verify : Shape
@@ -127,18 +127,18 @@ build_legacy = command (codes "build-legacy")
     ∷ value_option (codes "name") ∷ option_with_default (codes "time") (codes "0")
     ∷ option_with_default (codes "load") (codes "0")
     ∷ option_with_default (codes "entry") (codes "0") ∷ limit ∷ output
-    ∷ words (codes "lengths") ∷ [])
+    ∷ positionals (codes "lengths") ∷ [])
 
 -- `build-fit`.
 abbrev pub build_fit : Shape
 build_fit = command (codes "build-fit")
     (external ∷ value_option (codes "description")
-    ∷ option_with_default (codes "time") (codes "0") ∷ limit ∷ output ∷ words (codes "images")
-    ∷ [])
+    ∷ option_with_default (codes "time") (codes "0") ∷ limit ∷ output
+    ∷ positionals (codes "images") ∷ [])
 
 -- `explain`.
 abbrev pub explain : Shape
-explain = command (codes "explain") (output ∷ word (codes "cause") ∷ [])
+explain = command (codes "explain") (output ∷ positional (codes "cause") ∷ [])
 
 -- ---- the program
 

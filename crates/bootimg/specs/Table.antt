@@ -2,7 +2,8 @@ use Rattle.std.specs.Prelude.{ℕ, List, [], fold, map}
 use Rattle.clap.specs.Walk.{Rule}
 use Rattle.clap.specs.Simple.{App, Shape, with_subcommand}
 use Rattle.bootimg.specs.Program.{command, flag_option, option_with_default, required_option}
-use Rattle.bootimg.specs.Program.{required_word, short_option, value_option, word, words}
+use Rattle.bootimg.specs.Program.{positional, positionals, required_positional}
+use Rattle.bootimg.specs.Program.{short_option, value_option}
 use Rattle.bootimg.specs.declared.command_line.table.CommandText.{CommandText}
 use Rattle.bootimg.specs.declared.command_line.table.OptionForm.{OptionForm}
 use Rattle.bootimg.specs.declared.command_line.table.OptionForm.TheVariants as form
@@ -17,9 +18,9 @@ rule_of_form form.Required name = required_option name
 rule_of_form form.Optional name = value_option name
 rule_of_form (form.Short letter) name = short_option name letter
 rule_of_form (form.Default value) name = option_with_default name value.now
-rule_of_form form.Word name = word name
-rule_of_form form.RequiredWord name = required_word name
-rule_of_form form.Words name = words name
+rule_of_form form.Positional name = positional name
+rule_of_form form.RequiredPositional name = required_positional name
+rule_of_form form.Positionals name = positionals name
 
 -- The option of a text.
 abbrev pub rule_of_option : OptionText → Rule

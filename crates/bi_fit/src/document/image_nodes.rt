@@ -5,18 +5,16 @@ ghost use Rattle.std.specs.Option.{option_map};
 ghost use Rattle.bi_blob.specs.Tree.{EachOwn};
 ghost use Rattle.bi_blob.specs.Events.{events};
 ghost use Rattle.bi_fit.specs.TakenDigests.{is_hashed as is_hashed_of};
-ghost use Rattle.bi_fit.specs.NormalNodes.{MayAdd, with_events, HasDistinctNames};
-ghost use Rattle.bi_fit.specs.NormalNodes.{AreWithin, AreImageNodes, alone, payloads_of};
-ghost use Rattle.bi_fit.specs.NormalNodes.{sorted_images, sorted_images_node};
+ghost use Rattle.bi_fit.specs.NormalNodes.{MayAdd, with_events, HasDistinctNames, alone};
 ghost use Rattle.bi_fit.specs.RankedNodes.{sibling_of, HasRanks};
+ghost use Rattle.bi_fit.specs.TextNodes.{HasRoom, AreTextImages, text_images, text_images_node};
 
 use crate::changes::Changes;
 use crate::document::image_node::{ImageChildren, ImageNode, NodeChildren, add_image_node};
 use crate::document::nodes::begin_node;
 use crate::document::property_map::PropertyMap;
 use crate::document::ranked_node::RankedNode;
-use crate::form::Form;
-use crate::image::Image;
+use crate::document::text_parts::TextParts;
 use crate::payload_area::PayloadArea;
 use bi_lay::Doc;
 use std::alloc::{AllocError, Global};
@@ -27,26 +25,18 @@ pub(super) fn add_images<'a>(
     alloc: Global,
     doc: &mut Doc<'a>,
     node: RankedNode<'a, '_>,
-    changes: Changes,
-    digests: &'a [u8],
-    form: Form,
-    images: &[Image<'a>],
+    parts: TextParts<'a, '_>,
 ) -> Result<(), AllocError>
     requires ranks { HasRanks doc.old.names node }
-    requires images { AreImageNodes changes.hashes images.now digests.now
-        (sibling_of node).children }
-    requires within { AreWithin form 0 (payloads_of images.now) }
+    requires images { AreTextImages parts (sibling_of node).children }
+    requires room { HasRoom parts }
     requires distinct { EachOwn HasDistinctNames (alone (sibling_of node)) }
-    requires may { let payloads = payloads_of images.now in
-        MayAdd doc.old
-        (events (sorted_images_node changes.hashes form payloads digests.now (sibling_of node))) }
-    ensures added { let payloads = payloads_of images.entry.now in
-        let bytes = digests.entry.now in
-        OnOk result (doc.new ≡ with_events doc.old
-        (events (sorted_images_node changes.hashes form payloads bytes (sibling_of node.entry)))) }
+    requires may { MayAdd doc.old (events (text_images_node parts (sibling_of node))) }
+    ensures added { OnOk result (doc.new ≡ with_events doc.old
+        (events (text_images_node parts.entry (sibling_of node.entry)))) }
 {
     begin_node(alloc, doc, node)?;
-    add_image_nodes(alloc, doc, node, changes, digests, form, images)?;
+    add_image_nodes(alloc, doc, node, parts)?;
     doc.end();
     Ok(())
 }
@@ -57,35 +47,26 @@ fn add_image_nodes<'a>(
     alloc: Global,
     doc: &mut Doc<'a>,
     node: RankedNode<'a, '_>,
-    changes: Changes,
-    digests: &'a [u8],
-    form: Form,
-    images: &[Image<'a>],
+    parts: TextParts<'a, '_>,
 ) -> Result<(), AllocError>
     requires ranks { HasRanks doc.old.names node }
-    requires images { AreImageNodes changes.hashes images.now digests.now
-        (sibling_of node).children }
-    requires within { AreWithin form 0 (payloads_of images.now) }
+    requires images { AreTextImages parts (sibling_of node).children }
+    requires room { HasRoom parts }
     requires distinct { EachOwn HasDistinctNames (sibling_of node).children }
-    requires may { let payloads = payloads_of images.now in
-        let nodes = (sibling_of node).children in
-        MayAdd doc.old
-        (events (sorted_images changes.hashes form 0 payloads digests.now nodes)) }
-    ensures added { let payloads = payloads_of images.entry.now in
-        let nodes = (sibling_of node.entry).children in
-        OnOk result (doc.new ≡ with_events doc.old
-        (events (sorted_images changes.hashes form 0 payloads digests.entry.now nodes))) }
+    requires may { MayAdd doc.old (events (text_images parts (sibling_of node).children)) }
+    ensures added { OnOk result (doc.new ≡ with_events doc.old
+        (events (text_images parts.entry (sibling_of node.entry).children))) }
 {
     let mut next = node.first_child();
-    let mut area = PayloadArea::new(form);
-    let mut left = digests;
-    for image in images {
+    let mut area = PayloadArea::new(parts.form);
+    let mut left = parts.digests;
+    for image in parts.images {
         let Some(child) = next else {
             unreachable!();
         };
         let children = NodeChildren {
             node: child,
-            hashed: is_hashed(changes, image.payload),
+            hashed: is_hashed(parts.changes, image.payload),
             digests: left,
         };
         let added = ImageNode {

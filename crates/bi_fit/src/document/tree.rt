@@ -1,50 +1,43 @@
 //! Adding the tree of the normal text to a document.
 
-ghost use Rattle.std.specs.Prelude.{◌≡◌, OnOk};
+ghost use Rattle.std.specs.Prelude.{◌≡◌, bytes_eq, Some, OnOk};
 ghost use Rattle.bi_blob.specs.Tree.{EachOwn};
 ghost use Rattle.bi_blob.specs.Events.{events};
-ghost use Rattle.bi_fit.specs.NormalNodes.{MayAdd, with_events, HasDistinctNames, AreWithin};
-ghost use Rattle.bi_fit.specs.NormalNodes.{HaveImageNodes, AreImageNodes, alone, payloads_of};
-ghost use Rattle.bi_fit.specs.NormalNodes.{sorted_root, sorted_root_children};
+ghost use Rattle.bi_fit.specs.Names.{images_name};
+ghost use Rattle.bi_fit.specs.NormalNodes.{MayAdd, with_events, HasDistinctNames, alone};
 ghost use Rattle.bi_fit.specs.RankedNodes.{sibling_of, HasRanks};
+ghost use Rattle.bi_fit.specs.TextNodes.{HasRoom, HaveTextImages, HaveImagesAfter};
+ghost use Rattle.bi_fit.specs.TextNodes.{one_fewer, text_root, text_root_children};
 
-use crate::changes::Changes;
 use crate::document::image_nodes::add_images;
 use crate::document::nodes::{add_node, begin_with};
 use crate::document::property_map::PropertyMap;
 use crate::document::ranked_node::RankedNode;
-use crate::form::Form;
-use crate::image::Image;
+use crate::document::text_parts::TextParts;
 use bi_lay::Doc;
 use std::alloc::{AllocError, Global};
 
-/// Adds the tree with this root, whose images are these, with changes. The hash nodes get these
-/// digests, if the digests change.
+/// Adds the tree with this root, with changes. The hash nodes get the digests of the parts, if they
+/// change.
 pub(super) fn add_tree<'a>(
     alloc: Global,
     doc: &mut Doc<'a>,
     root: RankedNode<'a, '_>,
-    changes: Changes,
-    digests: &'a [u8],
-    form: Form,
-    images: &[Image<'a>],
+    parts: TextParts<'a, '_>,
 ) -> Result<(), AllocError>
     requires ranks { HasRanks doc.old.names root }
-    requires images { HaveImageNodes (AreImageNodes changes.hashes images.now digests.now)
-        (sibling_of root).children }
-    requires within { AreWithin form 0 (payloads_of images.now) }
+    requires images { HaveTextImages parts (sibling_of root).children }
+    requires position { HaveImagesAfter (Some parts.images_position) (sibling_of root).children }
+    requires room { HasRoom parts }
     requires distinct { EachOwn HasDistinctNames (alone (sibling_of root)) }
-    requires may { let payloads = payloads_of images.now in
-        MayAdd doc.old (events (sorted_root changes form payloads digests.now (sibling_of root))) }
-    ensures added { let payloads = payloads_of images.entry.now in
-        let bytes = digests.entry.now in
-        OnOk result (doc.new ≡ with_events doc.old
-        (events (sorted_root changes form payloads bytes (sibling_of root.entry)))) }
+    requires may { MayAdd doc.old (events (text_root parts (sibling_of root))) }
+    ensures added { OnOk result (doc.new ≡ with_events doc.old
+        (events (text_root parts.entry (sibling_of root.entry)))) }
 {
     let mut properties = PropertyMap::from_node(alloc, root)?;
-    properties.set_time(changes.time)?;
+    properties.set_time(parts.changes.time)?;
     begin_with(doc, root.name(), &properties)?;
-    add_root_children(alloc, doc, root, changes, digests, form, images)?;
+    add_root_children(alloc, doc, root, parts)?;
     doc.end();
     Ok(())
 }
@@ -54,60 +47,54 @@ fn add_root_children<'a>(
     alloc: Global,
     doc: &mut Doc<'a>,
     root: RankedNode<'a, '_>,
-    changes: Changes,
-    digests: &'a [u8],
-    form: Form,
-    images: &[Image<'a>],
+    parts: TextParts<'a, '_>,
 ) -> Result<(), AllocError>
     requires ranks { HasRanks doc.old.names root }
-    requires images { HaveImageNodes (AreImageNodes changes.hashes images.now digests.now)
-        (sibling_of root).children }
-    requires within { AreWithin form 0 (payloads_of images.now) }
+    requires images { HaveTextImages parts (sibling_of root).children }
+    requires position { HaveImagesAfter (Some parts.images_position) (sibling_of root).children }
+    requires room { HasRoom parts }
     requires distinct { EachOwn HasDistinctNames (sibling_of root).children }
-    requires may { let payloads = payloads_of images.now in
-        let nodes = (sibling_of root).children in
-        MayAdd doc.old
-        (events (sorted_root_children changes.hashes form payloads digests.now nodes)) }
-    ensures added { let payloads = payloads_of images.entry.now in
-        let nodes = (sibling_of root.entry).children in
-        OnOk result (doc.new ≡ with_events doc.old
-        (events (sorted_root_children changes.hashes form payloads digests.entry.now nodes))) }
+    requires may { MayAdd doc.old (events (text_root_children parts (sibling_of root).children)) }
+    ensures added { OnOk result (doc.new ≡ with_events doc.old
+        (events (text_root_children parts.entry (sibling_of root.entry).children))) }
 {
     let mut next = root.first_child();
+    let mut before_images = Some(parts.images_position);
     while let Some(child) = next {
-        add_root_child(alloc, doc, child, changes, digests, form, images)?;
+        add_root_child(alloc, doc, child, before_images == Some(0), parts)?;
+        before_images = after_one(before_images);
         next = child.next_sibling();
     }
     Ok(())
 }
 
-/// Adds a child of the root, with all nodes below it. The children of the one of the name `images`
-/// are the nodes of these images.
+/// Returns how many nodes are before one, after the first of these nodes.
+fn after_one(count: Option<usize>) -> Option<usize>
+    ensures { result ≡ one_fewer count }
+{
+    count?.checked_sub(1)
+}
+
+/// Adds a child of the root, with all nodes below it. The children of the node `images` are the
+/// nodes of the images.
 fn add_root_child<'a>(
     alloc: Global,
     doc: &mut Doc<'a>,
     node: RankedNode<'a, '_>,
-    changes: Changes,
-    digests: &'a [u8],
-    form: Form,
-    images: &[Image<'a>],
+    is_images: bool,
+    parts: TextParts<'a, '_>,
 ) -> Result<(), AllocError>
     requires ranks { HasRanks doc.old.names node }
-    requires images { HaveImageNodes (AreImageNodes changes.hashes images.now digests.now)
-        (alone (sibling_of node)) }
-    requires within { AreWithin form 0 (payloads_of images.now) }
+    requires named { bytes_eq (sibling_of node).name images_name ≡ is_images }
+    requires images { HaveTextImages parts (alone (sibling_of node)) }
+    requires room { HasRoom parts }
     requires distinct { EachOwn HasDistinctNames (alone (sibling_of node)) }
-    requires may { let payloads = payloads_of images.now in
-        let nodes = alone (sibling_of node) in
-        MayAdd doc.old
-        (events (sorted_root_children changes.hashes form payloads digests.now nodes)) }
-    ensures added { let payloads = payloads_of images.entry.now in
-        let nodes = alone (sibling_of node.entry) in
-        OnOk result (doc.new ≡ with_events doc.old
-        (events (sorted_root_children changes.hashes form payloads digests.entry.now nodes))) }
+    requires may { MayAdd doc.old (events (text_root_children parts (alone (sibling_of node)))) }
+    ensures added { OnOk result (doc.new ≡ with_events doc.old
+        (events (text_root_children parts.entry (alone (sibling_of node.entry))))) }
 {
-    if node.name() == b"images".as_slice() {
-        add_images(alloc, doc, node, changes, digests, form, images)
+    if is_images {
+        add_images(alloc, doc, node, parts)
     } else {
         add_node(alloc, doc, node)
     }

@@ -53,12 +53,12 @@ enum OptionForm {
     Short(char),
     /// `--NAME VALUE`, with this default.
     Default(&'static str),
-    /// One argument that is no option, which may be left out.
-    Word,
-    /// One argument that is no option.
-    RequiredWord,
-    /// Any number of arguments that are no options.
-    Words,
+    /// A positional argument, which may be left out.
+    Positional,
+    /// A positional argument.
+    RequiredPositional,
+    /// Any number of positional arguments.
+    Positionals,
 }
 
 /// An option of a command.
@@ -169,9 +169,9 @@ fn argument<'a>(alloc: Global, option: &OptionText) -> Arg<'a>
         OptionForm::Optional => with_value(argument, option),
         OptionForm::Short(letter) => with_value(argument, option).short(letter),
         OptionForm::Default(value) => with_value(argument, option).default_value(value),
-        OptionForm::Word => argument.value_name(option.value_name),
-        OptionForm::RequiredWord => argument.value_name(option.value_name).required(true),
-        OptionForm::Words => argument
+        OptionForm::Positional => argument.value_name(option.value_name),
+        OptionForm::RequiredPositional => argument.value_name(option.value_name).required(true),
+        OptionForm::Positionals => argument
             .value_name(option.value_name)
             .num_args(0..)
             .action(ArgAction::Append),
@@ -194,21 +194,21 @@ const FILE: OptionText = OptionText {
     name: "file",
     value_name: "IMAGE",
     help: "The image: a file, or standard input without IMAGE or if it is -",
-    form: OptionForm::Word,
+    form: OptionForm::Positional,
 };
 
 const ONE: OptionText = OptionText {
     name: "one",
     value_name: "ONE",
     help: "The first image: a file, or standard input if it is -",
-    form: OptionForm::RequiredWord,
+    form: OptionForm::RequiredPositional,
 };
 
 const OTHER: OptionText = OptionText {
     name: "other",
     value_name: "OTHER",
     help: "The second image: a file, or standard input if it is -",
-    form: OptionForm::RequiredWord,
+    form: OptionForm::RequiredPositional,
 };
 
 const QUIET: OptionText = OptionText {
@@ -320,7 +320,7 @@ const CAUSE: OptionText = OptionText {
     name: "cause",
     value_name: "CAUSE",
     help: "The cause, as a refusal prints it; without CAUSE each cause is explained",
-    form: OptionForm::Word,
+    form: OptionForm::Positional,
 };
 
 const OS: OptionText = OptionText {
@@ -383,7 +383,7 @@ const LENGTHS: OptionText = OptionText {
     name: "lengths",
     value_name: "LEN",
     help: "Each part: its length in bytes, in standard input, or @FILE for the bytes of FILE",
-    form: OptionForm::Words,
+    form: OptionForm::Positionals,
 };
 
 const DESCRIPTION: OptionText = OptionText {
@@ -397,7 +397,7 @@ const IMAGES: OptionText = OptionText {
     name: "images",
     value_name: "IMAGE",
     help: "Each image, with the length of its payload or @FILE",
-    form: OptionForm::Words,
+    form: OptionForm::Positionals,
 };
 
 /// The commands that show what an image is, after the one that normalises it.

@@ -15,7 +15,7 @@ use Rattle.bi_fit.specs.NormalNodes.{sorted_image, sorted_image_children, sorted
 use Rattle.bi_fit.proofs.AddedEvents.{still_ranked_next, HasNextRanks}
 use Rattle.bi_fit.proofs.NodeEvents.{nodes_from, nodes_from_first, IsAdding, adding_all, may_add_first, adding_later}
 use Rattle.bi_fit.proofs.PayloadEnds.{no_image, payloads_from}
-use Rattle.bi_fit.proofs.ImageNodes.{images-later, within_sized, within_first, within_later, same_image}
+use Rattle.bi_fit.proofs.ImageNodes.{images-later, within_sized, within_first, within_later, added_is_sorted}
 use Rattle.bi_fit.proofs.document.image_nodes.add_image_nodes.Goals as goal
 
 pub loop-image-init : goal.loop-image-init
@@ -23,12 +23,12 @@ loop-image-init c =
     let s = sibling_of c.args.node in
     let all : nodes_from (option_map sibling_of c.first_child-next.result) ≡ s.children = ap nodes_from c.first_child-next.ensures.child ∙ nodes_from_first s.children in
     rw (all, c.new-area.ensures.end) (record {
-      adding = adding_all c.args.doc.now (sorted_images c.args.changes.hashes c.args.form 0 (payloads_of c.args.images.now) c.args.digests.now s.children) c.requires.may;
+      adding = adding_all c.args.doc.now (sorted_images c.args.parts.changes.hashes c.args.parts.form 0 (payloads_of c.args.parts.images.now) c.args.parts.digests.now s.children) c.requires.may;
       ranks = c.first_child-next.ensures.ranks c.args.doc.now.names c.requires.ranks;
       distinct = c.requires.distinct;
       same_count = omega (arith, c.requires.images.same_count);
       has_digests = c.requires.images.has_digests;
-      within = c.requires.within;
+      within = c.requires.room;
       small = omega arith;
       form = c.new-area.ensures.form;
     })
@@ -41,77 +41,77 @@ pub add_image_node-requires : goal.add_image_node-requires
 add_image_node-requires c =
     let s = sibling_of c.in-Some.child in
     let names = c.loop-image.doc.names in
-    let hashes = c.args.changes.hashes in
+    let hashes = c.args.parts.changes.hashes in
     let left = c.loop-image.left.now in
     let end = c.loop-image.area.end in
-    let payload : Option (List ℕ) = (image_model (get_or c.args.images.now c.loop-image.image-index no_image)).payload in
-    let later = payloads_of (drop (c.loop-image.image-index + 1) c.args.images.now) in
-    let payloads = payloads_from c.args.images.now c.loop-image.image-index c.loop-image-test.true in
+    let payload : Option (List ℕ) = (image_model (get_or c.args.parts.images.now c.loop-image.image-index no_image)).payload in
+    let later = payloads_of (drop (c.loop-image.image-index + 1) c.args.parts.images.now) in
+    let payloads = payloads_from c.args.parts.images.now c.loop-image.image-index c.loop-image-test.true in
     let here : nodes_from (option_map sibling_of c.loop-image.next) ≡ nodes_from (Some s) = ap (λ next. nodes_from (option_map sibling_of next)) c.in-Some.is in
     let ranks = subst (HasNextRanks names) c.in-Some.is c.loop-image.invariant.ranks in
     let has : HaveImageDigests hashes (payload ∷ later) left (nodes_by_name (nodes_from (Some s))) =
     subst (λ payloads. HaveImageDigests hashes payloads left (nodes_by_name (nodes_from (Some s)))) payloads
-    (subst (λ nodes. HaveImageDigests hashes (payloads_of (drop c.loop-image.image-index c.args.images.now)) left (nodes_by_name nodes)) here c.loop-image.invariant.has_digests) in
+    (subst (λ nodes. HaveImageDigests hashes (payloads_of (drop c.loop-image.image-index c.args.parts.images.now)) left (nodes_by_name nodes)) here c.loop-image.invariant.has_digests) in
     let distinct : EachOwn HasDistinctNames (nodes_from (Some s)) = subst (EachOwn HasDistinctNames) here c.loop-image.invariant.distinct in
-    let target = with_events c.args.doc.now (events (sorted_images hashes c.args.form 0 (payloads_of c.args.images.now) c.args.digests.now (sibling_of c.args.node).children)) in
-    let adding : IsAdding c.loop-image.doc target (sorted_images hashes c.args.form end (payload ∷ later) left (nodes_from (Some s))) =
-    subst (λ payloads. IsAdding c.loop-image.doc target (sorted_images hashes c.args.form end payloads left (nodes_from (Some s)))) payloads
-    (subst (λ nodes. IsAdding c.loop-image.doc target (sorted_images hashes c.args.form end (payloads_of (drop c.loop-image.image-index c.args.images.now)) left nodes)) here c.loop-image.invariant.adding) in
-    let same = same_image c.loop-image.area.form c.args.form (up4 end) payload left s c.name.result.now c.in_ok-from_node.field-0.by_name c.is_hashed.result (is_hashed hashes payload)
+    let target = with_events c.args.doc.now (events (sorted_images hashes c.args.parts.form 0 (payloads_of c.args.parts.images.now) c.args.parts.digests.now (sibling_of c.args.node).children)) in
+    let adding : IsAdding c.loop-image.doc target (sorted_images hashes c.args.parts.form end (payload ∷ later) left (nodes_from (Some s))) =
+    subst (λ payloads. IsAdding c.loop-image.doc target (sorted_images hashes c.args.parts.form end payloads left (nodes_from (Some s)))) payloads
+    (subst (λ nodes. IsAdding c.loop-image.doc target (sorted_images hashes c.args.parts.form end (payloads_of (drop c.loop-image.image-index c.args.parts.images.now)) left nodes)) here c.loop-image.invariant.adding) in
+    let same = added_is_sorted c.loop-image.area.form c.args.parts.form (up4 end) payload left s c.name.result.now c.in_ok-from_node.field-0.by_name c.is_hashed.result (is_hashed hashes payload)
     c.loop-image.invariant.form c.name.ensures c.in_ok-from_node.ensures.properties c.is_hashed.ensures in
-    let sized : HasCellSize c.args.form payload =
-    within_sized c.args.form end payload later (subst (AreWithin c.args.form end) payloads c.loop-image.invariant.within) in
+    let sized : HasCellSize c.args.parts.form payload =
+    within_sized c.args.parts.form end payload later (subst (AreWithin c.args.parts.form end) payloads c.loop-image.invariant.within) in
     record {
       numbers = c.in_ok-from_node.ensures.numbers names ranks;
       small = c.loop-image.invariant.small;
       sized = subst (λ form. HasCellSize form payload) (sym c.loop-image.invariant.form) sized;
       children = (ranks, subst (λ hashed. HaveDigests hashed left (nodes_by_name s.children)) (sym c.is_hashed.ensures) has.0, distinct.1);
       may = subst (λ nodes. MayAdd c.loop-image.doc (events nodes)) (sym same)
-          (may_add_first c.loop-image.doc target s.name (entries (image_properties c.args.form (up4 end) payload s.own)) (sorted_image_children (is_hashed hashes payload) left s.children)
-          (sorted_images hashes c.args.form (end_after end payload) later (after_digests (is_hashed hashes payload) left (nodes_by_name s.children)) s.later) adding);
+          (may_add_first c.loop-image.doc target s.name (entries (image_properties c.args.parts.form (up4 end) payload s.own)) (sorted_image_children (is_hashed hashes payload) left s.children)
+          (sorted_images hashes c.args.parts.form (end_after end payload) later (after_digests (is_hashed hashes payload) left (nodes_by_name s.children)) s.later) adding);
     }
 
 pub loop-image-preserved : goal.loop-image-preserved
 loop-image-preserved c =
     let s = sibling_of c.in-Some.child in
-    let hashes = c.args.changes.hashes in
+    let hashes = c.args.parts.changes.hashes in
     let left = c.loop-image.left.now in
-    let payload : Option (List ℕ) = (image_model (get_or c.args.images.now c.loop-image.image-index no_image)).payload in
-    let later = payloads_of (drop (c.loop-image.image-index + 1) c.args.images.now) in
-    let target = with_events c.args.doc.now (events (sorted_images hashes c.args.form 0 (payloads_of c.args.images.now) c.args.digests.now (sibling_of c.args.node).children)) in
+    let payload : Option (List ℕ) = (image_model (get_or c.args.parts.images.now c.loop-image.image-index no_image)).payload in
+    let later = payloads_of (drop (c.loop-image.image-index + 1) c.args.parts.images.now) in
+    let target = with_events c.args.doc.now (events (sorted_images hashes c.args.parts.form 0 (payloads_of c.args.parts.images.now) c.args.parts.digests.now (sibling_of c.args.node).children)) in
     let here : nodes_from (option_map sibling_of c.loop-image.next) ≡ nodes_from (Some s) = ap (λ next. nodes_from (option_map sibling_of next)) c.in-Some.is in
     let rest : nodes_from (option_map sibling_of c.next_sibling-next.result) ≡ s.later = ap nodes_from c.next_sibling-next.ensures.sibling ∙ nodes_from_first s.later in
-    let adding : IsAdding c.loop-image.doc target (sorted_images hashes c.args.form c.loop-image.area.end (payload ∷ later) left (nodes_from (Some s))) =
-    subst (λ payloads. IsAdding c.loop-image.doc target (sorted_images hashes c.args.form c.loop-image.area.end payloads left (nodes_from (Some s)))) (payloads_from c.args.images.now c.loop-image.image-index c.loop-image-test.true)
-    (subst (λ nodes. IsAdding c.loop-image.doc target (sorted_images hashes c.args.form c.loop-image.area.end (payloads_of (drop c.loop-image.image-index c.args.images.now)) left nodes)) here c.loop-image.invariant.adding) in
+    let adding : IsAdding c.loop-image.doc target (sorted_images hashes c.args.parts.form c.loop-image.area.end (payload ∷ later) left (nodes_from (Some s))) =
+    subst (λ payloads. IsAdding c.loop-image.doc target (sorted_images hashes c.args.parts.form c.loop-image.area.end payloads left (nodes_from (Some s)))) (payloads_from c.args.parts.images.now c.loop-image.image-index c.loop-image-test.true)
+    (subst (λ nodes. IsAdding c.loop-image.doc target (sorted_images hashes c.args.parts.form c.loop-image.area.end (payloads_of (drop c.loop-image.image-index c.args.parts.images.now)) left nodes)) here c.loop-image.invariant.adding) in
     let has : HaveImageDigests hashes (payload ∷ later) left (nodes_by_name (nodes_from (Some s))) =
-    subst (λ payloads. HaveImageDigests hashes payloads left (nodes_by_name (nodes_from (Some s)))) (payloads_from c.args.images.now c.loop-image.image-index c.loop-image-test.true)
-    (subst (λ nodes. HaveImageDigests hashes (payloads_of (drop c.loop-image.image-index c.args.images.now)) left (nodes_by_name nodes)) here c.loop-image.invariant.has_digests) in
-    let within : AreWithin c.args.form c.loop-image.area.end (payload ∷ later) =
-    subst (AreWithin c.args.form c.loop-image.area.end) (payloads_from c.args.images.now c.loop-image.image-index c.loop-image-test.true) c.loop-image.invariant.within in
-    let small : next_end c.args.form c.loop-image.area.end payload ≤ longest_text = within_first c.args.form c.loop-image.area.end payload later within c.loop-image.invariant.small in
-    let at : c.add_image_node.new.area.end ≡ next_end c.args.form c.loop-image.area.end payload =
-    let is : next_end c.loop-image.area.form c.loop-image.area.end payload ≡ next_end c.args.form c.loop-image.area.end payload = ap (λ form. next_end form c.loop-image.area.end payload) c.loop-image.invariant.form in
+    subst (λ payloads. HaveImageDigests hashes payloads left (nodes_by_name (nodes_from (Some s)))) (payloads_from c.args.parts.images.now c.loop-image.image-index c.loop-image-test.true)
+    (subst (λ nodes. HaveImageDigests hashes (payloads_of (drop c.loop-image.image-index c.args.parts.images.now)) left (nodes_by_name nodes)) here c.loop-image.invariant.has_digests) in
+    let within : AreWithin c.args.parts.form c.loop-image.area.end (payload ∷ later) =
+    subst (AreWithin c.args.parts.form c.loop-image.area.end) (payloads_from c.args.parts.images.now c.loop-image.image-index c.loop-image-test.true) c.loop-image.invariant.within in
+    let small : next_end c.args.parts.form c.loop-image.area.end payload ≤ longest_text = within_first c.args.parts.form c.loop-image.area.end payload later within c.loop-image.invariant.small in
+    let at : c.add_image_node.new.area.end ≡ next_end c.args.parts.form c.loop-image.area.end payload =
+    let is : next_end c.loop-image.area.form c.loop-image.area.end payload ≡ next_end c.args.parts.form c.loop-image.area.end payload = ap (λ form. next_end form c.loop-image.area.end payload) c.loop-image.invariant.form in
     omega (arith, c.in_ok-left.ensures.end) in
     let distinct : EachOwn HasDistinctNames (nodes_from (Some s)) = subst (EachOwn HasDistinctNames) here c.loop-image.invariant.distinct in
-    let count : c.loop-image.image-index + suc (length (siblings s.later)) ≡ length c.args.images.now =
-    subst (λ nodes. c.loop-image.image-index + length (siblings nodes) ≡ length c.args.images.now) here c.loop-image.invariant.same_count in
-    let same = same_image c.loop-image.area.form c.args.form (up4 c.loop-image.area.end) payload left s c.name.result.now c.in_ok-from_node.field-0.by_name c.is_hashed.result (is_hashed hashes payload)
+    let count : c.loop-image.image-index + suc (length (siblings s.later)) ≡ length c.args.parts.images.now =
+    subst (λ nodes. c.loop-image.image-index + length (siblings nodes) ≡ length c.args.parts.images.now) here c.loop-image.invariant.same_count in
+    let same = added_is_sorted c.loop-image.area.form c.args.parts.form (up4 c.loop-image.area.end) payload left s c.name.result.now c.in_ok-from_node.field-0.by_name c.is_hashed.result (is_hashed hashes payload)
     c.loop-image.invariant.form c.name.ensures c.in_ok-from_node.ensures.properties c.is_hashed.ensures in
-    let added : c.add_image_node.new.doc ≡ with_events c.loop-image.doc (events (sorted_image (image_properties c.args.form (up4 c.loop-image.area.end) payload s.own) (is_hashed hashes payload) left s)) =
+    let added : c.add_image_node.new.doc ≡ with_events c.loop-image.doc (events (sorted_image (image_properties c.args.parts.form (up4 c.loop-image.area.end) payload s.own) (is_hashed hashes payload) left s)) =
     c.in_ok-left.ensures.added ∙ ap (λ nodes. with_events c.loop-image.doc (events nodes)) same in
     let after : c.in_ok-left.left.now ≡ after_digests (is_hashed hashes payload) left (nodes_by_name s.children) =
     c.in_ok-left.ensures.left ∙ ap (λ hashed. after_digests hashed left (nodes_by_name s.children)) c.is_hashed.ensures in
     rw (rest, at, after) (record {
-      adding = subst (IsAdding c.add_image_node.new.doc target) (images-later hashes c.args.form c.loop-image.area.end payload later (after_digests (is_hashed hashes payload) left (nodes_by_name s.children)) s.later)
-          (adding_later c.loop-image.doc target s.name (entries (image_properties c.args.form (up4 c.loop-image.area.end) payload s.own)) (sorted_image_children (is_hashed hashes payload) left s.children)
-          (sorted_images hashes c.args.form (end_after c.loop-image.area.end payload) later (after_digests (is_hashed hashes payload) left (nodes_by_name s.children)) s.later) adding c.add_image_node.new.doc added);
+      adding = subst (IsAdding c.add_image_node.new.doc target) (images-later hashes c.args.parts.form c.loop-image.area.end payload later (after_digests (is_hashed hashes payload) left (nodes_by_name s.children)) s.later)
+          (adding_later c.loop-image.doc target s.name (entries (image_properties c.args.parts.form (up4 c.loop-image.area.end) payload s.own)) (sorted_image_children (is_hashed hashes payload) left s.children)
+          (sorted_images hashes c.args.parts.form (end_after c.loop-image.area.end payload) later (after_digests (is_hashed hashes payload) left (nodes_by_name s.children)) s.later) adding c.add_image_node.new.doc added);
       ranks = still_ranked_next c.next_sibling-next.result c.loop-image.doc c.add_image_node.new.doc _ c.in_ok-left.ensures.added
           (c.next_sibling-next.ensures.ranks c.loop-image.doc.names (subst (HasNextRanks c.loop-image.doc.names) c.in-Some.is c.loop-image.invariant.ranks));
       distinct = distinct.2;
       same_count = omega arith;
       has_digests = has.1;
-      within = within_later c.args.form c.loop-image.area.end payload later within;
+      within = within_later c.args.parts.form c.loop-image.area.end payload later within;
       small = small;
       form = c.in_ok-left.ensures.form ∙ c.loop-image.invariant.form;
     })

@@ -7,7 +7,7 @@ use Rattle.bi_blob.specs.Following.{stage_of_events, MayHaveNextProperty}
 use Rattle.bi_lay.specs.Contents.{name_numbered, with_event}
 use Rattle.bi_lay.specs.Values.{value_bytes}
 use Rattle.bi_fit.specs.PropertyMapModels.{AreNumbersIn}
-use Rattle.bi_fit.proofs.PassedOn.{passed_on}
+use Rattle.bi_fit.proofs.PassedOn.{success_passed_on}
 use Rattle.bi_fit.proofs.document.property_map.add_entry.Goals as goal
 use Rattle.bi_fit.proofs.document.property_map.add_entry.Goals.{In-Some}
 
@@ -26,6 +26,6 @@ pub returns-in-Some : goal.returns-in-Some
 returns-in-Some c =
     let added = with_event c.args.doc.now (NodeProperty (c.args.entry.name.now, value_bytes c.args.entry.value)) in
     record {
-      added = passed_on c.property_numbered.result c.only_memory.result (c.property_numbered.new.self ≡ added) c.only_memory.ensures.value
+      added = success_passed_on c.property_numbered.result c.only_memory.result (c.property_numbered.new.self ≡ added) c.only_memory.ensures.value
           (on_ok_weaker c.property_numbered.result (λ is. is ∙ ap (λ n. with_event c.args.doc.now (NodeProperty (n, value_bytes c.args.entry.value))) (named (goal.at.returns-in-Some c).In-Some)) c.property_numbered.ensures.added);
     }

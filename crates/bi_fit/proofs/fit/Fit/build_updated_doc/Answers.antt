@@ -11,7 +11,7 @@ use Rattle.bi_fit.specs.Documents.{IsTextFault}
 use Rattle.bi_fit.specs.LongNames.{HasLongerNames}
 use Rattle.bi_fit.specs.Updating.{with_changes}
 use Rattle.bi_fit.proofs.LongNames.{too_long_names}
-use Rattle.bi_fit.proofs.NormalDocuments.{images_there, names_distinct, ranks_there, may_add_tree, is_document_of, document_closed}
+use Rattle.bi_fit.proofs.NormalDocuments.{images_there, images_position_there, names_distinct, ranks_there, may_add_tree, is_document_of, document_closed}
 use Rattle.bi_fit.proofs.fit.Fit.build_updated_doc.Goals as goal
 
 pub returns-in_err-names-clause-failed : goal.returns-in_err-names-clause-failed
@@ -32,6 +32,11 @@ add_tree-requires-clause-ranks c =
 pub add_tree-requires-clause-images : goal.add_tree-requires-clause-images
 add_tree-requires-clause-images c =
     images_there c.args.self.now c.give_invariant.ensures c.args.changes c.args.form c.args.digests.now c.requires.digests c.blob-blob.result.now c.blob-blob.ensures c.images-images.result.now c.images-images.ensures (node_of c.root.result) c.root.ensures.root
+
+pub add_tree-requires-clause-position : goal.add_tree-requires-clause-position
+add_tree-requires-clause-position c =
+    images_position_there c.args.self.now c.give_invariant.ensures c.args.changes c.args.form c.args.digests.now c.requires.digests c.blob-blob.result.now c.blob-blob.ensures c.images-images.result.now c.images-images.ensures (node_of c.root.result) c.root.ensures.root
+    c.images_position.result c.images_position.ensures
 
 pub add_tree-requires-clause-distinct : goal.add_tree-requires-clause-distinct
 add_tree-requires-clause-distinct c =
