@@ -41,10 +41,8 @@ impl<'a, T: TracedWrite> BufferedSink<'a, T> {
     /// Writes what is held back, and flushes the writer.
     ///
     /// The only error is `WriteFailed`, and a prefix of what is held back was written then, all of
-    /// it if the flush failed. It comes after a write or flush that failed with an error other than
-    /// an interruption, after a write that wrote none of the remaining bytes, or after 1,024
-    /// interruptions in a row. No failure is ignored. Do not use the sink after an error of `put`
-    /// or `finish`.
+    /// it if the flush failed. It comes after a failed write or flush, and no failed call is
+    /// ignored. Do not use the sink after an error of `put` or `finish`.
     pub fn finish(&mut self) -> Result<(), Error>
         ensures finished { let old = state_of T.trace self.old in
             let new = state_of T.trace self.new in

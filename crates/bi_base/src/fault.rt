@@ -139,10 +139,13 @@ pub enum Error {
     /// An allocation failed.
     #[error("out of memory")]
     OutOfMemory,
-    /// A read failed.
+    /// A read failed, with an error other than an interruption; or `MOST_INTERRUPTIONS` reads in a
+    /// row, which are 1,024, were interrupted.
     #[error("read failed")]
     ReadFailed,
-    /// A write failed.
+    /// A write or a flush failed, with an error other than an interruption; or a write wrote none
+    /// of the remaining bytes; or `MOST_INTERRUPTIONS` calls in a row, which are 1,024, were
+    /// interrupted.
     #[error("write failed")]
     WriteFailed,
 }

@@ -19,13 +19,11 @@ use std::io::{Read, Write};
 /// a writer that record the outcome of their calls. Returns what the command returns. It may only
 /// be called if the command may be run (`can_run`).
 ///
-/// Errors: `ReadFailed` after a read that failed with an error other than an interruption, or after
-/// 1,024 interrupted reads in a row; `Refused` with `TooLarge` at the limit for files, if the input
-/// is longer; those of the command; `WriteFailed` after a write or flush that failed with an error
-/// other than an interruption, after a write that wrote none of the remaining bytes, or after 1,024
-/// interruptions in a row; `OutOfMemory` for any input, since reading it allocates. No such failure
-/// is ignored. After `WriteFailed` a prefix of the output was written, the whole of it if the flush
-/// failed. After any other error nothing was written. At most one byte more than the limit is read.
+/// Errors: `ReadFailed` after a failed read; `Refused` with `TooLarge` at the limit for files, if
+/// the input is longer; those of the command; `WriteFailed` after a failed write or flush;
+/// `OutOfMemory` for any input, since reading it allocates. No failed call is ignored. After
+/// `WriteFailed` a prefix of the output was written, the whole of it if the flush failed. After any
+/// other error nothing was written. At most one byte more than the limit is read.
 pub fn pipe<C: Command, S: TracedRead, T: TracedWrite>(
     alloc: Global,
     command: &C,

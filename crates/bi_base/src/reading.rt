@@ -16,8 +16,7 @@ use std::io::{ErrorKind, Read};
 /// How many bytes are read at once, at most.
 const CHUNK: usize = 0x1_0000;
 
-/// Reads once, and again after each interruption. Fails with `ReadFailed` if a read fails, or if
-/// 1,024 reads in a row are interrupted.
+/// Reads once, and again after each interruption. The only error is `ReadFailed`.
 fn read_some<S: TracedRead>(source: &mut S, buffer: &mut [u8]) -> Result<usize, Error>
     ensures bound { ReadsAtMost result buffer.new }
     ensures ok { IfOk result (ReadSome (S.trace source.old) (S.trace source.new) buffer.new) }
@@ -36,11 +35,9 @@ fn read_some<S: TracedRead>(source: &mut S, buffer: &mut [u8]) -> Result<usize, 
 /// Reads a whole input up to its end, from a reader that records the outcome of its calls.
 ///
 /// Errors: `Refused` with `TooLarge` at the limit for files, if the input is longer than that;
-/// `ReadFailed` after a read that failed with an error other than an interruption, or after 1,024
-/// interrupted reads in a row; `OutOfMemory` if the buffer cannot grow. After an error the bytes
-/// that were read are lost. At most one byte more than the limit is read from any reader, an
-/// endless one too, even if the call fails. Apart from interruptions, no failed read is ignored:
-/// after one the call returns `ReadFailed`.
+/// `ReadFailed` after a failed read, and no failed read is ignored; `OutOfMemory` if the buffer
+/// cannot grow. After an error the bytes that were read are lost. At most one byte more than the
+/// limit is read from any reader, an endless one too, even if the call fails.
 pub fn read_all_traced<S: TracedRead>(
     alloc: Global,
     source: &mut S,

@@ -30,10 +30,9 @@ impl<'a, W: Write> WriteSink<'a, W> {
 
     /// Flushes the writer, and appends nothing.
     ///
-    /// The only error is `WriteFailed`. It comes after a flush that failed with an error other than
-    /// an interruption, or after 1,024 interrupted flushes in a row. A plain writer does not record
-    /// a failed call, so the contract cannot state why the error comes, nor that no failure is
-    /// ignored. `BufferedSink::finish` promises both.
+    /// The only error is `WriteFailed`. It comes after a failed flush. A plain writer does not
+    /// record a failed call, so the contract cannot state why the error comes, nor that no failed
+    /// flush is ignored. `BufferedSink::finish` promises both.
     pub fn finish(&mut self) -> Result<(), Error>
         ensures nothing { ⟦<WriteSink<'a, W> as Sink>⟧.appends self.old [] self.new }
         ensures failed { IfErr result (λ error. error ≡ WriteFailed) }

@@ -11,8 +11,7 @@ use crate::outcomes::MOST_INTERRUPTIONS;
 use crate::traced_write::TracedWrite;
 use std::io::ErrorKind;
 
-/// Writes once, and again after each interruption. Fails with `WriteFailed` if a write fails or
-/// writes none of the bytes, or if 1,024 writes in a row are interrupted.
+/// Writes once, and again after each interruption. The only error is `WriteFailed`.
 fn write_some<T: TracedWrite>(target: &mut T, bytes: &[u8]) -> Result<usize, Error>
     ensures bound { WritesAtMost result bytes.now }
     ensures ok { IfOk result (λ count. WroteAll (T.trace target.old) (take count bytes.now)
@@ -34,9 +33,7 @@ fn write_some<T: TracedWrite>(target: &mut T, bytes: &[u8]) -> Result<usize, Err
 /// Writes all of these bytes, in as many calls as it takes.
 ///
 /// The only error is `WriteFailed`, and a prefix of the bytes was written then. It comes after a
-/// write that failed with an error other than an interruption, after one that wrote none of the
-/// remaining bytes, or after 1,024 interrupted writes in a row. No failed write is ignored: after
-/// one the call does not return `Ok`.
+/// failed write, and no failed write is ignored.
 pub fn write_all<T: TracedWrite>(target: &mut T, bytes: &[u8]) -> Result<(), Error>
     ensures { Wrote WroteAll WriteStopped (T.trace target.old) bytes.now result
         (T.trace target.new) }
@@ -50,8 +47,7 @@ pub fn write_all<T: TracedWrite>(target: &mut T, bytes: &[u8]) -> Result<(), Err
 
 /// Flushes, and again after each interruption. No byte is written or lost.
 ///
-/// The only error is `WriteFailed`. It comes after a flush that failed with an error other than an
-/// interruption, or after 1,024 interrupted flushes in a row. No failed flush is ignored.
+/// The only error is `WriteFailed`. It comes after a failed flush, and no failed flush is ignored.
 pub fn flush<T: TracedWrite>(target: &mut T) -> Result<(), Error>
     ensures flushed { OnOk result (Flushed (T.trace target.old) (T.trace target.new)) }
     ensures failed { IfErr result (FlushStopped (T.trace target.old) (T.trace target.new)) }

@@ -41,23 +41,11 @@ are_compared limits one other image other_image same opened other_opened is = re
   is_same = is;
 }
 
--- Whether the files mean the same, by the result of the comparison.
-pub result_same : (limits : Limits) (one other : List ℕ) (image other_image : BootImage) (result : Result Bool CompareError) →
-    IsReadBootImage limits one image → IsReadBootImage limits other other_image
-    → IfOk result (λ same. IsTrue same ↔ (meaning_of image ≡ meaning_of other_image)) → IfOk result (AreCompared limits one other)
-result_same limits one other image other_image (Ok same) opened other_opened is = are_compared limits one other image other_image same opened other_opened is
-result_same limits one other image other_image (Err error) opened other_opened is = tt
-
 -- Memory may run out after the first file was read.
 pub memory_error : (limits : Limits) (one other : List ℕ) (image : BootImage) (error : CompareError) → IsReadBootImage limits one image →
     error ≡ OutOfMemory → IsReadingError limits one other error
 memory_error limits one other image error opened is =
     subst (IsReadingError limits one other) (sym is) (needs_memory limits one (meaning_of image) (opened_means limits one image opened).means)
-
-pub result_memory : (limits : Limits) (one other : List ℕ) (image : BootImage) (result : Result Bool CompareError) →
-    IsReadBootImage limits one image → IfErr result (λ error. error ≡ OutOfMemory) → IfErr result (IsReadingError limits one other)
-result_memory limits one other image (Ok same) opened is = tt
-result_memory limits one other image (Err error) opened is = memory_error limits one other image error opened is
 
 -- The result of comparing two files that do not mean the same.
 false_compared : (limits : Limits) (one other : List ℕ) (image other_image : BootImage) (same : Bool) → IsReadBootImage limits one image →

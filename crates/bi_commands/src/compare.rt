@@ -63,7 +63,7 @@ pub fn have_same_meaning(
 {
     let image = read_one(alloc, one, limits)?;
     let other_image = read_other(alloc, other, limits)?;
-    mean_the_same(alloc, &image, &other_image)
+    Ok(mean_the_same(alloc, &image, &other_image)?)
 }
 
 /// Returns what differs between what two boot images mean: the differences of their descriptions,
@@ -146,19 +146,18 @@ fn read_other(alloc: Global, file: &[u8], limits: Limits) -> Result<BootImage<'_
     }
 }
 
-/// Returns whether two images that were read mean the same.
+/// Returns whether two images that were read mean the same. It fails if memory runs out.
 fn mean_the_same(
     alloc: Global,
     image: &BootImage<'_>,
     other: &BootImage<'_>,
-) -> Result<bool, CompareError>
-    ensures compared { IfOk result (λ same. IsTrue same
+) -> Result<bool, AllocError>
+    ensures { IfOk result (λ same. IsTrue same
         ↔ (meaning_of image.now ≡ meaning_of other.now)) }
-    ensures failed { IfErr result (λ error. error ≡ CompareError.OutOfMemory) }
 {
     match image.has_same_meaning(alloc, other) {
         Ok(same) => Ok(same),
-        Err(_) => Err(CompareError::OutOfMemory),
+        Err(_) => Err(AllocError),
     }
 }
 

@@ -6,12 +6,39 @@ ghost use Rattle.bi_blob.specs.Blob as header;
 
 use bi_base::cell_at;
 
+/// The offset of `totalsize` in bytes.
+pub(crate) const TOTALSIZE: usize = 4;
+
+/// The offset of `off_dt_struct` in bytes.
+pub(crate) const OFF_DT_STRUCT: usize = 8;
+
+/// The offset of `off_dt_strings` in bytes.
+pub(crate) const OFF_DT_STRINGS: usize = 12;
+
+/// The offset of `off_mem_rsvmap` in bytes.
+pub(crate) const OFF_MEM_RSVMAP: usize = 16;
+
+/// The offset of `version` in bytes.
+pub(crate) const VERSION: usize = 20;
+
+/// The offset of `last_comp_version` in bytes.
+pub(crate) const LAST_COMP_VERSION: usize = 24;
+
+/// The offset of `boot_cpuid_phys` in bytes.
+pub(crate) const BOOT_CPUID_PHYS: usize = 28;
+
+/// The offset of `size_dt_strings` in bytes.
+pub(crate) const SIZE_DT_STRINGS: usize = 32;
+
+/// The offset of `size_dt_struct` in bytes.
+pub(crate) const SIZE_DT_STRUCT: usize = 36;
+
 /// Returns the length of the blob in bytes.
 pub(crate) fn totalsize(file: &[u8]) -> u32
     requires { 8 ≤ length file.now }
     ensures { result ≡ header.totalsize file.now }
 {
-    cell_at(file, 4)
+    cell_at(file, TOTALSIZE)
 }
 
 /// Returns the offset of the structure block.
@@ -19,7 +46,7 @@ pub(crate) fn off_dt_struct(file: &[u8]) -> u32
     requires { 12 ≤ length file.now }
     ensures { result ≡ header.off_dt_struct file.now }
 {
-    cell_at(file, 8)
+    cell_at(file, OFF_DT_STRUCT)
 }
 
 /// Returns the offset of the strings block.
@@ -27,7 +54,7 @@ pub(crate) fn off_dt_strings(file: &[u8]) -> u32
     requires { 16 ≤ length file.now }
     ensures { result ≡ header.off_dt_strings file.now }
 {
-    cell_at(file, 12)
+    cell_at(file, OFF_DT_STRINGS)
 }
 
 /// Returns the offset of the memory reservation block.
@@ -35,7 +62,7 @@ pub(crate) fn off_mem_rsvmap(file: &[u8]) -> u32
     requires { 20 ≤ length file.now }
     ensures { result ≡ header.off_mem_rsvmap file.now }
 {
-    cell_at(file, 16)
+    cell_at(file, OFF_MEM_RSVMAP)
 }
 
 /// Returns the version of the blob.
@@ -43,7 +70,7 @@ pub(crate) fn version(file: &[u8]) -> u32
     requires { 24 ≤ length file.now }
     ensures { result ≡ header.version file.now }
 {
-    cell_at(file, 20)
+    cell_at(file, VERSION)
 }
 
 /// Returns the least version whose readers can read the blob.
@@ -51,7 +78,7 @@ pub(crate) fn last_comp_version(file: &[u8]) -> u32
     requires { 28 ≤ length file.now }
     ensures { result ≡ header.last_comp_version file.now }
 {
-    cell_at(file, 24)
+    cell_at(file, LAST_COMP_VERSION)
 }
 
 /// Returns the physical number of the boot processor.
@@ -59,7 +86,7 @@ pub(crate) fn boot_cpuid_phys(file: &[u8]) -> u32
     requires { 32 ≤ length file.now }
     ensures { result ≡ header.boot_cpuid_phys file.now }
 {
-    cell_at(file, 28)
+    cell_at(file, BOOT_CPUID_PHYS)
 }
 
 /// Returns the size of the strings block in bytes.
@@ -67,7 +94,7 @@ pub(crate) fn size_dt_strings(file: &[u8]) -> u32
     requires { 36 ≤ length file.now }
     ensures { result ≡ header.size_dt_strings file.now }
 {
-    cell_at(file, 32)
+    cell_at(file, SIZE_DT_STRINGS)
 }
 
 /// Returns the size of the structure block in bytes. Version 16 has no such cell.
@@ -75,5 +102,5 @@ pub(crate) fn size_dt_struct(file: &[u8]) -> u32
     requires { 40 ≤ length file.now }
     ensures { result ≡ header.size_dt_struct file.now }
 {
-    cell_at(file, 36)
+    cell_at(file, SIZE_DT_STRUCT)
 }

@@ -10,6 +10,7 @@ ghost use Rattle.bi_blob.specs.BlobFaults.{IsHeaderFault};
 ghost use Rattle.bi_fdt.specs.Header.{place_checks};
 
 use crate::fields::{
+    LAST_COMP_VERSION, OFF_DT_STRINGS, OFF_DT_STRUCT, OFF_MEM_RSVMAP, TOTALSIZE, VERSION,
     last_comp_version, off_dt_strings, off_dt_struct, off_mem_rsvmap, size_dt_strings,
     size_dt_struct, totalsize, version,
 };
@@ -44,17 +45,17 @@ pub(crate) fn check_header(file: &[u8], limits: Limits) -> Result<(), Fault>
         return refuse(Cause::Truncated, 0);
     }
     if version(file) < LEAST_VERSION {
-        return refuse(Cause::BadVersion, 20);
+        return refuse(Cause::BadVersion, VERSION as u32);
     }
     if last_comp_version(file) > READER_VERSION {
-        return refuse(Cause::BadVersion, 24);
+        return refuse(Cause::BadVersion, LAST_COMP_VERSION as u32);
     }
     let total = totalsize(file) as usize;
     if total < length {
-        return refuse(Cause::BadTotalSize, 4);
+        return refuse(Cause::BadTotalSize, TOTALSIZE as u32);
     }
     if total > file.len() {
-        return refuse(Cause::Truncated, 4);
+        return refuse(Cause::Truncated, TOTALSIZE as u32);
     }
     check_places(file, limits)
 }
@@ -70,7 +71,7 @@ fn check_places(file: &[u8], limits: Limits) -> Result<(), Fault>
     let total = totalsize(file) as usize;
     let reservations = off_mem_rsvmap(file) as usize;
     if reservations < length || reservations % 8 != 0 || reservations > total {
-        return refuse(Cause::BadOffset, 16);
+        return refuse(Cause::BadOffset, OFF_MEM_RSVMAP as u32);
     }
     let structure = off_dt_struct(file) as usize;
     let structure_end = structure_end(file);
@@ -79,11 +80,11 @@ fn check_places(file: &[u8], limits: Limits) -> Result<(), Fault>
         || structure > structure_end
         || structure_end > total
     {
-        return refuse(Cause::BadOffset, 8);
+        return refuse(Cause::BadOffset, OFF_DT_STRUCT as u32);
     }
     let strings = off_dt_strings(file) as usize;
     if strings < length || strings + size_dt_strings(file) as usize > total {
-        return refuse(Cause::BadOffset, 12);
+        return refuse(Cause::BadOffset, OFF_DT_STRINGS as u32);
     }
     Ok(())
 }
@@ -94,7 +95,7 @@ fn header_length(file: &[u8]) -> usize
     ensures least { 36 ≤ result }
     ensures value { 36 ≤ length file.now → result ≡ length_of_header file.now }
 {
-    if be32_at(file, 20) == Some(VERSION_WITHOUT_STRUCTURE_SIZE) {
+    if be32_at(file, VERSION) == Some(VERSION_WITHOUT_STRUCTURE_SIZE) {
         36
     } else {
         40

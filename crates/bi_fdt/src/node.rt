@@ -252,9 +252,9 @@ impl<'a, 'b> NodeRef<'a, 'b> {
         Some(child)
     }
 
-    /// Returns the child of this name, after its position among the children, counted from 0.
-    /// Returns None exactly if there is no such child. Looks at the children up to it, and
-    /// compares their names.
+    /// Returns the position of the child of this name among the children, counted from 0, and the
+    /// child. Returns None exactly if there is no such child. Takes time linear in the number of
+    /// children before it.
     pub fn find_child(self, name: &[u8]) -> Option<(usize, NodeRef<'a, 'b>)>
         ensures child { option_map (λ found. node_of found.1) result
             ≡ node_named (node_of self.entry).children name.now }

@@ -71,9 +71,9 @@ default_is content =
     of_file (Some found) = ap (option_and_then text_before_nul) (get-by_name (properties_of found.own) default_name)
 
 -- Nodes that a tree may have have distinct names.
-pub distinct_names : {Own : Type 0} (IsOwn : Own → Type 0) (nodes : Nodes Own) → AreNodes IsOwn nodes → AreDistinct (names nodes)
-distinct_names IsOwn none are = tt
-distinct_names IsOwn (node name own children later) are = (are.0.is_new, distinct_names IsOwn later are.2)
+pub names_are_distinct : {Own : Type 0} (IsOwn : Own → Type 0) (nodes : Nodes Own) → AreNodes IsOwn nodes → AreDistinct (names nodes)
+names_are_distinct IsOwn none are = tt
+names_are_distinct IsOwn (node name own children later) are = (are.0.is_new, names_are_distinct IsOwn later are.2)
 
 -- What holds of the thing at each index holds of each thing.
 each_thing : {X : Type 0} (P : X → Type 0) (things : List X) → ((index : ℕ) (thing : X) → slice_get things index ≡ Some thing → P thing) →
@@ -92,7 +92,7 @@ distinct_configurations blob is =
     by_found None there = tt
     by_found (Some nodes) there =
         subst AreDistinct (names-with_each properties_of nodes)
-        (distinct_names AreProperties (with_each properties_of nodes)
+        (names_are_distinct AreProperties (with_each properties_of nodes)
         (AreNodes-children_of AreProperties configurations_name (with_each properties_of (root_of blob).children) (with_each properties_of nodes)
         (children_of-with_each properties_of configurations_name (root_of blob).children ∙ ap (option_map (with_each properties_of)) there)
         is.children))

@@ -10,15 +10,15 @@ use Rattle.bi_fdt.specs.Content.{root_of}
 use Rattle.bi_fit.specs.Names.{images_name}
 use Rattle.bi_fit.specs.Content.{FitModel, IsHeld, IsImagesPosition}
 use Rattle.bi_fit.specs.TextNodes.{are_none_before, HaveImagesAfter}
-use Rattle.bi_fit.proofs.FileConfigurations.{distinct_names}
+use Rattle.bi_fit.proofs.FileConfigurations.{names_are_distinct}
 use Rattle.bi_fit.proofs.NormalTrees.{other_name, held_nodes}
 
 -- Where the node of the name `images` is among the children of the root.
 
 -- Whether no node is before one is a comparison.
-pub compared : (before : Option ℕ) → option_eq eqb before (Some 0) ≡ are_none_before before
-compared None = refl
-compared (Some count) = refl
+pub is_none_before : (before : Option ℕ) → option_eq eqb before (Some 0) ≡ are_none_before before
+is_none_before None = refl
+is_none_before (Some count) = refl
 
 -- No node has a name that is new among these.
 not_among : (nodes : Nodes FileNode) (position : ℕ) (found : Sibling FileNode) → node_at nodes position ≡ Some found →
@@ -35,7 +35,7 @@ without_images none new = tt
 without_images (node name own children later) new = (other_name name new.0, without_images later new.1)
 
 -- The node at a position has the name, and no other.
-pub images_after : (IsOwn : FileNode → Type 0) (nodes : Nodes FileNode) (position : ℕ) (found : Sibling FileNode) →
+images_after : (IsOwn : FileNode → Type 0) (nodes : Nodes FileNode) (position : ℕ) (found : Sibling FileNode) →
     AreNodes IsOwn nodes → node_at nodes position ≡ Some found → found.name ≡ images_name → HaveImagesAfter (Some position) nodes
 images_after IsOwn none position found are there named = tt
 images_after IsOwn (node name own children later) zero found are there named =
@@ -63,4 +63,4 @@ position_there content held position at = by_search (node_named nodes images_nam
     by_search (Some found) is =
         let are = held_nodes content held in
         images_after (λ own. AreProperties (properties_of own)) nodes position found are (at ∙ is)
-        ((nodes_are_found nodes (distinct_names (λ own. AreProperties (properties_of own)) nodes are)).by_name images_name found is).0
+        ((nodes_are_found nodes (names_are_distinct (λ own. AreProperties (properties_of own)) nodes are)).by_name images_name found is).0

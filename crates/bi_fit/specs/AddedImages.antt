@@ -19,7 +19,7 @@ use Rattle.bi_fit.specs.RankedNodes.{sibling_of, HasRanks}
 use Rattle.bi_fit.specs.TakenDigests.{HaveDigests, after_digests}
 use Rattle.bi_fit.specs.Text.{with_payload}
 
--- Image nodes that are added to a document, of a file or of a specification.
+-- Image nodes that are added to a document, from a file or from a specification.
 
 -- The payload of an image node, if it has one.
 abbrev pub added_payload : ImageNode → Option (List ℕ)
@@ -27,22 +27,25 @@ added_payload image = option_map (λ payload. payload.now) image.payload
 
 -- The children that are added, with the properties of each in byte order.
 abbrev pub added_children : ImageChildren → Nodes (List Property)
-added_children (OfNode of) =
-    sorted_image_children of.hashed of.digests.now (sibling_of of.node).children
+added_children (OfNode parent) =
+    sorted_image_children parent.hashed parent.digests.now (sibling_of parent.node).children
 added_children (Hash digest) = hash_node_with digest.now
 
--- The digests that are left after those of their hash nodes.
+-- The digests that are left after those of the hash nodes of a file. None are left where the
+-- SHA-256 is given.
 abbrev pub digests_left : ImageChildren → List ℕ
-digests_left (OfNode of) =
-    after_digests of.hashed of.digests.now (nodes_by_name (sibling_of of.node).children)
+digests_left (OfNode parent) =
+    after_digests parent.hashed parent.digests.now (nodes_by_name (sibling_of parent.node).children)
 digests_left (Hash digest) = []
 
--- What has to hold of the children, where these names may be given by number.
+-- The children may be added to a document with these names: the ranks of the nodes of a file are
+-- those of the names, there are digests for the hash nodes, and no node has two properties of one
+-- name.
 abbrev pub AreAddable : List (List ℕ) → ImageChildren → Type 0
-AreAddable names (OfNode of) =
-    HasRanks names of.node
-    × HaveDigests of.hashed of.digests.now (nodes_by_name (sibling_of of.node).children)
-    × EachOwn HasDistinctNames (sibling_of of.node).children
+AreAddable names (OfNode parent) =
+    HasRanks names parent.node
+    × HaveDigests parent.hashed parent.digests.now (nodes_by_name (sibling_of parent.node).children)
+    × EachOwn HasDistinctNames (sibling_of parent.node).children
 AreAddable names (Hash digest) = ⊤
 
 -- The properties that are added, with those that give the payload. `begin` is the offset of an

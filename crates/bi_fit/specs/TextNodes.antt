@@ -8,13 +8,13 @@ use Rattle.bi_fit.specs.NormalNodes.{AreImageNodes, HaveImageNodes, AreWithin, p
 use Rattle.bi_fit.specs.NormalNodes.{sorted_images, sorted_images_node}
 use Rattle.bi_fit.specs.NormalNodes.{sorted_root_children, sorted_root}
 
--- The nodes of a normal text, by the nodes of its file and what it has beside them.
+-- The nodes of a normal text, by the nodes of its file and what the text is made of besides them.
 
 -- The payload of each image, if it has one.
 abbrev pub text_payloads : TextParts → List (Option (List ℕ))
 text_payloads parts = payloads_of parts.images.now
 
--- The text can have the payloads where its form has them.
+-- The payloads end within the longest text, if the form has them after the blob.
 abbrev pub HasRoom : TextParts → Type 0
 HasRoom parts = AreWithin parts.form 0 (text_payloads parts)
 
@@ -23,13 +23,13 @@ abbrev pub AreTextImages : TextParts → Nodes FileNode → Type 0
 AreTextImages parts nodes =
     AreImageNodes parts.changes.hashes parts.images.now parts.digests.now nodes
 
--- This holds of the children of each of these nodes that has the name `images`.
+-- The children of each of these nodes that has the name `images` are the nodes of the images.
 abbrev pub HaveTextImages : TextParts → Nodes FileNode → Type 0
 HaveTextImages parts nodes = HaveImageNodes (AreTextImages parts) nodes
 
 -- The image nodes of the text.
-abbrev pub text_images : TextParts → Nodes FileNode → Nodes (List Property)
-text_images parts nodes =
+abbrev pub text_image_nodes : TextParts → Nodes FileNode → Nodes (List Property)
+text_image_nodes parts nodes =
     sorted_images parts.changes.hashes parts.form 0 (text_payloads parts) parts.digests.now nodes
 
 -- The node whose children they are, without its siblings.
@@ -49,19 +49,18 @@ abbrev pub text_root : TextParts → Sibling FileNode → Nodes (List Property)
 text_root parts root =
     sorted_root parts.changes parts.form (text_payloads parts) parts.digests.now root
 
--- Whether this many nodes are none.
+-- Whether the number is 0. Without a number it is false.
 abbrev pub are_none_before : Option ℕ → Bool
 are_none_before None = false
 are_none_before (Some count) = count == 0
 
--- How many nodes come before one, after the first of them. None comes before it if it was the
--- first itself.
+-- The number less one. After 0 there is no number.
 abbrev pub one_fewer : Option ℕ → Option ℕ
 one_fewer None = None
 one_fewer (Some count) = if count == 0 then None else Some (count - 1)
 
--- Of these nodes the one after this many, and no other, has the name `images`. Without a number
--- none of them has it.
+-- Of these nodes the one after this number of others has the name `images`, and no other node has
+-- it. Without a number no node has it.
 abbrev pub HaveImagesAfter : (before : Option ℕ) → Nodes FileNode → Type 0
 HaveImagesAfter before none = ⊤
 HaveImagesAfter before (node name own children later) =

@@ -19,6 +19,7 @@ use bi_base::{Cause, Error, Fault, Sink, refuse, up4};
 /// form Embedded.
 #[derive(Clone, Copy)]
 pub(crate) struct PayloadArea {
+    /// Where the text has the payloads.
     pub(crate) form: Form,
     /// Where it ends.
     end: usize,

@@ -1,4 +1,4 @@
-use Rattle.std.proofs.Common.{ℕ, ◌≡◌, [], ◌∷◌, ◌++◌, codes, replicate, refl, lit≤, lit<}
+use Rattle.std.proofs.Common.{[], ◌∷◌, ◌++◌, codes, replicate, refl, lit≤, lit<}
 use Rattle.std.proofs.lemmas.Bool.{eqb-false}
 use Rattle.bi_base.specs.Cells.{cell}
 use Rattle.bi_base.specs.Crc.{crc32, crc_after, low_bits}

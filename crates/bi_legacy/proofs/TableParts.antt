@@ -1,8 +1,7 @@
-use Rattle.std.proofs.Common.{◌≡◌, ℕ, ◌+◌, ◌*◌, ◌<◌, ◌^◌, List, ◌++◌, [], ◌∷◌, length, map, drop, arith, refl, sym, ap, ◌∙◌, subst, flat_map, Contains}
-use Rattle.std.proofs.lemmas.List.{length-append, length-map}
+use Rattle.std.proofs.Common.{◌≡◌, ℕ, ◌+◌, ◌*◌, ◌<◌, ◌^◌, List, ◌++◌, length, map, drop, sym, ap, ◌∙◌, subst, flat_map, Contains}
+use Rattle.std.proofs.lemmas.List.{length-map}
 use Rattle.std.specs.List.{AllByRecursion}
 use Rattle.bi_base.specs.Cells.{cell, up4, AreBytes}
-use Rattle.bi_base.proofs.CellLaws.{length-cell}
 use Rattle.bi_legacy.specs.PartTables.{cells_of, table_sizes}
 use Rattle.bi_legacy.specs.Meaning.{IsTablePart}
 use Rattle.bi_legacy.specs.Parts.{part_table, HasPartTable}

@@ -1,7 +1,6 @@
-use Rattle.std.proofs.Common.{◌≡◌, ◌+◌, ◌^◌, ◌<◌, ◌≤◌, ℕ, List, length, refl, arith}
+use Rattle.std.proofs.Common.{◌^◌, ◌<◌, ℕ, List, refl, arith}
 use Rattle.bi_base.specs.Limits.{Limits}
-use Rattle.bi_legacy.specs.Meaning.{LegacyImage, FitsFields, with_new_time}
-use Rattle.bi_legacy.specs.Parts.{parts_end}
+use Rattle.bi_legacy.specs.Meaning.{LegacyImage, with_new_time}
 use Rattle.bi_legacy.specs.File.{LegacyMeans}
 use Rattle.bi_legacy.specs.Text.{IsLegacyImage, legacy_text}
 use Rattle.bi_legacy.specs.Laws.{UpdatedHasNewTime}

@@ -15,6 +15,7 @@ ghost use Rattle.bi_legacy.specs.Emitting.{HasNoEmitFault, WroteImage, image_of_
 use crate::fields::{Fields, has_part_table};
 use crate::header::{HEADER_SIZE, NAME_SIZE};
 use crate::legacy::Legacy;
+use crate::offsets::{IH_NAME, IH_TYPE};
 use crate::part_table::table_offset;
 use crate::text::{DataSummary, data_checksum, put_image};
 use bi_base::{Cause, Error, Fault, Limits, Sink, refuse, up4};
@@ -118,10 +119,10 @@ fn check_image(fields: Fields<'_>, parts: &[&[u8]], limits: Limits) -> Result<u3
     ensures fault { IfErr result (IsEmitFault limits (image_of_parts fields.entry parts.now)) }
 {
     if !is_image_name(fields.name) {
-        return refuse(Cause::BadField, 32);
+        return refuse(Cause::BadField, IH_NAME as u32);
     }
     if !can_have_parts(fields.image_type, parts.len()) {
-        return refuse(Cause::BadField, 30);
+        return refuse(Cause::BadField, IH_TYPE as u32);
     }
     let most = limits.file() - HEADER_SIZE as u32;
     let Some(size) = data_size(fields.image_type, parts, most) else {

@@ -13,7 +13,7 @@ use bi_base::{Cause, Crc32, Fault, Limits, be32_at, cell_at, crc32, refuse};
 pub const MAGIC: u32 = 0x2705_1956;
 
 /// The size of a header in bytes.
-pub(crate) const HEADER_SIZE: usize = 64;
+pub const HEADER_SIZE: usize = 64;
 
 /// The size of the name's field in bytes.
 pub(crate) const NAME_SIZE: usize = 32;

@@ -9,7 +9,7 @@ mod header;
 pub mod known_files;
 pub mod laws;
 mod legacy;
-mod offsets;
+pub mod offsets;
 mod part_ranges;
 mod part_table;
 mod parts;
@@ -17,6 +17,6 @@ mod text;
 
 pub use emitting::{emit, emit_image, emit_updated_image};
 pub use fields::Fields;
-pub use header::MAGIC;
+pub use header::{HEADER_SIZE, MAGIC};
 pub use legacy::Legacy;
 pub use parts::{Part, Parts};

@@ -2,34 +2,34 @@
 //! (struct legacy_img_hdr).
 
 /// The checksum of the header.
-pub(crate) const IH_HCRC: usize = 4;
+pub const IH_HCRC: usize = 4;
 
 /// The time of creation.
-pub(crate) const IH_TIME: usize = 8;
+pub const IH_TIME: usize = 8;
 
 /// The size of the data.
-pub(crate) const IH_SIZE: usize = 12;
+pub const IH_SIZE: usize = 12;
 
 /// The address that the data is loaded to.
-pub(crate) const IH_LOAD: usize = 16;
+pub const IH_LOAD: usize = 16;
 
 /// The address of the entry point.
-pub(crate) const IH_EP: usize = 20;
+pub const IH_EP: usize = 20;
 
 /// The checksum of the data.
-pub(crate) const IH_DCRC: usize = 24;
+pub const IH_DCRC: usize = 24;
 
 /// The operating system.
-pub(crate) const IH_OS: usize = 28;
+pub const IH_OS: usize = 28;
 
 /// The processor architecture.
-pub(crate) const IH_ARCH: usize = 29;
+pub const IH_ARCH: usize = 29;
 
 /// The image type.
-pub(crate) const IH_TYPE: usize = 30;
+pub const IH_TYPE: usize = 30;
 
 /// The compression.
-pub(crate) const IH_COMP: usize = 31;
+pub const IH_COMP: usize = 31;
 
 /// The name, which is the last field.
-pub(crate) const IH_NAME: usize = 32;
+pub const IH_NAME: usize = 32;

@@ -11,8 +11,9 @@ mod images;
 use crate::keys::keys_of_type;
 use bi_base::{Cause, Error, Fault, Limits, Sink, VecSink, refuse};
 use bi_fit::{Form, Head, append_built};
-use bi_legacy::Legacy;
 use bi_legacy::codes::{arch_name, compression_name, os_name, type_name};
+use bi_legacy::offsets::{IH_ARCH, IH_COMP, IH_OS, IH_TYPE};
+use bi_legacy::{HEADER_SIZE, Legacy};
 use images::{CodeNames, images_of};
 use std::alloc::Global;
 
@@ -70,22 +71,22 @@ fn check(image: &Legacy<'_>) -> Result<CodeNames, Fault>
 {
     let fields = image.fields();
     let Some(os) = os_name(fields.os) else {
-        return refuse(Cause::NoCodeName, 28);
+        return refuse(Cause::NoCodeName, IH_OS as u32);
     };
     let Some(arch) = arch_name(fields.arch) else {
-        return refuse(Cause::NoCodeName, 29);
+        return refuse(Cause::NoCodeName, IH_ARCH as u32);
     };
     if type_name(fields.image_type).is_none() {
-        return refuse(Cause::NoCodeName, 30);
+        return refuse(Cause::NoCodeName, IH_TYPE as u32);
     }
     let Some(compression) = compression_name(fields.compression) else {
-        return refuse(Cause::NoCodeName, 31);
+        return refuse(Cause::NoCodeName, IH_COMP as u32);
     };
     if image.part_count() == 0 {
-        return refuse(Cause::EmptyPart, 64);
+        return refuse(Cause::EmptyPart, HEADER_SIZE as u32);
     }
     if image.part_count() > keys_of_type(fields.image_type).len() {
-        return refuse(Cause::TooManyParts, 64);
+        return refuse(Cause::TooManyParts, HEADER_SIZE as u32);
     }
     Ok(CodeNames {
         os,

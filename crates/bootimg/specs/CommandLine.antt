@@ -91,7 +91,7 @@ value_of options id default = unwrap_or (option_of options id) default
 abbrev pub texts_of : List (Bor (List ℕ)) → List (List ℕ)
 texts_of arguments = map (λ argument. argument.now) arguments
 
--- The arguments that are no options, under this name.
+-- The positional arguments of this name.
 abbrev pub values_of : ArgMatches → List ℕ → List (List ℕ)
 values_of options id = option_map_or raw_values (matched_of (found_of options) id) []
 

@@ -1,4 +1,7 @@
 //! The document of a tree to be built.
+//!
+//! Each function that adds to a document fails if memory runs out. It is not specified what the
+//! document has then.
 
 ghost use Rattle.std.specs.Prelude.{◌≡◌, OnOk, IfOk};
 ghost use Rattle.bi_blob.specs.Events.{events};

@@ -1,4 +1,7 @@
 //! Adding the hash nodes of an image to a document.
+//!
+//! Each function that adds to a document fails if memory runs out. It is not specified what the
+//! document has then.
 
 ghost use Rattle.std.specs.Prelude.{◌≡◌, OnOk, IfOk};
 ghost use Rattle.std.specs.FinMap.{from_entries};
@@ -86,8 +89,8 @@ pub(super) fn add_hash_node<'a>(
     doc: &mut Doc<'a>,
     digest: &'a [u8; 32],
 ) -> Result<(), AllocError>
-    requires { MayAdd doc.old (events (hash_node_with digest.now)) }
-    ensures { OnOk result
+    requires may { MayAdd doc.old (events (hash_node_with digest.now)) }
+    ensures added { OnOk result
         (doc.new ≡ with_events doc.old (events (hash_node_with digest.entry.now))) }
 {
     let properties = sha256_properties(alloc, digest)?;

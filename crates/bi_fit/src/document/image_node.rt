@@ -1,4 +1,4 @@
-//! Adding an image node to a document: of a file, or of a specification.
+//! Adding an image node to a document, from a file or from a specification.
 
 ghost use Rattle.std.specs.Prelude.{◌≡◌, ◌-◌, ◌^◌, min, OnOk, IfOk};
 ghost use Rattle.bi_base.specs.Cells.{up4 as up4_of};
@@ -20,7 +20,7 @@ use std::alloc::{AllocError, Global};
 pub(crate) struct ImageNode<'a, 'b> {
     /// The name.
     pub(crate) name: &'a [u8],
-    /// The properties. The four that can give a payload are left out.
+    /// The properties. Those that give a payload are replaced by those of `payload`.
     pub(crate) properties: PropertyMap<'a>,
     /// The payload, if there is one.
     pub(crate) payload: Option<&'a [u8]>,
@@ -37,23 +37,23 @@ pub(crate) enum ImageChildren<'a, 'b> {
     Hash(&'a [u8; 32]),
 }
 
-/// The children of an image node of a file. If the image is hashed, its hash nodes get the first of
-/// these digests.
+/// The children of an image node of a file, with the digests for its hash nodes.
 #[derive(Clone, Copy)]
 pub(crate) struct NodeChildren<'a, 'b> {
     /// The image node.
     pub(crate) node: RankedNode<'a, 'b>,
-    /// Whether the hash nodes get new digests.
+    /// Whether the hash nodes get the first of the digests.
     pub(crate) hashed: bool,
-    /// The digests that are left.
+    /// The digests of this image and of those after it.
     pub(crate) digests: &'a [u8],
 }
 
 /// Adds an image node, with all nodes below it, as a child of the innermost open node. Its payload
 /// follows those of the area, and the node has the properties that give it. Returns the digests
-/// that are left after those of its hash nodes.
+/// that are left after those of its hash nodes, which are none if the SHA-256 is given.
 ///
-/// It fails if memory runs out. It is not specified what the document has then.
+/// It fails if memory runs out. It is not specified what the document has then. The area has the
+/// payload.
 pub(crate) fn add_image_node<'a>(
     alloc: Global,
     doc: &mut Doc<'a>,
@@ -84,7 +84,7 @@ pub(crate) fn add_image_node<'a>(
 }
 
 /// Adds the children of an image node, with all nodes below them. Returns the digests that are left
-/// after those of the hash nodes.
+/// after those of the hash nodes. It fails if memory runs out.
 fn add_image_children<'a>(
     alloc: Global,
     doc: &mut Doc<'a>,
@@ -97,9 +97,13 @@ fn add_image_children<'a>(
         (doc.new ≡ with_events doc.old (events (added_children children.entry))) }
 {
     match children {
-        ImageChildren::OfNode(of) => {
-            add_children_with_digests(alloc, doc, of.node, of.hashed, of.digests)
-        }
+        ImageChildren::OfNode(
+            NodeChildren {
+                node,
+                hashed,
+                digests,
+            },
+        ) => add_children_with_digests(alloc, doc, node, hashed, digests),
         ImageChildren::Hash(digest) => {
             add_hash_node(alloc, doc, digest)?;
             Ok(&[])

@@ -1,4 +1,7 @@
 //! Adding the image nodes of a file to a document.
+//!
+//! Each function that adds to a document fails if memory runs out. It is not specified what the
+//! document has then.
 
 ghost use Rattle.std.specs.Prelude.{◌≡◌, OnOk};
 ghost use Rattle.std.specs.Option.{option_map};
@@ -7,7 +10,7 @@ ghost use Rattle.bi_blob.specs.Events.{events};
 ghost use Rattle.bi_fit.specs.TakenDigests.{is_hashed as is_hashed_of};
 ghost use Rattle.bi_fit.specs.NormalNodes.{MayAdd, with_events, HasDistinctNames, alone};
 ghost use Rattle.bi_fit.specs.RankedNodes.{sibling_of, HasRanks};
-ghost use Rattle.bi_fit.specs.TextNodes.{HasRoom, AreTextImages, text_images, text_images_node};
+ghost use Rattle.bi_fit.specs.TextNodes.{HasRoom, AreTextImages, text_image_nodes, text_images_node};
 
 use crate::changes::Changes;
 use crate::document::image_node::{ImageChildren, ImageNode, NodeChildren, add_image_node};
@@ -20,7 +23,7 @@ use bi_lay::Doc;
 use std::alloc::{AllocError, Global};
 
 /// Adds a node with all nodes below it, as a child of the innermost open node. Its children are the
-/// nodes of these images.
+/// nodes of the images.
 pub(super) fn add_images<'a>(
     alloc: Global,
     doc: &mut Doc<'a>,
@@ -41,7 +44,7 @@ pub(super) fn add_images<'a>(
     Ok(())
 }
 
-/// Adds the children of a node, which are the nodes of these images, with all nodes below them, as
+/// Adds the children of a node, which are the nodes of the images, with all nodes below them, as
 /// children of the innermost open node.
 fn add_image_nodes<'a>(
     alloc: Global,
@@ -53,9 +56,9 @@ fn add_image_nodes<'a>(
     requires images { AreTextImages parts (sibling_of node).children }
     requires room { HasRoom parts }
     requires distinct { EachOwn HasDistinctNames (sibling_of node).children }
-    requires may { MayAdd doc.old (events (text_images parts (sibling_of node).children)) }
+    requires may { MayAdd doc.old (events (text_image_nodes parts (sibling_of node).children)) }
     ensures added { OnOk result (doc.new ≡ with_events doc.old
-        (events (text_images parts.entry (sibling_of node.entry).children))) }
+        (events (text_image_nodes parts.entry (sibling_of node.entry).children))) }
 {
     let mut next = node.first_child();
     let mut area = PayloadArea::new(parts.form);

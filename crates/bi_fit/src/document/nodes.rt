@@ -1,4 +1,7 @@
 //! Adding nodes to a document.
+//!
+//! Each function that adds to a document fails if memory runs out. It is not specified what the
+//! document has then.
 
 ghost use Rattle.std.specs.Prelude.{◌≡◌, OnOk};
 ghost use Rattle.bi_blob.specs.Tree.{EachOwn};
@@ -38,8 +41,6 @@ pub(super) fn begin_node<'a>(
 /// It may only be called if these events may come next in the document: `Doc::may_begin` is true of
 /// the name, and the name of each property has a byte and no zero. A number in the properties is
 /// that of the name in the document.
-///
-/// It fails if memory runs out. It is not specified which of the events the document has then.
 pub(crate) fn begin_with<'a>(
     doc: &mut Doc<'a>,
     name: &'a [u8],

@@ -119,7 +119,7 @@ impl<'a> PropertyMap<'a> {
     /// `begin` is the offset of an external payload in bytes from the end of the blob.
     ///
     /// It fails if memory runs out. It is not specified which properties the map has then.
-    pub(crate) fn set_payload(
+    pub(super) fn set_payload(
         &mut self,
         form: Form,
         begin: u32,
@@ -198,7 +198,7 @@ impl<'a> PropertyMap<'a> {
     ///
     /// It fails if memory runs out. It is not specified which of the properties the document has
     /// then.
-    pub(crate) fn add_to(&self, doc: &mut Doc<'a>) -> Result<(), AllocError>
+    pub(super) fn add_to(&self, doc: &mut Doc<'a>) -> Result<(), AllocError>
         requires numbers { HaveNumbers doc.old.names self.now }
         requires may { MayAdd doc.old (map NodeProperty (entries self.now.by_name)) }
         ensures added { OnOk result (doc.new ≡ with_events doc.old

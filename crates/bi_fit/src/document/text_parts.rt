@@ -1,10 +1,10 @@
-//! What a normal text has beside the nodes of its file.
+//! What a normal text is made of besides the nodes of its file.
 
 use crate::changes::Changes;
 use crate::form::Form;
 use crate::image::Image;
 
-/// What a normal text has beside the nodes of its file.
+/// What a normal text is made of besides the nodes of its file.
 #[derive(Clone, Copy)]
 pub(super) struct TextParts<'a, 'b> {
     /// The images, which have the payloads of the image nodes.

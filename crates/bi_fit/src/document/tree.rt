@@ -1,4 +1,7 @@
 //! Adding the tree of the normal text to a document.
+//!
+//! Each function that adds to a document fails if memory runs out. It is not specified what the
+//! document has then.
 
 ghost use Rattle.std.specs.Prelude.{◌≡◌, bytes_eq, Some, OnOk};
 ghost use Rattle.bi_blob.specs.Tree.{EachOwn};
@@ -17,8 +20,8 @@ use crate::document::text_parts::TextParts;
 use bi_lay::Doc;
 use std::alloc::{AllocError, Global};
 
-/// Adds the tree with this root, with changes. The hash nodes get the digests of the parts, if they
-/// change.
+/// Adds the tree with this root, with the changes of the parts. If the digests change, the hash nodes
+/// get those of the parts.
 pub(super) fn add_tree<'a>(
     alloc: Global,
     doc: &mut Doc<'a>,
@@ -68,7 +71,7 @@ fn add_root_children<'a>(
     Ok(())
 }
 
-/// Returns how many nodes are before one, after the first of these nodes.
+/// Returns the count less one. Returns None exactly if it is 0 or there is none.
 fn after_one(count: Option<usize>) -> Option<usize>
     ensures { result ≡ one_fewer count }
 {

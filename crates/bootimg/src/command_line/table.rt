@@ -55,7 +55,7 @@ enum OptionForm {
     Default(&'static str),
     /// A positional argument, which may be left out.
     Positional,
-    /// A positional argument.
+    /// A positional argument, which has to be given.
     RequiredPositional,
     /// Any number of positional arguments.
     Positionals,

@@ -10,7 +10,7 @@ use Rattle.bi_fit.specs.NormalNodes.{sorted_below, sorted_root_children}
 use Rattle.bi_fit.specs.TextNodes.{HaveImagesAfter}
 use Rattle.bi_fit.proofs.AddedEvents.{still_ranked_next, HasNextRanks}
 use Rattle.bi_fit.proofs.NodeEvents.{nodes_from, nodes_from_first, IsAdding, adding_all, may_add_first, adding_later}
-use Rattle.bi_fit.proofs.ImagesPositions.{compared}
+use Rattle.bi_fit.proofs.ImagesPositions.{is_none_before}
 use Rattle.bi_fit.proofs.document.tree.add_root_children.Goals as goal
 
 pub loop-next-init : goal.loop-next-init
@@ -38,7 +38,7 @@ add_root_child-requires c =
     subst (HaveImagesAfter c.loop-next.before_images) here c.loop-next.invariant.position in
     record {
       images = (images.0, tt);
-      named = position.0 ∙ sym (compared c.loop-next.before_images) ∙ sym c.eq.ensures;
+      named = position.0 ∙ sym (is_none_before c.loop-next.before_images) ∙ sym c.eq.ensures;
       room = c.requires.room;
       ranks = subst (HasNextRanks c.loop-next.doc.names) c.in-Some.is c.loop-next.invariant.ranks;
       distinct = (distinct.0, distinct.1, tt);
