@@ -10,7 +10,8 @@ ghost use Rattle.bi_blob.specs.Events.{events};
 ghost use Rattle.bi_fit.specs.TakenDigests.{is_hashed as is_hashed_of};
 ghost use Rattle.bi_fit.specs.NormalNodes.{MayAdd, with_events, HasDistinctNames, alone};
 ghost use Rattle.bi_fit.specs.RankedNodes.{sibling_of, HasRanks};
-ghost use Rattle.bi_fit.specs.TextNodes.{HasRoom, AreTextImages, text_image_nodes, text_images_node};
+ghost use Rattle.bi_fit.specs.TextNodes.{HasRoom, AreTextImages, text_image_nodes};
+ghost use Rattle.bi_fit.specs.TextNodes.{text_images_node};
 
 use crate::changes::Changes;
 use crate::document::image_node::{ImageChildren, ImageNode, NodeChildren, add_image_node};
@@ -22,8 +23,8 @@ use crate::payload_area::PayloadArea;
 use bi_lay::Doc;
 use std::alloc::{AllocError, Global};
 
-/// Adds a node with all nodes below it, as a child of the innermost open node. Its children are the
-/// nodes of the images.
+/// Adds a node with all nodes below it, as a child of the innermost open node. Its children are
+/// the nodes of the images.
 pub(super) fn add_images<'a>(
     alloc: Global,
     doc: &mut Doc<'a>,

@@ -20,8 +20,8 @@ use crate::document::text_parts::TextParts;
 use bi_lay::Doc;
 use std::alloc::{AllocError, Global};
 
-/// Adds the tree with this root, with the changes of the parts. If the digests change, the hash nodes
-/// get those of the parts.
+/// Adds the tree with this root, with the changes of the parts. If the digests change, the hash
+/// nodes get those of the parts.
 pub(super) fn add_tree<'a>(
     alloc: Global,
     doc: &mut Doc<'a>,
