@@ -1,19 +1,20 @@
 """Tries the wrong bodies of a crate, which are in tests/prover/wrong_bodies/CRATE, and prints a line for each.
 
-wrong_bodies.py CRATE_DIRECTORY EDITS_DIRECTORY CHECK..: CHECK is a command that runs `rattle check` on the crate in the current
-directory. The script adds the flags --incremental and --only.
+wrong_bodies.py [--unchanged] CRATE_DIRECTORY EDITS_DIRECTORY CHECK..: CHECK is a command that runs `rattle check` on the crate in the
+current directory. The script adds the flags --incremental, --allow-holes and --only. With --unchanged the edits change nothing, and a
+function has to be proved but for the holes of others.
 
 An edit has a line `refused: FUNCTION`, and then the lines of an edit for `rt must-fail`, which change what this function does. It is
-refused if a goal of the function stays open, or if an answer to one of its goals is wrong. A function is proved from its own code and
-the contracts of the functions that it calls, so the wrong bodies of several functions are checked at a time.
+refused if a goal of the function stays open, or if an answer to one of its goals is wrong.
+
+A function is proved from its own code and the contracts of the functions that it calls, and `rt ci` proves those. So in a check the
+functions without an edit have no code but `unreachable!()`, and a hole for their proof: rattle takes them by their contracts.
 
 Most edits are tried in one check: each is made in a copy of its function, beside the function and under another name, with a copy of
 the files of its proof. The others are made in the function itself: those of a method of a trait, of a function that calls itself, and
-those that change more than the function. rattle does not try a function that calls one that is not proved, so such an edit waits until
-those of the functions below its own are tried.
+those that change more than the function. Each edit of the same function then needs a check of its own.
 """
 
-import json
 import re
 import shutil
 import subprocess
@@ -23,14 +24,32 @@ from pathlib import Path
 from typing import NamedTuple
 
 
-# What rattle prints of a function that it has not tried, since it calls one that is not proved.
-CALLS = re.compile(r"(?:it calls|a call of) `([^`]*)")
+# What rattle prints of a function that is proved, but for the holes in the proofs of those that it calls.
+PROVED = re.compile("no holes$|depends on a hole in ")
 
 
 class Edit(NamedTuple):
     name: str
     function: str
     changes: tuple  # each of a file, the text in it, and the text in its place
+
+
+class Function(NamedTuple):
+    """A function in the sources, by the numbers of its lines, from 0."""
+
+    file: str
+    first: int  # of its attributes, or else of its signature
+    body: int  # after the opening brace
+    last: int  # of the closing brace
+
+
+class Copy(NamedTuple):
+    """A copy of a function, in which an edit is made."""
+
+    edit: Edit
+    function: str
+    text: str
+    original: Function
 
 
 def parse_edit(path):
@@ -59,42 +78,100 @@ def apply(edit, texts):
     return texts
 
 
-def read_calls(crate):
-    """Returns the functions of a library that each of them calls, by its code in the built library. Returns none for a program."""
-    code = crate / "out/rlib" / f"{crate.name}.rlib" / "toolchain/mir.json"
-    functions = dict(json.loads(code.read_text(encoding="utf-8"))) if code.is_file() else {}
-    return {name: functions.keys() & set(re.findall(r'"([^"]*)"', json.dumps(body))) for name, body in functions.items()}
+def module_of(file):
+    """Returns the path of a module, by that of its file."""
+    path = file.removeprefix("src/").removesuffix(".rt")
+    return "" if path in ("lib", "main") else path.replace("/", "::")
 
 
-def add_calls(calls, output):
-    """Adds the calls for which rattle did not try a function."""
-    for function, what in re.findall(r"^fn (\S+): (.*)$", output, re.M):
-        calls.setdefault(function, set()).update(CALLS.findall(what))
+def block_name(line, module, homes):
+    """Returns the path of a type, or of the trait of a type, by the first line of an `impl` block in a module. Returns None of another
+    line."""
+    found = re.match(r"(?:unsafe )?impl(?:<.*?>)? (?:(\w+)(?:<([\w:]+)(?:<.*>)?>)? for )?(\w+)(?:<.*>)? \{$", line)
+    if not found:
+        return None
+    parameter = "".join(part[0].upper() + part[1:] for part in (found[2] or "").split("::") if part)
+    return f"{module if found[1] else homes.get(found[3], module)}::{found[3]}{found[1] or ''}{parameter}"
 
 
-def functions_below(function, calls):
-    """Returns the functions that this one calls, and those that these call, and so on."""
-    below, left = set(), [function]
-    while left:
-        new = calls.get(left.pop(), set()) - below
-        below |= new
-        left += new
-    return below
+def functions_of(texts):
+    """Returns the functions with a body of several lines in these sources, by their names as rattle prints them."""
+    homes = {}
+    for file, text in texts.items():
+        for name in re.findall(r"^(?:pub(?:\([a-z]+\))? )?(?:struct|enum) (\w+)", text, re.M):
+            homes[name] = module_of(file)
+    functions = {}
+    for file, text in texts.items():
+        lines, block = text.split("\n"), None
+        for at, line in enumerate(lines):
+            if re.match(r"\S.*\{$", line):
+                block = block_name(line, module_of(file), homes)
+            found = re.match(r'( *)(?:pub(?:\([a-z]+\))? )?(?:extern "C" )?fn (\w+)', line)
+            path = block if found and found[1] else module_of(file)
+            body = body_of(lines, at, found[1]) if found and path is not None else None
+            if body:
+                first, last = at, lines.index(f"{found[1]}}}", body)
+                while first and re.match(r" *#\[", lines[first - 1]):
+                    first -= 1
+                functions[f"{path}::{found[2]}".removeprefix("::")] = Function(file, first, body, last)
+    return functions
 
 
-def choose(crate, edits, texts, calls):
-    """Returns edits of different functions that can be applied together, and the texts of the files with them. Of those functions that call
-    one another, directly or not, it takes the one that is called."""
-    names = {f"{crate}::{edit.function}" for edit in edits}
-    waits = {name for name in names if functions_below(name, calls) & names - {name}}
-    free = [edit for edit in edits if f"{crate}::{edit.function}" not in waits]
-    chosen = []
-    for edit in free or edits:
-        changed = apply(edit, texts)
-        if changed and all(edit.function != other.function for other in chosen):
-            chosen.append(edit)
-            texts = changed
-    return chosen, texts
+def body_of(lines, at, indent):
+    """Returns the number of the line after the opening brace of a function that begins in the line `at`, or None if it has no body of
+    several lines."""
+    for number in range(at, len(lines)):
+        line = lines[number]
+        is_signature = number == at or line.startswith(f"{indent})")
+        if line == f"{indent}{{}}" or is_signature and line.endswith(" {}"):
+            return None
+        # An edit may have code after the brace.
+        if line == f"{indent}{{" or is_signature and re.search(r" \{( |$)", line):
+            return number + 1
+    return None
+
+
+def copy_of(edit, number, texts, functions):
+    """Returns a copy of the function of an edit in which the edit is made, or None if it has to be made in the function itself."""
+    path, _, name = edit.function.rpartition("::")
+    function = functions[edit.function]
+    text = "\n".join(texts[function.file].split("\n")[function.first : function.last + 1])
+    is_method = text.startswith(" ")
+    if is_method and not re.search(rf"^impl(<.*?>)? {path.rpartition('::')[2]}\b", texts[function.file], re.M):
+        return None
+    own = rf"(self\.|Self::|\b{path.rpartition('::')[2]}::)" if is_method else r"(?<!fn )(?<![\w.:])"
+    if "#[cycle" in text or re.search(rf"{own}{name}\(", text):
+        return None
+    for file, old, new in edit.changes:
+        if file != function.file or text.count(old) != 1:
+            return None
+        text = text.replace(old, new)
+    text = re.sub(rf"\bfn {name}\b", f"fn {name}_wrong_{number}", text, count=1)
+    return Copy(edit, f"{path}::{name}_wrong_{number}", text, function)
+
+
+def add_copies(copies, texts):
+    """Returns the texts with each copy after its function."""
+    texts = dict(texts)
+    for copy in sorted(copies, key=lambda copy: copy.original.last, reverse=True):
+        file, _, _, last = copy.original
+        lines = texts[file].split("\n")
+        lines[last + 1 : last + 1] = ["", *copy.text.split("\n")]
+        texts[file] = "\n".join(lines)
+    return texts
+
+
+def remove_bodies(texts, kept):
+    """Returns the texts with no code but `unreachable!()` in the functions that are not kept, and the names of these functions. Functions
+    that call one another have one proof, and are kept."""
+    texts, removed = dict(texts), []
+    for name, (file, first, body, last) in sorted(functions_of(texts).items(), key=lambda item: item[1].last, reverse=True):
+        lines = texts[file].split("\n")
+        if name not in kept and name != "main" and not any("#[cycle" in line for line in lines[first:body]):
+            lines[body:last] = [re.match(" *", lines[last])[0] + "    unreachable!()"]
+            texts[file] = "\n".join(lines)
+            removed.append(name)
+    return texts, removed
 
 
 def copy_proof(directory, crate, function, copy):
@@ -106,105 +183,61 @@ def copy_proof(directory, crate, function, copy):
         (target / file.name).write_text(file.read_text(encoding="utf-8").replace(*names), encoding="utf-8")
 
 
-def check(crate, texts, functions, command, kept, copies=()):
-    """Returns what rattle prints of these functions, in a copy of the crate with these texts, and with the proofs of these copies."""
-    with tempfile.TemporaryDirectory() as copy:
+def write_hole(directory, crate, function):
+    """Writes a proof with a hole in place of that of a function."""
+    proof, name = Path(directory, "proofs", *function.split("::")), function.rpartition("::")[2]
+    shutil.rmtree(proof, ignore_errors=True)
+    proof.mkdir(parents=True)
+    lines = [
+        f"use Rattle.{crate}.proofs.{function.replace('::', '.')}.Statement.{{statement}}",
+        "",
+        f"pub {name}_spec : {{M : Type 1}} → statement M",
+        f"{name}_spec = ?",
+        "",
+    ]
+    (proof / "Proof.antt").write_text("\n".join(lines), encoding="utf-8")
+
+
+def check(crate, texts, edited, removed, copies, command, kept):
+    """Returns what rattle prints of the edited functions, in a copy of the crate with these texts, without the proofs of the functions
+    whose code is removed, and with those of these copies."""
+    with tempfile.TemporaryDirectory() as directory:
         for part in ("src", "specs", "proofs"):
             if (crate / part).is_dir():
-                shutil.copytree(crate / part, f"{copy}/{part}")
+                shutil.copytree(crate / part, f"{directory}/{part}")
         for file, text in texts.items():
-            Path(copy, file).write_text(text, encoding="utf-8")
-        for each in copies:
-            copy_proof(copy, crate.name, each.edit.function, each.function)
-        only = [word for function in functions for word in ("--only", function)]
-        command = [*command, "--incremental", kept, *only]
+            Path(directory, file).write_text(text, encoding="utf-8")
+        for copy in copies:
+            copy_proof(directory, crate.name, copy.edit.function, copy.function)
+        for function in removed:
+            write_hole(directory, crate.name, function)
+        only = [word for function in edited for word in ("--only", function)]
+        command = [*command, "--incremental", kept, "--allow-holes", *only]
         how = {"stdin": subprocess.DEVNULL, "stdout": subprocess.PIPE, "stderr": subprocess.STDOUT, "text": True, "errors": "replace"}
-        return subprocess.run(command, cwd=copy, **how).stdout
+        return subprocess.run(command, cwd=directory, **how).stdout
 
 
-class Copy(NamedTuple):
-    """A copy of a function, in which an edit is made."""
-
-    edit: Edit
-    function: str
-    file: str
-    text: str
-    last: int  # the number of the last line of the function
+def open_goals(output, function):
+    """Returns the goals that are open in the lines of a function. If search gave up at a limit, the goal may be true."""
+    notes = re.findall(rf"^note: {re.escape(function.file)}:(\d+):\d+: it is not proved that .* \((`[^`]*`)\)$", output, re.M)
+    return [goal for line, goal in notes if function.first < int(line) <= function.last + 1]
 
 
-def copy_of(edit, number, texts):
-    """Returns a copy of the function of an edit in which the edit is made, or None if it has to be made in the function itself."""
-    path, _, name = edit.function.rpartition("::")
-    file, first, last = lines_of(edit._replace(changes=edit.changes[:1]), texts)
-    lines = texts[file].split("\n")
-    text = "\n".join(lines[first - 1 : last])
-    block = next((line for line in reversed(lines[:first]) if re.match(r"(pub |unsafe )*(impl|trait)\b", line)), "")
-    if text.startswith(" ") and re.search(r"\btrait\b|\bfor\b", block):
-        return None
-    calls_itself = len(re.findall(rf"\b{re.escape(name)}\(", text)) > 1 or "#[cycle" in text
-    if calls_itself or not re.search(rf"\bfn {re.escape(name)}\b", text):
-        return None
-    for other, old, new in edit.changes:
-        if other != file or text.count(old) != 1:
-            return None
-        text = text.replace(old, new)
-    text = re.sub(rf"\bfn {re.escape(name)}\b", f"fn {name}_wrong_{number}", text, count=1)
-    return Copy(edit, f"{path}::{name}_wrong_{number}", file, text, last)
-
-
-def add_copies(copies, texts):
-    """Returns the texts with each copy after its function, and where each copy is: its file, its first and its last line."""
-    texts, places = dict(texts), {}
-    for file in {copy.file for copy in copies}:
-        lines, added = texts[file].split("\n"), 0
-        for copy in sorted((copy for copy in copies if copy.file == file), key=lambda copy: copy.last):
-            new = ["", *copy.text.split("\n")]
-            at = copy.last + added
-            lines[at:at] = new
-            added += len(new)
-            places[copy.function] = (file, at + 2, at + len(new))
-        texts[file] = "\n".join(lines)
-    return texts, places
-
-
-def lines_of(edit, texts):
-    """Returns a file that the edit changes, and the first and the last line there of the function with its attributes."""
-    file, old, _ = edit.changes[-1]
-    text = apply(edit._replace(changes=edit.changes[:-1]), texts)[file]
-    lines = text.split("\n")
-    first = text.partition(old)[0].count("\n")
-    while first and not re.match(r" *(pub(\([a-z]+\))? )?fn ", lines[first]):
-        first -= 1
-    end = re.match(" *", lines[first])[0] + "}"
-    last = next((at for at in range(first, len(lines)) if lines[at] == end), first)
-    while first and re.match(r" *#\[", lines[first - 1]):
-        first -= 1
-    return file, first + 1, last + 1
-
-
-def open_goals(output, file, first, last):
-    """Returns the goals that are open in these lines of a file. If search gave up at a limit, the goal may be true."""
-    notes = re.findall(rf"^note: {re.escape(file)}:(\d+):\d+: it is not proved that .* \((`[^`]*`)\)$", output, re.M)
-    return [goal for line, goal in notes if first <= int(line) <= last]
-
-
-def verdict(output, crate, function, place):
-    """Returns whether a function is refused, or None if it was not tried, and why. Its place is its file, its first and its last line."""
-    found = re.search(rf"^fn {re.escape(crate)}::{re.escape(function)}: (.*)$", output, re.M)
+def verdict(output, crate, name, function):
+    """Returns whether a function is refused, and why."""
+    found = re.search(rf"^fn {re.escape(crate)}::{re.escape(name)}: (.*)$", output, re.M)
     if not found:
         return False, "rattle does not name the function"
-    if CALLS.search(found[1]):
-        return None, found[1]
-    goals = re.search(r"`search` did not prove (.*)$", found[1])
+    goals = re.search(r"`search` did not prove (`[^;]*)", found[1])
     if goals:
         return True, goals[1]
-    answers = re.escape("./proofs/" + function.replace("::", "/")) + r"/Answers\.antt:\d+:\d+: error: (.*)"
+    answers = re.escape("./proofs/" + name.replace("::", "/")) + r"/Answers\.antt:\d+:\d+: error: (.*)"
     # These errors name what the edit took away. They say nothing about the contract. rattle may break a message: the lines that
     # continue it begin with two spaces.
     names = r": record `|has no |is no name|is not in scope|w(as|ere) not admitted|have not been loaded|cannot be unfolded"
     joined = re.sub(r"\n  (?=\S)", " ", output)
     wrong = [it for it in re.findall(answers, joined) if not re.search(names, it)]
-    wrong += open_goals(output, *place)
+    wrong += open_goals(output, function)
     if found[1].startswith("not proved") and wrong:
         return True, wrong[0]
     return False, found[1]
@@ -212,91 +245,106 @@ def verdict(output, crate, function, place):
 
 def fault(output, is_edited):
     """Returns why the output shows nothing of the edited functions, if so: a text could not be read, rattle did not come to its end, or
-    a function is not proved that is not edited, though all that it calls is."""
+    a function that is not edited does not depend on a hole alone."""
     unread = re.search(r"^(?:\./)?(?:src|specs)/.*: error.*", output, re.M)
     if unread:
         return unread[0]
-    if not re.search(r"^only=\d+ proved=\d+\n\Z", output, re.M):
+    if not re.search(r"^only=\d+ holes=\d+\n\Z", output, re.M):
         return "rattle did not come to its end"
-    for function, what in re.findall(r"^fn (\S+): (.*)$", output, re.M):
-        if not is_edited(function) and what != "proved" and not CALLS.search(what):
+    for function, what in re.findall(r"^fn \w+?::(\S+): (.*)$", output, re.M):
+        if not is_edited(function) and not PROVED.match(what):
             return f"{function}: {what}"
     return None
 
 
-def try_round(crate, waiting, texts, calls, command, kept):
-    """Checks edits of different functions together. Returns the verdict on each edit that was tried, or why the check shows nothing."""
-    chosen, changed = choose(crate.name, waiting, texts, calls)
-    output = check(crate, changed, [edit.function for edit in chosen], command, kept)
-    add_calls(calls, output)
-    verdicts = {edit: verdict(output, crate.name, edit.function, lines_of(edit, texts)) for edit in chosen}
-    tried = {edit: result for edit, result in verdicts.items() if result[0] is not None}
+def is_within(edit, texts, functions):
+    """Returns whether an edit changes its function alone."""
+    file, first, _, last = functions[edit.function]
+    text = "\n".join(texts[file].split("\n")[first : last + 1])
+    return all(other == file and text.count(old) == 1 for other, old, _ in edit.changes)
+
+
+def choose(edits, taken, texts, functions):
+    """Returns edits that can be made in their functions together, beside those that are taken: of different functions, and one that changes
+    more than its function only beside those of other files."""
+    chosen = []
+    for edit in edits:
+        for other in taken + chosen:
+            is_of_file = {file for file, _, _ in edit.changes} & {file for file, _, _ in other.changes}
+            are_within = is_within(edit, texts, functions) and is_within(other, texts, functions)
+            if edit.function == other.function or is_of_file and not are_within:
+                break
+        else:
+            chosen.append(edit)
+    return chosen
+
+
+def try_round(crate, copies, edits, texts, command, kept):
+    """Checks these copies, and these edits in their functions. Returns the verdict on each edit, or why the check shows nothing."""
+    for edit in edits:
+        texts = apply(edit, texts)
+    texts = add_copies(copies, texts)
+    edited = {copy.function: copy.edit for copy in copies} | {edit.function: edit for edit in edits}
+    texts, removed = remove_bodies(texts, edited)
+    output = check(crate, texts, edited, removed, copies, command, kept)
     # Functions that call one another have one proof. They are in one module.
-    modules = {f"{crate.name}::{edit.function}".rpartition("::")[0] for edit in chosen}
-    why = fault(output, lambda function: function.rpartition("::")[0] in modules)
-    if not why and not tried:
-        why = "no edit can be tried"
+    modules = {edit.function.rpartition("::")[0] for edit in edits}
+    why = fault(output, lambda name: name in edited or name.rpartition("::")[0] in modules)
     if why:
-        why = "\n".join([why, *output.splitlines()[-20:]])
-    return tried, why
+        return {}, "\n".join([why, *output.splitlines()[-20:]])
+    functions = functions_of(texts)
+    return {edit: verdict(output, crate.name, name, functions[name]) for name, edit in edited.items()}, None
 
 
-def report(crate, edit, refused, why):
-    """Prints the verdict on an edit, and returns whether the edit is refused."""
-    print(f"{'refused' if refused else 'FAILED'}: {crate.name}/{edit.name}: {edit.function}: {why[:160]}", flush=True)
-    return refused
+def report(crate, edit, refused, why, wanted="refused"):
+    """Prints the verdict on an edit, and returns whether it is the wanted one: `refused` or `proved`."""
+    is_wanted = refused if wanted == "refused" else not refused and bool(PROVED.match(why))
+    print(f"{wanted if is_wanted else 'FAILED'}: {crate.name}/{edit.name}: {edit.function}: {why[:160]}", flush=True)
+    return is_wanted
 
 
-def try_copies(crate, edits, texts, command, kept):
-    """Checks copies of the functions of these edits together. Returns the edits that are refused, each with the reason."""
-    copies = [copy for copy in (copy_of(edit, number, texts) for number, edit in enumerate(edits, 1)) if copy]
-    # rattle proves the exports of a static library and what these call, so no copy.
-    crates = (crate.parents[1] / "crates.txt").read_text(encoding="utf-8")
-    if not copies or re.search(rf"^{crate.name} staticlib:", crates, re.M):
-        return {}
-    changed, places = add_copies(copies, texts)
-    output = check(crate, changed, list(places), command, kept, copies)
-    why = fault(output, lambda function: function.removeprefix(f"{crate.name}::") in places)
-    if why:
-        print(f"{crate.name}: no copy shows anything: {why}")
-        return {}
-    verdicts = {copy.edit: verdict(output, crate.name, copy.function, places[copy.function]) for copy in copies}
-    return {edit: why for edit, (refused, why) in verdicts.items() if refused}
-
-
-def try_all(crate, waiting, texts, command):
-    """Tries the edits: those that are not refused in a copy of their function in the function itself, round by round. Returns whether each
-    is refused."""
-    all_refused = True
+def try_all(crate, edits, texts, command, wanted):
+    """Tries the edits. If one has to be refused and is not, in a copy of its function, it is tried in the function itself. Returns whether
+    each verdict is the wanted one."""
+    functions = functions_of(texts)
+    copies = [copy for copy in (copy_of(edit, number, texts, functions) for number, edit in enumerate(edits, 1)) if copy]
+    waiting = [edit for edit in edits if all(copy.edit != edit for copy in copies)]
+    all_wanted = True
     with tempfile.TemporaryDirectory() as kept:
-        refused = try_copies(crate, waiting, texts, command, kept)
-        for edit, why in refused.items():
-            report(crate, edit, True, why)
-        waiting = [edit for edit in waiting if edit not in refused]
-        calls = read_calls(crate)
-        while waiting:
-            tried, why = try_round(crate, waiting, texts, calls, command, kept)
+        while copies or waiting:
+            chosen = choose(waiting, [copy.edit for copy in copies], texts, functions)
+            verdicts, why = try_round(crate, copies, chosen, texts, command, kept)
             if why:
                 print(f"FAILED: {crate.name}: {why}")
                 return False
-            for edit, result in tried.items():
-                all_refused &= report(crate, edit, *result)
-            waiting = [edit for edit in waiting if edit not in tried]
-    return all_refused
+            again = [copy.edit for copy in copies if wanted == "refused" and not verdicts[copy.edit][0]]
+            for edit, result in verdicts.items():
+                if edit not in again:
+                    all_wanted &= report(crate, edit, *result, wanted)
+            waiting = again + [edit for edit in waiting if edit not in chosen]
+            copies = []
+    return all_wanted
 
 
 def main():
-    crate, edits, *command = sys.argv[1:]
+    arguments = sys.argv[1:]
+    wanted = "refused"
+    if arguments[0] == "--unchanged":
+        wanted = "proved"
+        del arguments[0]
+    crate, edits, *command = arguments
     crate = Path(crate)
     edits = [parse_edit(path) for path in sorted(Path(edits).glob("*.edit"))]
-    files = {file for edit in edits for file, _, _ in edit.changes}
-    texts = {file: (crate / file).read_text(encoding="utf-8") for file in files}
+    texts = {str(file.relative_to(crate)): file.read_text(encoding="utf-8") for file in sorted(crate.glob("src/**/*.rt"))}
     applicable = [edit for edit in edits if apply(edit, texts)]
     for edit in edits:
         if edit not in applicable:
             report(crate, edit, False, "a text is not in its file once")
-    all_refused = try_all(crate, applicable, texts, command)
-    return 0 if all_refused and len(applicable) == len(edits) else 1
+    if wanted == "proved":
+        unchanged = [tuple((file, old, old) for file, old, _ in edit.changes) for edit in applicable]
+        applicable = [edit._replace(changes=changes) for edit, changes in zip(applicable, unchanged)]
+    all_wanted = try_all(crate, applicable, texts, command, wanted)
+    return 0 if all_wanted and len(applicable) == len(edits) else 1
 
 
 if __name__ == "__main__":

@@ -1,7 +1,7 @@
 #!/bin/sh
 # Tries wrong bodies of functions, which are in tests/prover/wrong_bodies: the prover has to refuse the function that each edit names.
 # The wrong bodies of a crate are tried together, in a copy of the crate over the other crates as they are built, so this takes much
-# less time than `rt must-fail`, which checks a crate once for each edit. The rounds are in tests/prover/wrong_bodies.py. As many crates
+# less time than `rt must-fail`, which checks a crate once for each edit. The checks are in tests/prover/wrong_bodies.py. As many crates
 # are tried at a time as there are processors. The arguments name the crates; without any, all are tried. The script needs python3, and
 # installs Debian's if it is missing and the script runs as root.
 #
@@ -22,14 +22,13 @@ if [ "${1-}" = check ]; then
     # A process may always lower its own priority, and only root may raise one.
     [ -z "${log_of_ci-}" ] || [ -e "$log_of_ci.ended" ] || renice -n 10 -p $$ > /dev/null
     [ -z "${longest-}" ] || [ "$crate" = "$longest" ] || renice -n 10 -p $$ > /dev/null
-    # rattle reads the code of all libraries below a program, which takes minutes, and only what is public of those below a library. So a
-    # program is checked as a library of its modules. An edit of main.rt would fail, since rattle would not name its function.
+    # rattle reads the code of all libraries below a program or a static library, which takes minutes, and only what is public of those
+    # below another library. So a program is checked as a library of its modules, and a static library as any other. An edit of main.rt
+    # would fail, since rattle would not name its function.
     if [ -f src/main.rt ]; then
         modules_of_program src/main.rt > src/lib.rt
         rm src/main.rt
     fi
-    # rattle proves the exports of a static library alone.
-    ! is_static "$crate" || set -- --crate-type staticlib "$@"
     rattle check "$crate" src/lib.rt "$(sed -n "s/^$crate\( staticlib\)*: *//p" "$root/crates.txt")" "$@"
     exit
 fi

@@ -67,11 +67,11 @@ BOOTIMG_LIBRARY=$work/libbootimg.so
 PYTHONPATH=$root/python
 export BOOTIMG_LIBRARY PYTHONPATH
 
-# same COMMAND [ARGUMENT..]: calls.c and the module do what the program does with these arguments: status, output and errors.
+# same COMMAND [ARGUMENT..]: calls.c, and what is in `module`, do what the program does with these arguments: status, output and errors.
 same() {
     "$program" "$@" > output 2> errors
     status=$?
-    for tried in ./calls "python3 -m bootimg"; do
+    for tried in ./calls ${module:+"$module"}; do
         $tried "$@" > output2 2> errors2
         [ $? = "$status" ] && cmp output output2 && cmp errors errors2 || { cat errors2; return 1; }
     done
@@ -106,6 +106,8 @@ for number in 1_000 +1000 0x_ff 0X3e8 " 1000 " ١٠٠٠ 1000.0 -1 "" 0x; do
     check "the module takes no number that the program refuses: '$number'" refuses_number "$number"
 done
 "$root/tests/conformance/run" --export runs > log || cat log
+# The module calls one shared library, so it is tried beside the calls of one compiler.
+module="python3 -m bootimg"
 for compiler in gcc clang; do
     check "$compiler compiles the calls" $compiler -std=gnu99 -Wall -Wextra -Werror -g -fsanitize=address,undefined \
         -I"$root/include" "$root/tests/tools/c_library/calls.c" "$library" "$heap" -lpthread -o calls
@@ -131,6 +133,7 @@ for compiler in gcc clang; do
     check "$compiler: the version is that of the program" sh -c '"$1" --version | cut -d " " -f 2 | cmp - output' sh "$program"
     check "$compiler: the struct is as large as the library's" test "$(./calls sizes)" = "32 0 8 16 20 24 28"
     passes python3 "$root/tests/tools/c_library/suite.py" runs "$program" calls libbootimg.so
+    module=
 done
 
 # Each allocation of each call fails in turn.
