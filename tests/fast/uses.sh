@@ -36,7 +36,7 @@ check "a contract that cites the table of a blob is found" \
 check "a proof that cites the table of a blob is found" \
     is_found bi_fit/proofs/PayloadAreas.antt 'use Rattle.bi_fdt.specs.Table.{TableItem, nodes_of}'
 check "a proof that cites a lemma about the table of a blob is found" \
-    is_found bi_fit/proofs/PayloadAreas.antt 'use Rattle.bi_fdt.proofs.Parsing.{nodes-same}'
+    is_found bi_fit/proofs/PayloadAreas.antt 'use Rattle.bi_fdt.proofs.TableTrees.{nodes-same}'
 check "a proof that cites a private type is found" \
     is_found bi_norm/proofs/NormalForms.antt 'use Rattle.bi_fdt.specs.declared.table.Entry.TheVariants as entry'
 check "a proof that cites the answers of a function is found" \

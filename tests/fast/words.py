@@ -8,7 +8,7 @@ It finds:
 - participle: a definition, lemma, function or type whose name is a participle alone;
 - label: a clause whose label is not the one of its family: the only clause about the error is `fault` where the error is a Fault, and
   `failed` else; the only clause about the success has the label of `SUCCESS` below;
-- long: a line of a lemma's statement that is longer than 140 columns;
+- long: a line of a lemma's statement that is longer than 140 columns, also of a lemma within another;
 - same: one statement that is proved twice, whatever its variables are called and in whatever order they come;
 - copy: thirteen lines that two crates have, one after the other, in sources or proofs.
 """
@@ -49,6 +49,10 @@ def definitions_of(crate, part, module, path):
     while i < len(lines):
         line = lines[i]
         if line.strip() and indent(line) == 0 and not line.startswith("--"):
+            # The parameters of a module may take several lines.
+            while re.match(r"(?:pub )?module _ ", line) and not line.endswith(" where"):
+                i += 1
+                line += " " + lines[i].strip()
             begins = re.match(r"(?:pub )?module _ (.*) where$", line)
             column, parameters = (2, begins[1] + " → ") if begins else (0, "")
         match = HEAD.match(line) if line.strip() and indent(line) == column and not NO_HEAD.match(line) else None
@@ -172,12 +176,28 @@ def labels_that_differ(root):
                         yield "label", f"{where}.{values[0]}", f"the label of the clause about its success is `{wanted}`"
 
 
-def long_statements(definitions):
-    for definition in definitions:
-        if definition.part == "proofs" and definition.kind in ("lemma", "definition"):
-            longest = max(len(line) for line in read(definition.path).splitlines()[definition.first - 1 : definition.last])
-            if longest > WIDEST:
-                yield "long", place_of(definition), f"{longest} columns"
+def local_statements(lines):
+    """The name, the first line and the line after each statement that a definition of its name follows."""
+    for first, line in enumerate(lines):
+        match = re.match(r"( *)(?:(?:abbrev|unfoldable|opaque|pub) )*(?!let )([^\s():{},;]+)(?: [^\s():{},;=]+)* :(?: |$)", line)
+        last = first + 1
+        while match and last < len(lines) and indent(lines[last]) > len(match[1]):
+            last += 1
+        after = last
+        while match and after < len(lines) and lines[after].strip().startswith("unfolding "):
+            after += 1
+        if match and after < len(lines) and lines[after].strip() and lines[after].split()[0] == match[2]:
+            yield match[2], first, last
+
+
+def long_statements(root):
+    for crate in crates_of(root):
+        for path, module in files_of(root, crate, "proofs"):
+            lines = read(path).splitlines() if module.split(".")[-1] not in PROOF_OF_FUNCTION else []
+            for name, first, last in local_statements(lines):
+                longest = max(map(len, lines[first:last]))
+                if longest > WIDEST:
+                    yield "long", f"{crate}.proofs.{module}.{name}", f"{longest} columns"
 
 
 def bound_groups(statement):
@@ -266,7 +286,7 @@ def main(root):
         *records_with_other_names(root, definitions),
         *names_that_are_participles(root, definitions),
         *labels_that_differ(root),
-        *long_statements(definitions),
+        *long_statements(root),
         *statements_that_are_proved_twice(definitions),
         *copies(root),
     ]

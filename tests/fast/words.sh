@@ -33,7 +33,7 @@ check "a definition of the name of another is found" \
 check "a private definition of the name of another is found" \
     is_found bi_fit/specs/Names.antt 'twice: IsBlob: ' 'abbrev IsBlob : Type 0' 'IsBlob = Unit {0}'
 check "a lemma of the name of another is found" \
-    is_found bi_norm/proofs/Opening.antt 'twice: AreBytes-none: ' 'pub AreBytes-none : 1 ≡ 1' 'AreBytes-none = refl'
+    is_found bi_norm/proofs/FilesWithoutMeaning.antt 'twice: AreBytes-none: ' 'pub AreBytes-none : 1 ≡ 1' 'AreBytes-none = refl'
 check "a record with another name than its type is found" \
     is_found bi_fit/specs/Judgement.antt 'record: Judgement: shows Key' 'abbrev pub judgement_of_key : Key → Judgement' \
     'judgement_of_key key = judgement_of_key key'
@@ -42,6 +42,12 @@ check "a participle is found" \
 check "a long statement is found" \
     is_found bi_fit/proofs/Trees.antt 'long: bi_fit.proofs.Trees.long_one: 1' \
     "$(printf 'long_one : 1 ≡ 1%s' "$(printf ' × 1 ≡ 1%.0s' $(seq 20))")" 'long_one = long_one'
+check "a long abbreviation of a proof is found" \
+    is_found bi_fit/proofs/Trees.antt 'long: bi_fit.proofs.Trees.long_type: 1' \
+    "$(printf 'abbrev long_type : 1 ≡ 1%s' "$(printf ' × 1 ≡ 1%.0s' $(seq 20))")" 'long_type = long_type'
+check "a long statement of a lemma within another is found" \
+    is_found bi_fit/proofs/Trees.antt 'long: bi_fit.proofs.Trees.inner: 1' 'outer_one : 1 ≡ 1' 'outer_one = inner' '  where' \
+    "$(printf '    inner : 1 ≡ 1%s' "$(printf ' × 1 ≡ 1%.0s' $(seq 20))")" '    inner = refl'
 check "a statement that is proved twice is found" \
     is_found bi_fit/proofs/Trees.antt 'same: ' \
     'names_of_each : {Old New : Type 0} (new : Old → New) (some : Nodes Old) → names (with_each new some) ≡ names some'

@@ -72,7 +72,7 @@ def apply(edit, texts):
     """Returns the texts of the files with the edit applied, or None if a text is not in its file once."""
     texts = dict(texts)
     for file, old, new in edit.changes:
-        if texts[file].count(old) != 1:
+        if texts.get(file, "").count(old) != 1:
             return None
         texts[file] = texts[file].replace(old, new)
     return texts
@@ -84,28 +84,28 @@ def module_of(file):
     return "" if path in ("lib", "main") else path.replace("/", "::")
 
 
-def block_name(line, module, homes):
+def block_name(line, module, type_modules):
     """Returns the path of a type, or of the trait of a type, by the first line of an `impl` block in a module. Returns None of another
     line."""
     found = re.match(r"(?:unsafe )?impl(?:<.*?>)? (?:(\w+)(?:<([\w:]+)(?:<.*>)?>)? for )?(\w+)(?:<.*>)? \{$", line)
     if not found:
         return None
     parameter = "".join(part[0].upper() + part[1:] for part in (found[2] or "").split("::") if part)
-    return f"{module if found[1] else homes.get(found[3], module)}::{found[3]}{found[1] or ''}{parameter}"
+    return f"{module if found[1] else type_modules.get(found[3], module)}::{found[3]}{found[1] or ''}{parameter}"
 
 
 def functions_of(texts):
     """Returns the functions with a body of several lines in these sources, by their names as rattle prints them."""
-    homes = {}
+    type_modules = {}
     for file, text in texts.items():
         for name in re.findall(r"^(?:pub(?:\([a-z]+\))? )?(?:struct|enum) (\w+)", text, re.M):
-            homes[name] = module_of(file)
+            type_modules[name] = module_of(file)
     functions = {}
     for file, text in texts.items():
         lines, block = text.split("\n"), None
         for at, line in enumerate(lines):
             if re.match(r"\S.*\{$", line):
-                block = block_name(line, module_of(file), homes)
+                block = block_name(line, module_of(file), type_modules)
             found = re.match(r'( *)(?:pub(?:\([a-z]+\))? )?(?:extern "C" )?fn (\w+)', line)
             path = block if found and found[1] else module_of(file)
             body = body_of(lines, at, found[1]) if found and path is not None else None
@@ -232,9 +232,9 @@ def verdict(output, crate, name, function):
     if goals:
         return True, goals[1]
     answers = re.escape("./proofs/" + name.replace("::", "/")) + r"/Answers\.antt:\d+:\d+: error: (.*)"
-    # These errors name what the edit took away. They say nothing about the contract. rattle may break a message: the lines that
-    # continue it begin with two spaces.
-    names = r": record `|has no |is no name|is not in scope|w(as|ere) not admitted|have not been loaded|cannot be unfolded"
+    # These errors name what the edit took away, or an answer with such an error. They say nothing about the contract. rattle may break a
+    # message: the lines that continue it begin with two spaces.
+    names = r": record `|has no |is no name|is not in scope|w(as|ere) (not admitted|rejected)|have not been loaded|cannot be unfolded"
     joined = re.sub(r"\n  (?=\S)", " ", output)
     wrong = [it for it in re.findall(answers, joined) if not re.search(names, it)]
     wrong += open_goals(output, function)
@@ -270,9 +270,9 @@ def choose(edits, taken, texts, functions):
     chosen = []
     for edit in edits:
         for other in taken + chosen:
-            is_of_file = {file for file, _, _ in edit.changes} & {file for file, _, _ in other.changes}
-            are_within = is_within(edit, texts, functions) and is_within(other, texts, functions)
-            if edit.function == other.function or is_of_file and not are_within:
+            shares_file = {file for file, _, _ in edit.changes} & {file for file, _, _ in other.changes}
+            stay_within = is_within(edit, texts, functions) and is_within(other, texts, functions)
+            if edit.function == other.function or shares_file and not stay_within:
                 break
         else:
             chosen.append(edit)
@@ -336,12 +336,14 @@ def main():
     crate = Path(crate)
     edits = [parse_edit(path) for path in sorted(Path(edits).glob("*.edit"))]
     texts = {str(file.relative_to(crate)): file.read_text(encoding="utf-8") for file in sorted(crate.glob("src/**/*.rt"))}
-    applicable = [edit for edit in edits if apply(edit, texts)]
+    functions = functions_of(texts)
+    applicable = [edit for edit in edits if edit.function in functions and apply(edit, texts)]
     for edit in edits:
         if edit not in applicable:
-            report(crate, edit, False, "a text is not in its file once")
+            report(crate, edit, False, "a text is not in its file once, or the sources have no such function")
     if wanted == "proved":
-        unchanged = [tuple((file, old, old) for file, old, _ in edit.changes) for edit in applicable]
+        # The text of a later change may be there only after an earlier one.
+        unchanged = [tuple((file, old, old) for file, old, _ in edit.changes if texts[file].count(old) == 1) for edit in applicable]
         applicable = [edit._replace(changes=changes) for edit, changes in zip(applicable, unchanged)]
     all_wanted = try_all(crate, applicable, texts, command, wanted)
     return 0 if all_wanted and len(applicable) == len(edits) else 1

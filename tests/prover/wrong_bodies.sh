@@ -5,6 +5,9 @@
 # are tried at a time as there are processors. The arguments name the crates; without any, all are tried. The script needs python3, and
 # installs Debian's if it is missing and the script runs as root.
 #
+# With --unchanged before the crates the edits change nothing, and each function has to be proved: a copy that is refused without its edit
+# would show nothing.
+#
 # With --beside LOG before the crates it runs beside `rt ci`, which prints to LOG: the crates are tried one after the other, each as soon as
 # `rt ci` has proved it. LOG.ended is made when `rt ci` ends; a crate that is not begun by then is left out. LOG.tried has the others. A
 # check that begins before that has less priority. The script without arguments leaves out the crates in the file of the variable
@@ -40,6 +43,15 @@ if [ "${1-}" = --beside ]; then
     shift 2
 fi
 
+unchanged=
+wanted=refused
+if [ "${1-}" = --unchanged ]; then
+    unchanged=$1
+    wanted=proved
+    shift
+fi
+export unchanged
+
 need python3 python3
 [ -n "$log_of_ci" ] || need_libraries
 work_in_new_directory
@@ -56,7 +68,7 @@ wait_for_proof() {
 # Tries the wrong bodies of the crate $2. What they give is in the file $2.log.
 try='
     here=$1/tests/prover
-    python3 "$here/wrong_bodies.py" "$1/crates/$2" "$here/wrong_bodies/$2" "$here/wrong_bodies.sh" check "$2" > "$2.log" 2>&1'
+    python3 "$here/wrong_bodies.py" $unchanged "$1/crates/$2" "$here/wrong_bodies/$2" "$here/wrong_bodies.sh" check "$2" > "$2.log" 2>&1'
 if [ -n "$log_of_ci" ]; then
     for crate; do
         wait_for_proof "$crate" || break
@@ -76,8 +88,8 @@ for log in *.log; do
     crate=${log%.log}
     for edit in "$here/wrong_bodies/$crate"/*.edit; do
         name=$crate/$(basename "$edit" .edit)
-        check "$name is refused" grep -F "refused: $name: " "$log"
+        check "$name is $wanted" grep -F "$wanted: $name: " "$log"
     done
-    grep -v '^refused: ' "$log"
+    grep -v "^$wanted: " "$log"
 done
 finish

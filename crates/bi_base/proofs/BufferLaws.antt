@@ -4,7 +4,7 @@ use Rattle.bi_base.specs.BufferedSinks.{Buffer, Holds, Stops}
 use Rattle.bi_base.specs.Sinks.{Wrote}
 use Rattle.bi_base.specs.Writing.{WroteAll, WriteStopped}
 
--- A sink that holds bytes back.
+-- A call that writes what a buffer held and more bytes to its writer, and leaves the buffer empty, writes these bytes to the buffer.
 
 -- Where what was held back and these bytes were written, none are held back.
 pub wrote_through : (old new : Buffer) (bytes : List ℕ) (result : Result (Unit {0}) Error) →

@@ -6,7 +6,7 @@ use Rattle.std.proofs.lemmas.List.{get_or_append_left, get_or-append_right, get_
 use Rattle.bi_base.specs.Cells.{cell, cell8, AreBytes}
 use Rattle.bi_base.proofs.CellLaws.{AreBytes-slice}
 
--- Lists of bytes: their parts, and how they are put together.
+-- Zeros, cells, and lists of bytes one after the other are lists of bytes, and so are the parts of a list of bytes.
 
 -- No bytes.
 pub AreBytes-none : AreBytes []

@@ -5,7 +5,7 @@ use Rattle.std.proofs.lemmas.Nat.{from_be_bytes-to_be_bytes_4}
 use Rattle.bi_base.specs.Cells.{cell, u32_at, slice, AreBytes}
 use Rattle.bi_base.proofs.CellLaws.{cell-u32_at}
 
--- Slices and cells of a file.
+-- The bytes from an offset on are the slice or the cell there and the bytes after it, and a cell is read as its number.
 
 -- The bytes from an offset on are a slice there and the bytes after the slice.
 pub drop_slice : (file : List ℕ) (at n : ℕ) → drop at file ≡ slice file at n ++ drop (at + n) file

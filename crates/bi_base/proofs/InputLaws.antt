@@ -4,7 +4,7 @@ use Rattle.std.specs.Io.KnownBytes.{Consumes}
 use Rattle.bi_base.specs.Reading.{IsInput, too_large}
 use Rattle.bi_base.specs.declared.fault.Fault.{Fault}
 
--- An input that is too long.
+-- If more bytes are read than the limit, the input is longer than the limit.
 
 -- Where more bytes were read than may be, the input is longer than that.
 pub too_long : (old new : Option (List ℕ)) (most : ℕ) (taken : List ℕ) (fault : Fault) → Consumes old new taken → most < length taken →

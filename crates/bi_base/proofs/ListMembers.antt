@@ -1,7 +1,8 @@
 use Rattle.std.specs.List.{AllByRecursion}
 use Rattle.std.proofs.Common.{◌≡◌, ◌⊎◌, zero, suc, Bool, true, false, List, [], ◌++◌, map, subst, ◌∷◌, Contains, filter, inl, inr, refl, ap, ◌∙◌, sym, arith, true≢false}
 
--- What is among the elements of a list, and what holds of each, one element at a time.
+-- An element of a list is its first or is among the others, and what holds of each element of a list holds of each of its parts, of each
+-- that passes a test, and of what is among them.
 
 -- Nothing is among no elements.
 pub Contains-none : {X : Type 0} (x : X) → Contains [] x → ⊥
@@ -26,7 +27,8 @@ Contains-filter test [] x passes has = absurd (Contains-none x has)
 Contains-filter {X = X} test (first ∷ others) x passes has =
     where_first (test first) refl (Contains-cases first others x has) (λ has. Contains-filter test others x passes has)
   where
-    where_first : (b : Bool) → test first ≡ b → (first ≡ x) ⊎ Contains others x → (Contains others x → Contains (filter test others) x) → Contains (filter test (first ∷ others)) x
+    where_first : (b : Bool) → test first ≡ b → (first ≡ x) ⊎ Contains others x → (Contains others x → Contains (filter test others) x) →
+        Contains (filter test (first ∷ others)) x
     where_first true is (inl same) among = rw is (rw (← same) (Contains-first first (filter test others)))
     where_first true is (inr has) among = rw is (Contains-others first (filter test others) x (among has))
     where_first false is (inl same) among = absurd (true≢false (sym passes ∙ ap test (sym same) ∙ is))
@@ -38,7 +40,8 @@ Contains-from_filter test [] x has = has
 Contains-from_filter {X = X} test (first ∷ others) x has =
     where_first (test first) refl has (λ has. Contains-from_filter test others x has)
   where
-    where_first : (b : Bool) → test first ≡ b → Contains (filter test (first ∷ others)) x → (Contains (filter test others) x → Contains others x) → Contains (first ∷ others) x
+    where_first : (b : Bool) → test first ≡ b → Contains (filter test (first ∷ others)) x →
+        (Contains (filter test others) x → Contains others x) → Contains (first ∷ others) x
     where_first true is has among = where_here (Contains-cases first (filter test others) x (rw is at has))
       where
         where_here : (first ≡ x) ⊎ Contains (filter test others) x → Contains (first ∷ others) x

@@ -6,7 +6,7 @@ use Rattle.std.proofs.lemmas.List.Elements.{recursion_from_All}
 use Rattle.std.proofs.lemmas.List.Sums.{fails_before_first, passes_at_first}
 use Rattle.bi_base.specs.Strings.{before_nul, IsEmptyOrBeginsWithNul}
 
--- Lists of numbers up to their first zero.
+-- The numbers before the first zero of a list are not zero, and what follows them is empty or begins with a zero.
 
 -- The index of the first zero, or the length where none is zero.
 abbrev pub nul_index : List ℕ → ℕ

@@ -7,7 +7,7 @@ use Rattle.std.proofs.lemmas.Bool.{eqb-true}
 use borrow.Author.Tests.{ltb-true}
 use Rattle.bi_base.specs.Strings.{text_before_nul}
 
--- The text before the first zero byte.
+-- A value that has a text is the text, a zero byte and the rest, and the text ends at the first zero byte.
 
 -- Adding one to both numbers does not change their order.
 ltb-after : (m n : ℕ) → ltb m n ≡ ltb (1 + m) (1 + n)

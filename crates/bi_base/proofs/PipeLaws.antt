@@ -16,7 +16,8 @@ use Rattle.bi_base.specs.declared.fault.Error.{Error}
 use Rattle.bi_base.specs.declared.fault.Error.TheVariants.{ReadFailed, WriteFailed}
 use Rattle.bi_base.proofs.TransferLaws.{stopped_writing, finished_after, write_stopped, refused_after, read_stopped, error_of_reading}
 
--- What running a command from a reader to a writer does, from what reading, the command and its sink do.
+-- A command that is run from a reader to a writer fails if reading, the command or writing its output fails, and a run over traced streams
+-- is a run over plain ones.
 
 -- Where a command failed over a new sink, writing failed.
 pub failed_writing : {T E : Type 0} (trace : T → WriteTrace) (wraps : Error → E) (IsText : List ℕ → Type 0) (HasError : E → Type 0)

@@ -5,7 +5,7 @@ use Rattle.bi_base.specs.declared.fault.Error.TheVariants as error
 use Rattle.bi_base.specs.declared.fault.Fault.{Fault}
 use Rattle.bi_base.specs.Errors.{IsFaultOrNoMemory}
 
--- Errors that are passed on.
+-- What holds of a fault or of an error holds of the result that passes it on.
 
 -- A fault is passed on as a refusal.
 pub refused_by : {A : Type 0} (r : Result A Error) (fault : Fault) (P : Fault → Type 0) → IsErrAnd r (λ e. e ≡ error.Refused fault) →

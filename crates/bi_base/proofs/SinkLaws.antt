@@ -4,7 +4,8 @@ use Rattle.std.proofs.lemmas.List.{take-append-drop, take_more}
 use Rattle.bi_base.specs.Sinks.{AppendsInTurn, FailsAfter, FailsBefore, Wrote}
 use Rattle.bi_base.specs.declared.fault.Error.{Error}
 
--- What calls in turn do that append to a sink.
+-- A call that appends bytes after others appends both together, and a failure to append one of some pieces is a failure to append all of
+-- them.
 
 -- An error that is passed on by `?` is the failure of the call.
 pub passed_on : {S V : Type 0} (appends : S → List ℕ → S → Type 0) (fails : S → List ℕ → S → Error → Type 0) (old : S) (bytes : List ℕ)

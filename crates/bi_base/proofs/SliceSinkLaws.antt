@@ -5,7 +5,7 @@ use Rattle.bi_base.specs.Commands.{AppendFailed, WasRefused, SinkFailed}
 use Rattle.bi_base.specs.Sinks.{Wrote}
 use Rattle.bi_base.specs.SliceSinks.{slice_of, filled_of, SliceGrows, SliceFails}
 
--- Texts that are written to a slice by a sink that has written nothing yet.
+-- A text that fits a slice is written to its beginning by a sink that has written nothing yet, and writing it cannot fail.
 
 -- A text is written to the beginning of a slice,
 pub slice_has_text : (old new : SliceSink) (text : List ℕ) → filled_of old ≡ 0 → length text ≤ length (slice_of old).now →

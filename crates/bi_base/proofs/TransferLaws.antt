@@ -14,7 +14,8 @@ use Rattle.bi_base.specs.Traces.{ReadTrace, WriteTrace, MustStopReading}
 use Rattle.bi_base.specs.Transfers.{Transferred, TransferFailed}
 use Rattle.bi_base.specs.Writing.{Writes, WriteStopped, WroteAndFlushed, WriteOrFlushStopped}
 
--- Calls that read a whole input and write an output.
+-- A call that reads a whole input and writes and flushes its output ends well. It fails if reading stops, the input is refused or writing
+-- stops.
 
 -- There is an input that a reader may have.
 pub some_input : (remaining : Option (List ℕ)) → (input : List ℕ) × IsInput remaining input

@@ -21,7 +21,7 @@ use Rattle.bi_blob.proofs.HeaderDecisions.{test, fine_by_test}
 use Rattle.bi_blob.proofs.TokenDecisions.{is_token, is_token_decides}
 use Rattle.bi_blob.proofs.Blobs.Headers.{HasNoHeaderFault-Header}
 
--- Tests by which small files are blobs.
+-- A file that is tested to have a header, memory reservations and a tree is a blob of them.
 
 -- Each number is a byte.
 are_bytes : (bytes : List ℕ) → list_all (λ b. nat_lt b 256) bytes ≡ true → AreBytes bytes

@@ -11,7 +11,8 @@ use Rattle.bi_blob.proofs.TokenDecisions.{are_passed_sound}
 use Rattle.bi_blob.proofs.BlobDecisions.{begins_with, is_encoding, are_encodings, is_name_at, encode_events, are_distinct, are_properties}
 use Rattle.bi_blob.proofs.BlobDecisions.{are_nodes, are_reservations, has_header, has_tree, known_blob}
 
--- Small files that are blobs.
+-- Some small files are blobs of known trees, and the first tokens of a structure block, listed with the newest first, open `images` inside
+-- the root.
 
 -- The tokens of the smallest tree.
 abbrev smallest_tokens : List Token

@@ -10,7 +10,8 @@ use Rattle.bi_base.specs.declared.fault.Fault.{Fault}
 use Rattle.bi_base.specs.Checks.{IsFirstFault, HasNoFault}
 use Rattle.bi_blob.specs.Tree.{IsChildName, IsPropertyName, IsNew}
 
--- Tests that decide what checks ask for, so that the fault of a small file can be computed.
+-- Tests decide comparisons, new names, and the names of properties and of children. Checks that are tested to pass do so, and the first
+-- that is tested to fail gives the fault.
 
 pub le_decides : (a b : ℕ) → Decides (nat_le a b) (a ≤ b)
 le_decides a b = (leb-true a b, le-leb a b)
@@ -86,7 +87,8 @@ unfoldable pub first_failing : {C : Type 0} → (C → Bool) → List C → Opti
 first_failing test [] = None
 first_failing test (check ∷ later) = cond (test check) (first_failing test later) (Some check)
 
-module _ {C : Type 0} (Passes : C → Type 0) (fault_of : C → Fault) (test : C → Bool) (decides : (check : C) → Decides (test check) (Passes check)) where
+module _ {C : Type 0} (Passes : C → Type 0) (fault_of : C → Fault) (test : C → Bool)
+    (decides : (check : C) → Decides (test check) (Passes check)) where
   -- Checks that a test finds to pass do so.
   pub pass_by_test : (checks : List C) → list_all test checks ≡ true → HasNoFault Passes checks
   pass_by_test checks e = (all_decide Passes test decides checks).0 e
@@ -99,7 +101,9 @@ module _ {C : Type 0} (Passes : C → Type 0) (fault_of : C → Fault) (test : C
   fault_by_test (first ∷ later) check failing =
       where_first (test first) refl failing (λ failing. fault_by_test later check failing)
     where
-      where_first : (b : Bool) → test first ≡ b → cond (test first) (first_failing test later) (Some first) ≡ Some check → (first_failing test later ≡ Some check → IsFirstFault Passes fault_of later (fault_of check)) → IsFirstFault Passes fault_of (first ∷ later) (fault_of check)
+      where_first : (b : Bool) → test first ≡ b → cond (test first) (first_failing test later) (Some first) ≡ Some check →
+          (first_failing test later ≡ Some check → IsFirstFault Passes fault_of later (fault_of check)) →
+          IsFirstFault Passes fault_of (first ∷ later) (fault_of check)
       where_first true is failing rest = inr ((decides first).0 is, rest (rw is at failing))
       where_first false is failing rest =
           let is_first : Some first ≡ Some check = rw is at failing in

@@ -10,7 +10,7 @@ use Rattle.bi_blob.specs.BlobFaults.{TotalHoldsHeader, FileHoldsTotal, PlacesRes
 use Rattle.bi_blob.specs.BlobFaults.{header_fault, HeaderPasses, HasNoHeaderFault, IsBlobFault, InHeader}
 use Rattle.bi_blob.proofs.CheckDecisions.{le_decides, eq_decides, both_decide, first_failing, pass_by_test, fault_by_test}
 
--- Tests of the checks of a header.
+-- Tests decide the checks of a header, and the first check that is tested to fail gives the fault of the file.
 
 -- Whether a check of a header passes.
 unfoldable pub test : Limits → List ℕ → HeaderCheck → Bool

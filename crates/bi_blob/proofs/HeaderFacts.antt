@@ -10,7 +10,8 @@ use Rattle.bi_blob.specs.KnownFaults.{longer_file, HeadersHaveFaults, HeaderChec
 use Rattle.bi_blob.proofs.CheckDecisions.{first_failing}
 use Rattle.bi_blob.proofs.HeaderDecisions.{test, fine_by_test, in_header}
 
--- The faults of small files before their structure blocks.
+-- Small files with wrong headers or wrong memory reservation blocks have known faults, and if two checks of a header fail, the first gives
+-- the fault.
 
 -- In each header, the check that fails.
 pub headers_have_faults : HeadersHaveFaults

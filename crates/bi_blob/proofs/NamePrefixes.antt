@@ -12,7 +12,7 @@ use Rattle.bi_base.proofs.ByteLists.{AreBytes-drop}
 use Rattle.bi_blob.specs.Tree.{HasNoZero}
 use Rattle.bi_blob.specs.NamesByPrefix.{prefix_of_name, PrefixesKeepByteOrder}
 
--- The first bytes of a name and zeros after a shorter one.
+-- Short names without zeros are the same if their prefixes are, and the order of names by prefix and then by bytes is byte order.
 
 -- Zeros, with the first bytes of a name written over them, are the beginning of the name with zeros after it.
 pub over_zeros : (count most added : ℕ) (name : List ℕ) → count ≤ most → count ≤ length name → (count < most → count ≡ length name) →

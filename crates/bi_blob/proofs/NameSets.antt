@@ -15,7 +15,7 @@ use Rattle.std.proofs.lemmas.Map.Text.{is_eq-slice_cmp}
 use Rattle.bi_blob.specs.Tree.{IsNew}
 use Rattle.bi_blob.specs.NameSets.{HoldsNames}
 
--- Sets of names.
+-- A set of names holds a name exactly if it was inserted, and inserting one keeps the others.
 
 -- The order of names.
 abbrev pub name_cmp : Bor (List ℕ) → Bor (List ℕ) → Ordering
@@ -90,7 +90,8 @@ HoldsNames-held set name held holds has = held_by_test name.now held (sym (holds
 pub HoldsNames-empty : (set : BTreeSet (Bor (List ℕ))) (held : List (List ℕ)) → HoldsNames set held →
     (btree_set_len set ≡ 0 → held ≡ []) × (held ≡ [] → btree_set_len set ≡ 0)
 HoldsNames-empty set held holds = (to held holds.each, from set.keys holds.each) where
-  to : (ns : List (List ℕ)) → ((name : Bor (List ℕ)) → contains name_cmp set name ≡ list_any (λ other. bytes_eq other name.now) ns) → length set.keys ≡ 0 → ns ≡ []
+  to : (ns : List (List ℕ)) → ((name : Bor (List ℕ)) → contains name_cmp set name ≡ list_any (λ other. bytes_eq other name.now) ns) →
+      length set.keys ≡ 0 → ns ≡ []
   to [] each none = refl
   to (n ∷ ns) each none =
       let name : Bor (List ℕ) = record { ref_ptr = (0, 0); now = n } in
@@ -99,7 +100,9 @@ HoldsNames-empty set held holds = (to held holds.each, from set.keys holds.each)
       ap (λ b. b || list_any (λ other. bytes_eq other n) ns) ((bytes_decides n n).1 refl) in
       absurd (false≢true (sym (ap (list_any (λ k. is_eq (name_cmp name k))) empty) ∙ each name ∙ has))
 
-  from : (ks : List (Bor (List ℕ))) → ((name : Bor (List ℕ)) → list_any (λ k. is_eq (name_cmp name k)) ks ≡ list_any (λ other. bytes_eq other name.now) held) → held ≡ [] → length ks ≡ 0
+  from : (ks : List (Bor (List ℕ))) →
+      ((name : Bor (List ℕ)) → list_any (λ k. is_eq (name_cmp name k)) ks ≡ list_any (λ other. bytes_eq other name.now) held) → held ≡ [] →
+      length ks ≡ 0
   from [] each none = refl
   from (k ∷ ks) each none =
       let same : is_eq (name_cmp k k) ≡ true = is_eq-slice_cmp k.now k.now ∙ (bytes_decides k.now k.now).1 refl in

@@ -12,7 +12,7 @@ use Rattle.bi_blob.proofs.HeaderDecisions.{test, in_header}
 use Rattle.bi_blob.proofs.TokenDecisions.{may_be_named, are_none, token_test, is_token, is_token_at, is_before_end, are_passed}
 use Rattle.bi_blob.proofs.TokenDecisions.{has_no_reservations, in_structure}
 
--- The faults of small files in their structure blocks.
+-- Small files with a wrong token have known faults, and so have those of version 16. If two checks fail, the first gives the fault.
 
 -- The tokens up to and with that of the root, the newest first.
 abbrev to_root : List Token

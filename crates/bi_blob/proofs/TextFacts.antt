@@ -3,7 +3,7 @@ use Rattle.bi_base.specs.Cells.{cell, cell8, u32_at}
 use Rattle.bi_blob.specs.Layout.{text_of_blocks, text_of_events}
 use Rattle.bi_blob.specs.KnownTexts.{HasSmallestText, IsLaidOut}
 
--- What the definitions compute for the texts of two small trees.
+-- The smallest tree and a tree with two properties have known texts.
 
 -- The text of the smallest tree.
 pub smallest_has_text : HasSmallestText

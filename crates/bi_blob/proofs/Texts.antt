@@ -13,10 +13,10 @@ pub mod TextBytes
 pub mod TextBlob
 pub mod EncodedBytes
 pub mod TextContent
-pub mod Normal
-pub mod Rests
+pub mod NormalOrder
+pub mod TextsWithRest
 pub mod PropertyOrder
-pub mod Accepted
+pub mod TextLimits
 pub mod TreeOrder
 pub mod FirstUse
 pub mod Offsets

@@ -17,7 +17,7 @@ use Rattle.bi_blob.proofs.CheckDecisions.{is_new_decides, is_property_name, is_p
 use Rattle.bi_blob.proofs.CheckDecisions.{first_failing, pass_by_test, fault_by_test}
 use Rattle.bi_blob.proofs.HeaderDecisions.{test, fine_by_test}
 
--- Tests of the checks of a token.
+-- Tests decide the checks of a token, and after tokens that pass, the first check that is tested to fail gives the fault of the file.
 
 -- Whether a node may have a name.
 unfoldable pub may_be_named : Stage → List ℕ → Bool

@@ -1,6 +1,6 @@
-pub mod Answering
+pub mod CallAnswers
 pub mod Places
 pub mod ListedChoices
-pub mod Extracting
+pub mod ExtractedFiles
 pub mod SliceWriting
-pub mod Normalising
+pub mod NormalisedFiles

@@ -67,7 +67,8 @@ value_named : (images : List Image) (value : Option (List ℕ)) (listed : List L
 value_named images None listed is = absurd cc
 value_named images (Some value) listed is = by (ends_with nat_eq value (0 ∷ [])) is
   where
-    by : (b : Bool) → (if b then list_images images 0 (listed_names value) else BadList) ≡ ListedImages listed → AllByRecursion (IsNamed images) listed
+    by : (b : Bool) → (if b then list_images images 0 (listed_names value) else BadList) ≡ ListedImages listed →
+        AllByRecursion (IsNamed images) listed
     by true is = entries_named images 0 (listed_names value) listed is
     by false is = absurd cc
 

@@ -23,7 +23,7 @@ use Rattle.bi_commands.proofs.Choices.{choice_at, chosen_by_name}
 use Rattle.bi_c.specs.declared.regions.Region.{Region}
 use Rattle.bi_c.specs.Extracting.{IsChosenAt, IsNamedOffset, IsListedOffset, IsDefaultOffset}
 
--- Where the parts and payloads of images that were read are.
+-- The parts and payloads of an image that was read are in the file at the offsets that are returned.
 
 -- The same of the image at an index, if there is one.
 placed_at : (file : List ℕ) (images : List ImageModel) (index : ℕ) →
@@ -93,7 +93,8 @@ part_there file end (part ∷ later) (suc index) offset bytes at fits is_part is
 start-aligned : (image_type : ℕ) (parts : List (List ℕ)) → up4 (parts_start image_type parts) ≡ parts_start image_type parts
 start-aligned image_type parts = by (has_part_table image_type)
   where
-    by : (has_table : Bool) → up4 (if has_table then length (part_table parts) else 0) ≡ (if has_table then length (part_table parts) else 0)
+    by : (has_table : Bool) → up4 (if has_table then length (part_table parts) else 0) ≡
+        (if has_table then length (part_table parts) else 0)
     by true = rw (length-part_table parts) (up4_of_four (length parts + 1))
     by false = omega arith
 

@@ -10,7 +10,7 @@ use Rattle.bi_c.specs.declared.failure.Failure.{Failure}
 use Rattle.bi_c.specs.declared.answer.Answer.{Answer}
 use Rattle.bi_c.specs.Answers.{Fills, Filled, HadNoRoom, FilledNothing, IsJust, answer_of, answer_of_failure, status_of_failure}
 
--- Texts that are written to a slice.
+-- A text that fits a buffer is written to its beginning, and a call that fails before it writes leaves the buffer as it was.
 
 -- A text was written to the beginning of a buffer that a sink had borrowed.
 pub filled_with : (HasFailed : Failure → Type 0) (text : List ℕ) (value : ℕ) (old new : SliceSink) (before after : List ℕ) (name : ℕ)

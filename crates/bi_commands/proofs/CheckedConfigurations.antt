@@ -10,7 +10,7 @@ use Rattle.bi_commands.specs.Checking.{concern_lines, configuration_concerns}
 use Rattle.bi_commands.specs.ReadChecking.{configurations_concerns}
 use Rattle.bi_commands.proofs.ConcernLines.{lines_flat_map}
 
--- The concerns about configurations.
+-- The lines of the concerns about all configurations are those of each configuration in turn.
 
 -- The lines of the concerns about a configuration.
 abbrev pub lines_of_configuration : Allowed → ConfigurationModel → List ℕ

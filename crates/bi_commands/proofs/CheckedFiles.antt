@@ -33,7 +33,7 @@ use Rattle.bi_commands.specs.PayloadBounds.{IsOverPayloadBound, payloads_length}
 use Rattle.bi_commands.specs.ReadChecking.{configurations_concerns, end_at, hash_count, read_concerns, read_default_concerns}
 use Rattle.bi_commands.specs.ReadChecking.{end_of_read_payloads, read_images_concerns}
 
--- The concerns about a file that was read.
+-- The concerns about what was read from a file are those about the file, and an error of reading the file is one of checking it.
 
 -- As many nodes of the tree are hash nodes as nodes of the file.
 same_count : (children : List (Sibling FileNode)) →
@@ -42,8 +42,10 @@ same_count : (children : List (Sibling FileNode)) →
 same_count [] = refl
 same_count (child ∷ later) = by (is_hash_name child.name) refl (same_count later) where
   by : (b : Bool) → is_hash_name child.name ≡ b →
-      length (filter (λ (child : Sibling FileNode). is_hash_name child.name) later) ≡ length (filter (λ (child : Sibling PropertyMap). is_hash_name child.name) (map sibling_by_name later)) →
-      length (filter (λ (child : Sibling FileNode). is_hash_name child.name) (child ∷ later)) ≡ length (filter (λ (child : Sibling PropertyMap). is_hash_name child.name) (map sibling_by_name (child ∷ later)))
+      length (filter (λ (child : Sibling FileNode). is_hash_name child.name) later) ≡
+      length (filter (λ (child : Sibling PropertyMap). is_hash_name child.name) (map sibling_by_name later)) →
+      length (filter (λ (child : Sibling FileNode). is_hash_name child.name) (child ∷ later)) ≡
+      length (filter (λ (child : Sibling PropertyMap). is_hash_name child.name) (map sibling_by_name (child ∷ later)))
   by true is rest = rw is (omega (arith, rest))
   by false is rest = rw is rest
 

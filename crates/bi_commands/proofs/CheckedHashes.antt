@@ -13,7 +13,8 @@ use Rattle.bi_commands.specs.Shown.{shown_text}
 use Rattle.bi_commands.proofs.ConcernLines.{lines_allowed, lines_append, lines_flat_map}
 use Rattle.bi_commands.proofs.FitLines.{joined_after}
 
--- The concerns about hash nodes.
+-- A payload without a Good verdict has one concern, so has one whose Good verdicts are of no strong algorithm, and one with a Good verdict
+-- of a strong algorithm has none.
 
 -- The algorithm of a hash node, as it is printed.
 abbrev algorithm_word : CheckedHash → List ℕ
@@ -24,7 +25,8 @@ good_algorithms : (hashes : List CheckedHash) →
     flat_map good_algorithm hashes ≡ flat_map (λ word. 32 ∷ word) (map algorithm_word (filter is_good hashes))
 good_algorithms [] = refl
 good_algorithms (hash ∷ later) = by (is_good hash) refl (good_algorithms later) where
-  by : (b : Bool) → is_good hash ≡ b → flat_map good_algorithm later ≡ flat_map (λ word. 32 ∷ word) (map algorithm_word (filter is_good later)) →
+  by : (b : Bool) → is_good hash ≡ b →
+      flat_map good_algorithm later ≡ flat_map (λ word. 32 ∷ word) (map algorithm_word (filter is_good later)) →
       flat_map good_algorithm (hash ∷ later) ≡ flat_map (λ word. 32 ∷ word) (map algorithm_word (filter is_good (hash ∷ later)))
   by true is rest = rw is (ap (λ l. (32 ∷ algorithm_word hash) ++ l) rest)
   by false is rest = rw is rest

@@ -15,7 +15,7 @@ use Rattle.bi_commands.specs.Extracting.{Choice, NoSuchImage, Chosen, IsReason, 
 use Rattle.bi_blob.proofs.Blobs.Lookups.{names-with_each, names-siblings}
 use Rattle.bi_fit.proofs.TreeShapes.{names-without_payloads}
 
--- What the name of an image chooses of a flattened image tree that was read.
+-- The name of an image chooses what its index does: the payload of this image, or that there is none.
 
 -- The index of an image is one more where the indices begin at one more.
 index_from-next : (index : ℕ) (name : List ℕ) (images : List ImageModel) →
@@ -23,7 +23,9 @@ index_from-next : (index : ℕ) (name : List ℕ) (images : List ImageModel) →
 index_from-next index name [] = refl
 index_from-next index name (image ∷ later) = by (bytes_eq image.name name) refl (index_from-next (index + 1) name later)
   where
-    by : (b : Bool) → bytes_eq image.name name ≡ b → index_from (index + 1 + 1) name later ≡ option_map suc (index_from (index + 1) name later) → index_from (index + 1) name (image ∷ later) ≡ option_map suc (index_from index name (image ∷ later))
+    by : (b : Bool) → bytes_eq image.name name ≡ b →
+        index_from (index + 1 + 1) name later ≡ option_map suc (index_from (index + 1) name later) →
+        index_from (index + 1) name (image ∷ later) ≡ option_map suc (index_from index name (image ∷ later))
     by true is rest = rw is (ap Some (omega arith))
     by false is rest = rw is rest
 
@@ -51,8 +53,10 @@ found_by_name name (entry ∷ entries) (image ∷ later) same =
     by (bytes_eq image.name name) refl (ap (λ other. bytes_eq other name) same_name) (found_by_name name entries later cc)
   where
     by : (b : Bool) → bytes_eq image.name name ≡ b → bytes_eq entry.name name ≡ bytes_eq image.name name
-        → choice_of_image (image_named name (images_with entries (map (λ (image : ImageModel). image.payload) later))) ≡ choice_at later (index_of name later)
-        → choice_of_image (image_named name (images_with (entry ∷ entries) (map (λ (image : ImageModel). image.payload) (image ∷ later)))) ≡ choice_at (image ∷ later) (index_of name (image ∷ later))
+        → choice_of_image (image_named name (images_with entries (map (λ (image : ImageModel). image.payload) later))) ≡
+        choice_at later (index_of name later)
+        → choice_of_image (image_named name (images_with (entry ∷ entries) (map (λ (image : ImageModel). image.payload) (image ∷ later)))) ≡
+        choice_at (image ∷ later) (index_of name (image ∷ later))
     by true is same rest = rw (same, is) refl
     by false is same rest = rw (same, is) (rest ∙ sym (ap (choice_at (image ∷ later)) (index_from-next 0 name later) ∙ choice_at-next image later (index_of name later)))
 
@@ -68,8 +72,11 @@ names_meant none = refl
 names_meant (node name own children later) = by (bytes_eq name images_name) refl (names_meant later)
   where
     by : (b : Bool) → bytes_eq name images_name ≡ b
-        → names (nodes_or_none (children_of images_name (with_children_of images_name without_payloads (meant later)))) ≡ names (nodes_or_none (children_of images_name later))
-        → names (nodes_or_none (children_of images_name (with_children_of images_name without_payloads (meant (node name own children later))))) ≡ names (nodes_or_none (children_of images_name (node name own children later)))
+        → names (nodes_or_none (children_of images_name (with_children_of images_name without_payloads (meant later)))) ≡
+        names (nodes_or_none (children_of images_name later))
+        → names (nodes_or_none
+        (children_of images_name (with_children_of images_name without_payloads (meant (node name own children later))))) ≡
+        names (nodes_or_none (children_of images_name (node name own children later)))
     by true is rest =
         rw (is, is) (names-without_payloads (meant children) ∙ names-with_each from_entries (with_each properties_of children) ∙ names-with_each properties_of children)
     by false is rest = rw (is, is) rest

@@ -14,7 +14,7 @@ use Rattle.bi_commands.specs.Descriptions.{description, description_texts}
 use Rattle.bi_commands.specs.Differences.{differences}
 use Rattle.bi_commands.proofs.DescribedLines.{lines_of_description}
 
--- The differences of two descriptions.
+-- The comparison of two descriptions is their differences, or the line with the reason if there are none.
 
 is_nil : (xs : List ℕ) → bytes_eq xs [] ≡ (length xs == 0)
 is_nil [] = refl

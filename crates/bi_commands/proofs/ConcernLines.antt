@@ -6,7 +6,7 @@ use Rattle.std.proofs.lemmas.Grind.{flat_map-append}
 use Rattle.bi_commands.specs.declared.check.Allowed.{Allowed}
 use Rattle.bi_commands.specs.Checking.{Concern, allows, concern_line, concern_lines}
 
--- The lines of concerns.
+-- A concern that is allowed has no line, one that is not allowed has one, and the lines of several concerns are those of each in turn.
 
 -- Nothing is appended for no lines.
 pub nothing_added : (old lines : List ℕ) → lines ≡ [] → old ≡ old ++ lines

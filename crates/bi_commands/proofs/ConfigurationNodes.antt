@@ -15,7 +15,7 @@ use Rattle.bi_commands.specs.FitListing.{configuration_lines, key_line}
 use Rattle.bi_commands.specs.ReadListing.{configuration_node_lines, configurations_lines}
 use Rattle.bi_commands.specs.Shown.{line, shown_text}
 
--- The lines of configurations by their nodes.
+-- The lines of configurations are those of the children of the node of the configurations, one after the other.
 
 -- Texts that are the same for each element.
 same_texts : {A : Type 0} (f g : A → List ℕ) → ((x : A) → f x ≡ g x) → (xs : List A) → flat_map f xs ≡ flat_map g xs

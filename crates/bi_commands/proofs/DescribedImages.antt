@@ -15,7 +15,7 @@ use Rattle.bi_commands.specs.ReadDescription.{read_legacy_lines}
 use Rattle.bi_commands.specs.Shown.{line}
 use Rattle.bi_commands.specs.TreeEntries.{digest_made}
 
--- Describing an image that was read.
+-- The text that is written for a legacy image is its description, and a description is refused if it is longer than the limit.
 
 -- The digests of placed parts are those of their bytes.
 pub digests_of_bytes : (parts : List PartModel) →

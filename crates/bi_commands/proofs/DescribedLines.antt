@@ -11,7 +11,7 @@ use Rattle.bi_commands.specs.Descriptions.{Words, description_lines, description
 use Rattle.bi_commands.specs.Shown.{line}
 use Rattle.bi_commands.proofs.PrintableLines.{NoneBelow, ArePrintableLines, joined_is_printable, lines_shown}
 
--- Cutting a description at its newlines.
+-- A description that is cut at its newlines is the texts of its lines.
 
 no_newline : (bytes : List ℕ) → NoneBelow bytes → AllByRecursion (λ byte. (byte == 10) ≡ false) bytes
 no_newline [] visible = tt
@@ -31,7 +31,9 @@ lines_of_more : (x : List ℕ) (bytes : List ℕ) →
 lines_of_more x [] = refl
 lines_of_more x (byte ∷ bytes) = of_cond (byte == 10) (slice_split (λ b. b == 10) bytes)
   where
-    of_cond : (b : Bool) (parts : List (List ℕ)) → lines_of_parts (x ∷ cond b ([] ∷ parts) (onto_first byte parts)) ≡ strip_carriage_return x ∷ lines_of_parts (cond b ([] ∷ parts) (onto_first byte parts))
+    of_cond : (b : Bool) (parts : List (List ℕ)) →
+        lines_of_parts (x ∷ cond b ([] ∷ parts) (onto_first byte parts)) ≡
+        strip_carriage_return x ∷ lines_of_parts (cond b ([] ∷ parts) (onto_first byte parts))
     of_cond true parts = refl
     of_cond false [] = refl
     of_cond false (part ∷ parts) = refl

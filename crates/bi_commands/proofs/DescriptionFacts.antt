@@ -8,7 +8,7 @@ use Rattle.bi_fit.proofs.FileFacts.{no_entries}
 use Rattle.bi_commands.specs.KnownDescriptions.{described_properties, load_and_os, only_algo, only_data_value}
 use Rattle.bi_commands.specs.KnownDescriptions.{ValuesAreShown, DescriptionsAreKnown}
 
--- What the definitions compute for small boot images.
+-- Values of properties and small boot images have known descriptions.
 
 pub values_are_shown : ValuesAreShown
 values_are_shown = record {

@@ -16,7 +16,7 @@ use Rattle.bi_commands.specs.Shown.{line, shown_text}
 use Rattle.bi_commands.specs.WrittenWords.{bytes_of_names, word_text, words_of}
 use Rattle.bi_commands.proofs.FitLines.{joined_after}
 
--- The pieces of which a description is made.
+-- The pieces that are written of a description are together the paths of its nodes, the words of its lines and the text of its lines.
 
 -- A name of a path, after a slash.
 abbrev pub step_of : Bor (List ℕ) → List ℕ

@@ -17,7 +17,7 @@ use Rattle.bi_commands.specs.KnownDifferences.{DifferencesAreKnown, ComparisonsA
 use Rattle.bi_commands.specs.KnownTexts.{lines}
 use Rattle.bi_commands.specs.Shown.{line}
 
--- What the definitions compute for small lists of lines and small boot images.
+-- Small lists of lines have known differences, and small boot images have known comparisons.
 
 pub differences_are_known : DifferencesAreKnown
 differences_are_known = record {

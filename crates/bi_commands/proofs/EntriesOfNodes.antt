@@ -13,7 +13,8 @@ use Rattle.bi_commands.specs.TreeEntries.{EntryModel, NodeBegins, NodeEnds, as_e
 use Rattle.bi_commands.specs.MadeEntries.{plain_entries, begin_entries, shown_image_properties, image_entries, image_nodes_by_name}
 use Rattle.bi_commands.specs.MadeEntries.{images_entries, root_children_by_name, root_children_entries}
 
--- The entries of nodes, node by node.
+-- The entries of nodes are those of the first node and then those of the nodes after it, and the entries of a node begin it, are those of
+-- its children, and end it.
 
 -- Entries after two others.
 pub appended_twice : (start first second begun ended : List EntryModel) → begun ≡ start ++ first → ended ≡ begun ++ second →

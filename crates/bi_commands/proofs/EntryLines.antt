@@ -10,7 +10,7 @@ use Rattle.bi_commands.specs.TreeEntries.{NodeBegins, NodeEnds, PayloadEntry, Pr
 use Rattle.bi_commands.specs.WrittenWords.{bytes_of_names}
 use Rattle.bi_commands.specs.TreeEntries.{EntryModel, as_entry, entry_lines, lines_of_entry, open_after, count_after, most_open}
 
--- Entries one after the other.
+-- The text of the lines of entries is the lines of one entry and then those of the entries after it, and an entry opens at most one node.
 
 -- The entry that is used where there is none.
 abbrev pub no_entry : Entry

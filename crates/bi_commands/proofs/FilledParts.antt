@@ -15,7 +15,8 @@ use Rattle.bi_commands.specs.Parts.{pieces_among}
 use Rattle.bi_commands.specs.declared.parts.Part.{Part}
 use Rattle.bi_commands.specs.declared.parts.Part.TheVariants.{Bytes, Length}
 
--- Parts whose bytes are given or are pieces of an input, and their contents.
+-- Parts whose bytes are given or are pieces of an input have the contents that are cut from the input, and an input that is too short or
+-- too long has a fault.
 
 -- The lengths together are how many bytes of the input the parts are.
 pub sum_of_lengths : (parts : List Part) → sum (lengths_of parts) ≡ sum_by input_length_of parts

@@ -4,7 +4,7 @@ use Rattle.std.specs.List.{join_with_byte, onto_first}
 use Rattle.std.proofs.lemmas.Bool.{eqb-true, leb-true, leb-false}
 use Rattle.bi_commands.specs.Differences.{first_words, words_of_line}
 
--- The first words of a line, byte by byte.
+-- The first words of a line are those that are counted byte by byte.
 
 -- The line up to its space after this many words, or after the first word.
 abbrev pub counted_words : (left : ℕ) → List ℕ → List ℕ

@@ -6,7 +6,8 @@ use Rattle.bi_blob.specs.Blob.{Reservation, end_pair}
 use Rattle.std.proofs.lemmas.Grind.{common_steps}
 use Rattle.std.proofs.lemmas.List.{append-nil}
 
--- The lines of a flattened image tree.
+-- The lines of the first elements of a list and those of the next one are those of these elements together, and there is a reservation at
+-- each index.
 
 -- Words after a first one, with a space before each.
 pub joined_after : (first : List ℕ) (words : List (List ℕ)) →

@@ -16,7 +16,7 @@ use Rattle.bi_commands.specs.Listing.{IsListing, OfImageTree}
 use Rattle.bi_commands.specs.ReadListing.{read_image_line, placed_line, read_listing, configurations_lines}
 use Rattle.bi_commands.specs.Shown.{line}
 
--- The listing of a flattened image tree that was read from a file.
+-- The listing of a flattened image tree that was read from a file is the listing of the file.
 
 -- The line of an image, by the source of its payload and by where reading found it.
 placed_image : (file name : List ℕ) (source : PayloadSource) (payload : Option (List ℕ)) → IsPayload file source payload →

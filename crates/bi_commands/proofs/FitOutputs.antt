@@ -15,7 +15,8 @@ use Rattle.bi_commands.specs.Parts.{IsFilled, lengths_of, pieces_among}
 use Rattle.bi_commands.specs.declared.parts.Part.{Part}
 use Rattle.bi_commands.specs.BuildCommands.{HavePayloads, IsFitOutput, IsFitOutputError, NotCut, NotBuilt}
 
--- Flattened image trees that are built of payloads, with an input.
+-- A flattened image tree that was built of payloads and an input is the output, and an error of cutting the input or of building the tree
+-- is one of the output.
 
 -- An error of cutting the input is one of building from it.
 pub cut_error : (limits : Limits) (form : Form) (head : Head) (given : List ImageSpec) (parts : List Part) (input : List ℕ)

@@ -13,7 +13,7 @@ use Rattle.bi_commands.specs.Checking.{concern_lines, hashed_concerns}
 use Rattle.bi_commands.specs.ReadChecking.{hash_count, read_images_concerns}
 use Rattle.bi_commands.proofs.ConcernLines.{lines_append}
 
--- How many hash nodes an image node has.
+-- The number of hash nodes of siblings is that of the first, one or none, and that of the siblings after it.
 
 -- The first of some nodes and those after it.
 pub count_first : (s : Sibling FileNode) → hash_count (nodes_from (Some s)) ≡ cond (is_hash_name s.name) 1 0 + hash_count s.later
@@ -47,7 +47,8 @@ image_appended allowed start now target s image images hashes left appended =
     ∙ left
 
 -- The next elements of a list, as many as are wanted or are left.
-module _ {X : Type 0} (xs : List X) (begin wanted count : ℕ) (within : begin ≤ length xs) (is : count ≡ min wanted (length (take (length xs - begin) (drop begin xs)))) where
+module _ {X : Type 0} (xs : List X) (begin wanted count : ℕ) (within : begin ≤ length xs)
+    (is : count ≡ min wanted (length (take (length xs - begin) (drop begin xs)))) where
   all_left : take (length xs - begin) (drop begin xs) ≡ drop begin xs
   all_left = take_all (length xs - begin) (drop begin xs) (omega (arith, length-drop begin xs))
 

@@ -16,7 +16,8 @@ use Rattle.bi_commands.specs.BuildCommands.{ArePartsOf, IsPartsError, IsLegacyOu
 use Rattle.bi_commands.specs.Parts.{lengths_of}
 use Rattle.bi_commands.specs.declared.parts.Part.{Part}
 
--- Legacy images that are built of parts, with an input.
+-- A legacy image that was written of parts and an input is the output, and an error of cutting the input or of writing the image is one of
+-- the output.
 
 -- An error of cutting an input is one of getting the contents of the parts.
 pub cut_is_split_error : {V : Type 0} (input : List ℕ) (parts : List Part) (result : Result V Error) → parts ≢ []

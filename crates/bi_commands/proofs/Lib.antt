@@ -6,7 +6,7 @@ pub mod QuotedValues
 pub mod LineChains
 pub mod DescriptionPieces
 pub mod HashCounts
-pub mod Reported
+pub mod ImageReports
 pub mod FirstWords
 pub mod FitLines
 pub mod FitListings
@@ -16,12 +16,12 @@ pub mod CheckedConfigurations
 pub mod CheckedFiles
 pub mod CheckedHashes
 pub mod UpdatedFiles
-pub mod Clean
+pub mod CleanLaws
 pub mod Choices
 pub mod ConcernLines
-pub mod Opened
+pub mod ImageCalls
 pub mod FilledParts
-pub mod NotBegun
+pub mod MemoryBeforeRun
 pub mod LegacyOutputs
 pub mod FitOutputs
 pub mod DescriptionFacts
@@ -32,8 +32,8 @@ pub mod LongNames
 pub mod LongNamesOfFiles
 pub mod DescribedLines
 pub mod ComparedTexts
-pub mod Compared
-pub mod Readable
+pub mod ComparedImages
+pub mod ReadableDescriptions
 pub mod PropertiesByName
 pub mod EntriesOfNodes
 pub mod DescribedFiles

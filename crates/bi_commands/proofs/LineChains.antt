@@ -6,7 +6,7 @@ use Rattle.bi_base.proofs.SinkLaws.{passed_on, wrote_after}
 use Rattle.bi_base.specs.Sinks.{AppendsInTurn, FailsAfter, FailsBefore, Wrote}
 use Rattle.bi_base.specs.declared.fault.Error.{Error}
 
--- Calls in turn that append to a sink.
+-- Calls in turn append their pieces together, and the failure of one of them is a failure to append all of the pieces.
 
 -- The first fails.
 pub first_of_all_fails : {S V : Type 0} (appends : S → List ℕ → S → Type 0) (fails : S → List ℕ → S → Error → Type 0)

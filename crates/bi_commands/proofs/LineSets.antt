@@ -19,7 +19,8 @@ use Rattle.bi_commands.specs.Differences.{is_counterpart, lines_for_second, diff
 use Rattle.bi_commands.specs.LineSets.{LineRef, set_has, IsSetOf, line_at, new_line, HasNewLines, counterpart_in, removed_lines}
 use Rattle.bi_commands.specs.LineSets.{added_lines}
 
--- Sets and maps of lines.
+-- A set of lines holds those that were inserted, a map holds for each key its first line that is not in the set, and the two passes
+-- together write the differences.
 
 -- The order of lines.
 abbrev pub line_cmp : LineRef → LineRef → Ordering
@@ -221,7 +222,8 @@ differences_are one other set other_set written by_key start middle end has othe
     ∙ ap (λ l. l ++ flat_map (λ line. added_lines set written line.now) other) first
     ∙ ap (λ l. flat_map (lines_for_first (texts one) (texts other)) (texts one) ++ l) second
   where
-    first : flat_map (λ line. removed_lines other_set by_key line.now) one ≡ flat_map (lines_for_first (texts one) (texts other)) (texts one)
+    first : flat_map (λ line. removed_lines other_set by_key line.now) one ≡
+        flat_map (lines_for_first (texts one) (texts other)) (texts one)
     first =
         sym (flat_map-map (removed_lines other_set by_key) (λ line. line.now) one)
         ∙ flat_map_same (removed_lines other_set by_key) (lines_for_first (texts one) (texts other)) (texts one) (first_is (texts one) (texts other) set other_set by_key has other_has new_lines)

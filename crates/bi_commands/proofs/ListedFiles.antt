@@ -23,7 +23,7 @@ use Rattle.bi_commands.specs.Listing.{IsListing, OfLegacyImage, OfImageTree, cod
 use Rattle.bi_commands.specs.ReadListing.{configurations_lines, words_of_blob_lines, read_image_line, read_listing}
 use Rattle.bi_commands.specs.Shown.{line, shown_text, hexadecimal}
 
--- The listing of a file, and the pieces of which it is made.
+-- The listing of a file is the lines of its fields and its parts, or those of its blob, its reservations and its images.
 
 -- One more piece of a text.
 pub one_more_piece : (first second later whole : List ℕ) → whole ≡ first ++ (second ++ later) → whole ≡ (first ++ second) ++ later

@@ -14,7 +14,7 @@ use Rattle.bi_commands.specs.ReadListing.{missing_from, first_missing}
 use Rattle.bi_commands.specs.Shown.{line, shown_text}
 use Rattle.bi_commands.proofs.FitLines.{joined_after}
 
--- The names that a key lists.
+-- The first name of a list that no image has is the one that is missing, and the line of a list without such a name has all its names.
 
 -- The first name that no image has is the one that is missing.
 pub missing_is : (images : List ImageModel) (index missing : ℕ) (names : List (List ℕ)) → first_missing images index names ≡ Some missing →
@@ -22,7 +22,8 @@ pub missing_is : (images : List ImageModel) (index missing : ℕ) (names : List 
 missing_is images index missing [] is = absurd cc
 missing_is images index missing (name ∷ later) is = by_image (index_of name images) refl is (λ is. missing_is images (index + 1) missing later is)
   where
-    by_image : (found : Option ℕ) → index_of name images ≡ found → missing_from index found (first_missing images (index + 1) later) ≡ Some missing →
+    by_image : (found : Option ℕ) → index_of name images ≡ found →
+        missing_from index found (first_missing images (index + 1) later) ≡ Some missing →
         (first_missing images (index + 1) later ≡ Some missing → file_list images (index + 1) later ≡ Missing missing) →
         file_list images index (name ∷ later) ≡ Missing missing
     by_image None none is rest =
@@ -44,7 +45,8 @@ names_found : (images : List ImageModel) (index : ℕ) (names : List (List ℕ))
 names_found images index [] is = ([], refl, refl)
 names_found images index (name ∷ later) is = by_image (index_of name images) refl is (λ is. names_found images (index + 1) later is)
   where
-    by_image : (found : Option ℕ) → index_of name images ≡ found → missing_from index found (first_missing images (index + 1) later) ≡ None →
+    by_image : (found : Option ℕ) → index_of name images ≡ found →
+        missing_from index found (first_missing images (index + 1) later) ≡ None →
         (first_missing images (index + 1) later ≡ None → AreListed images (index + 1) later) → AreListed images index (name ∷ later)
     by_image None none is rest = absurd cc
     by_image (Some image) some is rest =

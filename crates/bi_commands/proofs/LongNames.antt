@@ -141,7 +141,8 @@ other_properties (node name own children later) payloads new =
     same_node name (entries own) _ _ _ _
     (where_images (bytes_eq name images_name) refl) (other_properties later payloads new.1)
   where
-    where_images : (b : Bool) → bytes_eq name images_name ≡ b → with_each own_properties (described_children name children payloads) ≡ with_each entries children
+    where_images : (b : Bool) → bytes_eq name images_name ≡ b →
+        with_each own_properties (described_children name children payloads) ≡ with_each entries children
     where_images true is = absurd (new.0 ((bytes_eq-Decides name images_name).0 is))
     where_images false is = rw is (plain_properties children)
 
@@ -153,7 +154,11 @@ properties_shown IsOwn none images payloads are has apart = refl
 properties_shown IsOwn (node name own children later) images payloads are has apart =
     where_images (bytes_eq name images_name) refl has (λ has. properties_shown IsOwn later images payloads are.2 has apart)
   where
-    where_images : (b : Bool) → bytes_eq name images_name ≡ b → children_of images_name (node name own children later) ≡ Some images → (children_of images_name later ≡ Some images → with_each own_properties (described_nodes later payloads) ≡ with_each entries later) → with_each own_properties (described_nodes (node name own children later) payloads) ≡ with_each entries (node name own children later)
+    where_images : (b : Bool) → bytes_eq name images_name ≡ b → children_of images_name (node name own children later) ≡ Some images →
+        (children_of images_name later ≡ Some images →
+        with_each own_properties (described_nodes later payloads) ≡ with_each entries later) →
+        with_each own_properties (described_nodes (node name own children later) payloads) ≡
+        with_each entries (node name own children later)
     where_images true is has rest =
         let found : children ≡ images = same_in_some children images (rw is at has) in
         let new : IsNew images_name (names later) = subst (λ name. IsNew name (names later)) ((bytes_eq-Decides name images_name).0 is) are.0.is_new in

@@ -39,7 +39,10 @@ put_is_new : (name other value : List ℕ) (properties : List Property) → othe
 put_is_new name other value [] differ new = (differ, tt)
 put_is_new name other value (property ∷ later) differ new = where_placed (slice_cmp nat_cmp other property.0) (put_is_new name other value later differ new.1)
   where
-    where_placed : (o : Ordering) → IsNew name (map (λ property. property.0) (put (slice_cmp nat_cmp) other value later)) → IsNew name (map (λ property. property.0) (by_order o ((other, value) ∷ property ∷ later) ((property.0, value) ∷ later) (property ∷ put (slice_cmp nat_cmp) other value later)))
+    where_placed : (o : Ordering) → IsNew name (map (λ property. property.0) (put (slice_cmp nat_cmp) other value later)) →
+        IsNew name (map (λ property. property.0)
+        (by_order o ((other, value) ∷ property ∷ later) ((property.0, value) ∷ later)
+        (property ∷ put (slice_cmp nat_cmp) other value later)))
     where_placed Less rest = (differ, new)
     where_placed Equal rest = new
     where_placed Greater rest = (new.0, rest)
@@ -50,7 +53,10 @@ put_is_longer : (name value : List ℕ) (properties : List Property) → IsNew n
 put_is_longer name value [] new = length-append (name_if_long name) []
 put_is_longer name value (property ∷ later) new = where_placed (slice_cmp nat_cmp name property.0) refl (put_is_longer name value later new.1)
   where
-    where_placed : (o : Ordering) → slice_cmp nat_cmp name property.0 ≡ o → length (long_names (put (slice_cmp nat_cmp) name value later)) ≡ length (name_if_long name) + length (long_names later) → length (long_names (by_order o ((name, value) ∷ property ∷ later) ((property.0, value) ∷ later) (property ∷ put (slice_cmp nat_cmp) name value later))) ≡ length (name_if_long name) + length (long_names (property ∷ later))
+    where_placed : (o : Ordering) → slice_cmp nat_cmp name property.0 ≡ o →
+        length (long_names (put (slice_cmp nat_cmp) name value later)) ≡ length (name_if_long name) + length (long_names later) →
+        length (long_names (by_order o ((name, value) ∷ property ∷ later) ((property.0, value) ∷ later)
+        (property ∷ put (slice_cmp nat_cmp) name value later))) ≡ length (name_if_long name) + length (long_names (property ∷ later))
     where_placed Less is rest = length-append (name_if_long name) (long_names (property ∷ later))
     where_placed Equal is rest = absurd (new.0 (sym (order_tells name property.0 is)))
     where_placed Greater is rest =
@@ -83,7 +89,10 @@ kept_names : (properties : List Property) →
 kept_names [] = refl
 kept_names (property ∷ later) = where_payload (is_payload_name property.0) refl (kept_names later)
   where
-    where_payload : (b : Bool) → is_payload_name property.0 ≡ b → long_names (where_key (slice_cmp nat_cmp) (λ name. not (is_payload_name name)) later) ≡ long_names later → long_names (cond (not b) (property ∷ where_key (slice_cmp nat_cmp) (λ name. not (is_payload_name name)) later) (where_key (slice_cmp nat_cmp) (λ name. not (is_payload_name name)) later)) ≡ long_names (property ∷ later)
+    where_payload : (b : Bool) → is_payload_name property.0 ≡ b →
+        long_names (where_key (slice_cmp nat_cmp) (λ name. not (is_payload_name name)) later) ≡ long_names later →
+        long_names (cond (not b) (property ∷ where_key (slice_cmp nat_cmp) (λ name. not (is_payload_name name)) later)
+        (where_key (slice_cmp nat_cmp) (λ name. not (is_payload_name name)) later)) ≡ long_names (property ∷ later)
     where_payload true is rest = rest ∙ ap (λ names. names ++ long_names later) (sym (payload_name_short property.0 is))
     where_payload false is rest = ap (λ names. name_if_long property.0 ++ names) rest
 
@@ -121,7 +130,11 @@ long_children : (nodes : Nodes PropertyMap) →
 long_children none = refl
 long_children (node name own children later) = where_images (bytes_eq name images_name) (long_children later)
   where
-    where_images : (b : Bool) → long_names_of (with_each entries (with_children_of images_name without_payloads later)) ≡ long_names_of (with_each entries later) → long_names_of (with_each entries (if b then node name own (without_payloads children) later else node name own children (with_children_of images_name without_payloads later))) ≡ long_names_of (with_each entries (node name own children later))
+    where_images : (b : Bool) →
+        long_names_of (with_each entries (with_children_of images_name without_payloads later)) ≡ long_names_of (with_each entries later) →
+        long_names_of (with_each entries
+        (if b then node name own (without_payloads children) later else node name own children
+        (with_children_of images_name without_payloads later))) ≡ long_names_of (with_each entries (node name own children later))
     where_images true rest = ap (λ names. long_names (entries own) ++ (names ++ long_names_of (with_each entries later))) (long_images children)
     where_images false rest = ap (λ names. long_names (entries own) ++ (long_names_of (with_each entries children) ++ names)) rest
 

@@ -80,7 +80,8 @@ digits_put (suc fuel) base upper n later are =
     by (eqb (n / base) 0) (digits_put fuel base upper (n / base) (digit_glyph upper (n % base) ∷ later) (digit upper (n % base), are))
   where
     by : (b : Bool) → NoneBelow (digits_onto fuel base upper (n / base) (digit_glyph upper (n % base) ∷ later))
-        → NoneBelow (cond b (digit_glyph upper (n % base) ∷ later) (digits_onto fuel base upper (n / base) (digit_glyph upper (n % base) ∷ later)))
+        → NoneBelow (cond b (digit_glyph upper (n % base) ∷ later)
+        (digits_onto fuel base upper (n / base) (digit_glyph upper (n % base) ∷ later)))
     by true rest = (digit upper (n % base), are)
     by false rest = rest
 
@@ -144,7 +145,8 @@ all_in_quotes (text ∷ later) are =
 value_shown : (value : List ℕ) → ArePrintableWords (value_words value)
 value_shown value = by (bytes_eq value []) (are_quotable_texts value) refl
   where
-    by : (a b : Bool) → are_quotable_texts value ≡ b → ArePrintableWords (cond a [] (cond b (map quoted_text (listed_names value)) ((codes "0x" ++ hexadecimal_digits value) ∷ [])))
+    by : (a b : Bool) → are_quotable_texts value ≡ b →
+        ArePrintableWords (cond a [] (cond b (map quoted_text (listed_names value)) ((codes "0x" ++ hexadecimal_digits value) ∷ [])))
     by true b is = tt
     by false true is = all_in_quotes (listed_names value) (and_parts _ (list_all is_quotable (listed_names value)) is).1
     by false false is = ((omega arith, (omega arith, bytes_digits value)), tt)

@@ -23,7 +23,7 @@ use Rattle.bi_commands.specs.SortedProperties.{properties_of_slices, by_name, Is
 use Rattle.bi_blob.proofs.Texts.NormalEvents.{both_hold}
 use Rattle.bi_blob.proofs.NameSets.{name_cmp}
 
--- The entries of an ordered map of slices, and the properties by name that they are.
+-- The entries of an ordered map of slices are the properties by name: with one more entry, without those of payloads, and from an index on.
 
 -- A name that is before others is before their entries.
 before_all : (name : Bor (List ℕ)) (es : List (Bor (List ℕ) × Bor (List ℕ))) →
@@ -46,7 +46,11 @@ properties-insert : (es : List (Bor (List ℕ) × Bor (List ℕ))) (name value :
 properties-insert [] name value = refl
 properties-insert (e ∷ es) name value = where_placed (name_cmp name e.0) (properties-insert es name value)
   where
-    where_placed : (o : Ordering) → properties_of_slices (insert_entry name_cmp es name value) ≡ put (slice_cmp nat_cmp) name.now value.now (properties_of_slices es) → properties_of_slices (match_ordering o ((name, value) ∷ e ∷ es) ((e.0, value) ∷ es) (e ∷ insert_entry name_cmp es name value)) ≡ by_order o ((name.now, value.now) ∷ properties_of_slices (e ∷ es)) ((e.0.now, value.now) ∷ properties_of_slices es) ((e.0.now, e.1.now) ∷ put (slice_cmp nat_cmp) name.now value.now (properties_of_slices es))
+    where_placed : (o : Ordering) →
+        properties_of_slices (insert_entry name_cmp es name value) ≡ put (slice_cmp nat_cmp) name.now value.now (properties_of_slices es) →
+        properties_of_slices (match_ordering o ((name, value) ∷ e ∷ es) ((e.0, value) ∷ es) (e ∷ insert_entry name_cmp es name value)) ≡
+        by_order o ((name.now, value.now) ∷ properties_of_slices (e ∷ es)) ((e.0.now, value.now) ∷ properties_of_slices es)
+        ((e.0.now, e.1.now) ∷ put (slice_cmp nat_cmp) name.now value.now (properties_of_slices es))
     where_placed Less rest = refl
     where_placed Equal rest = refl
     where_placed Greater rest = ap (λ l. (e.0.now, e.1.now) ∷ l) rest
@@ -73,7 +77,11 @@ properties-filter : (es : List (Bor (List ℕ) × Bor (List ℕ))) →
 properties-filter [] = refl
 properties-filter (e ∷ es) = where_kept (not (is_payload_name e.0.now)) (properties-filter es)
   where
-    where_kept : (b : Bool) → properties_of_slices (filter is_kept es) ≡ where_key (slice_cmp nat_cmp) (λ name. not (is_payload_name name)) (properties_of_slices es) → properties_of_slices (cond b (e ∷ filter is_kept es) (filter is_kept es)) ≡ cond b ((e.0.now, e.1.now) ∷ where_key (slice_cmp nat_cmp) (λ name. not (is_payload_name name)) (properties_of_slices es)) (where_key (slice_cmp nat_cmp) (λ name. not (is_payload_name name)) (properties_of_slices es))
+    where_kept : (b : Bool) → properties_of_slices (filter is_kept es) ≡
+        where_key (slice_cmp nat_cmp) (λ name. not (is_payload_name name)) (properties_of_slices es) →
+        properties_of_slices (cond b (e ∷ filter is_kept es) (filter is_kept es)) ≡
+        cond b ((e.0.now, e.1.now) ∷ where_key (slice_cmp nat_cmp) (λ name. not (is_payload_name name)) (properties_of_slices es))
+        (where_key (slice_cmp nat_cmp) (λ name. not (is_payload_name name)) (properties_of_slices es))
     where_kept true rest = ap (λ l. (e.0.now, e.1.now) ∷ l) rest
     where_kept false rest = rest
 

@@ -9,7 +9,7 @@ use Rattle.bi_commands.specs.ValueTexts.{is_printable, is_quotable, are_quotable
 use Rattle.bi_commands.specs.ValueTexts.{hexadecimal_digits}
 use Rattle.bi_commands.proofs.FitLines.{joined_after}
 
--- The values of properties, as they are written byte by byte.
+-- The words of a value are its texts in quotes if it is texts that can be quoted, and otherwise its bytes in hexadecimal digits.
 
 -- A value that ends with a zero is what is before it, and the zero.
 pub before_last : (value : List ℕ) → 1 ≤ length value → ends_with nat_eq value (0 ∷ []) ≡ true →

@@ -20,7 +20,7 @@ use Rattle.bi_commands.specs.KnownConcerns.{ConcernsAreKnown, StrongAlgorithmsAr
 use Rattle.bi_commands.specs.KnownTexts.{first_lists, second_default, second_kernel, NamesAreShown, ChoicesAreKnown, ReportsAreKnown}
 use Rattle.bi_commands.specs.KnownTexts.{LegacyListingsAreKnown, FitListingIsKnown, EachSourceIsListed, ConfigurationLinesAreKnown}
 
--- What the definitions compute for small boot images.
+-- Names are shown as known texts, and small boot images have known choices, reports, listings and concerns.
 
 pub names_are_shown : NamesAreShown
 names_are_shown = record {

@@ -23,7 +23,7 @@ use Rattle.bi_commands.specs.TreeEntries.{EntryModel, NodeEnds, PropertyEntry, e
 use Rattle.bi_commands.specs.TreeEntries.{tree_entries, as_entry}
 use Rattle.bi_commands.proofs.FitLines.{numbers_of, reservation_found, reservation_of}
 
--- The lines of a flattened image tree by its entries.
+-- The lines of a flattened image tree are those of its entries, and the text that is written of them is the description of the tree.
 
 -- The text from the reservation at an index on is its line and those after it.
 pub reservation_lines_from : (reservations : List Reservation) (index : ℕ) (found : Option (ℕ × ℕ)) (numbers : ℕ × ℕ) →

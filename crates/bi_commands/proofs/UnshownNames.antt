@@ -10,9 +10,9 @@ use Rattle.std.specs.List.{flat_map}
 use Rattle.bi_base.specs.Cells.{AreBytes}
 use Rattle.bi_commands.specs.Shown.{digits_of_byte, is_plain, shown_byte, shown_text}
 use Rattle.bi_commands.specs.Unshown.{IsNameShownAs, IsNoShownBytes, IsShownOfNoBytes}
-use Rattle.bi_commands.proofs.Readable.Cuts.{IsReadBack, nothing_before, first_same, later_same}
-use Rattle.bi_commands.proofs.Readable.ShownNames.{low_glyph, high_glyph, plain_no_percent, read_shown_byte, same_shown, some_shown_byte}
-use Rattle.bi_commands.proofs.Readable.ShownNames.{ways, ShownName, Nothing, Dash, Others}
+use Rattle.bi_commands.proofs.ReadableDescriptions.Cuts.{IsReadBack, nothing_before, first_same, later_same}
+use Rattle.bi_commands.proofs.ReadableDescriptions.ShownNames.{low_glyph, high_glyph, plain_no_percent, read_shown_byte, same_shown, some_shown_byte}
+use Rattle.bi_commands.proofs.ReadableDescriptions.ShownNames.{ways, ShownName, Nothing, Dash, Others}
 
 -- Names are read back from how they are printed.
 

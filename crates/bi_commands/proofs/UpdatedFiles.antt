@@ -26,7 +26,7 @@ use Rattle.bi_norm.specs.NormalForm.{IsNormalForm, IsOpenError, NeedsMemory, For
 use Rattle.bi_norm.proofs.NormalForms.{only_legacy, only_tree, needs_memory}
 use Rattle.bi_commands.specs.UpdatedFiles.{IsUpdated, Updated, IsUpdateError, HashesTooMuch, IsDigestsError, updated_meaning}
 
--- Updated files that were read.
+-- The text of an updated image that was read is that of the updated file, and without changes it is the normal form of the file.
 
 -- An error of reading a file is one of updating it.
 pub error_of_reading_updated : (changes : Changes) (limits : Limits) (form : Form) (file : List ℕ) (error : Error) →
@@ -42,7 +42,9 @@ pub updated_needs_memory : (changes : Changes) (limits : Limits) (form : Form) (
 updated_needs_memory changes limits form file text is = needs_memory limits file is.meaning is.means.means
 
 -- The text of a legacy image that was read, with its new time.
-module _ (changes : Changes) (limits : Limits) (form : Form) (file : List ℕ) (parsed : LegacyModel) (opened : IsReadLegacy limits file parsed) (time : ℕ) (is_time : time ≡ unwrap_or changes.time parsed.image.time) (small : time < 2 ^ 32) where
+module _ (changes : Changes) (limits : Limits) (form : Form) (file : List ℕ) (parsed : LegacyModel)
+    (opened : IsReadLegacy limits file parsed) (time : ℕ) (is_time : time ≡ unwrap_or changes.time parsed.image.time)
+    (small : time < 2 ^ 32) where
   abbrev updated_legacy_text : List ℕ
   updated_legacy_text = legacy_text (with_new_time time parsed.image)
 
@@ -75,7 +77,8 @@ module _ (changes : Changes) (limits : Limits) (form : Form) (file : List ℕ) (
       SinkFailed text cause (subst (IsUpdated changes limits form file) (sym is) legacy_is_updated) failed same
 
 -- The text of a flattened image tree that was read, with the changes.
-module _ (changes : Changes) (limits : Limits) (form : Form) (file : List ℕ) (content : FitModel) (opened : IsReadFit limits file content) (most : limits.file ≤ longest_text) where
+module _ (changes : Changes) (limits : Limits) (form : Form) (file : List ℕ) (content : FitModel) (opened : IsReadFit limits file content)
+    (most : limits.file ≤ longest_text) where
   abbrev updated_tree : ImageTree
   updated_tree = with_changes changes (tree_of content)
 
@@ -123,6 +126,7 @@ pub no_change_normalises : (limits : Limits) (form : Form) (file text normal : L
 no_change_normalises limits form file text normal is is_normal =
     is.is_text ∙ same is.meaning ∙ ap (normal_text form) (is_normal.only is.meaning is.means.means) ∙ sym is_normal.is_text
   where
-    same : (meaning : Meaning) → normal_text form (updated_meaning (record { time = None; hashes = false }) meaning) ≡ normal_text form meaning
+    same : (meaning : Meaning) →
+        normal_text form (updated_meaning (record { time = None; hashes = false }) meaning) ≡ normal_text form meaning
     same (OfLegacy image) = refl
     same (OfFit tree) = refl

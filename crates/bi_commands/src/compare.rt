@@ -112,7 +112,7 @@ impl From<AllocError> for CompareError {
 
 /// Reads the first file.
 fn read_one(alloc: Global, file: &[u8], limits: Limits) -> Result<BootImage<'_>, CompareError>
-    ensures opened { IfOk result (IsReadBootImage limits file.entry.now) }
+    ensures read { IfOk result (IsReadBootImage limits file.entry.now) }
     ensures failed { IfErr result (λ error. (other : List ℕ)
         → IsReadingError limits file.entry.now other error) }
 {
@@ -135,7 +135,7 @@ fn reading_failure(error: Error) -> CompareError
 
 /// Reads the second file.
 fn read_other(alloc: Global, file: &[u8], limits: Limits) -> Result<BootImage<'_>, CompareError>
-    ensures opened { IfOk result (IsReadBootImage limits file.entry.now) }
+    ensures read { IfOk result (IsReadBootImage limits file.entry.now) }
     ensures failed { IfErr result (λ error. (one : List ℕ) (meaning : Meaning)
         → Means limits one meaning → IsReadingError limits one file.entry.now error) }
 {

@@ -23,10 +23,10 @@ use Rattle.bi_fdt.specs.Fields.{IsBlobHeld, HaveNameOffsets}
 use Rattle.bi_fdt.specs.ReadBlobs.{IsOnlyFault, IsReadBlob, IsBlobReadError}
 use Rattle.bi_blob.proofs.Blobs.OneBlob.{one_blob}
 use Rattle.bi_blob.proofs.Blobs.Faults.{blob_has_no_fault}
-use Rattle.bi_fdt.proofs.Parsing.{root_in-table}
+use Rattle.bi_fdt.proofs.TableTrees.{root_in-table}
 use Rattle.bi_fdt.proofs.NameOffsetsOfTables.{names_in_tree}
 
--- What a blob that was read holds.
+-- A blob that was read from a file without faults has the reservations and the tree of the file, and the fault of a file is its only one.
 
 -- The fault of a file is its only one.
 pub only_fault : (limits : Limits) (file : List ℕ) (fault : Fault) → IsBlobFault limits file fault → IsOnlyFault limits file fault

@@ -22,7 +22,8 @@ use Rattle.bi_fdt.proofs.Items.{items_of-append, open_items, node_items, items_o
 use Rattle.bi_fdt.proofs.Links.{AreLinked-node, AreLinked-property, AreLinked-end, items-set, drop-push, properties_alone}
 use Rattle.bi_fdt.proofs.Links.{AreOnlyProperties}
 
--- What one token does to a growing table.
+-- A table that grows still has the entries of its open nodes after a child begins, after a property is added to the innermost one, and
+-- after that one ends.
 
 -- What an open node's entry begins in the items of a growing table.
 pub open_entry : (opened : OpenNode) (later : List OpenNode) (children : List (List ℕ)) (o : OpenFileNode) (outer : List OpenFileNode) →
@@ -49,7 +50,8 @@ pub node_entry : (file : List ℕ) (entries : List Entry) (index depth place : �
     drop index (map (item_in file) entries) ≡ NodeItem depth place name ∷ items →
     IsNodeEntry file entries index (NodeItem depth place name) items
 node_entry file entries index depth place name items at = by_rest (drop index entries) refl (sym (drop-map (item_in file) index entries) ∙ at) where
-  by_rest : (rest : List Entry) → drop index entries ≡ rest → map (item_in file) rest ≡ NodeItem depth place name ∷ items → IsNodeEntry file entries index (NodeItem depth place name) items
+  by_rest : (rest : List Entry) → drop index entries ≡ rest → map (item_in file) rest ≡ NodeItem depth place name ∷ items →
+      IsNodeEntry file entries index (NodeItem depth place name) items
   by_rest [] is e = absurd cc
   by_rest (entry.Property p ∷ later) is e = absurd cc
   by_rest (entry.Node n ∷ later) is e = record { n = n; later = later; is_at = is; is_item = cc; are_items = cc }

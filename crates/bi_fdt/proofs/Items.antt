@@ -8,7 +8,7 @@ use Rattle.bi_blob.specs.OpenNodes.{OpenFileNode, events_of_open_node, events_of
 use Rattle.bi_blob.proofs.Blobs.OpenNodes.{no_children}
 use Rattle.bi_fdt.specs.Table.{TableItem, NodeItem, PropertyItem, items_of, count_inside}
 
--- The items of trees.
+-- The items of the events of nodes are the items of the nodes, and all items of an open node after its beginning are inside it.
 
 -- How many nodes are open after events.
 abbrev pub depth_after : ℕ → List FileEvent → ℕ

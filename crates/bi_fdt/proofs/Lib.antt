@@ -8,7 +8,7 @@ pub mod OpenEntries
 pub mod GrowingTables
 pub mod TokenSteps
 pub mod RootSteps
-pub mod Parsing
+pub mod TableTrees
 pub mod NameOffsetsOfTables
 pub mod TreeNames
 pub mod BlobViews

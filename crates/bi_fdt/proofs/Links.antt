@@ -12,7 +12,8 @@ use Rattle.bi_fdt.specs.declared.table.PropertyEntry.{PropertyEntry}
 use Rattle.bi_fdt.specs.Table.{TableItem, NodeItem, PropertyItem, first_properties, count_inside, node_name_in, property_in, item_in, IsLinked, AreLinked}
 use Rattle.bi_fdt.proofs.Items.{inside-deeper, inside-stops}
 
--- The numbers of the entries of a table while it grows.
+-- The numbers in the entries of a table still fit after one more node, after one more property of the innermost open node, and after its
+-- end.
 
 -- As many items are inside a depth as there are at most.
 pub inside-most : (depth : ℕ) (items : List TableItem) → count_inside depth items ≤ length items
@@ -234,7 +235,10 @@ AreLinked-property file opened at (entry.Node o ∷ entries) later (suc index) n
       subst (IsLinked opened at o) (sym items) (by_end (map (item_in file) entries) (map (item_in file) later) index linked.0 first there),
       AreLinked-property file opened (at + 1) entries later index n m p here deep all same same_item counted linked.1,
     ) where
-      by_end : (items later : List TableItem) (index : ℕ) → IsLinked opened at o items → first_properties (items ++ PropertyItem (property_in file p) ∷ []) ≡ first_properties items → drop index items ≡ NodeItem n.depth n.place (node_name_in file n) ∷ later → IsLinked opened at o (items ++ PropertyItem (property_in file p) ∷ [])
+      by_end : (items later : List TableItem) (index : ℕ) → IsLinked opened at o items →
+          first_properties (items ++ PropertyItem (property_in file p) ∷ []) ≡ first_properties items →
+          drop index items ≡ NodeItem n.depth n.place (node_name_in file n) ∷ later →
+          IsLinked opened at o (items ++ PropertyItem (property_in file p) ∷ [])
       by_end items later index linked first there =
           let most : count_inside o.depth items ≤ length items = inside-most o.depth items in
           let longer : length (items ++ PropertyItem (property_in file p) ∷ []) ≡ length items + 1 = length-append items (PropertyItem (property_in file p) ∷ []) in

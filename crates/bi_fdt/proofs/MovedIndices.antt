@@ -9,7 +9,7 @@ use Rattle.std.proofs.lemmas.List.Sorted.{All-permutation, Contains-permutation,
 use Rattle.std.proofs.lemmas.Slice.Zip.{length-zip, get_or-zip, firsts-zip, seconds-zip}
 use Rattle.bi_fdt.specs.KeyOrder.{with_indices, IsKeyOrder}
 
--- Keys with their indices, and the indices in the order of the keys.
+-- Keys with their indices have each index once, and the indices in the order of the keys do too.
 
 -- ---- keys before their indices
 

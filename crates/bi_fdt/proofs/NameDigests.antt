@@ -9,7 +9,8 @@ use Rattle.bi_blob.proofs.Blobs.BytesBeforeZero.{before_zero, before_zero-cons, 
 use Rattle.bi_fdt.specs.Digests.{digest_of_blocks, digest_of_all_blocks, digest_of_name}
 use Rattle.bi_fdt.proofs.NameEnds.{drop_again}
 
--- Digests of names.
+-- The digest of all blocks of a name is that of its first block and of the digest of the name 64 bytes later, and a name with less than two
+-- blocks has none.
 
 -- The last blocks of a name are those of a later end of it.
 pub digest_of_blocks-drop : (count skipped : ℕ) (name : List ℕ) → 64 * count + skipped ≤ length name →
@@ -63,7 +64,8 @@ before_zero-later (suc n) (byte ∷ rest) within =
     subst (λ front. suc n ≤ length front → before_zero (drop n rest) ≡ drop (suc n) front) (sym (before_zero-cons byte rest))
     (by_test (byte == 0) (before_zero-later n rest)) within where
       by_test : (is_zero : Bool) → (n ≤ length (before_zero rest) → before_zero (drop n rest) ≡ drop n (before_zero rest))
-          → suc n ≤ length (cond is_zero [] (byte ∷ before_zero rest)) → before_zero (drop n rest) ≡ drop (suc n) (cond is_zero [] (byte ∷ before_zero rest))
+          → suc n ≤ length (cond is_zero [] (byte ∷ before_zero rest)) →
+          before_zero (drop n rest) ≡ drop (suc n) (cond is_zero [] (byte ∷ before_zero rest))
       by_test true later short = absurd (omega arith)
       by_test false later short = later (omega arith)
 

@@ -10,7 +10,7 @@ use Rattle.bi_blob.proofs.Blobs.BytesBeforeZero.{before_zero, before_zero-cons, 
 use Rattle.bi_fdt.specs.Growth.{HasBytesAt}
 use Rattle.bi_fdt.specs.Strings.{end_of}
 
--- Where names end.
+-- A name ends where each of its ends does, within the bytes, and is the bytes up to its end.
 
 -- Bytes after the beginning of a name have its rest before their first zero byte.
 before_zero-drop : (n : ℕ) (bytes : List ℕ) → n ≤ length (before_zero bytes) →
@@ -21,7 +21,8 @@ before_zero-drop (suc n) (byte ∷ rest) within =
     subst (λ front. suc n ≤ length front → suc n + length (before_zero (drop n rest)) ≡ length front) (sym (before_zero-cons byte rest))
     (by_test (byte == 0) (before_zero-drop n rest)) within where
       by_test : (is_zero : Bool) → (n ≤ length (before_zero rest) → n + length (before_zero (drop n rest)) ≡ length (before_zero rest))
-          → suc n ≤ length (cond is_zero [] (byte ∷ before_zero rest)) → suc n + length (before_zero (drop n rest)) ≡ length (cond is_zero [] (byte ∷ before_zero rest))
+          → suc n ≤ length (cond is_zero [] (byte ∷ before_zero rest)) →
+          suc n + length (before_zero (drop n rest)) ≡ length (cond is_zero [] (byte ∷ before_zero rest))
       by_test true later short = absurd (omega arith)
       by_test false later short =
           let e : n + length (before_zero (drop n rest)) ≡ length (before_zero rest) = later (omega arith) in

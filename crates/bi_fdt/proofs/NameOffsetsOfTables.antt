@@ -5,7 +5,7 @@ use Rattle.bi_blob.specs.Tree.{Root, FileNode, FileProperty}
 use Rattle.bi_blob.specs.Events.{FileEvent, FileNodeStart, FileNodeProperty, FileNodeEnd, EncodeEvents, EncodesProperty, file_events_of}
 use Rattle.bi_blob.specs.Blob.{HoldsTree, tree_blocks}
 use Rattle.bi_blob.proofs.Blobs.OneBlob.{HoldsTree-stand}
-use Rattle.bi_blob.proofs.Blobs.Passing.{length-Prop}
+use Rattle.bi_blob.proofs.Blobs.TreeTokens.{length-Prop}
 use Rattle.bi_blob.proofs.Blobs.TokenEncoding.{AllStand}
 use Rattle.bi_blob.proofs.Blobs.Tokens.{IsTokenAt-within, Prop-parts}
 use Rattle.bi_fdt.specs.Table.{items_of}

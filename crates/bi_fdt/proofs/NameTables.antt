@@ -18,7 +18,8 @@ use Rattle.bi_fdt.specs.Numbers.{BeginsWith, IsNumbered}
 use Rattle.bi_fdt.specs.Table.{TableItem, item_in, property_in}
 use Rattle.bi_fdt.proofs.NumberedNames.{IsNumberedAt, AreHeads-tails, number_written, numbers_kept}
 
--- Tables of names while the properties of a blob are numbered.
+-- The name of a property is at the offset of its token and ends within the strings block, and numbers stay as more names are added to a
+-- table.
 
 -- The name of a property is at the offset that its token has.
 pub name_at_offset : (file strings : List ℕ) (e : Entry) (property : PropertyEntry) (at : ℕ) → strings ≡ (tree_blocks file).strings →

@@ -14,10 +14,10 @@ use Rattle.bi_fdt.specs.Table.{TableItem, NodeItem, PropertyItem, first_properti
 use Rattle.bi_fdt.specs.Table.{AreLinked}
 use Rattle.bi_fdt.specs.Content.{begins_with_node}
 use Rattle.bi_fdt.specs.Fields.{IsNodeOf}
-use Rattle.bi_fdt.proofs.Parsing.{nodes-deeper}
+use Rattle.bi_fdt.proofs.TableTrees.{nodes-deeper}
 use Rattle.bi_fdt.proofs.Items.{inside-deeper, inside-stops}
 
--- The entries of nodes in a table.
+-- The node entry at an index of a table is that of a node, and the items inside a node make no difference to the nodes at its depth.
 
 -- An entry, and those after it.
 pub entry_here : (entries : List Entry) (index : ℕ) (e d : Entry) → index < length entries → get_or entries index d ≡ e →

@@ -14,13 +14,14 @@ use Rattle.bi_fdt.specs.declared.table.PropertyEntry.{PropertyEntry}
 use Rattle.bi_fdt.specs.Table.{TableItem, NodeItem, PropertyItem, first_properties, nodes_of, count_inside, node_name_in, property_in, item_in}
 use Rattle.bi_fdt.specs.Content.{begins_with_node, first_sibling, table_of}
 use Rattle.bi_fdt.specs.Fields.{IsNodeOf}
-use Rattle.bi_fdt.proofs.Parsing.{nodes-same, nodes-above, nodes-deeper, nodes-table}
+use Rattle.bi_fdt.proofs.TableTrees.{nodes-same, nodes-above, nodes-deeper, nodes-table}
 use Rattle.bi_fdt.proofs.Items.{inside-deeper, inside-stops}
 use Rattle.bi_fdt.proofs.GrowingTables.{drop-within}
 use Rattle.bi_fdt.proofs.NodeEntries.{IsFirstAt, first_at, items_here, drop-next, first_most, first_take, first_depth, first_rest}
 use Rattle.bi_fdt.proofs.NodeEntries.{nodes-past_properties, inside-past_properties, nodes-past_inside, after_inside}
 
--- What the getters of a node give.
+-- The properties, the first child and the next sibling of a node are where its entry gives them, and a look-up finds the first node of a
+-- name.
 
 module _ (file : List ℕ) (table : List TableItem) (index : ℕ) (n : NodeEntry) (there : IsNodeOf file table index n) where
   -- Its properties are within the table.
@@ -71,7 +72,8 @@ module _ (file : List ℕ) (table : List TableItem) (index : ℕ) (n : NodeEntry
         let b : count_inside n.depth there.later ≡ n.property_count + count_inside n.depth rest = inside_is in
         omega arith
 
-    by_rest : (items : List TableItem) → ((p : FileProperty) (more : List TableItem) → items ≡ PropertyItem p ∷ more → ⊥) → count_inside n.depth items ≡ 0 → nodes_of (n.depth + 1) items ≡ none
+    by_rest : (items : List TableItem) → ((p : FileProperty) (more : List TableItem) → items ≡ PropertyItem p ∷ more → ⊥) →
+        count_inside n.depth items ≡ 0 → nodes_of (n.depth + 1) items ≡ none
     by_rest [] no_property empty = refl
     by_rest (PropertyItem p ∷ items) no_property empty = absurd (no_property p items refl)
     by_rest (NodeItem own place name ∷ items) no_property empty = elim (cases_lt n.depth own) [
@@ -102,7 +104,8 @@ module _ (file : List ℕ) (table : List TableItem) (index : ℕ) (n : NodeEntry
 
         by_rest : (items : List TableItem) → ((p : FileProperty) (more : List TableItem) → items ≡ PropertyItem p ∷ more → ⊥)
             → ((own place : ℕ) (name : List ℕ) (later : List TableItem) → items ≡ NodeItem own place name ∷ later → own ≤ n.depth + 1)
-            → ¬ (count_inside n.depth items ≡ 0) → IsTrue (begins_with_node items) × (Some (first_sibling items) ≡ node_at (nodes_of (n.depth + 1) items) 0)
+            → ¬ (count_inside n.depth items ≡ 0) →
+            IsTrue (begins_with_node items) × (Some (first_sibling items) ≡ node_at (nodes_of (n.depth + 1) items) 0)
         by_rest [] no_property least some = absurd (some refl)
         by_rest (PropertyItem p ∷ items) no_property least some = absurd (no_property p items refl)
         by_rest (NodeItem own place name ∷ items) no_property least some =
@@ -209,7 +212,9 @@ no_child_past (node name own children later) (suc index) zero gone past = absurd
 no_child_past (node name own children later) (suc index) (suc more) gone past = no_child_past later index more gone (omega arith)
 
 -- A property of a node by its index.
-module _ (file : List ℕ) (entries : List Entry) (table : List TableItem) (index : ℕ) (n : NodeEntry) (same : map (item_in file) entries ≡ table) (there : IsNodeOf file table index n) (i : ℕ) (within : i < length (first_sibling (drop index table)).own.properties) where
+module _ (file : List ℕ) (entries : List Entry) (table : List TableItem) (index : ℕ) (n : NodeEntry)
+    (same : map (item_in file) entries ≡ table) (there : IsNodeOf file table index n) (i : ℕ)
+    (within : i < length (first_sibling (drop index table)).own.properties) where
   few : i < length (first_properties there.later)
   few = subst (λ items. i < length (first_sibling items).own.properties) there.is_at within
 
@@ -264,7 +269,9 @@ pub value_found : (properties : List FileProperty) (name : List ℕ) →
     value_named (map property_of properties) name ≡ option_map (λ property. property.value) (property_named properties name)
 value_found [] name = refl
 value_found (p ∷ properties) name = by_test (bytes_eq p.name name) (value_found properties name) where
-  by_test : (b : Bool) → value_named (map property_of properties) name ≡ option_map (λ (property : FileProperty). property.value) (property_named properties name)
-      → cond b (Some p.value) (value_named (map property_of properties) name) ≡ option_map (λ (property : FileProperty). property.value) (cond b (Some p) (property_named properties name))
+  by_test : (b : Bool) → value_named (map property_of properties) name ≡
+      option_map (λ (property : FileProperty). property.value) (property_named properties name)
+      → cond b (Some p.value) (value_named (map property_of properties) name) ≡
+      option_map (λ (property : FileProperty). property.value) (cond b (Some p) (property_named properties name))
   by_test true later = refl
   by_test false later = later

@@ -7,7 +7,7 @@ use Rattle.bi_fdt.specs.Table.{TableItem, NodeItem, PropertyItem}
 use Rattle.bi_fdt.specs.Numbers.{AreNumbered, IsNumberOf}
 use Rattle.bi_fdt.proofs.NumberedNames.{AllZip-append}
 
--- The ranks of names, and those at the numbers of properties, which number them by the names in byte order.
+-- The ranks of names in byte order are their numbers, and the ranks at the numbers of properties number the properties by these names.
 
 -- What holds of each of some names.
 pub held_at : (P : List ℕ → Type 0) (slices : List (Bor (List ℕ))) (index : ℕ) (d : Bor (List ℕ)) → index < length slices →

@@ -5,7 +5,7 @@ use Rattle.bi_blob.specs.OpenNodes.{OpenFileNode}
 use Rattle.bi_fdt.specs.declared.growing.OpenNode.{OpenNode}
 use Rattle.bi_fdt.specs.Growth.{AreOpen}
 
--- The open nodes of a growing table.
+-- A growing table has one entry for each open node, and the innermost one holds the names of its children.
 
 -- There is one for each open node.
 pub AreOpen-length : (opened : List OpenNode) (children : List (List ℕ)) (name : List ℕ) (outer : List OpenFileNode) →

@@ -22,7 +22,7 @@ use Rattle.bi_fdt.specs.Digests.{digest_of_name}
 use Rattle.bi_fdt.specs.declared.property_names.PropertyNames.{PropertyNames}
 use Rattle.bi_fdt.specs.PropertySets.{by_digest, HoldsProperties}
 
--- Sets of names of properties.
+-- A set of names of properties holds a name after it is inserted, by its length, and a name is new exactly if the set does not hold it.
 
 -- The order of what comes before two names.
 abbrev before_names : List ℕ → List ℕ → Ordering

@@ -10,13 +10,14 @@ use Rattle.bi_blob.specs.Stages.{BeforeRoot, AfterRoot, is_expected}
 use Rattle.bi_blob.specs.Blob.{TreeBlocks, HoldsTree}
 use Rattle.bi_blob.specs.BlobFaults.{TokenPasses, HasTokenNumber, IsExpected, token_checks, token_fault, begin_checks, IsStructureFault}
 use Rattle.bi_blob.specs.OpenNodes.{TreeSoFar, IsOpenAt, NoTree, OpenTree, WholeTree, new_node, stage_of}
-use Rattle.bi_blob.proofs.Blobs.Steps.{next_nop, next_root}
-use Rattle.bi_blob.proofs.Blobs.Ending.{last_token}
-use Rattle.bi_blob.proofs.Blobs.Whole.{fault_there}
+use Rattle.bi_blob.proofs.Blobs.ReaderSteps.{next_nop, next_root}
+use Rattle.bi_blob.proofs.Blobs.EndToken.{last_token}
+use Rattle.bi_blob.proofs.Blobs.TreeOrFault.{fault_there}
 use Rattle.bi_fdt.specs.Blocks.{IsNumberAt}
 use Rattle.bi_fdt.proofs.TokenSteps.{width-nop, width-begin}
 
--- What a reader makes of the tokens before the root, of the root's, and of those after it.
+-- FDT_BEGIN_NODE before the root begins the root, FDT_END after the root ends the structure block, and a token that is not expected there
+-- is a fault.
 
 module _ (blocks : TreeBlocks) (depth_limit place : ℕ) (so_far : TreeSoFar) (position : IsOpenAt blocks depth_limit place so_far) where
   -- FDT_NOP.

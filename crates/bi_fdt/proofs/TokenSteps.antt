@@ -17,9 +17,9 @@ use Rattle.bi_blob.specs.OpenNodes.{OpenFileNode, IsOpenAt, OpenTree, WholeTree,
 use Rattle.bi_blob.specs.OpenNodes.{events_of_open_node}
 use Rattle.bi_blob.proofs.Blobs.OpenNodes.{ended_root, events_of_open_nodes-root}
 use Rattle.bi_blob.proofs.Blobs.Tokens.{length-token_bytes}
-use Rattle.bi_blob.proofs.Blobs.Passing.{length-Prop}
-use Rattle.bi_blob.proofs.Blobs.Steps.{IsNext, next_nop, next_child, next_property, next_end_of_child, next_last, property_at}
-use Rattle.bi_blob.proofs.Blobs.Whole.{fault_there}
+use Rattle.bi_blob.proofs.Blobs.TreeTokens.{length-Prop}
+use Rattle.bi_blob.proofs.Blobs.ReaderSteps.{IsNext, next_nop, next_child, next_property, next_end_of_child, next_last, property_at}
+use Rattle.bi_blob.proofs.Blobs.TreeOrFault.{fault_there}
 use Rattle.bi_fdt.specs.declared.growing.Growing as table
 use Rattle.bi_fdt.specs.declared.growing.Ending.TheVariants as ending
 use Rattle.bi_fdt.specs.declared.table.Entry.{Entry}
@@ -30,7 +30,8 @@ use Rattle.bi_fdt.specs.Growth.{IsGrowing, IsFinished, EndsInside, IsEnding}
 use Rattle.bi_fdt.specs.Reading.{IsReading, IsTable, IsAfter}
 use Rattle.bi_fdt.proofs.Items.{items_of-append}
 
--- What a reader inside the root makes of the token at its place.
+-- Inside the root, FDT_BEGIN_NODE begins a child, FDT_PROP adds a property, FDT_END_NODE ends the innermost node, FDT_NOP changes nothing,
+-- and the first check of a token that fails gives the fault.
 
 -- How wide tokens are.
 pub width-begin : (name : List ℕ) → width (BeginNode name) ≡ up4 (length name + 5)
@@ -49,7 +50,8 @@ width-nop = ap up4 (length-cell nop_number)
 pub up4-within : (n : ℕ) → (n ≤ up4 n) × (up4 n ≤ n + 3)
 up4-within n = (omega arith, omega arith)
 
-module _ (blocks : TreeBlocks) (depth_limit place : ℕ) (o : OpenFileNode) (outer : List OpenFileNode) (position : IsOpenAt blocks depth_limit place (OpenTree o outer)) where
+module _ (blocks : TreeBlocks) (depth_limit place : ℕ) (o : OpenFileNode) (outer : List OpenFileNode)
+    (position : IsOpenAt blocks depth_limit place (OpenTree o outer)) where
   -- The token of this number is expected inside the root.
   expected : (number : ℕ) → u32_at blocks.file place ≡ number → IsTrue (is_expected (stage_of (OpenTree o outer)) number) →
       IsTrue (is_expected (stage_of (OpenTree o outer)) (u32_at blocks.file place))
@@ -154,7 +156,8 @@ pub after_end_inside : (blocks : TreeBlocks) (depth_limit : ℕ) (reading : Read
     IsReading blocks depth_limit reading → IsNumberAt blocks reading.place end_node_number →
     IsEnding reading.growing (ending.Inside grown) → IsReading blocks depth_limit (record { place = reading.place + 4; growing = grown })
 after_end_inside blocks depth_limit reading grown r number ended = by_outer r.innermost r.outer r.position (ended.1 blocks.file r.innermost r.outer r.growing) where
-  by_outer : (o : OpenFileNode) (outer : List OpenFileNode) → IsOpenAt blocks depth_limit reading.place (OpenTree o outer) → EndsInside blocks.file grown o outer → IsReading blocks depth_limit (record { place = reading.place + 4; growing = grown })
+  by_outer : (o : OpenFileNode) (outer : List OpenFileNode) → IsOpenAt blocks depth_limit reading.place (OpenTree o outer) →
+      EndsInside blocks.file grown o outer → IsReading blocks depth_limit (record { place = reading.place + 4; growing = grown })
   by_outer o [] position more = absurd more
   by_outer o (parent ∷ outer) position more = record {
     innermost = with_one_child parent o;
@@ -174,7 +177,8 @@ pub after_end_root : (blocks : TreeBlocks) (depth_limit : ℕ) (reading : Readin
     IsAfter blocks depth_limit (reading.place + 4) entries
 after_end_root blocks depth_limit reading entries r number ended =
     by_outer r.outer r.position (ended blocks.file r.innermost r.outer r.growing) where
-      by_outer : (outer : List OpenFileNode) → IsOpenAt blocks depth_limit reading.place (OpenTree r.innermost outer) → (outer ≡ []) × IsFinished blocks.file entries r.innermost → IsAfter blocks depth_limit (reading.place + 4) entries
+      by_outer : (outer : List OpenFileNode) → IsOpenAt blocks depth_limit reading.place (OpenTree r.innermost outer) →
+          (outer ≡ []) × IsFinished blocks.file entries r.innermost → IsAfter blocks depth_limit (reading.place + 4) entries
       by_outer (parent ∷ outer) position whole = absurd (one_more whole.0) where
         one_more : parent ∷ outer ≡ [] → ⊥
         one_more e = cc

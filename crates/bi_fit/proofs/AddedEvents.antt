@@ -9,7 +9,7 @@ use Rattle.bi_fit.specs.declared.document.ranked_node.RankedNode.{RankedNode}
 use Rattle.bi_fit.specs.RankedNodes.{HasRanks}
 use Rattle.bi_fit.specs.NormalNodes.{with_events, MayAdd, begin_events}
 
--- Events that are added to a document in turn.
+-- Events that are added to a document in turn are added together, may be added in two parts, and keep its names and their ranks.
 
 -- None change it.
 pub with_events-none : (document : Doc) → with_events document [] ≡ document

@@ -11,7 +11,7 @@ use Rattle.bi_fit.specs.PropertyMapModels.{AreNumbersIn}
 use Rattle.bi_fit.specs.PropertyMaps.{properties_in, number_in, numbers_in}
 use Rattle.bi_fit.proofs.AddedEvents.{with_events-append, MayAdd-back}
 
--- Properties that are added to a document in turn.
+-- The first of the entries that are left to be added to a document has its number and may be added, and then the others are left.
 
 -- What is read where there is no entry.
 abbrev pub no_map_entry : MapEntry

@@ -10,7 +10,7 @@ use Rattle.bi_fit.specs.NormalNodes.{payloads_of}
 use Rattle.bi_fit.specs.Text.{payload_area, payloads_end, end_after}
 use Rattle.bi_fit.proofs.TextLaws.{payloads_end-append, payloads_end_later}
 
--- The payloads of images after the blob of a text, as they are appended one by one.
+-- The payloads of images before one and those from it on are the payloads of all images, as they are appended one by one.
 
 -- The zeros before a payload.
 pub area_zeros : (end begin : ℕ) → begin ≡ up4 end → take {A = ℕ} (begin - end) (0 ∷ 0 ∷ 0 ∷ []) ≡ padding_to_4 end

@@ -17,7 +17,7 @@ use Rattle.bi_fit.specs.Building.{configuration_properties, built_tree}
 use Rattle.bi_fit.specs.KnownBuilds.{known_head, known_kernel, known_ramdisk, known_tree, known_text, BuiltIsKnown, EachKeyIsKnown}
 use Rattle.bi_fit.proofs.FileFacts.{no_entries}
 
--- What the definitions compute for a small built tree.
+-- A small built tree has a known text, and the keys have known names and list the images in their order.
 
 -- Properties put in order one by one.
 abbrev pub put_in_order : List Property → List Property

@@ -23,7 +23,7 @@ use Rattle.bi_fit.specs.Building.{IsImageSpec}
 use Rattle.bi_fit.specs.Laws.{list_of_built, BuiltHasConfiguration}
 use Rattle.bi_fit.proofs.NameLists.{ends_later, names_listed}
 
--- What the configuration of a built tree lists.
+-- The configuration of a built tree lists the images of each key in their order, and it is the default.
 
 -- A list of names has a first byte.
 first_byte : (name : List ℕ) (names : List (List ℕ)) → (byte : ℕ) × (later : List ℕ) × (strings_of (name ∷ names) ≡ byte ∷ later)

@@ -9,7 +9,7 @@ use Rattle.bi_blob.specs.Events.{Event, events, events_of, NodeEnd}
 use Rattle.bi_blob.specs.Following.{AreClosedEvents, MayFollowInText, MayEnd, stage_of_events}
 use Rattle.bi_blob.specs.Stages.{AfterRoot}
 use Rattle.bi_blob.proofs.Blobs.EventTrees.{same_events}
-use Rattle.bi_blob.proofs.Texts.Normal.{has_one_order}
+use Rattle.bi_blob.proofs.Texts.NormalOrder.{has_one_order}
 use Rattle.bi_blob.proofs.Texts.NormalEvents.{normal_events_have_one_tree}
 use Rattle.bi_hash.specs.declared.algo.Algo.TheVariants.{Sha256}
 use Rattle.bi_hash.specs.Digests.{digest_of}
@@ -35,7 +35,7 @@ use Rattle.bi_fit.specs.declared.building.NamedImage.{NamedImage}
 use Rattle.bi_fit.specs.NamedImages.{named_model, named_models}
 use Rattle.bi_fit.specs.BuiltNodes.{built_payloads, hash_node, hash_node_with, placed_properties, image_node, built_image_nodes, images_node, configurations_node}
 
--- The document of a tree to be built.
+-- The nodes of a tree to be built may be added to a document one after the other, and the document is then that of the tree.
 
 -- No name of the properties of a node to be built has a number.
 pub have_no_numbers : (names : List (List ℕ)) (properties : PropertyMapModel) (own : PropertyMap) → properties ≡ without_numbers own →

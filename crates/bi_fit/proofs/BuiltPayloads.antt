@@ -13,7 +13,7 @@ use Rattle.bi_fit.specs.Documents.{length_after_blob}
 use Rattle.bi_fit.specs.NamedImages.{named_models, image_to_place}
 use Rattle.bi_fit.specs.BuiltNodes.{built_payloads}
 
--- The payloads of images to be built.
+-- The payloads of images to be built are those of each image in turn, and the digest at the index of an image is that of its payload.
 
 -- What a list of images gives past its end.
 abbrev pub no_named_image : NamedImage

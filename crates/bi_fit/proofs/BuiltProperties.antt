@@ -4,7 +4,7 @@ use Rattle.bi_fit.specs.Building.{cell_property}
 use Rattle.bi_fit.specs.BuiltNodes.{with_cell_property}
 use Rattle.bi_fit.specs.PropertyMapModels.{without_numbers}
 
--- The properties of an image to be built.
+-- The address properties of an image to be built are those of its load address and its entry point.
 
 -- Its addresses.
 pub addresses : (load entry : Option ℕ) →

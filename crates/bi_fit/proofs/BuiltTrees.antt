@@ -114,7 +114,8 @@ listed_bytes key [] each = AreBytes-none
 listed_bytes key (image ∷ later) each =
     where_first (is_under key image.key) refl (listed_bytes key later each.1)
   where
-    where_first : (b : Bool) → is_under key image.key ≡ b → AreBytes (strings_of (names_under key later)) → AreBytes (strings_of (names_under key (image ∷ later)))
+    where_first : (b : Bool) → is_under key image.key ≡ b → AreBytes (strings_of (names_under key later)) →
+        AreBytes (strings_of (names_under key (image ∷ later)))
     where_first true is rest =
         rw is (AreBytes-append (text_value image.name) (strings_of (names_under key later)) (bytes-text_value image.name each.0.name_bytes) rest)
     where_first false is rest = rw is rest

@@ -46,7 +46,10 @@ compared_root_children IsOwn none are = refl
 compared_root_children IsOwn (node name own children later) are =
     where_first (bytes_eq name images_name) refl (compared_root_children IsOwn later are.2)
   where
-    where_first : (b : Bool) → bytes_eq name images_name ≡ b → compared_nodes RootChild later ≡ with_children_of images_name without_payloads (nodes_by_name later) → compared_nodes RootChild (node name own children later) ≡ with_children_of images_name without_payloads (nodes_by_name (node name own children later))
+    where_first : (b : Bool) → bytes_eq name images_name ≡ b →
+        compared_nodes RootChild later ≡ with_children_of images_name without_payloads (nodes_by_name later) →
+        compared_nodes RootChild (node name own children later) ≡
+        with_children_of images_name without_payloads (nodes_by_name (node name own children later))
     where_first true is rest =
         let new : IsNew images_name (names later) = subst (λ name. IsNew name (names later)) ((bytes_eq-Decides name images_name).0 is) are.0.is_new in
         rw is (ap₂ (node name (properties_by_name own)) (compared_images children) (compared_without_images later new))

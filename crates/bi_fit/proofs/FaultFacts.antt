@@ -16,7 +16,7 @@ use Rattle.bi_fit.specs.KnownFaults.{WithoutImages, RegionsHaveFaults, FirstFaul
 use Rattle.bi_fit.proofs.TestedTrees.{is_tree}
 use Rattle.bi_fit.proofs.FileFacts.{blob_by_test}
 
--- The faults of small files.
+-- Small files without image nodes or with a wrong one have known faults, and if two checks fail, the first gives the fault.
 
 -- The file of a tested tree, within the widest limits, has the first fault of its checks.
 in_tree : (root : Root (List Property)) (rest : List ℕ) (fault : Fault) → is_tree root ≡ true →

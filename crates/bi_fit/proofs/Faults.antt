@@ -11,7 +11,7 @@ use Rattle.bi_base.proofs.ListMembers.{each-append, each-front, each-back}
 use Rattle.bi_blob.specs.Tree.{Nodes, none, node, Root, FileProperty, FileNode, tree_without_places, tree_without_order}
 use Rattle.bi_blob.specs.Blob.{Reservation, IsBlob, IsWithin, IsBlobWithin}
 use Rattle.bi_blob.specs.BlobFaults.{IsBlobFault}
-use Rattle.bi_blob.proofs.Blobs.Decided.{le_decided}
+use Rattle.bi_blob.proofs.Blobs.TestedChecks.{le_decided}
 use Rattle.bi_blob.proofs.Blobs.OneBlob.{one_blob}
 use Rattle.bi_blob.proofs.Blobs.Faults.{blob_has_no_fault, one_blob_fault, blob_or_fault}
 use Rattle.bi_fit.specs.ImageTree.{ImageTree, image_nodes, each_own, tree_without_payloads}
@@ -145,7 +145,8 @@ in_blob bounds file is = by_checks (first.fault_or_none (FitPasses file) fit_fau
     Outcome : Type 0
     Outcome = ((tree : ImageTree) × FitMeans bounds file tree) ⊎ ((fault : Fault) × IsFitFault bounds file fault)
 
-    by_checks : HasNoFault (FitPasses file) (fit_checks file is.root) ⊎ ((fault : Fault) × IsFirstFault (FitPasses file) fit_fault (fit_checks file is.root) fault) → Outcome
+    by_checks : HasNoFault (FitPasses file) (fit_checks file is.root) ⊎
+        ((fault : Fault) × IsFirstFault (FitPasses file) fit_fault (fit_checks file is.root) fault) → Outcome
     by_checks (inl fine) =
         let found = tree_has_meaning file is.cpu is.reservations is.root is.blob (image_nodes is.root) refl fine.0 fine.1 in
         inl (found.0, record { is_file = found.1; within = subst (λ root. IsWithin bounds file root) (sym found.2) is.within })
@@ -154,7 +155,8 @@ in_blob bounds file is = by_checks (first.fault_or_none (FitPasses file) fit_fau
 pub fit_meaning_or_fault : FitMeaningOrFault
 fit_meaning_or_fault bounds file bytes = by_blob (blob_or_fault bounds file bytes)
   where
-    by_blob : IsBlobWithin bounds file ⊎ ((fault : Fault) × IsBlobFault bounds file fault) → ((tree : ImageTree) × FitMeans bounds file tree) ⊎ ((fault : Fault) × IsFitFault bounds file fault)
+    by_blob : IsBlobWithin bounds file ⊎ ((fault : Fault) × IsBlobFault bounds file fault) →
+        ((tree : ImageTree) × FitMeans bounds file tree) ⊎ ((fault : Fault) × IsFitFault bounds file fault)
     by_blob (inl is) = in_blob bounds file is
     by_blob (inr faulty) = inr (faulty.0, InBlob faulty.1)
 

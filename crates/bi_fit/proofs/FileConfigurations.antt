@@ -24,7 +24,8 @@ use Rattle.bi_blob.proofs.Blobs.Lookups.{names-with_each}
 use Rattle.bi_fit.proofs.FileNodes.{names-by_name, get-by_name, own_and_children, sibling_by_name, configuration_nodes_are}
 use Rattle.bi_fit.proofs.FileNodes.{configurations_parts}
 
--- The configurations of an image tree that was read.
+-- The names, the number and the default of the configurations of an image tree that was read are those in its blob, and each is found by
+-- its name.
 
 -- The node of the configurations of a blob.
 abbrev pub configurations_in : Blob → Option (Sibling FileNode)
@@ -49,7 +50,9 @@ pub name_at : (content : FitModel) (index : ℕ) →
 name_at content index =
     ap (λ (l : List (List ℕ)). slice_get l index) (names_are content) ∙ below (configurations_in content.blob)
   where
-    below : (found : Option (Sibling FileNode)) → slice_get (map (λ sibling. sibling.name) (siblings (nodes_or_none (option_map (λ found. found.children) found)))) index ≡ option_map (λ sibling. sibling.name) (option_and_then (λ found. node_at found.children index) found)
+    below : (found : Option (Sibling FileNode)) →
+        slice_get (map (λ sibling. sibling.name) (siblings (nodes_or_none (option_map (λ found. found.children) found)))) index ≡
+        option_map (λ sibling. sibling.name) (option_and_then (λ found. node_at found.children index) found)
     below None = refl
     below (Some found) = slice_get-map (λ sibling. sibling.name) (siblings found.children) index
 
@@ -62,11 +65,16 @@ default_is content =
     ∙ ap (λ (o : Option (PropertyMap × Nodes PropertyMap)). option_and_then (λ parts. option_and_then text_before_nul (get parts.0 default_name)) o) (configurations_parts content)
     ∙ of_file (configurations_in content.blob)
   where
-    of_parts : (found : Option (Sibling PropertyMap)) → option_and_then (λ found. option_and_then text_before_nul (get found.own default_name)) found ≡ option_and_then (λ parts. option_and_then text_before_nul (get parts.0 default_name)) (option_map own_and_children found)
+    of_parts : (found : Option (Sibling PropertyMap)) →
+        option_and_then (λ found. option_and_then text_before_nul (get found.own default_name)) found ≡
+        option_and_then (λ parts. option_and_then text_before_nul (get parts.0 default_name)) (option_map own_and_children found)
     of_parts None = refl
     of_parts (Some found) = refl
 
-    of_file : (found : Option (Sibling FileNode)) → option_and_then (λ parts. option_and_then text_before_nul (get parts.0 default_name)) (option_map (λ sibling. own_and_children (sibling_by_name sibling)) found) ≡ option_and_then (λ found. option_and_then text_before_nul (value_named (properties_of found.own) default_name)) found
+    of_file : (found : Option (Sibling FileNode)) →
+        option_and_then (λ parts. option_and_then text_before_nul (get parts.0 default_name))
+        (option_map (λ sibling. own_and_children (sibling_by_name sibling)) found) ≡
+        option_and_then (λ found. option_and_then text_before_nul (value_named (properties_of found.own) default_name)) found
     of_file None = refl
     of_file (Some found) = ap (option_and_then text_before_nul) (get-by_name (properties_of found.own) default_name)
 
@@ -88,7 +96,8 @@ distinct_configurations : (blob : Blob) → IsTree AreProperties (tree_without_p
 distinct_configurations blob is =
     by_found (children_of configurations_name (root_of blob).children) refl
   where
-    by_found : (found : Option (Nodes FileNode)) → children_of configurations_name (root_of blob).children ≡ found → AreDistinct (names (nodes_or_none found))
+    by_found : (found : Option (Nodes FileNode)) → children_of configurations_name (root_of blob).children ≡ found →
+        AreDistinct (names (nodes_or_none found))
     by_found None there = tt
     by_found (Some nodes) there =
         subst AreDistinct (names-with_each properties_of nodes)
@@ -117,6 +126,7 @@ configurations_are content =
     named : List ℕ → ConfigurationModel
     named name = record { content = content; name = name }
 
-    in_list : (left : List (Sibling FileNode)) → map (λ (sibling : Sibling FileNode). named sibling.name) left ≡ map named (map (λ sibling. sibling.name) left)
+    in_list : (left : List (Sibling FileNode)) →
+        map (λ (sibling : Sibling FileNode). named sibling.name) left ≡ map named (map (λ sibling. sibling.name) left)
     in_list [] = refl
     in_list (sibling ∷ left) = ap (λ l. named sibling.name ∷ l) (in_list left)

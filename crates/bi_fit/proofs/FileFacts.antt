@@ -30,7 +30,8 @@ use Rattle.bi_fit.proofs.BuiltTrees.{none_found}
 use Rattle.bi_fit.proofs.TestedTrees.{is_tree, content_by_test}
 use Rattle.bi_base.proofs.ByteLists.{bytes_by_test}
 
--- What the definitions compute for small files.
+-- Small image trees have known texts and payloads: `data-position` comes before `data-offset` and both before `data`, and properties that
+-- give no payload have no meaning.
 
 -- No bytes are no entries.
 pub no_entries : entries (empty {X = List ℕ} {R = slice_cmp nat_cmp}) ≡ []

@@ -24,7 +24,8 @@ use Rattle.bi_fit.specs.HashNodes.{file_images, file_configurations, payload_nam
 use Rattle.bi_fit.specs.HashNodes.{file_listed_at, file_listed, with_images}
 use Rattle.bi_fit.proofs.FileNodes.{bare_image, sibling_by_name, get-by_name, named-by_name, image_siblings, configuration_nodes_are}
 
--- What a configuration of an image tree that was read lists.
+-- Under a key, a configuration of an image tree that was read lists the images with the names of the value, or the first name that no image
+-- has.
 
 -- Whether a byte is a zero.
 abbrev is_zero : ℕ → Bool
@@ -36,7 +37,11 @@ first_name : (value : List ℕ) → list_any is_zero value ≡ true →
 first_name [] some = absurd cc
 first_name (byte ∷ later) some = where_first (is_zero byte) refl some (λ some. first_name later some)
   where
-    where_first : (b : Bool) → is_zero byte ≡ b → list_any is_zero (byte ∷ later) ≡ true → (list_any is_zero later ≡ true → listed_names later ≡ before_first is_zero later ∷ listed_names (drop (suc (length (before_first is_zero later))) later)) → listed_names (byte ∷ later) ≡ before_first is_zero (byte ∷ later) ∷ listed_names (drop (suc (length (before_first is_zero (byte ∷ later)))) (byte ∷ later))
+    where_first : (b : Bool) → is_zero byte ≡ b → list_any is_zero (byte ∷ later) ≡ true →
+        (list_any is_zero later ≡ true →
+        listed_names later ≡ before_first is_zero later ∷ listed_names (drop (suc (length (before_first is_zero later))) later)) →
+        listed_names (byte ∷ later) ≡
+        before_first is_zero (byte ∷ later) ∷ listed_names (drop (suc (length (before_first is_zero (byte ∷ later)))) (byte ∷ later))
     where_first true is some rest = rw is refl
     where_first false is some rest = rw (is, one-add) (ap (with_byte byte) (rest (rw is at some)))
 
@@ -45,7 +50,8 @@ without_zero : (value : List ℕ) → list_any is_zero value ≡ false → liste
 without_zero [] none = refl
 without_zero (byte ∷ later) none = where_first (is_zero byte) refl none (λ none. without_zero later none)
   where
-    where_first : (b : Bool) → is_zero byte ≡ b → list_any is_zero (byte ∷ later) ≡ false → (list_any is_zero later ≡ false → listed_names later ≡ []) → listed_names (byte ∷ later) ≡ []
+    where_first : (b : Bool) → is_zero byte ≡ b → list_any is_zero (byte ∷ later) ≡ false →
+        (list_any is_zero later ≡ false → listed_names later ≡ []) → listed_names (byte ∷ later) ≡ []
     where_first true is none rest = absurd (let e : true ≡ false = rw is at none in cc)
     where_first false is none rest = rw is (ap (with_byte byte) (rest (rw is at none)))
 
@@ -54,7 +60,9 @@ shorter : (value : List ℕ) → list_any is_zero value ≡ true → length (bef
 shorter [] some = absurd cc
 shorter (byte ∷ later) some = where_first (is_zero byte) refl some (λ some. shorter later some)
   where
-    where_first : (b : Bool) → is_zero byte ≡ b → list_any is_zero (byte ∷ later) ≡ true → (list_any is_zero later ≡ true → length (before_first is_zero later) + 1 ≤ length later) → length (before_first is_zero (byte ∷ later)) + 1 ≤ length (byte ∷ later)
+    where_first : (b : Bool) → is_zero byte ≡ b → list_any is_zero (byte ∷ later) ≡ true →
+        (list_any is_zero later ≡ true → length (before_first is_zero later) + 1 ≤ length later) →
+        length (before_first is_zero (byte ∷ later)) + 1 ≤ length (byte ∷ later)
     where_first true is some rest = rw is (omega arith)
     where_first false is some rest =
         let few : length (before_first is_zero later) + 1 ≤ length later = rest (rw is at some) in
@@ -128,7 +136,8 @@ module _ (name : List ℕ) where
       Found : ℕ → List ImageModel → Type 0
       Found base images = (k : ℕ) × (index ≡ base + k) × (payload_named name images ≡ Some (payload_at images k))
 
-      where_first : (b : Bool) → bytes_eq image.name name ≡ b → index_from base name (image ∷ later) ≡ Some index → (index_from (base + 1) name later ≡ Some index → Found (base + 1) later) → Found base (image ∷ later)
+      where_first : (b : Bool) → bytes_eq image.name name ≡ b → index_from base name (image ∷ later) ≡ Some index →
+          (index_from (base + 1) name later ≡ Some index → Found (base + 1) later) → Found base (image ∷ later)
       where_first true same is rest =
           let here : Some base ≡ Some index = rw same at is in
           let at : base ≡ index = same_Some base index here in
@@ -143,7 +152,8 @@ module _ (name : List ℕ) where
   missing_from base [] is = refl
   missing_from base (image ∷ later) is = where_first (bytes_eq image.name name) refl is (λ is. missing_from (base + 1) later is)
     where
-      where_first : (b : Bool) → bytes_eq image.name name ≡ b → index_from base name (image ∷ later) ≡ None → (index_from (base + 1) name later ≡ None → payload_named name later ≡ None) → payload_named name (image ∷ later) ≡ None
+      where_first : (b : Bool) → bytes_eq image.name name ≡ b → index_from base name (image ∷ later) ≡ None →
+          (index_from (base + 1) name later ≡ None → payload_named name later ≡ None) → payload_named name (image ∷ later) ≡ None
       where_first true same is rest = absurd (let e : Some base ≡ None = rw same at is in cc)
       where_first false other is rest = rw other (rest (rw other at is))
 
@@ -185,12 +195,14 @@ list_needs_memory images index (name ∷ later) = by_payload (payload_named name
     by_listed image (Missing index) needs = needs
     by_listed image (ListedImages images) needs = tt
 
-    by_payload : (found : Option (Option (List ℕ))) → ListNeedsMemory (file_list images (index + 1) later) → ListNeedsMemory (listed_payload index name found (file_list images (index + 1) later))
+    by_payload : (found : Option (Option (List ℕ))) → ListNeedsMemory (file_list images (index + 1) later) →
+        ListNeedsMemory (listed_payload index name found (file_list images (index + 1) later))
     by_payload None needs = tt
     by_payload (Some payload) needs = by_listed (record { name = name; payload = payload }) (file_list images (index + 1) later) needs
 
 -- What a value lists where these images were found, and the names in `rest` are left.
-module _ (images : List ImageModel) (value rest : List ℕ) (done : List ListedImage) (index : ℕ) (so_far : file_list images 0 (listed_names value) ≡ with_images done (file_list images index (listed_names rest))) where
+module _ (images : List ImageModel) (value rest : List ℕ) (done : List ListedImage) (index : ℕ)
+    (so_far : file_list images 0 (listed_names value) ≡ with_images done (file_list images index (listed_names rest))) where
   -- The next name is one that no image has.
   pub next_is_missing : (name later : List ℕ) → BeginsWithName rest name later → index_of name images ≡ None →
       file_list images 0 (listed_names value) ≡ Missing index
@@ -234,7 +246,12 @@ payload_same name file (entry ∷ entries) [] read = absurd read
 payload_same name file (entry ∷ entries) (image ∷ images) read =
     where_first (bytes_eq entry.name name) refl (payload_same name file entries images read.1)
   where
-    where_first : (b : Bool) → bytes_eq entry.name name ≡ b → option_map (λ image. image.payload) (image_named name (images_with (map bare_image entries) (map (λ image. image.payload) images))) ≡ payload_named name images → option_map (λ image. image.payload) (image_named name (images_with (map bare_image (entry ∷ entries)) (map (λ image. image.payload) (image ∷ images)))) ≡ payload_named name (image ∷ images)
+    where_first : (b : Bool) → bytes_eq entry.name name ≡ b →
+        option_map (λ image. image.payload)
+        (image_named name (images_with (map bare_image entries) (map (λ image. image.payload) images))) ≡ payload_named name images →
+        option_map (λ image. image.payload)
+        (image_named name (images_with (map bare_image (entry ∷ entries)) (map (λ image. image.payload) (image ∷ images)))) ≡
+        payload_named name (image ∷ images)
     where_first true same rest = rw (read.0.name, same) refl
     where_first false other rest = rw (read.0.name, other) rest
 
@@ -253,7 +270,10 @@ module _ (content : FitModel) (held : IsHeld content) where
       by_image (image_named name (images_of (tree_of content)))
       ∙ ap₂ (listed_payload index name) (payload_in_tree name) (list_in_tree (index + 1) later)
     where
-      by_image : (found : Option Image) → listed_from index name found (list_images (images_of (tree_of content)) (index + 1) later) ≡ listed_payload index name (option_map (λ image. image.payload) found) (list_images (images_of (tree_of content)) (index + 1) later)
+      by_image : (found : Option Image) →
+          listed_from index name found (list_images (images_of (tree_of content)) (index + 1) later) ≡
+          listed_payload index name (option_map (λ image. image.payload) found)
+          (list_images (images_of (tree_of content)) (index + 1) later)
       by_image None = refl
       by_image (Some image) = refl
 

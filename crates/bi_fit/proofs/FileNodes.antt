@@ -15,7 +15,7 @@ use Rattle.bi_fit.specs.Judgement.{configuration_nodes}
 use Rattle.bi_fit.specs.HashNodes.{file_images, file_configurations}
 use Rattle.bi_fit.specs.NormalNodes.{properties_by_name, nodes_by_name}
 
--- The nodes of an image tree that was read, and those of its blob.
+-- The image nodes and the configuration nodes of an image tree that was read are those of its blob, with their properties by name.
 
 -- One of some siblings, with the properties of each node by their names.
 abbrev pub sibling_by_name : Sibling FileNode → Sibling PropertyMap
@@ -44,7 +44,8 @@ get-by_name properties name = get-from_entries nat_list_cmp_total properties nam
     in_list [] = refl
     in_list (property ∷ later) = where_first (bytes_eq property.0 name) refl (in_list later)
       where
-        where_first : (b : Bool) → bytes_eq property.0 name ≡ b → find (slice_cmp nat_cmp) name later ≡ value_named later name → find (slice_cmp nat_cmp) name (property ∷ later) ≡ value_named (property ∷ later) name
+        where_first : (b : Bool) → bytes_eq property.0 name ≡ b → find (slice_cmp nat_cmp) name later ≡ value_named later name →
+            find (slice_cmp nat_cmp) name (property ∷ later) ≡ value_named (property ∷ later) name
         where_first true is rest = rw (is_eq-slice_cmp name property.0, nat_list_eq_equiv.symm name property.0, is) refl
         where_first false is rest = rw (is_eq-slice_cmp name property.0, nat_list_eq_equiv.symm name property.0, is) rest
 
@@ -71,7 +72,10 @@ pub named-by_name : (nodes : Nodes FileNode) (wanted : List ℕ) →
 named-by_name none wanted = refl
 named-by_name (node name own children later) wanted = where_first (bytes_eq name wanted) refl (named-by_name later wanted)
   where
-    where_first : (b : Bool) → bytes_eq name wanted ≡ b → node_named (nodes_by_name later) wanted ≡ option_map sibling_by_name (node_named later wanted) → node_named (nodes_by_name (node name own children later)) wanted ≡ option_map sibling_by_name (node_named (node name own children later) wanted)
+    where_first : (b : Bool) → bytes_eq name wanted ≡ b →
+        node_named (nodes_by_name later) wanted ≡ option_map sibling_by_name (node_named later wanted) →
+        node_named (nodes_by_name (node name own children later)) wanted ≡
+        option_map sibling_by_name (node_named (node name own children later) wanted)
     where_first true is rest = rw is refl
     where_first false is rest = rw is rest
 
@@ -88,15 +92,25 @@ named-other changed wanted change differ none = refl
 named-other {Own = Own} changed wanted change differ (node name own children later) =
     where_changed (bytes_eq name changed) refl (named-other changed wanted change differ later)
   where
-    where_wanted : (b : Bool) → bytes_eq name wanted ≡ b → option_map own_and_children (node_named (with_children_of changed change later) wanted) ≡ option_map own_and_children (node_named later wanted) → option_map own_and_children (node_named (node name own children (with_children_of changed change later)) wanted) ≡ option_map own_and_children (node_named (node name own children later) wanted)
+    where_wanted : (b : Bool) → bytes_eq name wanted ≡ b →
+        option_map own_and_children (node_named (with_children_of changed change later) wanted) ≡
+        option_map own_and_children (node_named later wanted) →
+        option_map own_and_children (node_named (node name own children (with_children_of changed change later)) wanted) ≡
+        option_map own_and_children (node_named (node name own children later) wanted)
     where_wanted true is rest = rw is refl
     where_wanted false is rest = rw is rest
 
-    where_other : (b : Bool) → bytes_eq name wanted ≡ b → bytes_eq name changed ≡ true → option_map own_and_children (node_named (node name own (change children) later) wanted) ≡ option_map own_and_children (node_named (node name own children later) wanted)
+    where_other : (b : Bool) → bytes_eq name wanted ≡ b → bytes_eq name changed ≡ true →
+        option_map own_and_children (node_named (node name own (change children) later) wanted) ≡
+        option_map own_and_children (node_named (node name own children later) wanted)
     where_other true is is_changed = absurd (let e : bytes_eq name changed ≡ false = differ name is in let f : true ≡ false = sym is_changed ∙ e in cc)
     where_other false is is_changed = rw is refl
 
-    where_changed : (b : Bool) → bytes_eq name changed ≡ b → option_map own_and_children (node_named (with_children_of changed change later) wanted) ≡ option_map own_and_children (node_named later wanted) → option_map own_and_children (node_named (with_children_of changed change (node name own children later)) wanted) ≡ option_map own_and_children (node_named (node name own children later) wanted)
+    where_changed : (b : Bool) → bytes_eq name changed ≡ b →
+        option_map own_and_children (node_named (with_children_of changed change later) wanted) ≡
+        option_map own_and_children (node_named later wanted) →
+        option_map own_and_children (node_named (with_children_of changed change (node name own children later)) wanted) ≡
+        option_map own_and_children (node_named (node name own children later) wanted)
     where_changed true is rest = rw is (where_other (bytes_eq name wanted) refl is)
     where_changed false is rest = rw is (where_wanted (bytes_eq name wanted) refl rest)
 
@@ -107,7 +121,12 @@ pub image_nodes_named : (nodes : Nodes FileNode) →
 image_nodes_named none = refl
 image_nodes_named (node name own children later) = where_first (bytes_eq name images_name) refl (image_nodes_named later)
   where
-    where_first : (b : Bool) → bytes_eq name images_name ≡ b → nodes_or_none (children_of images_name (with_children_of images_name without_payloads (nodes_by_name later))) ≡ without_payloads (nodes_by_name (nodes_or_none (children_of images_name later))) → nodes_or_none (children_of images_name (with_children_of images_name without_payloads (nodes_by_name (node name own children later)))) ≡ without_payloads (nodes_by_name (nodes_or_none (children_of images_name (node name own children later))))
+    where_first : (b : Bool) → bytes_eq name images_name ≡ b →
+        nodes_or_none (children_of images_name (with_children_of images_name without_payloads (nodes_by_name later))) ≡
+        without_payloads (nodes_by_name (nodes_or_none (children_of images_name later))) →
+        nodes_or_none (children_of images_name
+        (with_children_of images_name without_payloads (nodes_by_name (node name own children later)))) ≡
+        without_payloads (nodes_by_name (nodes_or_none (children_of images_name (node name own children later))))
     where_first true is rest = rw (is, is) refl
     where_first false is rest = rw (is, is) rest
 
@@ -128,7 +147,9 @@ configurations_parts content =
     differ : (name : List ℕ) → bytes_eq name configurations_name ≡ true → bytes_eq name images_name ≡ false
     differ name is = ap (λ l. bytes_eq l images_name) ((bytes_eq-Decides name configurations_name).0 is)
 
-    twice : (found : Option (Sibling FileNode)) → option_map own_and_children (option_map sibling_by_name found) ≡ option_map (λ sibling. own_and_children (sibling_by_name sibling)) found
+    twice : (found : Option (Sibling FileNode)) →
+        option_map own_and_children (option_map sibling_by_name found) ≡
+        option_map (λ sibling. own_and_children (sibling_by_name sibling)) found
     twice None = refl
     twice (Some sibling) = refl
 
@@ -140,10 +161,14 @@ configuration_nodes_are content =
     ∙ ap (λ (o : Option (PropertyMap × Nodes PropertyMap)). nodes_or_none (option_map (λ parts. parts.1) o)) (configurations_parts content)
     ∙ of_file (node_named (root_of content.blob).children configurations_name)
   where
-    of_parts : (found : Option (Sibling PropertyMap)) → nodes_or_none (option_map (λ sibling. sibling.children) found) ≡ nodes_or_none (option_map (λ parts. parts.1) (option_map own_and_children found))
+    of_parts : (found : Option (Sibling PropertyMap)) →
+        nodes_or_none (option_map (λ sibling. sibling.children) found) ≡
+        nodes_or_none (option_map (λ parts. parts.1) (option_map own_and_children found))
     of_parts None = refl
     of_parts (Some sibling) = refl
 
-    of_file : (found : Option (Sibling FileNode)) → nodes_or_none (option_map (λ parts. parts.1) (option_map (λ sibling. own_and_children (sibling_by_name sibling)) found)) ≡ nodes_by_name (nodes_or_none (option_map (λ sibling. sibling.children) found))
+    of_file : (found : Option (Sibling FileNode)) →
+        nodes_or_none (option_map (λ parts. parts.1) (option_map (λ sibling. own_and_children (sibling_by_name sibling)) found)) ≡
+        nodes_by_name (nodes_or_none (option_map (λ sibling. sibling.children) found))
     of_file None = refl
     of_file (Some sibling) = refl

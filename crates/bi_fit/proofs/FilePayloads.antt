@@ -89,7 +89,8 @@ found_values file wanted none inner has have = absurd cc
 found_values file wanted (node name own children later) inner has have =
     where_first (bytes_eq name wanted) refl has (λ has. found_values file wanted later inner has have.2)
   where
-    where_first : (b : Bool) → bytes_eq name wanted ≡ b → children_of wanted (node name own children later) ≡ Some inner → (children_of wanted later ≡ Some inner → HaveValues file inner) → HaveValues file inner
+    where_first : (b : Bool) → bytes_eq name wanted ≡ b → children_of wanted (node name own children later) ≡ Some inner →
+        (children_of wanted later ≡ Some inner → HaveValues file inner) → HaveValues file inner
     where_first true is has rest =
         let found : children ≡ inner = same_in_some children inner (rw is at has) in
         subst (HaveValues file) found have.1
@@ -102,7 +103,8 @@ named_value file name [] property have found = absurd cc
 named_value file name (first ∷ later) property have found =
     where_first (bytes_eq first.name name) refl found (named_value file name later property have.1)
   where
-    where_first : (b : Bool) → bytes_eq first.name name ≡ b → property_named (first ∷ later) name ≡ Some property → (property_named later name ≡ Some property → HasValue file property) → HasValue file property
+    where_first : (b : Bool) → bytes_eq first.name name ≡ b → property_named (first ∷ later) name ≡ Some property →
+        (property_named later name ≡ Some property → HasValue file property) → HasValue file property
     where_first true is found rest =
         let same : first ≡ property = same_in_some first property (rw is at found) in
         subst (HasValue file) same have.0

@@ -11,7 +11,7 @@ use Rattle.bi_blob.specs.Tree.{Nodes, none, node, Property, PropertyMap, FilePro
 use Rattle.bi_blob.specs.Tree.{IsTree, property_of, properties_of, with_each, depth_of, tree_without_places}
 use Rattle.bi_blob.specs.Events.{NodeProperty, NodeEnd, events}
 use Rattle.bi_blob.specs.Layout.{AreEventBytes, IsContent}
-use Rattle.bi_blob.proofs.Blobs.Complete.{depth-with_each}
+use Rattle.bi_blob.proofs.Blobs.BlockEnds.{depth-with_each}
 use Rattle.bi_blob.proofs.Texts.TextContent.{blob_has_content}
 use Rattle.bi_blob.specs.Lookups.{property_named}
 use Rattle.bi_fit.specs.Names.{data_name, images_name}
@@ -62,7 +62,8 @@ found_good name [] property good found = absurd cc
 found_good name (first ∷ later) property good found =
     where_first (bytes_eq first.name name) refl found (found_good name later property good.1)
   where
-    where_first : (b : Bool) → bytes_eq first.name name ≡ b → property_named (first ∷ later) name ≡ Some property → (property_named later name ≡ Some property → AreBytes property.value) → AreBytes property.value
+    where_first : (b : Bool) → bytes_eq first.name name ≡ b → property_named (first ∷ later) name ≡ Some property →
+        (property_named later name ≡ Some property → AreBytes property.value) → AreBytes property.value
     where_first true is found rest =
         let same : first ≡ property = same_in_some first property (rw is at found) in
         subst (λ property. AreBytes property.value) same good.0.value_bytes

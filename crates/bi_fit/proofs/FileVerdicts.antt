@@ -10,7 +10,7 @@ use Rattle.bi_fit.specs.Judgement.{Image, images_with, CheckedHash, checked_hash
 use Rattle.bi_fit.specs.HashNodes.{file_images, file_hash, file_hashes, file_verdicts}
 use Rattle.bi_fit.proofs.FileNodes.{sibling_by_name, bare_image, get-by_name, siblings-by_name, image_siblings}
 
--- The verdicts of an image tree that was read.
+-- The verdicts of an image tree that was read are those of the image nodes in its blob.
 
 -- A hash node has the same verdict in the tree.
 hash_is : (image : Image) (hash : Sibling FileNode) →
@@ -31,7 +31,11 @@ hashes_are : (image : Image) (children : List (Sibling FileNode)) →
 hashes_are image [] = refl
 hashes_are image (child ∷ later) = where_first (is_hash_name child.name) refl (hashes_are image later)
   where
-    where_first : (b : Bool) → is_hash_name child.name ≡ b → map (checked_hash image) (filter (λ child. is_hash_name child.name) (map sibling_by_name later)) ≡ file_hashes image.entry.name image.payload later → map (checked_hash image) (filter (λ child. is_hash_name child.name) (map sibling_by_name (child ∷ later))) ≡ file_hashes image.entry.name image.payload (child ∷ later)
+    where_first : (b : Bool) → is_hash_name child.name ≡ b →
+        map (checked_hash image) (filter (λ child. is_hash_name child.name) (map sibling_by_name later)) ≡
+        file_hashes image.entry.name image.payload later →
+        map (checked_hash image) (filter (λ child. is_hash_name child.name) (map sibling_by_name (child ∷ later))) ≡
+        file_hashes image.entry.name image.payload (child ∷ later)
     where_first true is rest = rw is (ap₂ (λ h t. h ∷ t) (hash_is image child) rest)
     where_first false is rest = rw is rest
 

@@ -17,7 +17,7 @@ use Rattle.bi_fit.specs.NormalNodes.{sorted_image, sorted_image_children, sorted
 use Rattle.bi_fit.proofs.PayloadAreas.{payloads_end-le}
 use Rattle.bi_fit.proofs.AddedEvents.{begin_events-same}
 
--- Image nodes that are added to a document.
+-- An image node of a file that is added to a document is that of the normal text, and its payload ends within the longest text.
 
 -- The properties of a child of an image node, with the first of these digests if it gets one.
 abbrev pub child_properties : (hashed : Bool) → (digests : List ℕ) → Sibling FileNode → PropertyMap

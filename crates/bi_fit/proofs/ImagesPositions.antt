@@ -13,7 +13,7 @@ use Rattle.bi_fit.specs.TextNodes.{are_none_before, HaveImagesAfter}
 use Rattle.bi_fit.proofs.FileConfigurations.{names_are_distinct}
 use Rattle.bi_fit.proofs.NormalTrees.{other_name, held_nodes}
 
--- Where the node of the name `images` is among the children of the root.
+-- The position of the node `images` in a blob is that of the one child of the root with this name.
 
 -- Whether no node is before one is a comparison.
 pub is_none_before : (before : Option ℕ) → option_eq eqb before (Some 0) ≡ are_none_before before

@@ -10,7 +10,7 @@ use Rattle.bi_fit.specs.declared.image.Image.{Image}
 use Rattle.bi_fit.specs.Content.{image_model, index_from}
 use Rattle.bi_blob.proofs.NameSets.{name_cmp}
 
--- The indices of images by their names.
+-- A map of the indices of images from one on has the index of that image by its name after it is inserted.
 
 -- A map that has the indices of the images after one has them from that one on, after the name of
 -- that one is inserted.

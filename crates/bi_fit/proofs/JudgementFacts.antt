@@ -14,7 +14,7 @@ use Rattle.bi_fit.specs.Names.{key_name, default_name, algo_name, value_name}
 use Rattle.bi_fit.specs.Judgement.{images_of, listed_at}
 use Rattle.bi_fit.specs.KnownJudgements.{configuration_lists, other_lists, default_list, configured_tree, ListsAreRead, good_crc, short_crc, other_crc, no_value, HashesAreJudged}
 
--- What the definitions compute of small trees.
+-- The configurations of a small tree have known lists, and its hash nodes have known verdicts.
 
 -- A property of a list by its name.
 pub find-properties : (properties : List Property) (name : List ℕ) →

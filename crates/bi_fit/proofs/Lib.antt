@@ -56,11 +56,11 @@ pub mod NumberedValues
 pub mod ComparedTrees
 pub mod UpdatedVerdicts
 pub mod UpdateChanges
-pub mod Appending
+pub mod AppendedTexts
 pub mod WholeTexts
 pub mod AppendedPayloads
 pub mod ListedNames
-pub mod PassedOn
+pub mod PassedResults
 pub mod BuiltPayloads
 pub mod BuiltProperties
 pub mod BuiltDocuments

@@ -7,7 +7,8 @@ use Rattle.bi_fit.specs.Building.{is_under, names_under}
 use Rattle.bi_fit.specs.declared.building.NamedImage.{NamedImage}
 use Rattle.bi_fit.specs.NamedImages.{named_model, named_models}
 
--- The names of images that are listed under a key.
+-- The names under a key of the images from one on begin with the name of that image if it is listed under the key, and otherwise leave it
+-- out.
 
 -- An image is listed under its key,
 under_key : (key : Key) → is_under key key ≡ true

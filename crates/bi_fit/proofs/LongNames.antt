@@ -65,7 +65,8 @@ one_of_short : (name : List ℕ) (others : List (List ℕ)) → AllByRecursion (
 one_of_short name [] short is = absurd cc
 one_of_short name (other ∷ others) short is = where_first (bytes_eq name other) refl is (one_of_short name others short.1)
   where
-    where_first : (b : Bool) → bytes_eq name other ≡ b → (b || list_any (bytes_eq name) others) ≡ true → (list_any (bytes_eq name) others ≡ true → name_if_long name ≡ []) → name_if_long name ≡ []
+    where_first : (b : Bool) → bytes_eq name other ≡ b → (b || list_any (bytes_eq name) others) ≡ true →
+        (list_any (bytes_eq name) others ≡ true → name_if_long name ≡ []) → name_if_long name ≡ []
     where_first true same is rest = ap name_if_long ((bytes_eq-Decides name other).0 same) ∙ short.0
     where_first false same is rest = rest is
 
@@ -103,7 +104,8 @@ short_or_left name others (first ∷ later) new are = (where_short are.0, short_
     differs true is = absurd (new.0 (sym ((bytes_eq-Decides name first).0 is)))
     differs false is = is
 
-    where_short : (long_length first ≡ 0) ⊎ Contains others first → (long_length first ≡ 0) ⊎ Contains (filter (λ other. not (bytes_eq name other)) others) first
+    where_short : (long_length first ≡ 0) ⊎ Contains others first →
+        (long_length first ≡ 0) ⊎ Contains (filter (λ other. not (bytes_eq name other)) others) first
     where_short (inl short) = inl short
     where_short (inr has) =
         inr (Contains-filter (λ other. not (bytes_eq name other)) others first (ap not (differs (bytes_eq name first) refl)) has)
@@ -115,7 +117,9 @@ no_longer_than_others [] others distinct are = omega arith
 no_longer_than_others (name ∷ later) others distinct are =
     where_short are.0 (λ others are. no_longer_than_others later others distinct.1 are)
   where
-    where_short : (long_length name ≡ 0) ⊎ Contains others name → ((others : List (List ℕ)) → AreShortOrAmong others later → sum_by long_length later ≤ sum_by long_length others) → sum_by long_length (name ∷ later) ≤ sum_by long_length others
+    where_short : (long_length name ≡ 0) ⊎ Contains others name →
+        ((others : List (List ℕ)) → AreShortOrAmong others later → sum_by long_length later ≤ sum_by long_length others) →
+        sum_by long_length (name ∷ later) ≤ sum_by long_length others
     where_short (inl short) rest = omega (arith, short, sum_by-cons long_length name later, rest others are.1)
     where_short (inr has) rest =
         let left = rest (filter (λ other. not (bytes_eq name other)) others) (short_or_left name others later distinct.0 are.1) in
@@ -177,7 +181,9 @@ some_with_children_of P wanted change keeps none some = some
 some_with_children_of {Own = Own} P wanted change keeps (node name own children later) some =
     where_wanted (bytes_eq name wanted) some (λ after. some_with_children_of P wanted change keeps later after)
   where
-    where_wanted : (b : Bool) → SomeOwn P (node name own children later) → (SomeOwn P later → SomeOwn P (with_children_of wanted change later)) → SomeOwn P (if b then node name own (change children) later else node name own children (with_children_of wanted change later))
+    where_wanted : (b : Bool) → SomeOwn P (node name own children later) →
+        (SomeOwn P later → SomeOwn P (with_children_of wanted change later)) →
+        SomeOwn P (if b then node name own (change children) later else node name own children (with_children_of wanted change later))
     where_wanted true (inl here) rest = inl here
     where_wanted true (inr (inl below)) rest = inr (inl (keeps children below))
     where_wanted true (inr (inr after)) rest = inr (inr after)
@@ -323,7 +329,10 @@ name_of_one [] property has = absurd (Contains-none (FileNodeProperty property) 
 name_of_one (first ∷ others) property has =
     where_first (Contains-cases (FileNodeProperty first) (map FileNodeProperty others) (FileNodeProperty property) has) (λ has. name_of_one others property has)
   where
-    where_first : (FileNodeProperty first ≡ FileNodeProperty property) ⊎ Contains (map FileNodeProperty others) (FileNodeProperty property) → (Contains (map FileNodeProperty others) (FileNodeProperty property) → HasName property.name (map property_of others)) → HasName property.name (map property_of (first ∷ others))
+    where_first : (FileNodeProperty first ≡ FileNodeProperty property) ⊎
+        Contains (map FileNodeProperty others) (FileNodeProperty property) →
+        (Contains (map FileNodeProperty others) (FileNodeProperty property) → HasName property.name (map property_of others)) →
+        HasName property.name (map property_of (first ∷ others))
     where_first (inl same) rest =
         let is : first ≡ property = cc in
         subst (λ found. Contains (first.name ∷ map (λ property. property.0) (map property_of others)) found.name) is (Contains-first first.name _)
@@ -340,20 +349,29 @@ some_in_events (node name own children later) property has =
     by_start (Contains-cases (FileNodeStart own.place name) (map FileNodeProperty own.properties ++ (file_events children ++ (FileNodeEnd ∷ file_events later))) (FileNodeProperty property) has)
     (λ has. some_in_events children property has) (λ has. some_in_events later property has)
   where
-    by_end : (FileNodeEnd ≡ FileNodeProperty property) ⊎ IsAmong property (file_events later) → (IsAmong property (file_events later) → SomeNamed property.name later) → SomeNamed property.name (node name own children later)
+    by_end : (FileNodeEnd ≡ FileNodeProperty property) ⊎ IsAmong property (file_events later) →
+        (IsAmong property (file_events later) → SomeNamed property.name later) → SomeNamed property.name (node name own children later)
     by_end (inl same) after = absurd cc
     by_end (inr has) after = inr (inr (after has))
 
-    by_rest : IsAmong property (file_events children) ⊎ IsAmong property (FileNodeEnd ∷ file_events later) → (IsAmong property (file_events children) → SomeNamed property.name children) → (IsAmong property (file_events later) → SomeNamed property.name later) → SomeNamed property.name (node name own children later)
+    by_rest : IsAmong property (file_events children) ⊎ IsAmong property (FileNodeEnd ∷ file_events later) →
+        (IsAmong property (file_events children) → SomeNamed property.name children) →
+        (IsAmong property (file_events later) → SomeNamed property.name later) → SomeNamed property.name (node name own children later)
     by_rest (inl has) below after = inr (inl (below has))
     by_rest (inr has) below after = by_end (Contains-cases FileNodeEnd (file_events later) (FileNodeProperty property) has) after
 
-    by_part : IsAmong property (map FileNodeProperty own.properties) ⊎ IsAmong property (file_events children ++ (FileNodeEnd ∷ file_events later)) → (IsAmong property (file_events children) → SomeNamed property.name children) → (IsAmong property (file_events later) → SomeNamed property.name later) → SomeNamed property.name (node name own children later)
+    by_part : IsAmong property (map FileNodeProperty own.properties) ⊎
+        IsAmong property (file_events children ++ (FileNodeEnd ∷ file_events later)) →
+        (IsAmong property (file_events children) → SomeNamed property.name children) →
+        (IsAmong property (file_events later) → SomeNamed property.name later) → SomeNamed property.name (node name own children later)
     by_part (inl has) below after = inl (name_of_one own.properties property has)
     by_part (inr has) below after =
         by_rest (Contains-append_cases (file_events children) (FileNodeEnd ∷ file_events later) (FileNodeProperty property) has) below after
 
-    by_start : (FileNodeStart own.place name ≡ FileNodeProperty property) ⊎ IsAmong property (map FileNodeProperty own.properties ++ (file_events children ++ (FileNodeEnd ∷ file_events later))) → (IsAmong property (file_events children) → SomeNamed property.name children) → (IsAmong property (file_events later) → SomeNamed property.name later) → SomeNamed property.name (node name own children later)
+    by_start : (FileNodeStart own.place name ≡ FileNodeProperty property) ⊎
+        IsAmong property (map FileNodeProperty own.properties ++ (file_events children ++ (FileNodeEnd ∷ file_events later))) →
+        (IsAmong property (file_events children) → SomeNamed property.name children) →
+        (IsAmong property (file_events later) → SomeNamed property.name later) → SomeNamed property.name (node name own children later)
     by_start (inl same) below after = absurd cc
     by_start (inr has) below after =
         by_part (Contains-append_cases (map FileNodeProperty own.properties) (file_events children ++ (FileNodeEnd ∷ file_events later)) (FileNodeProperty property) has) below after

@@ -11,7 +11,7 @@ use Rattle.std.proofs.lemmas.List.Sorted.{Contains-permutation, IsNonDecreasingB
 use Rattle.std.proofs.lemmas.Map.Keys.{sorted_from_strictly_increasing, IsDistinct-IsPermutation, IsStrictlyIncreasing-from_distinct}
 use Rattle.std.proofs.lemmas.Map.Views.{Contains-from_lookup, lookup-from_Contains}
 
--- Pairs of distinct keys in another order. What is found by a key stays the same, and keys that are numbers ascend after a sort.
+-- What is found by a key among pairs of distinct keys stays the same in another order, and keys that are numbers ascend after a sort.
 
 module _ {K X : Type 0} (eq : K → K → Bool) (laws : IsEquivalence eq) (exact : (x y : K) → eq x y ≡ true → x ≡ y) where
   -- Distinct keys stay so in any order.
@@ -31,7 +31,8 @@ module _ {K X : Type 0} (eq : K → K → Bool) (laws : IsEquivalence eq) (exact
       lookup (eq wanted) moved ≡ lookup (eq wanted) pairs
   lookup_moved pairs moved move distinct wanted = by_result (lookup (eq wanted) pairs) refl (lookup (eq wanted) moved) refl
     where
-      by_result : (found : Option X) → lookup (eq wanted) pairs ≡ found → (other : Option X) → lookup (eq wanted) moved ≡ other → lookup (eq wanted) moved ≡ lookup (eq wanted) pairs
+      by_result : (found : Option X) → lookup (eq wanted) pairs ≡ found → (other : Option X) → lookup (eq wanted) moved ≡ other →
+          lookup (eq wanted) moved ≡ lookup (eq wanted) pairs
       by_result (Some value) is other other_is =
           found_moved pairs moved move (distinct_moved pairs moved move distinct) wanted value is ∙ sym is
       by_result None is (Some value) other_is =

@@ -8,7 +8,7 @@ use Rattle.bi_blob.specs.Layout.{strings_of}
 use Rattle.bi_fit.specs.Judgement.{with_byte, listed_names}
 use Rattle.bi_fit.specs.Laws.{ReadsNames}
 
--- How a value lists names.
+-- A value of names with a zero after each lists these names.
 
 -- A name before a zero is the first of what is listed.
 first_listed : (name rest : List ℕ) → HasNoZero name → listed_names ((name ++ 0 ∷ []) ++ rest) ≡ name ∷ listed_names rest
@@ -50,7 +50,8 @@ whole_listed (byte ∷ []) ends = where_first (byte == 0) refl
     where_first false is = absurd (eqb-false byte 0 is (sym is_zero))
 whole_listed (byte ∷ next ∷ later) ends = where_first (byte == 0) refl (whole_listed (next ∷ later) (sym (ends_later byte next later) ∙ ends))
   where
-    where_first : (b : Bool) → (byte == 0) ≡ b → strings_of (listed_names (next ∷ later)) ≡ next ∷ later → strings_of (listed_names (byte ∷ next ∷ later)) ≡ byte ∷ next ∷ later
+    where_first : (b : Bool) → (byte == 0) ≡ b → strings_of (listed_names (next ∷ later)) ≡ next ∷ later →
+        strings_of (listed_names (byte ∷ next ∷ later)) ≡ byte ∷ next ∷ later
     where_first true is rest = rw is (ap₂ (λ n l. n ∷ l) (sym (eqb-true byte 0 is)) rest)
     where_first false is rest =
         rw is (byte_before byte (listed_names (next ∷ later)) (next ∷ later) rest (λ (e : next ∷ later ≡ []). absurd cc))
@@ -64,7 +65,8 @@ listed_no_zero (byte ∷ later) = where_first (byte == 0) refl (listed_no_zero l
     before [] other no_zero = tt
     before (name ∷ later) other no_zero = ((other, no_zero.0), no_zero.1)
 
-    where_first : (b : Bool) → (byte == 0) ≡ b → AllByRecursion HasNoZero (listed_names later) → AllByRecursion HasNoZero (listed_names (byte ∷ later))
+    where_first : (b : Bool) → (byte == 0) ≡ b → AllByRecursion HasNoZero (listed_names later) →
+        AllByRecursion HasNoZero (listed_names (byte ∷ later))
     where_first true is rest = rw is (tt, rest)
     where_first false is rest = rw is (before (listed_names later) (eqb-false byte 0 is) rest)
 

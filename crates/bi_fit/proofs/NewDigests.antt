@@ -16,7 +16,7 @@ use Rattle.bi_fit.specs.HashNodes.{file_images}
 use Rattle.bi_fit.specs.NormalNodes.{properties_by_name, nodes_by_name}
 use Rattle.bi_fit.proofs.FileNodes.{get-by_name, image_nodes_named}
 
--- The digests that the hash nodes of an image tree that was read get by an update.
+-- The digests that an update gives the hash nodes of an image tree that was read are those of the nodes in the tree.
 
 -- The algorithm of a hash node is that of the name in its property `algo`.
 pub algorithm_named : (name read : List ℕ) (own : FileNode) → read ≡ name → is_hash_name read ≡ true →
@@ -42,13 +42,17 @@ pub digests_are : (payload : Option (List ℕ)) (nodes : Nodes FileNode) →
 digests_are None none = refl
 digests_are None (node name own children later) = by_algorithm (hash_algorithm name (properties_by_name own)) (digests_are None later)
   where
-    by_algorithm : (algo : Option Algo) → file_digests None (siblings later) ≡ [] → digest_if_both None algo ++ file_digests None (siblings later) ≡ []
+    by_algorithm : (algo : Option Algo) → file_digests None (siblings later) ≡ [] →
+        digest_if_both None algo ++ file_digests None (siblings later) ≡ []
     by_algorithm None rest = rest
     by_algorithm (Some algo) rest = rest
 digests_are (Some payload) none = refl
 digests_are (Some payload) (node name own children later) = by_algorithm (hash_algorithm name (properties_by_name own)) refl (digests_are (Some payload) later)
   where
-    by_algorithm : (algo : Option Algo) → hash_algorithm name (properties_by_name own) ≡ algo → file_digests (Some payload) (siblings later) ≡ digests_for payload (nodes_by_name later) → file_digests (Some payload) (siblings (node name own children later)) ≡ digests_for payload (nodes_by_name (node name own children later))
+    by_algorithm : (algo : Option Algo) → hash_algorithm name (properties_by_name own) ≡ algo →
+        file_digests (Some payload) (siblings later) ≡ digests_for payload (nodes_by_name later) →
+        file_digests (Some payload) (siblings (node name own children later)) ≡
+        digests_for payload (nodes_by_name (node name own children later))
     by_algorithm None is rest = rw is rest
     by_algorithm (Some algo) is rest = rw is (ap (λ l. digest_or_nothing algo (Some payload) ++ l) rest)
 

@@ -6,7 +6,8 @@ use Rattle.bi_lay.specs.Contents.{Doc}
 use Rattle.bi_fit.specs.NormalNodes.{with_events, MayAdd}
 use Rattle.bi_fit.proofs.AddedEvents.{with_events-none, with_events-append, MayAdd-front, MayAdd-back}
 
--- Nodes that are added to a document in turn.
+-- The first of the nodes that are left to be added to a document may be added, then the others are left, and in the end the document has
+-- all of them.
 
 -- The nodes from a node on, if there is one.
 abbrev pub nodes_from : {Own : Type 0} → Option (Sibling Own) → Nodes Own
@@ -37,7 +38,8 @@ adding_all document nodes may = record { added = refl; may = may }
 pub adding_none : (document target : Doc) → IsAdding document target none → document ≡ target
 adding_none document target adding = sym (with_events-none document) ∙ adding.added
 
-module _ (document target : Doc) (name : List ℕ) (own : List Property) (children later : Nodes (List Property)) (adding : IsAdding document target (node name own children later)) where
+module _ (document target : Doc) (name : List ℕ) (own : List Property) (children later : Nodes (List Property))
+    (adding : IsAdding document target (node name own children later)) where
   -- The first of them may be added,
   pub may_add_first : MayAdd document (events (node name own children none))
   may_add_first =

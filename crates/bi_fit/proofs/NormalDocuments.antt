@@ -21,7 +21,7 @@ use Rattle.bi_fdt.specs.Numbers.{AreRanks}
 use Rattle.bi_fit.proofs.ImagesPositions.{position_there}
 use Rattle.bi_fit.proofs.NormalTrees.{held_distinct, held_images, held_events, held_closed}
 
--- The document of a normal text, as it is built of a blob, its root and its images.
+-- The nodes of a blob may be added to a document, and the document is then that of the normal text.
 
 module _ (content : FitModel) (held : IsHeld content) (changes : Changes) (form : Form)
     (digests : List ℕ) (is_digests : digests ≡ new_digests changes (tree_of content))

@@ -15,7 +15,7 @@ use Rattle.bi_blob.specs.Blob.{IsReservation}
 use Rattle.bi_blob.proofs.Texts.TextContent.{blob_has_content}
 use Rattle.bi_blob.proofs.Blobs.EventTrees.{same_events}
 use Rattle.bi_blob.proofs.Texts.NormalEvents.{normal_events_have_one_tree}
-use Rattle.bi_blob.proofs.Texts.Normal.{has_one_order}
+use Rattle.bi_blob.proofs.Texts.NormalOrder.{has_one_order}
 use Rattle.bi_fdt.specs.Content.{root_of}
 use Rattle.bi_fit.specs.declared.changes.Changes.{Changes}
 use Rattle.bi_fit.specs.declared.form.Form.{Form}
@@ -44,7 +44,7 @@ use Rattle.bi_blob.proofs.Blobs.Lookups.{names-with_each}
 use Rattle.bi_fit.proofs.Texts.{depth-normal_tree}
 use Rattle.bi_fit.proofs.ReadBlobs.{read_payloads}
 
--- The normal tree, node by node of the file.
+-- The events of a normal tree are those of the nodes of the file in their order, and they may follow one another and end the root.
 
 -- A name that is not `images` fails the test.
 pub other_name : (name : List ℕ) → (name ≡ images_name → ⊥) → bytes_eq name images_name ≡ false
@@ -81,7 +81,11 @@ module _ (hashes : Bool) (form : Form) (payloads : List (Option (List ℕ))) (di
   root_children IsOwn (node name own children later) are is_digests =
       where_first (bytes_eq name images_name) refl is_digests (root_children IsOwn later are.2)
     where
-      where_first : (b : Bool) → bytes_eq name images_name ≡ b → digests ≡ digests_if_changed hashes payloads (bare_images (node name own children later)) → (digests ≡ digests_if_changed hashes payloads (bare_images later) → changed later ≡ sorted_root_children hashes form payloads digests later) → changed (node name own children later) ≡ sorted_root_children hashes form payloads digests (node name own children later)
+      where_first : (b : Bool) → bytes_eq name images_name ≡ b →
+          digests ≡ digests_if_changed hashes payloads (bare_images (node name own children later)) →
+          (digests ≡ digests_if_changed hashes payloads (bare_images later) →
+          changed later ≡ sorted_root_children hashes form payloads digests later) →
+          changed (node name own children later) ≡ sorted_root_children hashes form payloads digests (node name own children later)
       where_first true is is_digests rest =
           let new : IsNew images_name (names later) = subst (λ name. IsNew name (names later)) ((bytes_eq-Decides name images_name).0 is) are.0.is_new in
           let here : digests ≡ digests_if_changed hashes payloads (without_payloads (nodes_by_name children)) = rw (is, is) at is_digests in
@@ -98,7 +102,8 @@ same_children : (nodes : Nodes PropertyMap) → with_children_of images_name (λ
 same_children none = refl
 same_children (node name own children later) = where_first (bytes_eq name images_name) refl (same_children later)
   where
-    where_first : (b : Bool) → bytes_eq name images_name ≡ b → with_children_of images_name (λ images. images) later ≡ later → with_children_of images_name (λ images. images) (node name own children later) ≡ node name own children later
+    where_first : (b : Bool) → bytes_eq name images_name ≡ b → with_children_of images_name (λ images. images) later ≡ later →
+        with_children_of images_name (λ images. images) (node name own children later) ≡ node name own children later
     where_first true is rest = rw is refl
     where_first false is rest = rw is (ap (node name own children) rest)
 
@@ -138,7 +143,9 @@ images_found AreImages IsOwn none inner has are images = tt
 images_found AreImages IsOwn (node name own children later) inner has are images =
     where_first (bytes_eq name images_name) refl has (λ has. images_found AreImages IsOwn later inner has are.2 images)
   where
-    where_first : (b : Bool) → bytes_eq name images_name ≡ b → children_of images_name (node name own children later) ≡ Some inner → (children_of images_name later ≡ Some inner → HaveImageNodes AreImages later) → HaveImageNodes AreImages (node name own children later)
+    where_first : (b : Bool) → bytes_eq name images_name ≡ b → children_of images_name (node name own children later) ≡ Some inner →
+        (children_of images_name later ≡ Some inner → HaveImageNodes AreImages later) →
+        HaveImageNodes AreImages (node name own children later)
     where_first true is has rest =
         let found : children ≡ inner = same_in_some children inner (rw is at has) in
         let new : IsNew images_name (names later) = subst (λ name. IsNew name (names later)) ((bytes_eq-Decides name images_name).0 is) are.0.is_new in
@@ -182,7 +189,8 @@ module _ (content : FitModel) (held : IsHeld content) where
 
   module _ (changes : Changes) (digests : List ℕ) (is_digests : digests ≡ new_digests changes (tree_of content)) where
     -- The image nodes are those of the images, and the bytes hold their digests.
-    pub held_images : (images : List Image) → map image_model images ≡ content.images → HaveImageNodes (AreImageNodes changes.hashes images digests) (root_of content.blob).children
+    pub held_images : (images : List Image) → map image_model images ≡ content.images →
+        HaveImageNodes (AreImageNodes changes.hashes images digests) (root_of content.blob).children
     held_images images is_images =
         images_found (AreImageNodes changes.hashes images digests) (λ own. AreProperties (properties_of own)) (root_of content.blob).children (file_images content.blob)
         (some_nodes (image_nodes (root_of content.blob)) held.has_images) held_nodes
@@ -197,7 +205,8 @@ module _ (content : FitModel) (held : IsHeld content) where
 
     module _ (form : Form) where
       -- The events of the normal tree are those of the nodes in their order.
-      pub held_events : events (sorted_root changes form (tree_of content).payloads digests (root_node (root_of content.blob))) ≡ events_of (normal_tree form (with_changes changes (tree_of content)))
+      pub held_events : events (sorted_root changes form (tree_of content).payloads digests (root_node (root_of content.blob))) ≡
+          events_of (normal_tree form (with_changes changes (tree_of content)))
       unfolding changed
       held_events =
           ap (λ children. events (node [] (entries (with_time changes.time (properties_by_name (root_of content.blob).own))) children none))

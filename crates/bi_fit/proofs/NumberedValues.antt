@@ -59,11 +59,14 @@ number_or_none : (name : List ℕ) (names : List (List ℕ)) →
 number_or_none name [] = inr (λ number is. absurd cc)
 number_or_none name (first ∷ later) = where_first (bytes_eq first name) refl (number_or_none name later)
   where
-    after_first : (first ≡ name → ⊥) → ((number : ℕ) → slice_get later number ≡ Some name → ⊥) → (number : ℕ) → slice_get (first ∷ later) number ≡ Some name → ⊥
+    after_first : (first ≡ name → ⊥) → ((number : ℕ) → slice_get later number ≡ Some name → ⊥) → (number : ℕ) →
+        slice_get (first ∷ later) number ≡ Some name → ⊥
     after_first differs none zero is = differs (same_in_some first name is)
     after_first differs none (suc number) is = none number is
 
-    where_first : (b : Bool) → bytes_eq first name ≡ b → ((number : ℕ) × (slice_get later number ≡ Some name)) ⊎ ((number : ℕ) → slice_get later number ≡ Some name → ⊥) → ((number : ℕ) × (slice_get (first ∷ later) number ≡ Some name)) ⊎ ((number : ℕ) → slice_get (first ∷ later) number ≡ Some name → ⊥)
+    where_first : (b : Bool) → bytes_eq first name ≡ b →
+        ((number : ℕ) × (slice_get later number ≡ Some name)) ⊎ ((number : ℕ) → slice_get later number ≡ Some name → ⊥) →
+        ((number : ℕ) × (slice_get (first ∷ later) number ≡ Some name)) ⊎ ((number : ℕ) → slice_get (first ∷ later) number ≡ Some name → ⊥)
     where_first true is rest = inl (0, ap (λ n. Some n) ((bytes_eq-Decides first name).0 is))
     where_first false is (inl there) = inl (suc there.0, there.1)
     where_first false is (inr none) =
@@ -82,7 +85,12 @@ value-compared role value [] name = elim (is_compared role name) as (λ b. value
 value-compared role value (property ∷ later) name =
     where_named (λ value. value-compared role value later name) (bytes_eq name property.name) refl (is_compared role name) refl
   where
-    where_named : ((value : Option (List ℕ)) → value_of_name role value later name ≡ cond (is_compared role name) (value_of_name OtherNode value later name) value) → (b : Bool) → bytes_eq name property.name ≡ b → (c : Bool) → is_compared role name ≡ c → value_of_name role (cond (bytes_eq name property.name && is_compared role property.name) (Some property.value) value) later name ≡ cond (is_compared role name) (value_of_name OtherNode (cond (bytes_eq name property.name && true) (Some property.value) value) later name) value
+    where_named : ((value : Option (List ℕ)) →
+        value_of_name role value later name ≡ cond (is_compared role name) (value_of_name OtherNode value later name) value) → (b : Bool) →
+        bytes_eq name property.name ≡ b → (c : Bool) → is_compared role name ≡ c →
+        value_of_name role (cond (bytes_eq name property.name && is_compared role property.name) (Some property.value) value) later name ≡
+        cond (is_compared role name)
+        (value_of_name OtherNode (cond (bytes_eq name property.name && true) (Some property.value) value) later name) value
     where_named rest false is c compared = rw is (rest value)
     where_named rest true is true compared =
         let own : is_compared role property.name ≡ true = ap (is_compared role) (sym ((bytes_eq-Decides name property.name).0 is)) ∙ compared in
@@ -158,7 +166,9 @@ module _ (names : List (List ℕ)) (distinct : AreDistinct names) where
   value-no_name role value (property ∷ later) (number ∷ numbers) wanted are is =
       where_same (value-no_name role value later numbers wanted are.1 is) (number == wanted) refl
     where
-      where_same : value_numbered role value later numbers wanted ≡ value → (b : Bool) → (number == wanted) ≡ b → value_numbered role (cond ((number == wanted) && is_compared role property.name) (Some property.value) value) later numbers wanted ≡ value
+      where_same : value_numbered role value later numbers wanted ≡ value → (b : Bool) → (number == wanted) ≡ b →
+          value_numbered role (cond ((number == wanted) && is_compared role property.name)
+          (Some property.value) value) later numbers wanted ≡ value
       where_same rest true equal =
           let nothing : None ≡ Some property.name = sym is ∙ ap (slice_get names) (sym ((Decides-eqb number wanted).0 equal)) ∙ are.0 in
           absurd cc
@@ -174,17 +184,24 @@ module _ (names : List (List ℕ)) (distinct : AreDistinct names) where
   value-no_number role value (property ∷ later) (number ∷ numbers) name are none =
       where_same (value-no_number role value later numbers name are.1 none) (bytes_eq name property.name) refl
     where
-      where_same : value_of_name role value later name ≡ value → (b : Bool) → bytes_eq name property.name ≡ b → value_of_name role (cond (bytes_eq name property.name && is_compared role property.name) (Some property.value) value) later name ≡ value
+      where_same : value_of_name role value later name ≡ value → (b : Bool) → bytes_eq name property.name ≡ b →
+          value_of_name role (cond (bytes_eq name property.name && is_compared role property.name) (Some property.value) value) later name ≡
+          value
       where_same rest true equal = absurd (none number (are.0 ∙ ap (λ n. Some n) (sym ((bytes_eq-Decides name property.name).0 equal))))
       where_same rest false equal = rw equal rest
 
-  module _ (role : Role) (own other : FileNode) (numbers other_numbers : List ℕ) (distinct_own : HasDistinctNames own) (distinct_other : HasDistinctNames other) (are : AllZip (HasNumber names) own.properties numbers) (other_are : AllZip (HasNumber names) other.properties other_numbers) where
+  module _ (role : Role) (own other : FileNode) (numbers other_numbers : List ℕ) (distinct_own : HasDistinctNames own)
+      (distinct_other : HasDistinctNames other) (are : AllZip (HasNumber names) own.properties numbers)
+      (other_are : AllZip (HasNumber names) other.properties other_numbers) where
     -- The properties that are compared are equal if the values are equal by each number,
-    pub same_by_name : ((wanted : ℕ) → value_numbered role None own.properties numbers wanted ≡ value_numbered role None other.properties other_numbers wanted) →
+    pub same_by_name : ((wanted : ℕ) →
+        value_numbered role None own.properties numbers wanted ≡ value_numbered role None other.properties other_numbers wanted) →
         compared_properties role own ≡ compared_properties role other
     same_by_name each = same (compared_properties role own) (compared_properties role other) (λ name. by_number name (number_or_none name names))
       where
-        by_number : (name : List ℕ) → ((number : ℕ) × (slice_get names number ≡ Some name)) ⊎ ((number : ℕ) → slice_get names number ≡ Some name → ⊥) → get (compared_properties role own) name ≡ get (compared_properties role other) name
+        by_number : (name : List ℕ) →
+            ((number : ℕ) × (slice_get names number ≡ Some name)) ⊎ ((number : ℕ) → slice_get names number ≡ Some name → ⊥) →
+            get (compared_properties role own) name ≡ get (compared_properties role other) name
         by_number name (inl there) =
             value-by_name role own distinct_own name
             ∙ sym (value-named role None own.properties numbers there.0 name are there.1)
@@ -202,7 +219,8 @@ module _ (names : List (List ℕ)) (distinct : AreDistinct names) where
         value_numbered role None own.properties numbers wanted ≡ value_numbered role None other.properties other_numbers wanted
     same_by_number equal wanted = by_name (slice_get names wanted) refl
       where
-        by_name : (name : Option (List ℕ)) → slice_get names wanted ≡ name → value_numbered role None own.properties numbers wanted ≡ value_numbered role None other.properties other_numbers wanted
+        by_name : (name : Option (List ℕ)) → slice_get names wanted ≡ name →
+            value_numbered role None own.properties numbers wanted ≡ value_numbered role None other.properties other_numbers wanted
         by_name None is =
             value-no_name role None own.properties numbers wanted are is
             ∙ sym (value-no_name role None other.properties other_numbers wanted other_are is)

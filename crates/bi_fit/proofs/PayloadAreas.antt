@@ -16,7 +16,7 @@ use Rattle.bi_fit.specs.Payloads.{external_base, HasPayload}
 use Rattle.bi_fit.specs.Text.{with_payload, with_payloads, end_after, payloads_end, payload_area}
 use Rattle.bi_fit.proofs.PayloadSources.{IsThere, has_payload}
 
--- The payloads that follow the blob of a text.
+-- A file that goes on with payloads has each payload where it begins, and the image nodes of its text have these payloads.
 
 -- What a file has to have of the payloads of image nodes in a form.
 abbrev pub AreThere : Form → List ℕ → ℕ → List (Option (List ℕ)) → Type 0

@@ -7,7 +7,7 @@ use Rattle.bi_fit.specs.Content.{image_model}
 use Rattle.bi_fit.specs.NormalNodes.{payloads_of}
 use Rattle.bi_fit.proofs.PayloadAreas.{payloads_end-le}
 
--- Where the payloads of images end.
+-- The payloads from an image on are its payload and those after it, and they end no earlier than its payload.
 
 -- What a list of images gives past its end.
 abbrev pub no_image : Image

@@ -16,7 +16,7 @@ use Rattle.bi_fit.proofs.FileTrees.{is_image_tree}
 use Rattle.bi_fit.proofs.Texts.{blob_of_text, text_has_payloads, text_images, text_base}
 use Rattle.bi_fit.proofs.PayloadAreas.{AreThere}
 
--- Where the payloads of an external text are.
+-- The image nodes of an external text place their payloads where these begin.
 
 -- The image nodes of an external text place their payloads.
 pub place_payloads : (file : List ℕ) (at end : ℕ) (payloads : List (Option (List ℕ))) (nodes : Nodes PropertyMap) →

@@ -11,7 +11,7 @@ use Rattle.bi_fit.specs.Names.{is_payload_name, data_name, data_offset_name, dat
 use Rattle.bi_fit.specs.ImageTree.{without_payload, IsApart}
 use Rattle.bi_fit.specs.Text.{with_payload}
 
--- Properties by name, and the four properties of payloads among them.
+-- The four properties of payloads change no other property, and properties are as they were after these are put in and taken out again.
 
 -- Properties that are the same by each name are the same.
 pub same : (a b : PropertyMap) → ((name : List ℕ) → get a name ≡ get b name) → a ≡ b

@@ -22,7 +22,7 @@ use Rattle.bi_fit.specs.Payloads.{source_of, cell_number, external_base, payload
 use Rattle.bi_fit.specs.Text.{with_payload}
 use Rattle.bi_fit.proofs.PayloadProperties.{get-put, get-put_other}
 
--- The payload that an image node of a text has.
+-- An image node of a text has its payload, and an image node of an external text places its payload.
 
 -- The properties of a text at their places.
 abbrev pub text_properties : ℕ → PropertyMap → List FileProperty
@@ -36,7 +36,12 @@ value_named name at [] = refl
 value_named name at (property ∷ later) =
     where_first (bytes_eq property.0 name) refl (value_named name (at + event_width (NodeProperty property)) later)
   where
-    where_first : (b : Bool) → bytes_eq property.0 name ≡ b → option_map (λ property. property.value) (property_named (properties_with_places (at + event_width (NodeProperty property)) later) name) ≡ find (slice_cmp nat_cmp) name later → option_map (λ property. property.value) (property_named (properties_with_places at (property ∷ later)) name) ≡ find (slice_cmp nat_cmp) name (property ∷ later)
+    where_first : (b : Bool) → bytes_eq property.0 name ≡ b →
+        option_map (λ property. property.value)
+        (property_named (properties_with_places (at + event_width (NodeProperty property)) later) name) ≡
+        find (slice_cmp nat_cmp) name later →
+        option_map (λ property. property.value) (property_named (properties_with_places at (property ∷ later)) name) ≡
+        find (slice_cmp nat_cmp) name (property ∷ later)
     where_first true is rest = rw (is, is_eq-slice_cmp name property.0, nat_list_eq_equiv.symm name property.0, is) refl
     where_first false is rest = rw (is, is_eq-slice_cmp name property.0, nat_list_eq_equiv.symm name property.0, is) rest
 

@@ -24,7 +24,8 @@ use Rattle.bi_fit.specs.PropertyMapModels.{PropertyMapModel}
 use Rattle.bi_fit.specs.EntryOrder.{index_of_name, is_entry_named}
 use Rattle.bi_fit.proofs.PayloadProperties.{same, get-without, get-put, get-put_other}
 
--- The map of a node's properties, and the entries that hold it.
+-- The entries of the properties of a node stay in byte order as one is inserted, changed or left out, and their map is the properties by
+-- name.
 
 -- A list of properties in byte order is so with one more,
 pub sorted-put : (properties : List Property) (name value : List ℕ) → T (is_sorted (slice_cmp nat_cmp) properties) →

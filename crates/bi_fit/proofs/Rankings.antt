@@ -40,7 +40,7 @@ use Rattle.bi_fit.proofs.DistinctNumbers.{distinct_numbers}
 use Rattle.bi_fit.proofs.MovedPairs.{lookup_moved, keys_ascend}
 use Rattle.bi_fit.proofs.PayloadProperties.{same}
 
--- The entries of the properties of a node, in the order of the ranks of their names.
+-- The entries of the properties of a node, in the order of the ranks of their names, are in byte order and are its properties by name.
 
 -- Of names in byte order, the first is before the one at an index.
 first_before : (first : List ℕ) (names : List (List ℕ)) → IsStrictlySortedBy (slice_cmp nat_cmp) (first ∷ names) →

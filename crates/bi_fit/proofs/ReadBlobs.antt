@@ -32,7 +32,7 @@ use Rattle.bi_fit.proofs.Meanings.{one_fit_meaning}
 use Rattle.bi_fit.proofs.FilePayloads.{HaveValues, named_value, image_values}
 use Rattle.bi_fit.proofs.ReadErrors.{only_fit_fault, none_before_tree}
 
--- What is read of a blob within limits.
+-- What is read of the image nodes of a blob is what the file holds, and an error of reading them is one of reading the file.
 
 -- The image nodes of a blob, by its node `images`.
 pub found_images : (root : NodeRef) (blob : Blob) (found : Option (ℕ × NodeRef)) → node_of root ≡ root_node (root_of blob) →
@@ -43,7 +43,9 @@ found_images root blob found is_root is_child =
     ∙ ap (option_map (λ (images : Sibling FileNode). images.children)) (sym is_child)
     ∙ by found
   where
-    by : (found : Option (ℕ × NodeRef)) → option_map (λ (images : Sibling FileNode). images.children) (option_map (λ found. node_of found.1) found) ≡ option_map (λ found. (node_of found.1).children) found
+    by : (found : Option (ℕ × NodeRef)) →
+        option_map (λ (images : Sibling FileNode). images.children) (option_map (λ found. node_of found.1) found) ≡
+        option_map (λ found. (node_of found.1).children) found
     by None = refl
     by (Some found) = refl
 
@@ -89,7 +91,8 @@ have_data file none values = tt
 have_data file (node name own children later) values =
     (by_search (property_named own.properties data_name) refl, have_data file later values.2)
   where
-    by_search : (found : Option FileProperty) → property_named own.properties data_name ≡ found → IfSome found (λ property. property.place + 12 ≤ length file)
+    by_search : (found : Option FileProperty) → property_named own.properties data_name ≡ found →
+        IfSome found (λ property. property.place + 12 ≤ length file)
     by_search None is = tt
     by_search (Some property) is =
         let value = named_value file data_name own.properties property values.0 is in
@@ -104,7 +107,8 @@ read_payloads file (node name own children later) [] are = absurd are
 read_payloads file (node name own children later) (image ∷ images) are =
     (are.0.payload, read_payloads file later images are.1)
 
-module _ (limits : Limits) (file : List ℕ) (blob : Blob) (accepts : IsBlobWithin limits file) (is : IsBlob file blob.cpu blob.reservations (root_of blob)) where
+module _ (limits : Limits) (file : List ℕ) (blob : Blob) (accepts : IsBlobWithin limits file)
+    (is : IsBlob file blob.cpu blob.reservations (root_of blob)) where
   -- The tree of the blob is within the limits.
   within : IsWithin limits file (root_of blob)
   within = subst (IsWithin limits file) (one_blob file accepts.cpu blob.cpu accepts.reservations blob.reservations accepts.root (root_of blob) accepts.blob is).same_root accepts.within
@@ -129,14 +133,16 @@ module _ (limits : Limits) (file : List ℕ) (blob : Blob) (accepts : IsBlobWith
     images_have_data = have_data file images (image_values file blob.cpu blob.reservations (root_of blob) images is has)
 
     -- A fault of the image nodes is that of the file.
-    images_fault : (fault : Fault) → IsFirstFault (FitPasses file) fit_fault (image_checks file images) fault → IsOnlyFitFault limits file fault
+    images_fault : (fault : Fault) → IsFirstFault (FitPasses file) fit_fault (image_checks file images) fault →
+        IsOnlyFitFault limits file fault
     images_fault fault first =
         only_fit_fault limits file fault
         (InTree blob.cpu blob.reservations (root_of blob) is within
         (inr (rw has refl, subst (λ nodes. IsFirstFault (FitPasses file) fit_fault (images_checks file nodes) fault) (sym has) first)))
 
     -- An error of reading the image nodes.
-    pub images_error : (error : Error) → IsFaultOrNoMemory (IsFirstFault (FitPasses file) fit_fault (image_checks file images)) error → IsFitReadError limits file error
+    pub images_error : (error : Error) → IsFaultOrNoMemory (IsFirstFault (FitPasses file) fit_fault (image_checks file images)) error →
+        IsFitReadError limits file error
     images_error (Refused fault) refused = images_fault fault refused
     images_error OutOfMemory refused = out_of_memory
     images_error ReadFailed refused = refused
@@ -155,7 +161,8 @@ module _ (limits : Limits) (file : List ℕ) (blob : Blob) (accepts : IsBlobWith
       }
 
       -- Its images are those of the blob.
-      pub is_held : blob.file ≡ file → blob.total_size ≡ totalsize file → limits.file ≤ longest_text → limits.depth ≤ most_open_nodes → IsHeld content
+      pub is_held : blob.file ≡ file → blob.total_size ≡ totalsize file → limits.file ≤ longest_text → limits.depth ≤ most_open_nodes →
+          IsHeld content
       is_held same total file_limit depth_limit = record {
         is_blob = subst (λ file. IsBlob file blob.cpu blob.reservations (root_of blob)) (sym same) is;
         total_size = total ∙ ap totalsize (sym same);

@@ -10,7 +10,7 @@ use Rattle.bi_fit.specs.Faults.{IsFitFault, InBlob}
 use Rattle.bi_fit.specs.Reading.{IsOnlyFitFault, IsFitReadError}
 use Rattle.bi_fit.proofs.Faults.{one_fit_fault, fit_has_no_fault}
 
--- The errors of reading a flattened image tree.
+-- The fault of a file is its only one, and an error of reading the blob is one of reading the flattened image tree.
 
 -- A fault of a file is its only one.
 pub only_fit_fault : (limits : Limits) (file : List ℕ) (fault : Fault) → IsFitFault limits file fault → IsOnlyFitFault limits file fault

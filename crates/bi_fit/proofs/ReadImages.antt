@@ -11,7 +11,8 @@ use Rattle.bi_fit.specs.Images.{HasDataInFile}
 use Rattle.bi_fit.proofs.Faults.{source_passes}
 use Rattle.bi_base.proofs.FirstFault.{IsFirstFault-after, IsFirstFault-front}
 
--- What is read of image nodes, one after the other.
+-- The images that are read one after the other are those of all image nodes when none is left, and a fault of the first node that is left
+-- is that of all.
 
 -- The checks of image nodes, by the nodes in order.
 abbrev pub sibling_checks : List ℕ → List (Sibling FileNode) → List FitCheck
@@ -27,7 +28,8 @@ siblings_have_checks file (node name own children later) =
 pub record AreReadTo (file : List ℕ) (nodes : Nodes FileNode) (images : List ImageModel) (left : List (Sibling FileNode)) : Type 0 where
   pub have_data : AllByRecursion (λ sibling. HasDataInFile file sibling.own) left
   pub read : (later : List ImageModel) → AllZip (IsReadImage file) left later → AllZip (IsReadImage file) (siblings nodes) (images ++ later)
-  pub fault : (fault : Fault) → IsFirstFault (FitPasses file) fit_fault (sibling_checks file left) fault → IsFirstFault (FitPasses file) fit_fault (image_checks file nodes) fault
+  pub fault : (fault : Fault) → IsFirstFault (FitPasses file) fit_fault (sibling_checks file left) fault →
+      IsFirstFault (FitPasses file) fit_fault (image_checks file nodes) fault
 
 -- All are left at first.
 pub none_read : (file : List ℕ) (nodes : Nodes FileNode) (left : List (Sibling FileNode)) → left ≡ siblings nodes →
@@ -40,7 +42,8 @@ none_read file nodes left same have_data = record {
       (subst (λ siblings. IsFirstFault (FitPasses file) fit_fault (sibling_checks file siblings) fault) same first);
 }
 
-module _ (file : List ℕ) (nodes : Nodes FileNode) (images : List ImageModel) (all left : List (Sibling FileNode)) (child : Sibling FileNode) (is_first : all ≡ child ∷ left) (are : AreReadTo file nodes images all) where
+module _ (file : List ℕ) (nodes : Nodes FileNode) (images : List ImageModel) (all left : List (Sibling FileNode)) (child : Sibling FileNode)
+    (is_first : all ≡ child ∷ left) (are : AreReadTo file nodes images all) where
   -- The first of them begins its `data` in the file.
   pub has_data : HasDataInFile file child.own
   has_data = (subst (AllByRecursion (λ sibling. HasDataInFile file sibling.own)) is_first are.have_data).0

@@ -101,7 +101,8 @@ pair_of_two file other begin other_offset payload other_payload is other_is same
     here : region file begin (begin + length payload) ≡ payload
     here = region_is file begin (begin + length payload) payload is refl
 
-    there : region other (begin + (other_offset + length file - begin) - length file) (begin + length payload + (other_offset + length file - begin) - length file) ≡ other_payload
+    there : region other (begin + (other_offset + length file - begin) - length file)
+        (begin + length payload + (other_offset + length file - begin) - length file) ≡ other_payload
     there =
         let in_file : begin + length payload ≤ length file = is.in_file in
         let from : begin + (other_offset + length file - begin) - length file ≡ other_offset = omega arith in

@@ -8,7 +8,7 @@ use Rattle.bi_lay.specs.Contents.{Doc, with_reservation}
 use Rattle.bi_fit.specs.NormalNodes.{with_reservations}
 use Rattle.bi_fit.proofs.Meanings.{same_in_some}
 
--- Memory reservations that are added to a document, and those of two blobs.
+-- Memory reservations are added to a document one after the other, and those of two blobs are the same if they are at each index.
 
 -- The address and the size of a reservation.
 abbrev pub pair_of : Reservation → ℕ × ℕ

@@ -7,7 +7,7 @@ use Rattle.bi_fdt.specs.declared.node.NodeRef.{NodeRef}
 use Rattle.bi_fdt.specs.Views.{node_of}
 use Rattle.bi_blob.specs.Lookups.{siblings_from}
 
--- Going over siblings.
+-- From the first of some nodes on, all are left, and after a node, those from the next one on.
 
 -- From the first of some nodes on, all are left.
 pub from_first : (first : Option NodeRef) (nodes : Nodes FileNode) → option_map node_of first ≡ node_at nodes 0 →

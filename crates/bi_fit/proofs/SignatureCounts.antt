@@ -14,14 +14,16 @@ use Rattle.bi_fit.specs.Siblings.{children_of_each}
 use Rattle.bi_fit.proofs.FileNodes.{bare_image, sibling_by_name, siblings-by_name, image_siblings, configuration_nodes_are}
 use Rattle.bi_fit.specs.NormalNodes.{nodes_by_name}
 
--- The number of signature nodes of an image tree that was read.
+-- The number of signature nodes of an image tree that was read is that of its image nodes and its configuration nodes together.
 
 -- There are no more signature nodes than nodes.
 few_of : (children : List (Sibling FileNode)) → length (filter (λ child. is_signature_name child.name) children) ≤ length children
 few_of [] = omega arith
 few_of (child ∷ later) = where_first (is_signature_name child.name) refl (few_of later)
   where
-    where_first : (b : Bool) → is_signature_name child.name ≡ b → length (filter (λ child. is_signature_name child.name) later) ≤ length later → length (filter (λ child. is_signature_name child.name) (child ∷ later)) ≤ length (child ∷ later)
+    where_first : (b : Bool) → is_signature_name child.name ≡ b →
+        length (filter (λ child. is_signature_name child.name) later) ≤ length later →
+        length (filter (λ child. is_signature_name child.name) (child ∷ later)) ≤ length (child ∷ later)
     where_first true is rest = rw is (omega arith)
     where_first false is rest = rw is (omega arith)
 
@@ -40,7 +42,8 @@ node_count-children_of : {Own : Type 0} (wanted : List ℕ) (nodes : Nodes Own) 
 node_count-children_of wanted none = omega arith
 node_count-children_of {Own = Own} wanted (node name own children later) = where_first (bytes_eq name wanted) refl (node_count-children_of wanted later)
   where
-    where_first : (b : Bool) → bytes_eq name wanted ≡ b → node_count (nodes_or_none (children_of wanted later)) ≤ node_count later → node_count (nodes_or_none (children_of wanted (node name own children later))) ≤ node_count (node name own children later)
+    where_first : (b : Bool) → bytes_eq name wanted ≡ b → node_count (nodes_or_none (children_of wanted later)) ≤ node_count later →
+        node_count (nodes_or_none (children_of wanted (node name own children later))) ≤ node_count (node name own children later)
     where_first true is rest = rw is (omega arith)
     where_first false is rest = rw is (omega arith)
 
@@ -71,7 +74,11 @@ signatures_same : (children : List (Sibling FileNode)) →
 signatures_same [] = refl
 signatures_same (child ∷ later) = where_first (is_signature_name child.name) refl (signatures_same later)
   where
-    where_first : (b : Bool) → is_signature_name child.name ≡ b → length (filter (λ child. is_signature_name child.name) (map sibling_by_name later)) ≡ length (filter (λ child. is_signature_name child.name) later) → length (filter (λ child. is_signature_name child.name) (map sibling_by_name (child ∷ later))) ≡ length (filter (λ child. is_signature_name child.name) (child ∷ later))
+    where_first : (b : Bool) → is_signature_name child.name ≡ b →
+        length (filter (λ child. is_signature_name child.name) (map sibling_by_name later)) ≡
+        length (filter (λ child. is_signature_name child.name) later) →
+        length (filter (λ child. is_signature_name child.name) (map sibling_by_name (child ∷ later))) ≡
+        length (filter (λ child. is_signature_name child.name) (child ∷ later))
     where_first true is rest = rw is (ap suc rest)
     where_first false is rest = rw is rest
 

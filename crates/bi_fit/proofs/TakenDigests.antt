@@ -12,7 +12,7 @@ use Rattle.bi_fit.specs.NewDigests.{hash_algorithm, digest_by, digests_for, dige
 use Rattle.bi_fit.specs.TakenDigests.{HasDigest, with_first_digest, after_digest, HaveDigests, with_digests_from, after_digests, is_hashed, HaveImageDigests, images_with_digests_from}
 use Rattle.bi_fit.proofs.UpdatedTrees.{new_images}
 
--- Digests that are taken in turn from the bytes that hold them.
+-- The digests of image nodes are taken in turn from the bytes that hold them, and the properties of the nodes make no difference.
 
 -- The digest by an algorithm is taken from the bytes that begin with it.
 module _ (payload rest digests : List ℕ) (properties : PropertyMap) where
@@ -43,7 +43,8 @@ with_digest_is : (payload name : List ℕ) (properties : PropertyMap) →
     with_digest payload name properties ≡ with_digest_by (hash_algorithm name properties) payload properties
 with_digest_is payload name properties = by_name (is_hash_name name) refl
   where
-    by_name : (b : Bool) → is_hash_name name ≡ b → with_digest payload name properties ≡ with_digest_by (hash_algorithm name properties) payload properties
+    by_name : (b : Bool) → is_hash_name name ≡ b →
+        with_digest payload name properties ≡ with_digest_by (hash_algorithm name properties) payload properties
     by_name true is = rw is refl
     by_name false is = rw is refl
 

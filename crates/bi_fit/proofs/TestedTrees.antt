@@ -10,7 +10,7 @@ use Rattle.bi_blob.specs.Tree.{Nodes, none, node, Root, Property, names, IsChild
 use Rattle.bi_blob.specs.Events.{NodeProperty, NodeEnd, events}
 use Rattle.bi_blob.specs.Layout.{AreEventBytes, IsContent}
 
--- Trees that tests show to be ones that can be laid out.
+-- A tree that passes the test of trees can be laid out, with boot processor 0 and no memory reservations.
 
 -- Whether these are bytes.
 abbrev are_bytes : List ℕ → Bool
@@ -71,10 +71,10 @@ properties_by_test (property ∷ later) passes =
     )
 
 -- Whether this is the name of a child, and bytes.
-abbrev is_child_name : List ℕ → Bool
-is_child_name name = has_some name && (has_no 0 name && (has_no 47 name && are_bytes name))
+abbrev is_child_name_of_bytes : List ℕ → Bool
+is_child_name_of_bytes name = has_some name && (has_no 0 name && (has_no 47 name && are_bytes name))
 
-child_name_by_test : (name : List ℕ) → is_child_name name ≡ true → IsChildName name × AreBytes name
+child_name_by_test : (name : List ℕ) → is_child_name_of_bytes name ≡ true → IsChildName name × AreBytes name
 child_name_by_test name passes =
     let first = and_parts (has_some name) (has_no 0 name && (has_no 47 name && are_bytes name)) passes in
     let second = and_parts (has_no 0 name) (has_no 47 name && are_bytes name) first.1 in
@@ -87,13 +87,13 @@ child_name_by_test name passes =
 abbrev are_nodes : Nodes (List Property) → Bool
 are_nodes none = true
 are_nodes (node name own children later) =
-    is_child_name name && (is_new name (names later) && (are_properties own && (are_nodes children && are_nodes later)))
+    is_child_name_of_bytes name && (is_new name (names later) && (are_properties own && (are_nodes children && are_nodes later)))
 
 nodes_by_test : (nodes : Nodes (List Property)) → are_nodes nodes ≡ true →
     AreNodes AreProperties nodes × AllByRecursion AreEventBytes (events nodes)
 nodes_by_test none passes = (tt, tt)
 nodes_by_test (node name own children later) passes =
-    let first = and_parts (is_child_name name) (is_new name (names later) && (are_properties own && (are_nodes children && are_nodes later))) passes in
+    let first = and_parts (is_child_name_of_bytes name) (is_new name (names later) && (are_properties own && (are_nodes children && are_nodes later))) passes in
     let second = and_parts (is_new name (names later)) (are_properties own && (are_nodes children && are_nodes later)) first.1 in
     let third = and_parts (are_properties own) (are_nodes children && are_nodes later) second.1 in
     let fourth = and_parts (are_nodes children) (are_nodes later) third.1 in

@@ -7,8 +7,8 @@ use Rattle.bi_base.proofs.ByteLists.{AreBytes-none, AreBytes-append, AreBytes-ze
 use Rattle.bi_blob.specs.Tree.{Nodes, none, node, PropertyMap, with_each, depth_of, tree_without_order}
 use Rattle.bi_blob.specs.Layout.{tree_with_places, with_places, longest_text}
 use Rattle.bi_blob.specs.TextLaws.{IsBlobOf}
-use Rattle.bi_blob.proofs.Blobs.Complete.{depth-with_each}
-use Rattle.bi_blob.proofs.Texts.Normal.{has_one_order}
+use Rattle.bi_blob.proofs.Blobs.BlockEnds.{depth-with_each}
+use Rattle.bi_blob.proofs.Texts.NormalOrder.{has_one_order}
 use Rattle.bi_blob.proofs.Texts.TextBlob.{text_is_blob, has_text_length}
 use Rattle.bi_fit.specs.declared.form.Form.{Form}
 use Rattle.bi_fit.specs.declared.form.Form.TheVariants.{Embedded, External}

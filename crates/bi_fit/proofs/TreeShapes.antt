@@ -6,7 +6,7 @@ use Rattle.bi_fit.specs.ImageTree.{children_of, with_children_of, without_payloa
 use Rattle.bi_fit.specs.Text.{with_payloads, end_after}
 use Rattle.bi_fit.proofs.Meanings.{same_in_some}
 
--- Trees of one shape: names, depth, and what holds of each node.
+-- Payloads change no name and no depth of nodes, and what holds of each node of a tree holds of the nodes that are found in it.
 
 -- What a node has itself makes no difference to whether its name is bytes.
 pub bytes-with_each : {A B : Type 0} (change : A → B) (nodes : Nodes A) → HaveByteNames nodes → HaveByteNames (with_each change nodes)
@@ -35,7 +35,8 @@ AreNodes-children_of P wanted none inner has are = absurd cc
 AreNodes-children_of P wanted (node name own children later) inner has are =
     where_first (bytes_eq name wanted) refl has (λ has. AreNodes-children_of P wanted later inner has are.2)
   where
-    where_first : (b : Bool) → bytes_eq name wanted ≡ b → children_of wanted (node name own children later) ≡ Some inner → (children_of wanted later ≡ Some inner → AreNodes P inner) → AreNodes P inner
+    where_first : (b : Bool) → bytes_eq name wanted ≡ b → children_of wanted (node name own children later) ≡ Some inner →
+        (children_of wanted later ≡ Some inner → AreNodes P inner) → AreNodes P inner
     where_first true is has rest =
         let found : children ≡ inner = same_in_some children inner (rw is at has) in
         subst (AreNodes P) found are.1
@@ -47,7 +48,8 @@ bytes-children_of wanted none inner has are = absurd cc
 bytes-children_of wanted (node name own children later) inner has are =
     where_first (bytes_eq name wanted) refl has (λ has. bytes-children_of wanted later inner has are.2)
   where
-    where_first : (b : Bool) → bytes_eq name wanted ≡ b → children_of wanted (node name own children later) ≡ Some inner → (children_of wanted later ≡ Some inner → HaveByteNames inner) → HaveByteNames inner
+    where_first : (b : Bool) → bytes_eq name wanted ≡ b → children_of wanted (node name own children later) ≡ Some inner →
+        (children_of wanted later ≡ Some inner → HaveByteNames inner) → HaveByteNames inner
     where_first true is has rest =
         let found : children ≡ inner = same_in_some children inner (rw is at has) in
         subst HaveByteNames found are.1
@@ -60,7 +62,8 @@ module _ {Own : Type 0} (wanted : List ℕ) (change : Nodes Own → Nodes Own) w
   names-with_children_of (node name own children later) =
       where_first (bytes_eq name wanted) refl (names-with_children_of later)
     where
-      where_first : (b : Bool) → bytes_eq name wanted ≡ b → names (with_children_of wanted change later) ≡ names later → names (with_children_of wanted change (node name own children later)) ≡ names (node name own children later)
+      where_first : (b : Bool) → bytes_eq name wanted ≡ b → names (with_children_of wanted change later) ≡ names later →
+          names (with_children_of wanted change (node name own children later)) ≡ names (node name own children later)
       where_first true is rest = rw is refl
       where_first false is rest = rw is (ap (λ l. name ∷ l) rest)
 
@@ -71,7 +74,8 @@ module _ {Own : Type 0} (wanted : List ℕ) (change : Nodes Own → Nodes Own) w
   depth-with_children_of as_deep (node name own children later) =
       where_first (bytes_eq name wanted) refl (depth-with_children_of as_deep later)
     where
-      where_first : (b : Bool) → bytes_eq name wanted ≡ b → depth (with_children_of wanted change later) ≡ depth later → depth (with_children_of wanted change (node name own children later)) ≡ depth (node name own children later)
+      where_first : (b : Bool) → bytes_eq name wanted ≡ b → depth (with_children_of wanted change later) ≡ depth later →
+          depth (with_children_of wanted change (node name own children later)) ≡ depth (node name own children later)
       where_first true is rest = rw is (ap (λ n. max (n + 1) (depth later)) (as_deep children))
       where_first false is rest = rw is (ap (λ n. max (depth children + 1) n) rest)
 
@@ -82,7 +86,9 @@ module _ {Own : Type 0} (wanted : List ℕ) (change : Nodes Own → Nodes Own) w
   AreNodes-with_children_of P (node name own children later) inner has new are =
       where_first (bytes_eq name wanted) refl has (λ has. AreNodes-with_children_of P later inner has new are.2)
     where
-      where_first : (b : Bool) → bytes_eq name wanted ≡ b → children_of wanted (node name own children later) ≡ Some inner → (children_of wanted later ≡ Some inner → AreNodes P (with_children_of wanted change later)) → AreNodes P (with_children_of wanted change (node name own children later))
+      where_first : (b : Bool) → bytes_eq name wanted ≡ b → children_of wanted (node name own children later) ≡ Some inner →
+          (children_of wanted later ≡ Some inner → AreNodes P (with_children_of wanted change later)) →
+          AreNodes P (with_children_of wanted change (node name own children later))
       where_first true is has rest =
           let found : inner ≡ children = same_in_some inner children (sym (rw is at has)) in
           rw is (are.0, subst (λ nodes. AreNodes P (change nodes)) found new, are.2)
@@ -103,7 +109,8 @@ module _ {Own : Type 0} (wanted : List ℕ) (change : Nodes Own → Nodes Own) w
   bytes-with_children_of keeps (node name own children later) are =
       where_first (bytes_eq name wanted) refl (bytes-with_children_of keeps later are.2)
     where
-      where_first : (b : Bool) → bytes_eq name wanted ≡ b → HaveByteNames (with_children_of wanted change later) → HaveByteNames (with_children_of wanted change (node name own children later))
+      where_first : (b : Bool) → bytes_eq name wanted ≡ b → HaveByteNames (with_children_of wanted change later) →
+          HaveByteNames (with_children_of wanted change (node name own children later))
       where_first true is rest = rw is (are.0, keeps children are.1, are.2)
       where_first false is rest = rw is (are.0, are.1, rest)
 

@@ -6,7 +6,8 @@ use Rattle.bi_blob.specs.Layout.{event_width, place_after_events, with_places}
 use Rattle.bi_fit.proofs.Meanings.{same_in_some}
 use Rattle.bi_fit.specs.ImageTree.{children_of, with_children_of}
 
--- The children of a node that is found by its name, and trees that differ in these.
+-- The children of a node are found by its name in nodes with other properties, places or children, and are the same after they are changed
+-- and changed back.
 
 -- What is found in nodes that differ in what each has itself.
 pub children_of-with_each : {A B : Type 0} (change : A → B) (wanted : List ℕ) (nodes : Nodes A) →
@@ -15,7 +16,10 @@ children_of-with_each change wanted none = refl
 children_of-with_each change wanted (node name own children later) =
     where_first (bytes_eq name wanted) refl (children_of-with_each change wanted later)
   where
-    where_first : (b : Bool) → bytes_eq name wanted ≡ b → children_of wanted (with_each change later) ≡ option_map (with_each change) (children_of wanted later) → children_of wanted (with_each change (node name own children later)) ≡ option_map (with_each change) (children_of wanted (node name own children later))
+    where_first : (b : Bool) → bytes_eq name wanted ≡ b →
+        children_of wanted (with_each change later) ≡ option_map (with_each change) (children_of wanted later) →
+        children_of wanted (with_each change (node name own children later)) ≡
+        option_map (with_each change) (children_of wanted (node name own children later))
     where_first true is rest = rw is refl
     where_first false is rest = rw is rest
 
@@ -35,7 +39,9 @@ children_of-with_places at wanted (node name properties children later) inner ha
     Found : Type 0
     Found = (place : ℕ) × (children_of wanted (with_places at (node name properties children later)) ≡ Some (with_places place inner))
 
-    where_first : (b : Bool) → bytes_eq name wanted ≡ b → children_of wanted (node name properties children later) ≡ Some inner → (children_of wanted later ≡ Some inner → (place : ℕ) × (children_of wanted (with_places next later) ≡ Some (with_places place inner))) → Found
+    where_first : (b : Bool) → bytes_eq name wanted ≡ b → children_of wanted (node name properties children later) ≡ Some inner →
+        (children_of wanted later ≡ Some inner →
+        (place : ℕ) × (children_of wanted (with_places next later) ≡ Some (with_places place inner))) → Found
     where_first true is has rest =
         let same : Some children ≡ Some inner = rw is at has in
         (below, rw is (ap (option_map (with_places below)) same))
@@ -51,7 +57,9 @@ module _ {Own : Type 0} (wanted : List ℕ) where
   children_of-with_children_of change (node name own children later) inner has =
       where_first (bytes_eq name wanted) refl has (λ has. children_of-with_children_of change later inner has)
     where
-      where_first : (b : Bool) → bytes_eq name wanted ≡ b → children_of wanted (node name own children later) ≡ Some inner → (children_of wanted later ≡ Some inner → children_of wanted (with_children_of wanted change later) ≡ Some (change inner)) → children_of wanted (with_children_of wanted change (node name own children later)) ≡ Some (change inner)
+      where_first : (b : Bool) → bytes_eq name wanted ≡ b → children_of wanted (node name own children later) ≡ Some inner →
+          (children_of wanted later ≡ Some inner → children_of wanted (with_children_of wanted change later) ≡ Some (change inner)) →
+          children_of wanted (with_children_of wanted change (node name own children later)) ≡ Some (change inner)
       where_first true is has rest =
           let same : Some children ≡ Some inner = rw is at has in
           rw (is, is) (ap (option_map change) same)
@@ -64,7 +72,9 @@ module _ {Own : Type 0} (wanted : List ℕ) where
   with_children_of-back change back (node name own children later) inner has same =
       where_first (bytes_eq name wanted) refl has (λ has. with_children_of-back change back later inner has same)
     where
-      where_first : (b : Bool) → bytes_eq name wanted ≡ b → children_of wanted (node name own children later) ≡ Some inner → (children_of wanted later ≡ Some inner → with_children_of wanted back (with_children_of wanted change later) ≡ later) → with_children_of wanted back (with_children_of wanted change (node name own children later)) ≡ node name own children later
+      where_first : (b : Bool) → bytes_eq name wanted ≡ b → children_of wanted (node name own children later) ≡ Some inner →
+          (children_of wanted later ≡ Some inner → with_children_of wanted back (with_children_of wanted change later) ≡ later) →
+          with_children_of wanted back (with_children_of wanted change (node name own children later)) ≡ node name own children later
       where_first true is has rest =
           let found : inner ≡ children = same_in_some inner children (sym (rw is at has)) in
           rw (is, is) (ap (λ nodes. node name own nodes later) (subst (λ nodes. back (change nodes) ≡ nodes) found same))

@@ -18,7 +18,7 @@ use Rattle.bi_fit.specs.UpdateLaws.{EachUpdateHasItsChanges}
 use Rattle.bi_fit.proofs.PayloadProperties.{get-put, get-put_other}
 use Rattle.bi_fit.proofs.UpdatedVerdicts.{images_of-updated}
 
--- What an update changes.
+-- An updated tree has the changes of the update and no others.
 
 -- Names that are not the same are found different.
 not_equal : (name other : List ℕ) → name ≢ other → bytes_eq name other ≡ false
@@ -47,7 +47,8 @@ child_digest_is : (payload name : List ℕ) (properties : PropertyMap) →
     HaveDigest (hash_algorithm name properties) payload properties (with_digest payload name properties)
 child_digest_is payload name properties = where_hash (is_hash_name name) refl
   where
-    where_hash : (b : Bool) → is_hash_name name ≡ b → HaveDigest (hash_algorithm name properties) payload properties (with_digest payload name properties)
+    where_hash : (b : Bool) → is_hash_name name ≡ b →
+        HaveDigest (hash_algorithm name properties) payload properties (with_digest payload name properties)
     where_hash true is = rw is (digest_is (known_algorithm properties) payload properties)
     where_hash false is = rw is refl
 
@@ -82,7 +83,10 @@ root_children_are change none = tt
 root_children_are change (node name own children later) =
     where_images (bytes_eq name images_name) refl (root_children_are change later)
   where
-    where_images : (b : Bool) → bytes_eq name images_name ≡ b → AllZip IsKeptChild (siblings later) (siblings (with_children_of images_name change later)) → AllZip IsKeptChild (siblings (node name own children later)) (siblings (with_children_of images_name change (node name own children later)))
+    where_images : (b : Bool) → bytes_eq name images_name ≡ b →
+        AllZip IsKeptChild (siblings later) (siblings (with_children_of images_name change later)) →
+        AllZip IsKeptChild (siblings (node name own children later))
+        (siblings (with_children_of images_name change (node name own children later)))
     where_images true is rest =
         rw is (record { name = refl; own = refl; children = λ apart. absurd (apart (same_bytes name images_name is)) }, kept later)
     where_images false is rest = rw is (record { name = refl; own = refl; children = λ apart. refl }, rest)

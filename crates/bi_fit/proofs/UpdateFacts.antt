@@ -15,7 +15,7 @@ use Rattle.bi_fit.proofs.BuildFacts.{entries_in_order}
 use Rattle.bi_fit.proofs.FileFacts.{no_entries}
 use Rattle.bi_fit.proofs.JudgementFacts.{find-properties}
 
--- What the definitions compute for a small tree that is updated.
+-- A small tree has known updates of its time, of its digests, and of both.
 
 -- The algorithms that its hash nodes name.
 known : known_algorithm (from_entries hash_to_update) ≡ Some Crc32

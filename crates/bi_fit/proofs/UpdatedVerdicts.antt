@@ -31,7 +31,7 @@ use Rattle.bi_fit.proofs.Meanings.{same_in_some}
 use Rattle.bi_fit.proofs.PayloadProperties.{get-put, get-put_other}
 use Rattle.bi_fit.proofs.UpdatedTrees.{new_images}
 
--- What follows from an updated tree.
+-- An updated tree has the configurations, lists and signature nodes of the tree, and the verdicts of its new hash nodes.
 
 -- ---- its nodes
 
@@ -42,7 +42,10 @@ children_of-with_other wanted change none = refl
 children_of-with_other wanted change (node name own children later) =
     where_first (bytes_eq name wanted) refl (children_of-with_other wanted change later)
   where
-    where_first : (b : Bool) → bytes_eq name wanted ≡ b → children_of wanted (with_children_of wanted change later) ≡ option_map change (children_of wanted later) → children_of wanted (with_children_of wanted change (node name own children later)) ≡ option_map change (children_of wanted (node name own children later))
+    where_first : (b : Bool) → bytes_eq name wanted ≡ b →
+        children_of wanted (with_children_of wanted change later) ≡ option_map change (children_of wanted later) →
+        children_of wanted (with_children_of wanted change (node name own children later)) ≡
+        option_map change (children_of wanted (node name own children later))
     where_first true is rest = rw (is, is) refl
     where_first false is rest = rw (is, is) rest
 
@@ -154,7 +157,9 @@ module _ (entry : Sibling PropertyMap) (payload : List ℕ) where
       }) ≡ new_hash true image_of (record { name = name; own = own; children = children; later = later })
   hash_is name own children later new_later = where_known (known_algorithm own) refl
     where
-      where_known : (found : Option Algo) → known_algorithm own ≡ found → checked_hash image_of (record { name = name; own = with_digest_by found payload own; children = children; later = new_later }) ≡ rechecked_by image_of (record { name = name; own = own; children = children; later = later }) (Some payload) found
+      where_known : (found : Option Algo) → known_algorithm own ≡ found →
+          checked_hash image_of (record { name = name; own = with_digest_by found payload own; children = children; later = new_later }) ≡
+          rechecked_by image_of (record { name = name; own = own; children = children; later = later }) (Some payload) found
       where_known None is = refl
       where_known (Some algo) is =
           hash-with_digest entry.name name own payload (digest_of algo payload)
@@ -167,7 +172,12 @@ module _ (entry : Sibling PropertyMap) (payload : List ℕ) where
   hashes_are none = refl
   hashes_are (node name own children later) = where_first (is_hash_name name) refl (hashes_are later)
     where
-      where_first : (b : Bool) → is_hash_name name ≡ b → map (checked_hash image_of) (filter (λ child. is_hash_name child.name) (siblings (with_digests payload later))) ≡ map (new_hash true image_of) (filter (λ child. is_hash_name child.name) (siblings later)) → map (checked_hash image_of) (filter (λ child. is_hash_name child.name) (siblings (with_digests payload (node name own children later)))) ≡ map (new_hash true image_of) (filter (λ child. is_hash_name child.name) (siblings (node name own children later)))
+      where_first : (b : Bool) → is_hash_name name ≡ b →
+          map (checked_hash image_of) (filter (λ child. is_hash_name child.name) (siblings (with_digests payload later))) ≡
+          map (new_hash true image_of) (filter (λ child. is_hash_name child.name) (siblings later)) →
+          map (checked_hash image_of)
+          (filter (λ child. is_hash_name child.name) (siblings (with_digests payload (node name own children later)))) ≡
+          map (new_hash true image_of) (filter (λ child. is_hash_name child.name) (siblings (node name own children later)))
       where_first true is rest =
           rw is (ap₂ (λ h t. h ∷ t) (hash_is name own children later (with_digests payload later)) rest)
       where_first false is rest = rw is rest
@@ -227,11 +237,17 @@ module _ {Own : Type 0} (change : Nodes Own → Nodes Own) where
   configurations_are (node name own children later) =
       where_first (bytes_eq name images_name) refl (configurations_are later)
     where
-      where_here : (b : Bool) → bytes_eq name configurations_name ≡ b → children_of configurations_name (with_children_of images_name change later) ≡ children_of configurations_name later → children_of configurations_name (node name own children (with_children_of images_name change later)) ≡ children_of configurations_name (node name own children later)
+      where_here : (b : Bool) → bytes_eq name configurations_name ≡ b →
+          children_of configurations_name (with_children_of images_name change later) ≡ children_of configurations_name later →
+          children_of configurations_name (node name own children (with_children_of images_name change later)) ≡
+          children_of configurations_name (node name own children later)
       where_here true is rest = rw is refl
       where_here false is rest = rw is rest
 
-      where_first : (b : Bool) → bytes_eq name images_name ≡ b → children_of configurations_name (with_children_of images_name change later) ≡ children_of configurations_name later → children_of configurations_name (with_children_of images_name change (node name own children later)) ≡ children_of configurations_name (node name own children later)
+      where_first : (b : Bool) → bytes_eq name images_name ≡ b →
+          children_of configurations_name (with_children_of images_name change later) ≡ children_of configurations_name later →
+          children_of configurations_name (with_children_of images_name change (node name own children later)) ≡
+          children_of configurations_name (node name own children later)
       where_first true is rest = rw (is, not_configurations name is) refl
       where_first false is rest = rw is (where_here (bytes_eq name configurations_name) refl rest)
 
@@ -247,11 +263,13 @@ module _ {Own : Type 0} (change : Nodes Own → Nodes Own) where
       taken : Nodes Own → Option B
       taken nodes = option_and_then (λ found. of found.own) (node_named nodes configurations_name)
 
-      where_here : (b : Bool) → bytes_eq name configurations_name ≡ b → taken (with_children_of images_name change later) ≡ taken later → taken (node name own children (with_children_of images_name change later)) ≡ taken (node name own children later)
+      where_here : (b : Bool) → bytes_eq name configurations_name ≡ b → taken (with_children_of images_name change later) ≡ taken later →
+          taken (node name own children (with_children_of images_name change later)) ≡ taken (node name own children later)
       where_here true is rest = rw is refl
       where_here false is rest = rw is rest
 
-      where_first : (b : Bool) → bytes_eq name images_name ≡ b → taken (with_children_of images_name change later) ≡ taken later → taken (with_children_of images_name change (node name own children later)) ≡ taken (node name own children later)
+      where_first : (b : Bool) → bytes_eq name images_name ≡ b → taken (with_children_of images_name change later) ≡ taken later →
+          taken (with_children_of images_name change (node name own children later)) ≡ taken (node name own children later)
       where_first true is rest = rw (is, not_configurations name is) refl
       where_first false is rest = rw is (where_here (bytes_eq name configurations_name) refl rest)
 
@@ -294,7 +312,10 @@ payload_named (payload ∷ payloads) (node name own children later) wanted =
     found_in : List Image → Option (Option (List ℕ))
     found_in images = option_map (λ image. image.payload) (image_named wanted images)
 
-    where_first : (b : Bool) → bytes_eq name wanted ≡ b → found_in (images_with (siblings (images_with_digests payloads later)) payloads) ≡ found_in (images_with (siblings later) payloads) → found_in (images_with (siblings (images_with_digests (payload ∷ payloads) (node name own children later))) (payload ∷ payloads)) ≡ found_in (images_with (siblings (node name own children later)) (payload ∷ payloads))
+    where_first : (b : Bool) → bytes_eq name wanted ≡ b →
+        found_in (images_with (siblings (images_with_digests payloads later)) payloads) ≡ found_in (images_with (siblings later) payloads) →
+        found_in (images_with (siblings (images_with_digests (payload ∷ payloads) (node name own children later))) (payload ∷ payloads)) ≡
+        found_in (images_with (siblings (node name own children later)) (payload ∷ payloads))
     where_first true is rest = rw is refl
     where_first false is rest = rw is rest
 
@@ -363,7 +384,8 @@ signatures-with_digests payload (node name own children later) =
     count : Nodes PropertyMap → ℕ
     count nodes = length (filter (λ child. is_signature_name child.name) (siblings nodes))
 
-    where_first : (b : Bool) → is_signature_name name ≡ b → count (with_digests payload later) ≡ count later → count (with_digests payload (node name own children later)) ≡ count (node name own children later)
+    where_first : (b : Bool) → is_signature_name name ≡ b → count (with_digests payload later) ≡ count later →
+        count (with_digests payload (node name own children later)) ≡ count (node name own children later)
     where_first true is rest = rw is (ap suc rest)
     where_first false is rest = rw is rest
 

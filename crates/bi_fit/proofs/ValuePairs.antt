@@ -23,7 +23,7 @@ use Rattle.bi_fit.specs.declared.comparing.role.Role.{Role}
 use Rattle.bi_fit.specs.ComparedNodes.{is_compared, paired_value, value_numbered}
 use Rattle.bi_fit.proofs.MovedPairs.{lookup_moved}
 
--- Slices that are paired with numbers. Pairs whose numbers ascend are equal exactly if they have equal values at each number.
+-- Slices that are paired with numbers that ascend are equal exactly if they have equal values at each number.
 
 -- A slice with its number.
 abbrev Pair : Type 0
@@ -143,7 +143,8 @@ paired_value-more pairs number slice distinct wanted =
     ∙ by_test (nat_eq wanted number)
     ∙ ap (λ test. cond (test && true) (Some slice.now) (paired_value wanted pairs)) (nat_eq_equiv.symm wanted number)
   where
-    by_test : (test : Bool) → option_map (λ value. value.now) (cond test (Some slice) (lookup (nat_eq wanted) pairs)) ≡ cond (test && true) (Some slice.now) (paired_value wanted pairs)
+    by_test : (test : Bool) → option_map (λ value. value.now) (cond test (Some slice) (lookup (nat_eq wanted) pairs)) ≡
+        cond (test && true) (Some slice.now) (paired_value wanted pairs)
     by_test true = refl
     by_test false = refl
 
@@ -152,7 +153,8 @@ and_false : (b : Bool) → (b && false) ≡ false
 and_false true = refl
 and_false false = refl
 
-module _ (role : Role) (property : FileProperty) (properties later : List FileProperty) (number : ℕ) (left numbers : List ℕ) (pairs : List Pair) where
+module _ (role : Role) (property : FileProperty) (properties later : List FileProperty) (number : ℕ) (left numbers : List ℕ)
+    (pairs : List Pair) where
   -- The values of properties stay the same, and their numbers distinct, when the next property becomes one more pair, which is compared,
   pub values_more : (more : List Pair) (slice : Bor (List ℕ)) → properties ≡ property ∷ later → left ≡ number ∷ numbers →
       more ≡ pairs ++ (number, slice) ∷ [] → slice.now ≡ property.value → is_compared role property.name ≡ true →

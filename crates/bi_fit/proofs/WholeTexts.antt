@@ -11,13 +11,14 @@ use Rattle.bi_blob.specs.Layout.{text_of_events}
 use Rattle.bi_lay.specs.Contents.{Doc, text_of, HaveSameContent}
 use Rattle.bi_fit.specs.declared.form.Form.{Form}
 use Rattle.bi_fit.specs.declared.form.Form.TheVariants.{Embedded, External}
-use Rattle.bi_fit.specs.Documents.{document_of, length_after_blob, payloads_after, whole_text, IsTextOfTree, IsTextFault, IsTextError}
+use Rattle.bi_fit.specs.Documents.{document_of, length_after_blob, whole_text, IsTextOfTree, IsTextFault, IsTextError}
 use Rattle.bi_fit.specs.ImageTree.{ImageTree}
-use Rattle.bi_fit.specs.Text.{blob_of, after_blob, fit_text}
+use Rattle.bi_fit.specs.Text.{blob_of, after_blob, fit_text, payloads_after}
 use Rattle.bi_fit.proofs.NormalTrees.{length-fit_text}
 use Rattle.bi_fit.proofs.PayloadAreas.{length-payload_area}
 
--- The text of a document with what follows its blob.
+-- The document of a tree with its payloads has the text of the tree, and the text is too long if what follows its blob is longer than the
+-- limit.
 
 -- How long what follows the blob is.
 length-payloads_after : (form : Form) (payloads : List (Option (List ℕ))) →

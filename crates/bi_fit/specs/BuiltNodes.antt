@@ -16,7 +16,7 @@ use Rattle.bi_fit.specs.Building.{text_value}
 use Rattle.bi_fit.specs.Building.{built_images, names_under, configuration_properties}
 use Rattle.bi_fit.specs.Names.{images_name, configurations_name, default_name}
 use Rattle.bi_fit.specs.Text.{with_payload, with_payloads}
-use Rattle.bi_fit.specs.declared.building.document.Parts.{Parts}
+use Rattle.bi_fit.specs.declared.building.document.BuiltParts.{BuiltParts}
 use Rattle.bi_fit.specs.declared.building.lists.KeyLists.{KeyLists}
 use Rattle.bi_fit.specs.NamedImages.{head_model, named_models}
 use Rattle.bi_fit.specs.PropertyMapModels.{PropertyMapModel, with_property_value}
@@ -88,7 +88,7 @@ with_cell_property name (Some number) properties = with_property_value name (cel
 
 -- What the document of a tree borrows is prepared: the tree can be built, and the digests and the
 -- lists are those of the images.
-pub record ArePrepared (parts : Parts) : Type 0 where
+pub record ArePrepared (parts : BuiltParts) : Type 0 where
   pub can : CanBeBuilt (head_model parts.head) (named_models parts.images.now)
   pub digests : parts.digests.now
       ≡ map (λ image. digest_of Sha256 image.payload.now) parts.images.now

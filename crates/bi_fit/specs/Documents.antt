@@ -9,7 +9,7 @@ use Rattle.bi_lay.specs.Contents.{Doc, text_of}
 use Rattle.bi_fit.specs.declared.form.Form.{Form}
 use Rattle.bi_fit.specs.declared.form.Form.TheVariants.{Embedded, External}
 use Rattle.bi_fit.specs.ImageTree.{ImageTree}
-use Rattle.bi_fit.specs.Text.{normal_tree, payload_area, payloads_end, fit_text}
+use Rattle.bi_fit.specs.Text.{normal_tree, payloads_after, payloads_end, fit_text}
 
 -- The document of an image tree in a form: its text is the blob of the normal text. The whole text
 -- has the payloads after it (profile of this project).
@@ -27,11 +27,6 @@ document_of form tree = record {
 abbrev pub length_after_blob : Form → List (Option (List ℕ)) → ℕ
 length_after_blob Embedded payloads = 0
 length_after_blob External payloads = payloads_end 0 payloads
-
--- What follows the blob of a text in a form, by the payloads of its images.
-abbrev pub payloads_after : Form → List (Option (List ℕ)) → List ℕ
-payloads_after Embedded payloads = []
-payloads_after External payloads = payload_area 0 payloads
 
 -- The text of a document and what follows its blob.
 abbrev pub whole_text : Form → Doc → List (Option (List ℕ)) → List ℕ

@@ -70,10 +70,14 @@ payload_area end (None ∷ later) = payload_area end later
 payload_area end (Some payload ∷ later) =
     padding_to_4 end ++ (payload ++ payload_area (end_after end (Some payload)) later)
 
--- What follows the blob of a text.
+-- What follows the blob of a text in a form, by the payloads of its images.
+abbrev pub payloads_after : Form → List (Option (List ℕ)) → List ℕ
+payloads_after Embedded payloads = []
+payloads_after External payloads = payload_area 0 payloads
+
+-- What follows the blob of the text of a tree.
 abbrev pub after_blob : Form → ImageTree → List ℕ
-after_blob Embedded tree = []
-after_blob External tree = payload_area 0 tree.payloads
+after_blob form tree = payloads_after form tree.payloads
 
 -- The text: the blob and, in the form External, the payloads. Nothing follows the last payload.
 abbrev pub fit_text : Form → ImageTree → List ℕ

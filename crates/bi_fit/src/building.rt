@@ -14,7 +14,7 @@ mod payloads;
 mod properties;
 
 use crate::building::digests::digest_payloads;
-use crate::building::document::{Parts, build_doc};
+use crate::building::document::{BuiltParts, build_doc};
 use crate::building::lists::KeyLists;
 use crate::building::payloads::images_of;
 use crate::form::Form;
@@ -88,7 +88,7 @@ pub fn append_built<S: Sink>(
     let after = length_after_blob(&placed, form, limits.file())?;
     let digests = digest_payloads(alloc, images)?;
     let lists = KeyLists::new(alloc, images)?;
-    let parts = Parts {
+    let parts = BuiltParts {
         head,
         images,
         digests: &digests,

@@ -12,7 +12,7 @@ use Rattle.bi_hash.specs.Algos.{algorithm_index}
 use Rattle.bi_hash.specs.Digests.{digest_of, digest_size}
 use Rattle.bi_hash.specs.KeptDigests.{IsDigestOf, AreKept}
 
--- What is kept after one more digest.
+-- If one more digest of the payload is kept, all digests that are kept are those of the payload.
 
 -- An element of a list in which one was set is that one, or it was there before.
 set_or_before : {A : Type 0} (xs : List A) (i j : ℕ) (new got : A) → slice_get (slice_set xs i new) j ≡ Some got →

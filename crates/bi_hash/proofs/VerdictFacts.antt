@@ -11,7 +11,7 @@ use Rattle.bi_hash.specs.Digests.{digest_of}
 use Rattle.bi_hash.specs.Verdicts.{verdict_of}
 use Rattle.bi_hash.specs.KnownVerdicts.{VerdictsAreKnown, VerdictsHaveOrder, EachAlgorithmIsKnown}
 
--- What the definitions compute for small hash nodes.
+-- Small hash nodes have known verdicts, the first of two verdicts that apply is given, and each algorithm has a known digest of `abc`.
 
 pub verdicts_are_known : VerdictsAreKnown
 unfolding text_before_nul verdict_of find_algorithm digest_of cell crc32 crc_after low_bits

@@ -5,7 +5,7 @@ use Rattle.bi_blob.specs.Layout.{strings_of, blob_header, padding_to_4, length_b
 use Rattle.bi_base.specs.Slices.{bytes_of}
 use Rattle.bi_lay.specs.Items.{reservations_of}
 
--- The bytes of the memory reservation block and of the strings block, put together of the pieces that are written.
+-- The pieces that are written are together the bytes of the memory reservation block, of the strings block and of the text.
 
 -- The bytes of a pair.
 abbrev pub bytes_of_pair : ℕ × ℕ → List ℕ

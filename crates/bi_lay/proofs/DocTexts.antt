@@ -24,7 +24,7 @@ use Rattle.bi_lay.specs.Names.{saturated_usize}
 use Rattle.bi_lay.specs.Items.{event_of, events_of_items, item_encoding, structure_of_items, reservations_of, HasOffset}
 use Rattle.bi_lay.specs.Values.{value_bytes}
 use Rattle.bi_lay.specs.Documents.{IsConsistentDocument, doc_model}
-use Rattle.bi_blob.proofs.Blobs.Passing.{length-Prop}
+use Rattle.bi_blob.proofs.Blobs.TreeTokens.{length-Prop}
 
 -- The text of a document is made of what its fields hold.
 

@@ -14,7 +14,7 @@ use Rattle.bi_lay.specs.NumberedNames.{NumberedNames, with_use, AreKnownOffsets}
 use Rattle.bi_lay.proofs.NameOffsets.{look_up-some, offset_in-stays, with_name-known}
 use Rattle.bi_lay.proofs.UsedNames.{with_name-has}
 
--- The offsets of names that are known by their numbers.
+-- An offset that is stored under the number of a name is the offset of the name, and stays so as names are added.
 
 -- A look-up of a name that is there finds its offset.
 look_up-there : (names : List (List ℕ)) (name : List ℕ) → is_among name names ≡ true →

@@ -2,8 +2,8 @@ pub mod NameOffsets
 pub mod OneMoreItem
 pub mod UsedNames
 pub mod KnownOffsets
-pub mod Consistent
-pub mod Scanning
+pub mod DocInvariant
+pub mod ChildSearch
 pub mod SinkChains
 pub mod TokenBytes
 pub mod BlockBytes

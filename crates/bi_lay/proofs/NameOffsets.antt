@@ -15,7 +15,7 @@ use Rattle.bi_blob.specs.NamesByPrefix.{prefix_of_name, by_prefix}
 use Rattle.bi_blob.proofs.NameSets.{is_eq-before}
 use Rattle.bi_lay.specs.Names.{offset_among, saturated_usize, with_name, key_of_name}
 
--- The offsets of names in the strings block, and what a look-up of a name finds.
+-- A look-up finds the offset of a name exactly if the name is among the names, and a new name is at the end of the strings block.
 
 -- A look-up that finds a name gives its offset, and the name is among the names.
 pub look_up-some : (names : List (List ℕ)) (name : List ℕ) (value : ℕ) → offset_among names name ≡ Some value →
@@ -47,7 +47,9 @@ pub offset_in-new : (names : List (List ℕ)) (name : List ℕ) → is_among nam
 offset_in-new [] name new = ap (λ b. cond b 0 (length name + 1 + 0)) ((bytes_eq-Decides name name).1 refl)
 offset_in-new (other ∷ later) name new = by (bytes_eq other name) refl (offset_in-new later name)
   where
-    by : (b : Bool) → bytes_eq other name ≡ b → (is_among name later ≡ false → offset_in (later ++ name ∷ []) name ≡ length (strings_of later)) → offset_in ((other ∷ later) ++ name ∷ []) name ≡ length (strings_of (other ∷ later))
+    by : (b : Bool) → bytes_eq other name ≡ b →
+        (is_among name later ≡ false → offset_in (later ++ name ∷ []) name ≡ length (strings_of later)) →
+        offset_in ((other ∷ later) ++ name ∷ []) name ≡ length (strings_of (other ∷ later))
     by true is behind = absurd (true≢false (rw is at new))
     by false is behind = rw is (omega (arith, behind (rw is at new), length-append other (0 ∷ []), length-append (other ++ 0 ∷ []) (strings_of later)))
 
@@ -57,7 +59,8 @@ pub offset_in-stays : (names : List (List ℕ)) (name other : List ℕ) → is_a
 offset_in-stays [] name other among = absurd (true≢false (sym among))
 offset_in-stays (first ∷ later) name other among = by (bytes_eq first name) refl (offset_in-stays later name other)
   where
-    by : (b : Bool) → bytes_eq first name ≡ b → (is_among name later ≡ true → offset_in (later ++ other ∷ []) name ≡ offset_in later name) → offset_in ((first ∷ later) ++ other ∷ []) name ≡ offset_in (first ∷ later) name
+    by : (b : Bool) → bytes_eq first name ≡ b → (is_among name later ≡ true → offset_in (later ++ other ∷ []) name ≡ offset_in later name) →
+        offset_in ((first ∷ later) ++ other ∷ []) name ≡ offset_in (first ∷ later) name
     by true is behind = rw is refl
     by false is behind = rw is (ap (λ n. length first + 1 + n) (behind (rw is at among)))
 
@@ -71,7 +74,8 @@ offset_among-push names key name new = by (bytes_eq key name) refl
     among = list_any-append (λ other. bytes_eq other name) names (key ∷ [])
 
     -- A name that was among the others stays where it is.
-    other : (b : Bool) → is_among name names ≡ b → bytes_eq key name ≡ false → offset_among names name ≡ offset_among (names ++ key ∷ []) name
+    other : (b : Bool) → is_among name names ≡ b → bytes_eq key name ≡ false →
+        offset_among names name ≡ offset_among (names ++ key ∷ []) name
     other true is differs =
         let stays : is_among name (names ++ key ∷ []) ≡ true = among ∙ ap (λ b. b || (bytes_eq key name || false)) is in
         rw (is, stays) (ap (λ n. Some (saturated_usize n)) (sym (offset_in-stays names name key is)))
@@ -79,7 +83,8 @@ offset_among-push names key name new = by (bytes_eq key name) refl
         let lacks : is_among name (names ++ key ∷ []) ≡ false = among ∙ ap (λ b. b || (bytes_eq key name || false)) is ∙ ap (λ b. b || false) differs in
         rw (is, lacks) refl
 
-    by : (b : Bool) → bytes_eq key name ≡ b → cond b (Some (saturated_usize (length (strings_of names)))) (offset_among names name) ≡ offset_among (names ++ key ∷ []) name
+    by : (b : Bool) → bytes_eq key name ≡ b →
+        cond b (Some (saturated_usize (length (strings_of names)))) (offset_among names name) ≡ offset_among (names ++ key ∷ []) name
     by true is =
         subst (λ n. Some (saturated_usize (length (strings_of names))) ≡ offset_among (names ++ key ∷ []) n) ((bytes_eq-Decides key name).0 is)
         (rw (has) (ap (λ n. Some (saturated_usize n)) (sym (offset_in-new names key new))))

@@ -16,7 +16,8 @@ use Rattle.bi_lay.specs.declared.items.Property.{Property as PropertyItem}
 use Rattle.bi_lay.specs.Items.{event_of, events_of_items}
 use Rattle.bi_lay.specs.Documents.{last, IsNewest, outer_nodes}
 
--- What one more item does to the events of a document and to the stage after them.
+-- One more item adds its event to those of a document. A node that begins is open, a property is added to the innermost open node, and a
+-- node that ends leaves the one around it.
 
 -- The events of items with one more.
 pub events-push : (items : List Item) (item : Item) → events_of_items (items ++ item ∷ []) ≡ events_of_items items ++ event_of item ∷ []

@@ -3,7 +3,8 @@ use Rattle.bi_base.specs.Sinks.{AppendsInTurn, FailsAfter, FailsBefore, Wrote}
 use Rattle.bi_base.specs.declared.fault.Error.{Error}
 use Rattle.bi_base.proofs.SinkLaws.{wrote_after}
 
--- What a chain of three calls does that append three pieces of some bytes.
+-- A chain of three calls that append three pieces appends the pieces together, and fails as a call that appends them together if one of the
+-- calls fails.
 
 module _ {S : Type 0} (appends : S → List ℕ → S → Type 0) (fails : S → List ℕ → S → Error → Type 0)
     (in_turn : AppendsInTurn appends) (after : FailsAfter appends fails) (before : FailsBefore fails)
@@ -21,7 +22,8 @@ module _ {S : Type 0} (appends : S → List ℕ → S → Type 0) (fails : S →
       (before old new (first ++ second) third error (after old mid new first second error appended failed))
 
   -- The third call is made.
-  pub third_writes : {V : Type 0} (old mid last new : S) (result : Result V Error) → appends old first mid → appends mid second last → Wrote appends fails last third result new → Wrote appends fails old whole result new
+  pub third_writes : {V : Type 0} (old mid last new : S) (result : Result V Error) → appends old first mid → appends mid second last →
+      Wrote appends fails last third result new → Wrote appends fails old whole result new
   third_writes old mid last new result one two wrote =
       subst (λ bytes. Wrote appends fails old bytes result new) is_whole
       (wrote_after appends fails in_turn after old last new (first ++ second) third result (in_turn old mid last first second one two) wrote)

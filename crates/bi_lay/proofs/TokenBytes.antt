@@ -3,9 +3,9 @@ use Rattle.bi_base.specs.Cells.{cell, up4}
 use Rattle.bi_blob.specs.Tokens.{BeginNode, Prop, token_bytes}
 use Rattle.bi_blob.specs.Layout.{encoding, padding_to_4}
 use Rattle.bi_base.proofs.CellLaws.{length-cell}
-use Rattle.bi_blob.proofs.Blobs.Passing.{length-Prop}
+use Rattle.bi_blob.proofs.Blobs.TreeTokens.{length-Prop}
 
--- The bytes of tokens, put together of the pieces that are written.
+-- The bytes of a token are the pieces that are written: its cells, its name or value, and its padding.
 
 -- The token that begins a node: its number, the name with its zero byte, and the padding.
 pub begin_bytes : (name : List ℕ) → (cell 1 ++ (name ++ 0 ∷ [])) ++ padding_to_4 (length name + 5) ≡ encoding (BeginNode name)

@@ -6,7 +6,8 @@ use Rattle.bi_blob.specs.Stages.{Stage, BeforeRoot, Inside, OpenNode, empty_node
 use Rattle.bi_blob.specs.Following.{AllFollow, MayFollowInText}
 use Rattle.bi_lay.specs.Laws.{PropertiesAddTheirNames, NodesAddTheirNames, EachMayFollow}
 
--- What the events of a tree do to the open nodes.
+-- The events of properties and of nodes add their names to those of the innermost open node, and each event of a normal text may come at
+-- the stage after those before it.
 
 -- Properties add their names.
 pub properties_add_their_names : PropertiesAddTheirNames

@@ -12,13 +12,14 @@ use Rattle.bi_lay.specs.Names.{with_name, saturated_usize}
 use Rattle.bi_lay.specs.Items.{HasOffset}
 use Rattle.bi_lay.proofs.NameOffsets.{offset_in-stays}
 
--- The names of a strings block as properties are added.
+-- One more property adds its name to the names of the strings block, and the offsets of the other names stay.
 
 -- A name is among the distinct names exactly where it is among the names.
 pub is_among-distinct : (names : List (List ℕ)) (name : List ℕ) → is_among name (distinct_names names) ≡ is_among name names
 is_among-distinct names name = by (is_among name names) refl (is_among name (distinct_names names)) refl
   where
-    by : (p : Bool) → is_among name names ≡ p → (q : Bool) → is_among name (distinct_names names) ≡ q → is_among name (distinct_names names) ≡ is_among name names
+    by : (p : Bool) → is_among name names ≡ p → (q : Bool) → is_among name (distinct_names names) ≡ q →
+        is_among name (distinct_names names) ≡ is_among name names
     by true is true among = among ∙ sym is
     by false is false among = among ∙ sym is
     by true is false among =

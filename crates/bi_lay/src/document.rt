@@ -9,7 +9,7 @@ use crate::items::{Item, Property, Value};
 use crate::numbered_names::NumberedNames;
 use crate::siblings::is_new_child;
 use crate::sizes::BlockSizes;
-use crate::text::{Parts, put_text};
+use crate::text::{BlobParts, put_text};
 use bi_base::{Error, Sink};
 use bi_blob::{is_child_name, is_property_name};
 use std::alloc::Global;
@@ -246,7 +246,7 @@ impl<'a> Doc<'a> {
         requires { AreBlockSizes self.now sizes }
         ensures { Wrote S.appends S.fails sink.old (text_of self.now) result sink.new }
     {
-        let parts = Parts {
+        let parts = BlobParts {
             boot_cpu: self.boot_cpu,
             reservations: &self.reservations,
             items: &self.items,

@@ -26,7 +26,7 @@ const LAST_COMPATIBLE_VERSION: u32 = 16;
 
 /// What the text of a document is made from.
 #[derive(Clone, Copy)]
-pub(crate) struct Parts<'a> {
+pub(crate) struct BlobParts<'a> {
     pub(crate) boot_cpu: u32,
     pub(crate) reservations: &'a [(u64, u64)],
     pub(crate) items: &'a [Item<'a>],
@@ -35,7 +35,7 @@ pub(crate) struct Parts<'a> {
 
 /// Appends the text of these parts, whose blocks have these sizes. Fails as the sink does.
 pub(crate) fn put_text<S: Sink>(
-    parts: Parts<'_>,
+    parts: BlobParts<'_>,
     sizes: BlockSizes,
     sink: &mut S,
 ) -> Result<(), Error>
@@ -77,7 +77,7 @@ fn put_header<S: Sink>(boot_cpu: u32, sizes: BlockSizes, sink: &mut S) -> Result
 
 /// Appends the memory reservation block, the structure block and the strings block of these parts.
 /// Fails as the sink does.
-fn put_blocks<S: Sink>(parts: Parts<'_>, sink: &mut S) -> Result<(), Error>
+fn put_blocks<S: Sink>(parts: BlobParts<'_>, sink: &mut S) -> Result<(), Error>
     ensures { let parts = parts.entry in
         Wrote S.appends S.fails sink.old
         (reservation_block (reservations_of parts.reservations.now)

@@ -6,7 +6,7 @@ use Rattle.bi_legacy.specs.Faults.{Passes, InPartTable, fault_of, header_and_dat
 use Rattle.bi_legacy.specs.PartTables.{TablePasses, table_fault, body_checks}
 use Rattle.bi_base.proofs.FirstFault.{IsFirstFault-after}
 
--- Lists of checks.
+-- Two lists of checks pass if each passes, and the checks of a header and of its data are those of the file.
 
 -- Two lists pass where each passes.
 pub HasNoFault-append : {C : Type 0} (P : C → Type 0) (front after : List C) → HasNoFault P front → HasNoFault P after →

@@ -9,7 +9,7 @@ use Rattle.bi_legacy.specs.KnownImages.{kernel_image}
 use Rattle.bi_legacy.specs.KnownFaults.{long_name, name_with_zero, EmitFaultsAreKnown, EmitChecksHaveOrder}
 use Rattle.bi_legacy.proofs.LegacyFaultFacts.{past}
 
--- The faults of small images that are to be written.
+-- Small images to be written in which one check fails have known faults, and if two checks fail, the first gives the fault.
 
 -- A name of 33 bytes is too long.
 is_long : ¬ (IsImageName long_name)

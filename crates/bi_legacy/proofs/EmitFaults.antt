@@ -17,7 +17,8 @@ use Rattle.bi_legacy.proofs.CheckLists.{HasNoFault-map, IsFirstFault-map}
 use Rattle.bi_legacy.proofs.PartOffsets.{length-part_table}
 use Rattle.bi_legacy.proofs.NormalLength.{length-legacy_text, length-normal_body}
 
--- The fault of an image to be written.
+-- An image to be written has at most one fault. If its name and its number of parts are right, this is that of its length or the first
+-- fault of its parts.
 
 -- The normal text is as long as the header and the normal data.
 pub length-text : (image : LegacyImage) → IsImageName image.name →

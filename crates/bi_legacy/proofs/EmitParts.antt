@@ -8,7 +8,7 @@ use Rattle.bi_base.specs.Slices.{bytes_of}
 use Rattle.bi_legacy.specs.Emitting.{EmitPartPasses, emit_part_fault, emit_part_checks}
 use Rattle.bi_legacy.specs.Parts.{parts_end_from}
 
--- One step of a loop over the parts of an image to be written.
+-- An empty part is the first fault of the parts from it on. If a part is not empty, their first fault is that of the parts after it.
 
 -- An end is at most the end of the parts after it.
 pub parts_end_from-grows : (end : ℕ) (sizes : List ℕ) → end ≤ parts_end_from end sizes

@@ -7,7 +7,7 @@ use Rattle.bi_legacy.specs.File.{header}
 use Rattle.bi_legacy.specs.Meaning.{IsImageName}
 use Rattle.bi_legacy.specs.KnownFiles.{multi_data_with_rest, FreeBytesHaveNoMeaning}
 
--- What small files mean.
+-- Bytes after the zero of a name, after the data, between the parts and after the last part do not change what a file means.
 
 -- The name `k`.
 k_is_name : IsImageName (codes "k")

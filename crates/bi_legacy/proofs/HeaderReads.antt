@@ -7,7 +7,7 @@ use Rattle.bi_legacy.specs.Faults.{body_of, header_without_checksum}
 use Rattle.bi_legacy.specs.File.{header_with, header, IsLegacyFile}
 use Rattle.bi_legacy.specs.Meaning.{LegacyImage}
 
--- What is read at the offsets of the fields of a legacy image.
+-- The numbers, codes and bytes that are read at the offsets of the fields of a legacy image are those of the image.
 
 -- A CRC-32 fits 32 bits.
 crc32_fits : (bytes : List ℕ) → crc32 bytes < 2 ^ 32

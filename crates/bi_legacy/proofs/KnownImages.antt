@@ -5,7 +5,7 @@ use Rattle.bi_legacy.specs.File.{header}
 use Rattle.bi_legacy.specs.Text.{legacy_text}
 use Rattle.bi_legacy.specs.KnownImages.{HasKernelText, HasMultiText, HasFirmwareText}
 
--- The normal texts of known images.
+-- A kernel image, a multi-file image and a firmware image have known normal texts.
 
 -- The normal text of a kernel image.
 pub kernel_text : HasKernelText

@@ -8,7 +8,7 @@ use Rattle.bi_base.proofs.NulLaws.{nul_index}
 use Rattle.bi_legacy.proofs.TableCells.{zero_within}
 use Rattle.bi_legacy.specs.KnownFaults.{LegacyFilesHaveFaults, PartTablesHaveFaults, LegacyChecksHaveOrder}
 
--- The faults of small files.
+-- Small files with a wrong header, wrong data or a wrong part table have known faults, and if two checks fail, the first gives the fault.
 
 -- What is longer than a limit is not within it.
 pub past : (end size : ℕ) → ltb size end ≡ true → ¬ (end ≤ size)

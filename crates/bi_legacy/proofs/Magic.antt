@@ -4,7 +4,7 @@ use Rattle.bi_legacy.specs.Meaning.{LegacyImage}
 use Rattle.bi_legacy.specs.File.{BeginsWithMagic, IsLegacyFile, header}
 use Rattle.bi_legacy.specs.Text.{legacy_text}
 
--- What begins with the magic number.
+-- A legacy image begins with the magic number, and so does a normal text.
 
 -- These four bytes are the magic number.
 bytes_begin : (bytes : List ℕ) → BeginsWithMagic (0x27 ∷ 0x05 ∷ 0x19 ∷ 0x56 ∷ bytes)

@@ -3,7 +3,7 @@ use Rattle.bi_base.specs.Strings.{before_nul}
 use Rattle.bi_legacy.specs.File.{HoldsName}
 use Rattle.bi_base.proofs.NulLaws.{nul_index, before_nul-append, before_nul-nonzero, drop-nul_index}
 
--- The name in the 32 bytes of its field.
+-- A field of 32 bytes holds one name: the bytes before its first zero.
 
 -- The bytes before the first zero are the name in 32 bytes.
 pub field_holds_name : (field : List ℕ) → length field ≡ 32 → HoldsName field (before_nul field)

@@ -10,7 +10,7 @@ use Rattle.bi_legacy.proofs.HeaderReads.{length-header}
 use Rattle.bi_legacy.proofs.TableParts.{part_table-aligned, table_parts_at}
 use Rattle.bi_legacy.proofs.PartOffsets.{ArePartsAt, up4-up4}
 
--- The lengths of the normal data and of the normal text.
+-- The normal data ends where the last part ends, and the normal text is the 64 bytes of the header longer.
 
 -- A padded part ends at the next multiple of four.
 pub length-padded : (part : List ℕ) → length (with_zeros part) ≡ up4 (length part)

@@ -8,7 +8,7 @@ use Rattle.bi_legacy.specs.Parts.{parts_start}
 use Rattle.bi_legacy.specs.PlacedParts.{PartModel, part_model, placed_parts_from, placed_parts}
 use Rattle.bi_legacy.specs.Reading.{part_places}
 
--- The bytes and the offset of the part with an index.
+-- The part with an index has the bytes and the offset of this part of the image.
 
 -- The bytes of the parts with their offsets are the parts.
 pub map-bytes : (at : ℕ) (parts : List (List ℕ)) → map (λ (part : PartModel). part.bytes) (placed_parts_from at parts) ≡ parts

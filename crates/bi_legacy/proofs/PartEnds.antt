@@ -14,7 +14,7 @@ use Rattle.bi_legacy.proofs.TableParts.{first_offset, parts_in_table}
 use Rattle.bi_legacy.proofs.PartOffsets.{length-part_table}
 use Rattle.bi_legacy.proofs.PartSlices.{length-slices, ends_checked}
 
--- Where parts begin and end, by their sizes.
+-- The last part that is read ends where the sizes in the part table end.
 
 -- There is a slice for each size.
 pub length-part_slices : (body : List ℕ) (at : ℕ) (sizes : List ℕ) → length (part_slices body at sizes) ≡ length sizes

@@ -9,7 +9,7 @@ use Rattle.bi_legacy.specs.PartRanges.{FitWithin, part_slices}
 use Rattle.bi_legacy.proofs.TableCells.{IsSize}
 use Rattle.bi_legacy.proofs.PartOffsets.{ArePartsAt}
 
--- Parts in data, and the slices of their sizes.
+-- Slices that end within the data are parts at their offsets, and parts at their offsets are the slices of their sizes.
 
 -- Slices that end within the data have the sizes that they are cut by.
 pub length-slices : (body : List ℕ) (at : ℕ) (sizes : List ℕ) → FitWithin (length body) at sizes →

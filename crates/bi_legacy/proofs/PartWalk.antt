@@ -8,7 +8,7 @@ use Rattle.bi_legacy.specs.Parts.{parts_end_from}
 use Rattle.bi_legacy.specs.PartRanges.{FitWithin, part_ranges}
 use Rattle.bi_legacy.specs.declared.part_ranges.PartRange.{PartRange}
 
--- One step of the loop over the parts in a part table.
+-- Parts fit if the first one fits and the later ones fit after it, and the first fault is that of the first part that does not fit.
 
 -- Parts fit where the first one fits and the later ones fit after it.
 pub FitWithin-one : (most at size : ℕ) (sizes later : List ℕ) → sizes ≡ size ∷ later → at + size ≤ most →

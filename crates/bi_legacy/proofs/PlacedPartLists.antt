@@ -10,7 +10,7 @@ use Rattle.bi_legacy.specs.ReadImage.{parts_of_body}
 use Rattle.bi_legacy.proofs.TableParts.{first_offset, parts_in_table}
 use Rattle.bi_legacy.proofs.PartEnds.{length-part_slices, first_offset_is}
 
--- The parts that are read from data, with their offsets.
+-- The slices of the data of an image are its parts with their offsets, one for each size.
 
 -- Slices of data that fit in it are the parts with their offsets.
 placed_slices-fit : (body : List ℕ) (at : ℕ) (sizes : List ℕ) → FitWithin (length body) at sizes →

@@ -17,7 +17,7 @@ use Rattle.bi_legacy.proofs.OneMeaning.{one_legacy_meaning}
 use Rattle.bi_legacy.proofs.PartEnds.{read_end_is}
 use Rattle.bi_legacy.proofs.PartsInFile.{parts_at_offsets, parts_end_in_file}
 
--- The result of reading a file, where it is right by the checks.
+-- If the result of reading a file agrees with the checks, its value is that of the file and its fault is the only one.
 
 -- The value is that of the file.
 pub parsed_of : (file : List ℕ) (limits : Limits) (r : Result LegacyModel Fault) → AreBytes file → OnOk r (HasNoLegacyFault limits file) →

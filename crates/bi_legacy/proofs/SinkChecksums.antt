@@ -4,7 +4,7 @@ use Rattle.bi_base.specs.CrcSink.{AddsToCrc}
 use Rattle.bi_base.specs.Sinks.{Wrote}
 use Rattle.bi_base.specs.declared.fault.Error.{Error}
 
--- The checksum of bytes that are written to a running CRC-32.
+-- Writing bytes to a running CRC-32 succeeds, and the complement of its register is then the CRC-32 of the bytes.
 
 -- The register after all bytes that are written.
 register_after : (start : ℕ) (bytes : List ℕ) (result : Result (Unit {0}) Error) (register : ℕ) →

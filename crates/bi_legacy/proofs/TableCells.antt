@@ -13,7 +13,7 @@ use Rattle.bi_legacy.specs.PartTables.{cells_of, table_sizes}
 use Rattle.bi_legacy.specs.Parts.{part_table}
 use Rattle.bi_base.proofs.NulLaws.{nul_index, before_nul-append}
 
--- Lists of cells, and the numbers in them.
+-- A part table is the cells of its sizes and a cell of zero, and these sizes are read from it.
 
 -- Four bytes are the cell of their number.
 cell_of_bytes : (a b c d : ℕ) (later : List ℕ) → AreBytes (a ∷ b ∷ c ∷ d ∷ later) →

@@ -11,7 +11,7 @@ use Rattle.bi_legacy.proofs.TableCells.{part_table-cells, table_sizes-cells, par
 use Rattle.bi_legacy.proofs.PartOffsets.{ArePartsAt, padded_parts-at, padded_parts-from, up4_of_four, length-part_table}
 use Rattle.bi_base.proofs.NulLaws.{before_nul-nonzero}
 
--- Data with a part table, and the parts that are read by it.
+-- Data with a part table holds its parts at their offsets, and the parts that are read from the data are these.
 
 -- A part table ends at a multiple of four.
 pub part_table-aligned : (parts : List (List ℕ)) → up4 (length (part_table parts)) ≡ length (part_table parts)

@@ -11,7 +11,7 @@ use Rattle.bi_legacy.specs.Meaning.{LegacyImage}
 use Rattle.bi_legacy.specs.Parts.{part_table}
 use Rattle.bi_legacy.specs.Text.{with_zeros, joined_parts}
 
--- The normal text, as it is written piece by piece.
+-- The header, the part table and the padded parts of a normal text are the pieces that are written.
 
 -- Joined parts are those before the last one, each padded, and then the last one.
 joined_parts-last : (before : List (List ℕ)) (last : List ℕ) → joined_parts (before ++ (last ∷ [])) ≡ flat_map with_zeros before ++ last

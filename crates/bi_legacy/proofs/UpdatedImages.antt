@@ -10,7 +10,7 @@ use Rattle.bi_legacy.proofs.NormalForms.{has_normal_form}
 use Rattle.bi_legacy.proofs.NormalLength.{length-legacy_text}
 use Rattle.bi_legacy.proofs.TextMeans.{legacy_text_means}
 
--- Images of files with another time.
+-- An image with a new time has this time and is otherwise as it was, and has a normal form within the limits if a file means it.
 
 pub updated_has_new_time : UpdatedHasNewTime
 updated_has_new_time image time = record {

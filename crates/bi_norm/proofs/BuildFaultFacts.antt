@@ -17,7 +17,7 @@ use Rattle.bi_norm.specs.FitBuilding.{BuildCheck, HasFewImages, HasTextDescripti
 use Rattle.bi_norm.specs.FitBuilding.{BuildPasses, build_fault, build_checks, IsBuildFault, tree_of_images}
 use Rattle.bi_norm.specs.KnownBuildFaults.{head_like, kernel_like, narrow_limits, description_with_zero, BuildFaultsAreKnown}
 
--- The faults of small trees that are to be built.
+-- Small trees to be built in which one check fails have known faults, and if two checks fail, the first gives the fault.
 
 -- Whether there is a value.
 has_value_decides : (option : Option (List ℕ)) → Decides (is_some option) (IsSome option)

@@ -15,7 +15,7 @@ use Rattle.bi_legacy.proofs.NoEmitFault.{no_emit_fault_image}
 use Rattle.bi_legacy.proofs.TextMeans.{legacy_text_means}
 use Rattle.bi_norm.specs.LegacyBuilding.{IsBuiltLegacy, IsBuildLegacyError}
 
--- Legacy images that were built.
+-- A legacy image that was written has no fault, and its text means the image.
 
 -- The name in a header of bytes is bytes.
 name_in_header : (image : LegacyImage) (field body : List ℕ) → AreBytes (header image field body) → AreBytes field

@@ -22,7 +22,7 @@ use Rattle.bi_norm.specs.BuildChecks.{early_checks}
 use Rattle.bi_base.specs.Commands.{AppendFailed, WasRefused, SinkFailed}
 use Rattle.bi_base.proofs.FirstFault.{IsFirstFault-after}
 
--- The texts of trees to be built.
+-- The text of a tree of images is what is built, and an error of laying it out is one of building it.
 
 -- Checks of the first image pass where all checks of images do.
 first_of_images : (limits : Limits) (form : Form) (head : Head) (all images : List ImageSpec) →
@@ -38,7 +38,9 @@ first_of_all : (limits : Limits) (form : Form) (head : Head) (all images : List 
 first_of_all limits form head all [] later fine = tt
 first_of_all limits form head all (image ∷ images) later fine = (fine.0, (fine.1.0, tt))
 
-module _ (limits : Limits) (form : Form) (head : Head) (images : List ImageSpec) (fine : HasNoFault (BuildPasses limits form head images) (early_checks images)) (can : CanBeBuilt (head_model head) (spec_models images)) (most : limits.file ≤ longest_text) where
+module _ (limits : Limits) (form : Form) (head : Head) (images : List ImageSpec)
+    (fine : HasNoFault (BuildPasses limits form head images) (early_checks images))
+    (can : CanBeBuilt (head_model head) (spec_models images)) (most : limits.file ≤ longest_text) where
   -- The text of the tree is what is built.
   pub text_is_built : (text : List ℕ) → IsTextOfTree limits form (tree_of_images head images) text → IsBuilt limits form head images text
   text_is_built text is =

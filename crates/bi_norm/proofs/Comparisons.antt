@@ -10,7 +10,7 @@ use Rattle.bi_norm.specs.OpenedMeaning.{meaning_of}
 use Rattle.bi_norm.specs.Opening.{IsReadBootImage}
 use Rattle.bi_norm.proofs.NormalForms.{only_legacy, only_tree, needs_memory}
 
--- Comparing files that were read.
+-- Files that were read are compared by what they mean, and an error of reading either file is one of comparing them.
 
 -- A file that was read means what was read, and nothing else.
 pub opened_means : (limits : Limits) (file : List ℕ) (image : BootImage) → IsReadBootImage limits file image →

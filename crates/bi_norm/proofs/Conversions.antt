@@ -16,7 +16,7 @@ use Rattle.bi_fit.specs.Documents.{IsTextOfTree, IsTextFault}
 use Rattle.bi_norm.specs.Converting.{converted_images, fit_of, CanBeConverted, IsConvertedFile, IsConvertError, TextTooLong, head_of_image}
 use Rattle.bi_norm.proofs.ConvertedImages.{converted_can_be_built, converted_is_accepted}
 
--- Legacy images that were read and are converted.
+-- The images of a legacy image that was read can be built, and the text of their tree is that of the converted file.
 
 -- The images of a legacy image that was read can be built, and give its tree.
 pub conversion_can_be_built : (limits : Limits) (file : List ℕ) (image : LegacyImage) (head : HeadModel) (images : List ImageSpecModel) →

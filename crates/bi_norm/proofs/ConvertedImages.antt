@@ -22,7 +22,7 @@ use Rattle.bi_legacy.specs.Text.{IsLegacyImage}
 use Rattle.bi_norm.specs.Converting.{Conversion, conversions, keys_in, keys_of_type, image_name, code_name, later_images, images_of_parts}
 use Rattle.bi_norm.specs.Converting.{converted_images, ConvertedIsAccepted, head_of_image, ConvertedHasItsParts}
 
--- The tree that a legacy image is converted to.
+-- The images of a legacy image can be built, and their tree has the parts as its payloads and a text that is accepted.
 
 -- A name that passes the tests is a text.
 tested_text : (name : List ℕ) → AreBytes name × HasNoZero name → IsText name

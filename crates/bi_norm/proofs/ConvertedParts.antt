@@ -9,7 +9,7 @@ use Rattle.bi_fit.specs.declared.building.NamedImage.{NamedImage}
 use Rattle.bi_fit.specs.NamedImages.{named_model, named_models}
 use Rattle.bi_norm.specs.Converting.{first_image, later_image, later_images, images_of_parts, converted_images, keys_of_type}
 
--- The images of a legacy image, as they are made part by part.
+-- The images that are made of the parts of a legacy image, one after the other, are those that the image is converted to.
 
 -- A list without elements.
 pub no_elements : (parts : List (List ℕ)) → length parts ≡ 0 → parts ≡ []

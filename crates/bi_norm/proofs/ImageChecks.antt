@@ -13,7 +13,8 @@ use Rattle.bi_norm.specs.declared.fit_building.ImageSpec.{ImageSpec}
 use Rattle.bi_norm.specs.FitBuilding.{spec_model, spec_models, BuildCheck, HasFields, HasCodeNames, HasNewName, spec_checks, first_image_checks}
 use Rattle.bi_norm.specs.BuildChecks.{AllPass, IsFirstFailure, at_index, fields_and_names, HasBytes}
 
--- The checks of images, made one image after the other.
+-- If the images before one pass their checks, a fault of its fields, codes or name is the first of all, and otherwise the images after it
+-- decide.
 
 -- The names of images.
 abbrev pub names_of_specs : List ImageSpec → List (List ℕ)
@@ -51,7 +52,8 @@ passed_none images = record { passes = λ all. all; fails = λ fault first. firs
 first_fine : (images : List ImageSpec) (index : ℕ) (d : ImageSpec) → index < length images → index ≡ 0 →
     AllPass (fields_and_names index (get_or images index d)) → AllPass (first_image_checks images)
 first_fine images index d within none fine = by images within (subst (λ index. AllPass (fields_and_names index (get_or images index d))) none fine) where
-  by : (images : List ImageSpec) → index < length images → AllPass (fields_and_names 0 (get_or images 0 d)) → AllPass (first_image_checks images)
+  by : (images : List ImageSpec) → index < length images → AllPass (fields_and_names 0 (get_or images 0 d)) →
+      AllPass (first_image_checks images)
   by [] within fine = λ limits form head all. tt
   by (image ∷ later) within fine = fine
 

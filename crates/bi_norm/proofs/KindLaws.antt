@@ -16,9 +16,9 @@ use Rattle.bi_norm.specs.Laws.{OneKind, OneFileMeaning, OneFileFault, FileHasNoF
 use Rattle.bi_norm.specs.Laws.{TextsOfKindsDiffer, NormalTextsDiffer}
 use Rattle.bi_norm.specs.Meaning.{Meaning, Means, OfLegacy, OfFit, normal_text}
 use Rattle.bi_norm.proofs.NormalForms.{texts_differ}
-use Rattle.bi_norm.proofs.Opening.{legacy_or_not, means_legacy, means_tree}
+use Rattle.bi_norm.proofs.FilesWithoutMeaning.{legacy_or_not, means_legacy, means_tree}
 
--- The kinds of boot images, and what files of both kinds mean.
+-- A file is of at most one kind and has one meaning or one fault, and texts of different kinds differ.
 
 -- A file begins with one magic number.
 pub one_kind : OneKind

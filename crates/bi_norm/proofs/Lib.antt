@@ -1,4 +1,4 @@
-pub mod Opening
+pub mod FilesWithoutMeaning
 pub mod NormalForms
 pub mod KindLaws
 pub mod ConvertedImages

@@ -26,9 +26,9 @@ use Rattle.bi_fit.proofs.Faults.{fit_has_no_fault}
 use Rattle.bi_fit.proofs.TextLaws.{file_means_image_tree, normal_fit_text_is_accepted, same_text_same_tree, text_keeps_judgement}
 use Rattle.bi_norm.specs.Meaning.{Meaning, OfLegacy, OfFit, Means, normal_text}
 use Rattle.bi_norm.specs.NormalForm.{IsNormalForm, IsOpenError, IsNormaliseError, Normalised, NeedsMemory, ForLegacyImage, ForTree}
-use Rattle.bi_norm.proofs.Opening.{means_legacy, means_tree}
+use Rattle.bi_norm.proofs.FilesWithoutMeaning.{means_legacy, means_tree}
 
--- Normal forms of files that were read.
+-- The normal text of what was read from a file is the normal form of the file, and the file means nothing else.
 
 -- What these four bytes begin has a magic number.
 blob_begins : (bytes : List ℕ) → u32_at (0xd0 ∷ 0x0d ∷ 0xfe ∷ 0xed ∷ bytes) 0 ≡ blob_magic

@@ -5,7 +5,7 @@ use Rattle.std.proofs.lemmas.List.{take_more, take-append-drop, map-append}
 use Rattle.std.proofs.lemmas.List.Sums.{sum_by_more}
 use Rattle.std.proofs.lemmas.List.Folds.{concat-append}
 
--- The pieces that an input is cut into.
+-- The pieces of an input and the next one are the input up to the end of that one, and have the lengths that are given.
 
 -- The sum of the lengths up to one of them.
 pub sum_more : (lengths : List ℕ) (i : ℕ) → i < length lengths → sum (take (i + 1) lengths) ≡ sum (take i lengths) + get_or lengths i 0

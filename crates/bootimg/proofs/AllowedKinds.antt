@@ -7,7 +7,7 @@ use Rattle.bi_commands.specs.declared.check.ConcernKind.{ConcernKind}
 use Rattle.bi_commands.specs.declared.check.ConcernKind.TheVariants as kind
 use Rattle.bootimg.specs.CommandLine.{IsAllowed, IsKindWord, NoneIs}
 
--- Which kinds of concerns words allow.
+-- Words allow the kinds that they are the words for. No words allow no kind, and a word for no kind allows nothing.
 
 -- Nothing is allowed if each kind is not.
 pub allows_nothing : (allowed : Allowed)
@@ -56,7 +56,8 @@ one_more_allowed words word kind old new is same only more = record {
     is_there other (inr it) =
         Contains-append_right words (word ∷ []) (kind_word other) (subst (λ k. Contains (word ∷ []) (kind_word k)) (sym it) (subst (Contains (word ∷ [])) same (Contains-first word [])))
 
-    was_there : (other : ConcernKind) → Contains words (kind_word other) ⊎ Contains (word ∷ []) (kind_word other) → IsTrue (allows old other) ⊎ (other ≡ kind)
+    was_there : (other : ConcernKind) → Contains words (kind_word other) ⊎ Contains (word ∷ []) (kind_word other) →
+        IsTrue (allows old other) ⊎ (other ≡ kind)
     was_there other (inl has) = inl ((is.allows other).1 has)
     was_there other (inr has) = inr (only other (one_word other (Contains-cases word [] (kind_word other) has)))
       where

@@ -5,7 +5,7 @@ use Rattle.std.proofs.lemmas.List.{append_assoc, take-append-drop}
 use Rattle.std.proofs.lemmas.Str.Pattern.{NoCharPasses-char, drop_at_char}
 use Rattle.bootimg.specs.Files.{IsBeside}
 
--- Names of new files beside a file.
+-- The name of a new file beside a file is in the directory of the file, and has no directory if the file's name has none.
 
 -- After the directory of the name, which ends with its last slash.
 pub beside_in_directory : (name front back written : List ℕ) (number : ℕ) → SplitsAroundMatch (RFindsChar 47) name front back

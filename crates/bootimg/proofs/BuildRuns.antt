@@ -26,7 +26,8 @@ use Rattle.bootimg.specs.declared.failure.Failure.TheVariants.{Call}
 use Rattle.bootimg.specs.declared.jobs.Problem.{Problem}
 use Rattle.bootimg.specs.declared.tasks.Done.{Done}
 
--- Images that are built of parts whose files are read first.
+-- The parts of which an image is built are those of the sources that were read, and the run fails if they cannot be read or the image
+-- cannot be built.
 
 -- A part that was read, and is lent.
 part_lent : (files : FilePromise) (limits : Limits) (source : PartSource) (was_read : ReadPart) (part : Part)

@@ -1,7 +1,7 @@
 use Rattle.std.proofs.Common.{◌≡◌, ℕ, Option, Result, Ok, Err, IfSome, subst, sym}
 use Rattle.std.specs.Result.{OkIff, result_ok}
 
--- Codes that are numbers.
+-- A code that is a number is the number that the conversion returns, if it fits.
 
 -- A number that fits is the result of converting it.
 pub number_that_fits : {E : Type 0} (Fits : Type 0) (n : ℕ) (converted : Result ℕ E) (result : Option ℕ) (Is : ℕ → Type 0) →

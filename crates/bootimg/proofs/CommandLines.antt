@@ -28,7 +28,7 @@ use Rattle.clap.specs.declared.parser.matches.ArgMatches.{ArgMatches}
 use Rattle.bootimg.specs.declared.failure.Failure.{Failure}
 use Rattle.bootimg.specs.declared.failure.Failure.TheVariants.{BadValue, NoSelection}
 
--- The arguments of the program.
+-- Arguments are the parts, images and selections that are parsed from them one by one, and a text that is none of these is a bad value.
 
 -- A fact holds whether or not an option has a value.
 pub if_none : {T : Type 0} (option : Option T) (P : Type 0) → P → IfNone option P

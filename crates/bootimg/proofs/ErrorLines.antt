@@ -7,7 +7,7 @@ use Rattle.bi_base.specs.BufferedSinks.{wrote_nothing, wrote_in_turn, stopped_af
 use Rattle.bootimg.specs.ErrorLines.{LineState, IsSent, SendsMore, LineHas, Extends}
 use Rattle.bootimg.specs.Runs.{Logs, IsLogged, HasStopped}
 
--- What a line has after its calls.
+-- A line that was written is sent after all that was sent before it, or that fails.
 
 -- If no write has failed, the bytes are written after all that were sent before, or that fails.
 pub sends_by_writing : (old new : WriteTrace) (bytes : List ℕ) (result : Result (Unit {0}) Error)

@@ -19,7 +19,7 @@ use Rattle.bootimg.specs.Runs.{FileNotRead, IsFileRead, IsFileNotRead, OpenedNot
 use Rattle.bootimg.specs.Runs.{FileNotOpened, IsComparedWork, IsCompareWork, BothRead, IsBuildWork, IsExplainWork, IsJobWork, IsHeldWork}
 use Rattle.bootimg.specs.Runs.{IsHeldFailure, failure_in_memory, Run, work_of, IsOutputRun, IsSavedWork, ToStandardOutput, ToFile}
 
--- Images that are read from standard input, or from files that were opened.
+-- Reading standard input or a file that was opened reads the image, and each job that was done with it is the work of the job.
 
 -- A reader of a file that was opened.
 pub image_is_opened : (files : FilePromise) (name : List ℕ) (remaining : Option (List ℕ)) (trace : ReadTrace)

@@ -7,7 +7,7 @@ pub mod ImageRuns
 pub mod BuildRuns
 pub mod ErrorLines
 pub mod SameStreams
-pub mod Selected
+pub mod SelectionNames
 pub mod BesideNames
 pub mod NewFiles
 pub mod ProgramFacts

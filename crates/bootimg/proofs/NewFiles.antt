@@ -12,7 +12,7 @@ use Rattle.bootimg.specs.Files.{IsMadeBeside, IsNotMade}
 use Rattle.bootimg.specs.Files.{IsNotPutInPlace, IsNotSaved, MakingFailed, NameTaken, NewFileFailed, NotClosed, NotMade}
 use Rattle.bootimg.specs.Files.{NotRemoved, Removed, SavesNothing, TookSteps, WritingStopped, no_files}
 
--- New files beside a file.
+-- A new file beside a file gets the first name that nothing has. If it cannot be written or put in place, it is removed, or that fails.
 
 -- ---- steps in turn
 

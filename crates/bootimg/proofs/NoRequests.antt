@@ -18,7 +18,7 @@ use Rattle.bootimg.specs.declared.command_line.Outcome.TheVariants as outcome
 use Rattle.bootimg.specs.declared.failure.Failure.{Failure}
 use Rattle.bootimg.proofs.ProgramFacts.{accepted_enters, accepted_is_command, program_is_free, program_is_simple}
 
--- What the arguments give, and arguments that request nothing.
+-- Arguments that clap accepts give a command, and arguments that it rejects, or whose options are no job or no limits, request nothing.
 
 -- ---- what the arguments give
 

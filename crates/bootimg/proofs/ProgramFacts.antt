@@ -16,7 +16,7 @@ use Rattle.clap.proofs.SimpleLemmas.{is_nil}
 use Rattle.clap.proofs.WalkLemmas.{both}
 use Rattle.bootimg.specs.Program.{commands, program_app, IsCommandName, IsAmongNames}
 
--- What is known of the command line of the program.
+-- Arguments that clap accepts enter one of the program's commands.
 
 -- clap's definitions of the matches and of the errors apply to it.
 pub program_is_simple : is_simple program_app ≡ true

@@ -18,7 +18,7 @@ use Rattle.bootimg.specs.Runs.{IsPlainRun, IsRun, IsTaskWork, Logs, IsLogged, Ha
 use Rattle.bootimg.specs.Runs.{HasFailed, IsAskedFor, IsMistake, problem}
 use Rattle.bootimg.specs.Tasks.{task_promise}
 
--- What the program did to its streams, from what its calls did.
+-- A run of the program over traced streams is one over plain streams, and it succeeds, fails or is rejected as its calls do.
 
 -- After some bytes were written, writing others wrote both, or stopped.
 pub both_written : (old mid new : WriteTrace) (first second : List ℕ) (result : Result (Unit {0}) Error) → WroteAll old first mid

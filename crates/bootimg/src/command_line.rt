@@ -41,7 +41,7 @@ use std::alloc::{AllocError, AllocFailed, Global};
 use table::program;
 use update::changes;
 
-/// A command, and the options that only this command has.
+/// A command on one image, with the options that change what it does.
 #[derive(Debug, Drop)]
 pub enum Task {
     /// Write the normal form. That of a flattened image tree has this form.

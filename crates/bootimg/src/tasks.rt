@@ -1,4 +1,4 @@
-//! What the program does for each command of the command line.
+//! What the program does for each command on one image.
 
 ghost use Rattle.std.specs.Prelude.{◌≡◌, ⊤};
 ghost use Rattle.bootimg.specs.Tasks.{EndedWith, status_of, task_promise, task_laws};

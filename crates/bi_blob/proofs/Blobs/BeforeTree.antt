@@ -6,22 +6,24 @@ use Rattle.bi_blob.specs.BlobFaults.{HeaderPasses, header_checks, header_fault, 
 use Rattle.bi_blob.specs.BlobFaults.{IsFaultBeforeTree, IsStructureFault, IsBlobFault, InHeader, InReservations, InStructure}
 use Rattle.bi_blob.specs.BlobLaws.{FaultBeforeTreeComesFirst}
 use Rattle.bi_base.proofs.FirstFault.{not_both, fault_or_none}
-use Rattle.bi_blob.proofs.Blobs.Decided.{header_decided}
+use Rattle.bi_blob.proofs.Blobs.TestedChecks.{header_decided}
 use Rattle.bi_blob.proofs.Blobs.Headers.{HasNoHeaderFault-Header}
 use Rattle.bi_blob.proofs.Blobs.ReservationFaults.{HasSomeOrFault, reservations_or_fault, no_reservations_with_fault}
 
--- The faults of a file before its structure block.
+-- A fault of a file before its structure block is the fault of the file, and comes first.
 
 -- A file has no fault before the tree, or has one.
 before_tree : (bounds : Limits) (file : List ℕ) → HasNoFaultBeforeTree bounds file ⊎ ((fault : Fault) × IsFaultBeforeTree bounds file fault)
 before_tree bounds file =
     by_header (fault_or_none (HeaderPasses bounds file) (header_fault bounds) (header_decided bounds file) header_checks)
   where
-    by_reservations : HasNoHeaderFault bounds file → HasSomeOrFault file (off_mem_rsvmap file) (totalsize file) → HasNoFaultBeforeTree bounds file ⊎ ((fault : Fault) × IsFaultBeforeTree bounds file fault)
+    by_reservations : HasNoHeaderFault bounds file → HasSomeOrFault file (off_mem_rsvmap file) (totalsize file) →
+        HasNoFaultBeforeTree bounds file ⊎ ((fault : Fault) × IsFaultBeforeTree bounds file fault)
     by_reservations fine (inl some) = inl (record { header = fine; count = some.count; reservations = some.has })
     by_reservations fine (inr faulty) = inr (faulty.0, inr (fine, faulty.1))
 
-    by_header : HasNoHeaderFault bounds file ⊎ ((fault : Fault) × IsHeaderFault bounds file fault) → HasNoFaultBeforeTree bounds file ⊎ ((fault : Fault) × IsFaultBeforeTree bounds file fault)
+    by_header : HasNoHeaderFault bounds file ⊎ ((fault : Fault) × IsHeaderFault bounds file fault) →
+        HasNoFaultBeforeTree bounds file ⊎ ((fault : Fault) × IsFaultBeforeTree bounds file fault)
     by_header (inl fine) =
         by_reservations fine (reservations_or_fault file (off_mem_rsvmap file) (totalsize file) (HasNoHeaderFault-Header bounds file fine).reservations_within)
     by_header (inr first) = inr (first.0, inl first.1)

@@ -52,7 +52,8 @@ zero_after (byte ∷ rest) shorter =
       by_test : (zero : Bool) → (byte == 0) ≡ zero
           → (length (before_zero rest) < length rest → rest ≡ before_zero rest ++ 0 ∷ drop (suc (length (before_zero rest))) rest)
           → length (cond zero [] (byte ∷ before_zero rest)) < suc (length rest)
-          → byte ∷ rest ≡ cond zero [] (byte ∷ before_zero rest) ++ 0 ∷ drop (suc (length (cond zero [] (byte ∷ before_zero rest)))) (byte ∷ rest)
+          → byte ∷ rest ≡ cond zero [] (byte ∷ before_zero rest) ++ 0 ∷ drop (suc (length (cond zero [] (byte ∷ before_zero rest))))
+          (byte ∷ rest)
       by_test true e later within = ap (λ b. b ∷ rest) (eqb-true byte 0 e)
       by_test false e later within = ap (λ l. byte ∷ l) (later (omega arith))
 
@@ -61,7 +62,8 @@ pub length_before_zero : (bytes : List ℕ) → length (before_zero bytes) ≤ l
 length_before_zero [] = omega arith
 length_before_zero (byte ∷ rest) =
     subst (λ front. length front ≤ suc (length rest)) (sym (before_zero-cons byte rest)) (by_test (byte == 0) (length_before_zero rest)) where
-      by_test : (zero : Bool) → length (before_zero rest) ≤ length rest → length (cond zero [] (byte ∷ before_zero rest)) ≤ suc (length rest)
+      by_test : (zero : Bool) → length (before_zero rest) ≤ length rest →
+          length (cond zero [] (byte ∷ before_zero rest)) ≤ suc (length rest)
       by_test true later = omega arith
       by_test false later = omega arith
 

@@ -12,10 +12,10 @@ use Rattle.bi_blob.specs.OpenNodes.{TreeSoFar, NoTree, OpenTree, WholeTree, new_
 use Rattle.bi_blob.specs.OpenNodes.{stage_of, events_so_far, IsTreeSoFar, IsWholeTree}
 use Rattle.bi_blob.proofs.Blobs.OpenNodes.{ended_root, AreProperties-push, open_node_of-property, open_node_of-child}
 use Rattle.bi_blob.proofs.Blobs.OpenNodes.{events_of_open_nodes-property, events_of_open_nodes-child, events_of_open_nodes-root}
-use Rattle.bi_blob.proofs.Blobs.Steps.{AreOpenNodes-property, AreOpenNodes-child, innermost_properties, length-outer_nodes_of}
-use Rattle.bi_blob.proofs.Blobs.Passing.{event_without_place}
-use Rattle.bi_blob.proofs.Blobs.Complete.{tree_events_without_places, depth-properties_of}
-use Rattle.bi_blob.proofs.Blobs.Following.{FollowToEnd, to_end, follow_to_end, closed_at_end, tree_follows}
+use Rattle.bi_blob.proofs.Blobs.ReaderSteps.{AreOpenNodes-property, AreOpenNodes-child, innermost_properties, length-outer_nodes_of}
+use Rattle.bi_blob.proofs.Blobs.TreeTokens.{event_without_place}
+use Rattle.bi_blob.proofs.Blobs.BlockEnds.{tree_events_without_places, depth-properties_of}
+use Rattle.bi_blob.proofs.Blobs.EventOrder.{FollowToEnd, to_end, follow_to_end, closed_at_end, tree_follows}
 
 -- Events that may follow one another and close are those of one tree. The lemmas on trees of files are used for trees
 -- without places: all their places are 0.

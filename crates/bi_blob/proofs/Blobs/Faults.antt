@@ -8,14 +8,14 @@ use Rattle.bi_blob.specs.BlobFaults.{HeaderPasses, header_checks, header_fault, 
 use Rattle.bi_blob.specs.BlobFaults.{IsStructureFault, IsBlobFault, InHeader, InReservations, InStructure}
 use Rattle.bi_blob.specs.BlobLaws.{BlobHasNoFault, OneBlobFault, BlobOrFault, BlobWhereNoFault}
 use Rattle.bi_base.proofs.FirstFault.{one_fault, not_both, fault_or_none}
-use Rattle.bi_blob.proofs.Blobs.Decided.{header_decided}
+use Rattle.bi_blob.proofs.Blobs.TestedChecks.{header_decided}
 use Rattle.bi_blob.proofs.Blobs.Headers.{HasNoHeaderFault-Header, Header-HasNoHeaderFault, Header-IsReadable}
 use Rattle.bi_blob.proofs.Blobs.ReservationFaults.{HasSomeOrFault, reservations_or_fault, one_reservations_fault}
 use Rattle.bi_blob.proofs.Blobs.ReservationFaults.{no_reservations_with_fault, HasReservations-BeginsWithReservations}
 use Rattle.bi_blob.proofs.Blobs.ReservationFaults.{BeginsWithReservations-HasReservations}
-use Rattle.bi_blob.proofs.Blobs.Whole.{HasTree, tree_or_fault}
+use Rattle.bi_blob.proofs.Blobs.TreeOrFault.{HasTree, tree_or_fault}
 use Rattle.bi_blob.proofs.Blobs.OneFault.{IsEnded, one_structure_fault, no_fault_in_ended}
-use Rattle.bi_blob.proofs.Blobs.Complete.{tree_ends}
+use Rattle.bi_blob.proofs.Blobs.BlockEnds.{tree_ends}
 
 -- Proves that a file is a blob within limits exactly if it has no fault under them, and that it has at most one fault.
 

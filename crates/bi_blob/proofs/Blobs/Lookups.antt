@@ -6,7 +6,7 @@ use Rattle.bi_blob.specs.Tree.{Nodes, none, node, FileProperty, FileNode, names,
 use Rattle.bi_blob.specs.Lookups.{Sibling, siblings, siblings_from, node_at}
 use Rattle.bi_blob.specs.BlobLaws.{NodesAreFound, PropertiesAreFound}
 
--- What is found by a name among things with distinct names.
+-- Nodes and properties with distinct names are found by their names.
 
 module _ {X : Type 0} (name_of : X → List ℕ) where
   -- The things of a list by their names.
@@ -34,7 +34,9 @@ module _ {X : Type 0} (name_of : X → List ℕ) where
   found_at (first ∷ later) (suc index) thing distinct there =
       where_first (bytes_eq (name_of first) (name_of thing)) refl (found_at later index thing distinct.1 there)
     where
-      where_first : (b : Bool) → bytes_eq (name_of first) (name_of thing) ≡ b → lookup (λ other. bytes_eq other (name_of thing)) (by_name later) ≡ Some thing → lookup (λ other. bytes_eq other (name_of thing)) (by_name (first ∷ later)) ≡ Some thing
+      where_first : (b : Bool) → bytes_eq (name_of first) (name_of thing) ≡ b →
+          lookup (λ other. bytes_eq other (name_of thing)) (by_name later) ≡ Some thing →
+          lookup (λ other. bytes_eq other (name_of thing)) (by_name (first ∷ later)) ≡ Some thing
       where_first true is rest =
           absurd (not_new (name_of first) later index thing there (sym ((bytes_eq-Decides (name_of first) (name_of thing)).0 is)) distinct.0)
       where_first false is rest = rw is rest
@@ -46,7 +48,11 @@ module _ {X : Type 0} (name_of : X → List ℕ) where
   at_found (first ∷ later) name thing found =
       where_first (bytes_eq (name_of first) name) refl found (λ found. at_found later name thing found)
     where
-      where_first : (b : Bool) → bytes_eq (name_of first) name ≡ b → lookup (λ other. bytes_eq other name) (by_name (first ∷ later)) ≡ Some thing → (lookup (λ other. bytes_eq other name) (by_name later) ≡ Some thing → (name_of thing ≡ name) × (index : ℕ) × (slice_get later index ≡ Some thing)) → (name_of thing ≡ name) × (index : ℕ) × (slice_get (first ∷ later) index ≡ Some thing)
+      where_first : (b : Bool) → bytes_eq (name_of first) name ≡ b →
+          lookup (λ other. bytes_eq other name) (by_name (first ∷ later)) ≡ Some thing →
+          (lookup (λ other. bytes_eq other name) (by_name later) ≡ Some thing →
+          (name_of thing ≡ name) × (index : ℕ) × (slice_get later index ≡ Some thing)) →
+          (name_of thing ≡ name) × (index : ℕ) × (slice_get (first ∷ later) index ≡ Some thing)
       where_first true is found rest =
           let is_first : Some first ≡ Some thing = rw is at found in
           let same : first ≡ thing = cc in

@@ -9,7 +9,7 @@ use Rattle.bi_blob.specs.Blob.{Reservation, IsBlob, tree_blocks}
 use Rattle.bi_blob.proofs.Blobs.Tokens.{width-at_least}
 use Rattle.bi_blob.proofs.Blobs.TokenEncoding.{place_after_all, place_after_all-append, AreEncodings-length}
 
--- How many nodes a tree has, and how many of them a list of siblings has.
+-- A blob has more bytes than its tree has nodes, and siblings with their children are no more than the nodes that are counted.
 
 -- There are no more nodes than events.
 events_at_least : (nodes : Nodes FileNode) → node_count nodes ≤ length (file_events nodes)

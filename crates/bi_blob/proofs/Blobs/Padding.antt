@@ -12,7 +12,7 @@ use Rattle.bi_blob.specs.BlobLaws.{AllTokensPass, PassedWhereEncoded}
 use Rattle.bi_blob.proofs.Blobs.BytesBeforeZero.{one_name, HasName-IsNameAt}
 use Rattle.bi_blob.proofs.Blobs.Tokens.{number, length-token_bytes, IsTokenAt-number, IsTokenAt-within, BeginNode-name, Prop-parts}
 use Rattle.bi_blob.proofs.Blobs.TokenEncoding.{place_after_all, AllStand, AreEncodings-stand}
-use Rattle.bi_blob.proofs.Blobs.Passing.{length-Prop}
+use Rattle.bi_blob.proofs.Blobs.TreeTokens.{length-Prop}
 use Rattle.bi_blob.proofs.Blobs.PassedTokens.{reverse-cons, place_after_all-reverse, ArePassed-stand, AllStand-encoded}
 
 -- Tokens that pass are encoded in the file with three bytes after it, and the converse.
@@ -77,7 +77,9 @@ module _ (blocks : TreeBlocks) (depth_limit place : ℕ) (stage : Stage) (traili
     same : u32_at blocks.file place ≡ number token
     same = sym (u32_at-trailing blocks.file trailing place word) ∙ IsTokenAt-number (blocks.file ++ trailing) place token is_at
 
-    by_token : (t : Token) → IsTokenAt (blocks.file ++ trailing) place t → HasNoFault (TokenPasses blocks depth_limit place stage) (token_checks (number t)) → place + length (token_bytes t) ≤ length blocks.file
+    by_token : (t : Token) → IsTokenAt (blocks.file ++ trailing) place t →
+        HasNoFault (TokenPasses blocks depth_limit place stage) (token_checks (number t)) →
+        place + length (token_bytes t) ≤ length blocks.file
     by_token (BeginNode name) is_at checks =
         let inside : blocks.end ≤ length blocks.file = readable.within in
         let read : List ℕ = name_from blocks.file (place + 4) in

@@ -13,7 +13,7 @@ use Rattle.bi_blob.specs.BlobFaults.{IsEndPair, HasReservations, IsReservationsF
 use Rattle.bi_base.proofs.CellLaws.{length-slice}
 use Rattle.bi_blob.proofs.Blobs.Cells.{BytesAt, BytesAt-from, BytesAt-left, BytesAt-right, BytesAt-join, BytesAt-cell8, u64_at-BytesAt}
 use Rattle.bi_blob.proofs.Blobs.Cells.{u64_at-fits, length-cell8}
-use Rattle.bi_blob.proofs.Blobs.Decided.{IsEndPair_decided}
+use Rattle.bi_blob.proofs.Blobs.TestedChecks.{IsEndPair_decided}
 
 -- Proves that a memory reservation block has reservations and an end pair, or a fault, and that they are those read at their offsets.
 
@@ -156,11 +156,13 @@ found_from : (steps : ℕ) (file : List ℕ) (at total : ℕ) → at ≤ total �
 found_from zero file at total fits left = inr (record { cause = Truncated; offset = at }, past_here file at total fits (omega arith))
 found_from (suc steps) file at total fits left =
     by_room (cases_lt total (at + 16)) (λ room. found_from steps file (at + 16) total room (omega arith)) where
-      by_pair : at + 16 ≤ total → IsEndPair file at ⊎ ¬ (IsEndPair file at) → (at + 16 ≤ total → HasSomeOrFault file (at + 16) total) → HasSomeOrFault file at total
+      by_pair : at + 16 ≤ total → IsEndPair file at ⊎ ¬ (IsEndPair file at) → (at + 16 ≤ total → HasSomeOrFault file (at + 16) total) →
+          HasSomeOrFault file at total
       by_pair room (inl end) later = inl (record { count = 0; has = ends_here file at total room end })
       by_pair room (inr other) later = found_after file at total other (later room)
 
-      by_room : (total < at + 16) ⊎ (at + 16 ≤ total) → (at + 16 ≤ total → HasSomeOrFault file (at + 16) total) → HasSomeOrFault file at total
+      by_room : (total < at + 16) ⊎ (at + 16 ≤ total) → (at + 16 ≤ total → HasSomeOrFault file (at + 16) total) →
+          HasSomeOrFault file at total
       by_room (inl past) later = inr (record { cause = Truncated; offset = at }, past_here file at total fits past)
       by_room (inr room) later = by_pair room (IsEndPair_decided file at) later
 

@@ -9,7 +9,7 @@ use Rattle.bi_blob.specs.Events.{NodeStart, NodeProperty, NodeEnd, events, event
 use Rattle.bi_blob.specs.Layout.{AreEventBytes}
 use Rattle.bi_base.proofs.ByteLists.{AreBytes-left, AreBytes-right, AreBytes-drop, AreBytes-take}
 use Rattle.bi_base.proofs.ListMembers.{each-map}
-use Rattle.bi_blob.proofs.Blobs.Passing.{event_without_place}
+use Rattle.bi_blob.proofs.Blobs.TreeTokens.{event_without_place}
 
 -- The events of tokens that are bytes have names and values that are bytes.
 

@@ -14,9 +14,9 @@ use Rattle.bi_base.proofs.CellLaws.{length-cell}
 pub use Rattle.bi_blob.proofs.Blobs.ReservationFaults.{length-reservation_block}
 use Rattle.bi_blob.proofs.Texts.TextTokens.{length-encoding, width-token}
 use Rattle.bi_blob.proofs.Texts.TextLength.{length-text_of_blocks, up4-whole}
-use Rattle.bi_blob.proofs.Blobs.Passing.{length-Prop}
+use Rattle.bi_blob.proofs.Blobs.TreeTokens.{length-Prop}
 
--- How long the text of some events is.
+-- The token of each event has the width of the event, and the structure block has the widths of its events and FDT_END.
 
 -- How many bytes the token of each event takes.
 pub has_event_widths : HasEventWidths

@@ -16,7 +16,8 @@ found_among [] name has = absurd (Contains-none name has)
 found_among (first ∷ others) name has =
     where_first (bytes_eq first name) refl (Contains-cases first others name has) (found_among others name)
   where
-    where_first : (b : Bool) → bytes_eq first name ≡ b → (first ≡ name) ⊎ Contains others name → (Contains others name → is_among name others ≡ true) → is_among name (first ∷ others) ≡ true
+    where_first : (b : Bool) → bytes_eq first name ≡ b → (first ≡ name) ⊎ Contains others name →
+        (Contains others name → is_among name others ≡ true) → is_among name (first ∷ others) ≡ true
     where_first true is has among = rw is refl
     where_first false is (inl same) among = absurd (true≢false (sym ((bytes_eq-Decides first name).1 same) ∙ is))
     where_first false is (inr has) among = rw is (among has)
@@ -26,7 +27,8 @@ pub among_found : (names : List (List ℕ)) (name : List ℕ) → is_among name 
 among_found [] name found = absurd (true≢false (sym found))
 among_found (first ∷ others) name found = where_first (bytes_eq first name) refl found (among_found others name)
   where
-    where_first : (b : Bool) → bytes_eq first name ≡ b → is_among name (first ∷ others) ≡ true → (is_among name others ≡ true → Contains others name) → Contains (first ∷ others) name
+    where_first : (b : Bool) → bytes_eq first name ≡ b → is_among name (first ∷ others) ≡ true →
+        (is_among name others ≡ true → Contains others name) → Contains (first ∷ others) name
     where_first true is found among = rw (← (bytes_eq-Decides first name).0 is) (Contains-first first others)
     where_first false is found among = Contains-others first others name (among (rw is at found))
 
@@ -38,7 +40,10 @@ distinct_names-push (first ∷ others) name =
     ap (λ l. first ∷ filter (λ other. not (bytes_eq first other)) l) (distinct_names-push others name)
     ∙ where_first (bytes_eq first name) refl (is_among name others) refl
   where
-    where_first : (b : Bool) → bytes_eq first name ≡ b → (c : Bool) → is_among name others ≡ c → first ∷ filter (λ other. not (bytes_eq first other)) (cond (is_among name others) (distinct_names others) (distinct_names others ++ name ∷ [])) ≡ cond (is_among name (first ∷ others)) (distinct_names (first ∷ others)) (distinct_names (first ∷ others) ++ name ∷ [])
+    where_first : (b : Bool) → bytes_eq first name ≡ b → (c : Bool) → is_among name others ≡ c →
+        first ∷ filter (λ other. not (bytes_eq first other))
+        (cond (is_among name others) (distinct_names others) (distinct_names others ++ name ∷ [])) ≡
+        cond (is_among name (first ∷ others)) (distinct_names (first ∷ others)) (distinct_names (first ∷ others) ++ name ∷ [])
     where_first true is true among = rw (is, among) refl
     where_first true is false among =
         rw (is, among) (ap (λ l. first ∷ l)
@@ -62,7 +67,8 @@ pub distinct_names-new : (names : List (List ℕ)) (name : List ℕ) → (Contai
     distinct_names (names ++ name ∷ []) ≡ distinct_names names ++ name ∷ []
 distinct_names-new names name lacks = distinct_names-push names name ∙ where_found (is_among name names) refl
   where
-    where_found : (b : Bool) → is_among name names ≡ b → cond (is_among name names) (distinct_names names) (distinct_names names ++ name ∷ []) ≡ distinct_names names ++ name ∷ []
+    where_found : (b : Bool) → is_among name names ≡ b →
+        cond (is_among name names) (distinct_names names) (distinct_names names ++ name ∷ []) ≡ distinct_names names ++ name ∷ []
     where_found true is = absurd (lacks (among_found names name is))
     where_found false is = rw is refl
 

@@ -4,7 +4,7 @@ use Rattle.bi_base.specs.Cells.{cell, u32_at, up4}
 use Rattle.bi_blob.specs.Blob.{magic, totalsize, off_dt_struct, off_dt_strings, off_mem_rsvmap, version, last_comp_version, boot_cpuid_phys, size_dt_strings, size_dt_struct, blob_magic}
 use Rattle.bi_blob.specs.Layout.{blob_header, length_before_padding}
 
--- The cells of the header of a text.
+-- A file that begins with the header of a text has the numbers of this header in its cells.
 
 -- The numbers that a file's header has, where they are those of a text with blocks of these lengths.
 pub record HasCells (file : List ℕ) (cpu reserved structure strings : ℕ) : Type 0 where

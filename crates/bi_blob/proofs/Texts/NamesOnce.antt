@@ -8,7 +8,7 @@ use Rattle.bi_blob.specs.Tree.{IsNew, AreDistinct}
 use Rattle.bi_blob.specs.Layout.{used_names, distinct_names, strings_of, offset_in}
 use Rattle.bi_blob.specs.TextLaws.{EachNameIsThereOnce, EachNameIsFound}
 
--- The names in a strings block: each once, and each at its offset.
+-- The strings block has each name that is used once, and a name is at its offset, with a zero byte after it.
 
 -- The name, and a zero byte after it, are at its offset among names.
 pub found_at_offset : (names : List (List ℕ)) (name : List ℕ) → Contains names name →
@@ -17,7 +17,9 @@ found_at_offset [] name has = absurd (Contains-none name has)
 found_at_offset (first ∷ others) name has =
     where_first (bytes_eq first name) refl (Contains-cases first others name has) (λ has. found_at_offset others name has)
   where
-    where_first : (b : Bool) → bytes_eq first name ≡ b → (first ≡ name) ⊎ Contains others name → (Contains others name → (trailing : List ℕ) × (drop (offset_in others name) (strings_of others) ≡ name ++ 0 ∷ trailing)) → (trailing : List ℕ) × (drop (offset_in (first ∷ others) name) (strings_of (first ∷ others)) ≡ name ++ 0 ∷ trailing)
+    where_first : (b : Bool) → bytes_eq first name ≡ b → (first ≡ name) ⊎ Contains others name →
+        (Contains others name → (trailing : List ℕ) × (drop (offset_in others name) (strings_of others) ≡ name ++ 0 ∷ trailing)) →
+        (trailing : List ℕ) × (drop (offset_in (first ∷ others) name) (strings_of (first ∷ others)) ≡ name ++ 0 ∷ trailing)
     where_first true is has is_at =
         rw is (strings_of others, append_assoc first (0 ∷ []) (strings_of others) ∙ ap (λ l. l ++ 0 ∷ strings_of others) (same_bytes first name is))
     where_first false is (inl same) is_at = absurd (other_bytes first name is same)
@@ -36,7 +38,8 @@ distinct_names-all [] name has = has
 distinct_names-all (first ∷ others) name has =
     where_first (bytes_eq first name) refl (Contains-cases first others name has) (λ has. distinct_names-all others name has)
   where
-    where_first : (b : Bool) → bytes_eq first name ≡ b → (first ≡ name) ⊎ Contains others name → (Contains others name → Contains (distinct_names others) name) → Contains (distinct_names (first ∷ others)) name
+    where_first : (b : Bool) → bytes_eq first name ≡ b → (first ≡ name) ⊎ Contains others name →
+        (Contains others name → Contains (distinct_names others) name) → Contains (distinct_names (first ∷ others)) name
     where_first true is has among = rw (← same_bytes first name is) (Contains-first first _)
     where_first false is (inl same) among = absurd (other_bytes first name is same)
     where_first false is (inr has) among =
@@ -48,7 +51,8 @@ distinct_names-only [] name has = has
 distinct_names-only (first ∷ others) name has =
     where_first (Contains-cases first _ name has) (λ has. distinct_names-only others name has)
   where
-    where_first : (first ≡ name) ⊎ Contains (filter (λ other. not (bytes_eq first other)) (distinct_names others)) name → (Contains (distinct_names others) name → Contains others name) → Contains (first ∷ others) name
+    where_first : (first ≡ name) ⊎ Contains (filter (λ other. not (bytes_eq first other)) (distinct_names others)) name →
+        (Contains (distinct_names others) name → Contains others name) → Contains (first ∷ others) name
     where_first (inl same) among = rw (← same) (Contains-first first others)
     where_first (inr has) among =
         Contains-others first others name (among (Contains-from_filter (λ other. not (bytes_eq first other)) (distinct_names others) name has))
@@ -67,7 +71,8 @@ new-filter : (name : List ℕ) (others : List (List ℕ)) → IsNew name (filter
 new-filter name [] = tt
 new-filter name (other ∷ later) = where_first (bytes_eq name other) refl (new-filter name later)
   where
-    where_first : (b : Bool) → bytes_eq name other ≡ b → IsNew name (filter (λ other. not (bytes_eq name other)) later) → IsNew name (filter (λ other. not (bytes_eq name other)) (other ∷ later))
+    where_first : (b : Bool) → bytes_eq name other ≡ b → IsNew name (filter (λ other. not (bytes_eq name other)) later) →
+        IsNew name (filter (λ other. not (bytes_eq name other)) (other ∷ later))
     where_first true is rest = rw is rest
     where_first false is rest = rw is ((λ same. other_bytes name other is (sym same)), rest)
 

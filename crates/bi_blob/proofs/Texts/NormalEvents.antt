@@ -16,7 +16,7 @@ use Rattle.bi_blob.specs.BlobLaws.{HasOneTree}
 use Rattle.bi_blob.specs.TextLaws.{NormalEventsHaveOneTree, HasOneNormalTree}
 use Rattle.bi_blob.proofs.Blobs.OpenNodes.{All-push}
 use Rattle.bi_blob.proofs.Blobs.OneTree.{append-regroup}
-use Rattle.bi_blob.proofs.Blobs.Following.{open_with, property_names_of}
+use Rattle.bi_blob.proofs.Blobs.EventOrder.{open_with, property_names_of}
 use Rattle.bi_blob.proofs.Blobs.EventTrees.{closed_events_have_one_tree}
 use Rattle.bi_blob.proofs.Texts.PropertyOrder.{both_pass, below_other}
 

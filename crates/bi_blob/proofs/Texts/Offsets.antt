@@ -9,7 +9,7 @@ use Rattle.bi_blob.specs.TextLaws.{OffsetsStay, NewOffsetIsAtEnd}
 use Rattle.bi_blob.proofs.Texts.NamesOnce.{distinct_names-all, distinct_names-only}
 use Rattle.bi_blob.proofs.Texts.FirstUse.{distinct_names-push, distinct_names-new, used_names-push}
 
--- The offsets of names in a strings block that grows.
+-- The offset of a name in a strings block stays as further names are added, and a new name is at the end of the block.
 
 -- What is among the elements of a list is among those of a longer one.
 pub Contains-front : {X : Type 0} (front later : List X) (x : X) → Contains front x → Contains (front ++ later) x
@@ -17,7 +17,8 @@ Contains-front [] later x has = absurd (Contains-none x has)
 Contains-front {X = X} (first ∷ others) later x has =
     where_first (Contains-cases first others x has) (λ has. Contains-front others later x has)
   where
-    where_first : (first ≡ x) ⊎ Contains others x → (Contains others x → Contains (others ++ later) x) → Contains (first ∷ (others ++ later)) x
+    where_first : (first ≡ x) ⊎ Contains others x → (Contains others x → Contains (others ++ later) x) →
+        Contains (first ∷ (others ++ later)) x
     where_first (inl same) among = subst (λ y. Contains (first ∷ (others ++ later)) y) same (Contains-first first (others ++ later))
     where_first (inr has) among = Contains-others first (others ++ later) x (among has)
 
@@ -28,7 +29,9 @@ offset_in-front [] later name has = absurd (Contains-none name has)
 offset_in-front (first ∷ others) later name has =
     where_first (bytes_eq first name) refl (Contains-cases first others name has) (λ has. offset_in-front others later name has)
   where
-    where_first : (b : Bool) → bytes_eq first name ≡ b → (first ≡ name) ⊎ Contains others name → (Contains others name → offset_in (others ++ later) name ≡ offset_in others name) → offset_in (first ∷ (others ++ later)) name ≡ offset_in (first ∷ others) name
+    where_first : (b : Bool) → bytes_eq first name ≡ b → (first ≡ name) ⊎ Contains others name →
+        (Contains others name → offset_in (others ++ later) name ≡ offset_in others name) →
+        offset_in (first ∷ (others ++ later)) name ≡ offset_in (first ∷ others) name
     where_first true is has same = rw is refl
     where_first false is (inl equal) same = absurd (true≢false (sym ((bytes_eq-Decides first name).1 equal) ∙ is))
     where_first false is (inr has) same = rw is (ap (λ n. length first + 1 + n) (same has))
@@ -40,7 +43,8 @@ offset_in-last [] name lacks = ap (λ b. cond b 0 (length name + 1 + 0)) ((bytes
 offset_in-last (first ∷ others) name lacks =
     where_first (bytes_eq first name) refl (offset_in-last others name (λ has. lacks (Contains-others first others name has)))
   where
-    where_first : (b : Bool) → bytes_eq first name ≡ b → offset_in (others ++ name ∷ []) name ≡ length (strings_of others) → offset_in (first ∷ (others ++ name ∷ [])) name ≡ length (strings_of (first ∷ others))
+    where_first : (b : Bool) → bytes_eq first name ≡ b → offset_in (others ++ name ∷ []) name ≡ length (strings_of others) →
+        offset_in (first ∷ (others ++ name ∷ [])) name ≡ length (strings_of (first ∷ others))
     where_first true is rest =
         absurd (lacks (subst (λ n. Contains (first ∷ others) n) ((bytes_eq-Decides first name).0 is) (Contains-first first others)))
     where_first false is rest =
@@ -52,7 +56,8 @@ offset-push : (names : List (List ℕ)) (other name : List ℕ) → Contains nam
 offset-push names other name has =
     ap (λ names. offset_in names name) (distinct_names-push names other) ∙ where_known (is_among other names)
   where
-    where_known : (b : Bool) → offset_in (cond b (distinct_names names) (distinct_names names ++ other ∷ [])) name ≡ offset_in (distinct_names names) name
+    where_known : (b : Bool) → offset_in (cond b (distinct_names names) (distinct_names names ++ other ∷ [])) name ≡
+        offset_in (distinct_names names) name
     where_known true = refl
     where_known false = offset_in-front (distinct_names names) (other ∷ []) name (distinct_names-all names name has)
 

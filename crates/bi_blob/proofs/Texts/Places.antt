@@ -5,7 +5,7 @@ use Rattle.bi_blob.specs.Events.{Event, NodeStart, NodeProperty, NodeEnd, events
 use Rattle.bi_blob.specs.Blob.{Reservation}
 use Rattle.bi_blob.specs.Layout.{event_width, place_after_events, properties_with_places, with_places, structure_place, tree_with_places}
 
--- The places of a text's tokens, and the tree that has them.
+-- A tree with the places of its tokens has the events of the tree with these places, and the same properties and depth as the tree.
 
 -- An event with the place of its token.
 abbrev pub event_with_place : ℕ → Event → FileEvent

@@ -9,7 +9,7 @@ use Rattle.std.specs.FinMap.Entries.{below_all}
 use Rattle.std.proofs.lemmas.Cmp.{nat_list_cmp_total, tied_itself}
 use Rattle.bi_blob.specs.Tree.{Property, PropertyMap, IsNew, AreDistinct, IsPropertyName, AreProperties}
 
--- Properties in the order of their names.
+-- Properties in the order of their names have distinct names, and what holds of each that is found by its name holds of each.
 
 -- Names that are in no order are the same.
 pub order_tells : IsAntisymmetric (slice_cmp nat_cmp)
@@ -49,7 +49,8 @@ below_none name (property ∷ later) below =
     let both = both_pass (is_lt (slice_cmp nat_cmp name property.0)) (below_all (slice_cmp nat_cmp) name later) below in
     where_first (slice_cmp nat_cmp name property.0) refl both.0 (below_none name later both.1)
   where
-    where_first : (o : Ordering) → slice_cmp nat_cmp name property.0 ≡ o → T (is_lt o) → find (slice_cmp nat_cmp) name later ≡ None → find (slice_cmp nat_cmp) name (property ∷ later) ≡ None
+    where_first : (o : Ordering) → slice_cmp nat_cmp name property.0 ≡ o → T (is_lt o) → find (slice_cmp nat_cmp) name later ≡ None →
+        find (slice_cmp nat_cmp) name (property ∷ later) ≡ None
     where_first Less is lower rest = rw is rest
     where_first Equal is lower rest = absurd lower
     where_first Greater is lower rest = absurd lower
@@ -64,7 +65,8 @@ each-found P (property ∷ later) sorted found =
       each-found P later both.1 (λ name value there. where_first name value both.0 there (slice_cmp nat_cmp name property.0) refl),
     )
   where
-    where_first : (name value : List ℕ) → T (below_all (slice_cmp nat_cmp) property.0 later) → find (slice_cmp nat_cmp) name later ≡ Some value → (o : Ordering) → slice_cmp nat_cmp name property.0 ≡ o → P (name, value)
+    where_first : (name value : List ℕ) → T (below_all (slice_cmp nat_cmp) property.0 later) →
+        find (slice_cmp nat_cmp) name later ≡ Some value → (o : Ordering) → slice_cmp nat_cmp name property.0 ≡ o → P (name, value)
     where_first name value below there Less is = found name value (rw is there)
     where_first name value below there Equal is =
         let none = below_none property.0 later below in
@@ -79,7 +81,8 @@ found-each P [] each name value there = absurd cc
 found-each P (property ∷ later) each name value there =
     where_first (slice_cmp nat_cmp name property.0) refl there (found-each P later each.1 name value)
   where
-    where_first : (o : Ordering) → slice_cmp nat_cmp name property.0 ≡ o → find (slice_cmp nat_cmp) name (property ∷ later) ≡ Some value → (find (slice_cmp nat_cmp) name later ≡ Some value → P (name, value)) → P (name, value)
+    where_first : (o : Ordering) → slice_cmp nat_cmp name property.0 ≡ o → find (slice_cmp nat_cmp) name (property ∷ later) ≡ Some value →
+        (find (slice_cmp nat_cmp) name later ≡ Some value → P (name, value)) → P (name, value)
     where_first Less is there rest = rest (rw is at there)
     where_first Equal is there rest =
         let same_name : property.0 ≡ name = sym (order_tells name property.0 is) in

@@ -106,7 +106,8 @@ text_blob cpu reservations root rest is short bytes = record {
   holds = holds_tree (text_of_tree cpu reservations root ++ rest) cpu reservations root parts (says_tree cpu reservations root is short) is.is_tree;
 }
   where
-    parts : HasParts (text_of_tree cpu reservations root ++ rest) cpu (reservation_block reservations) (structure_block (events_of root)) (strings_block (events_of root))
+    parts : HasParts (text_of_tree cpu reservations root ++ rest) cpu (reservation_block reservations) (structure_block (events_of root))
+        (strings_block (events_of root))
     parts = tree_text_has_parts cpu reservations root rest is.cpu_fits short
 
 -- It is a blob of nothing else.

@@ -54,7 +54,8 @@ AreBytes-structure events bytes =
     (each (distinct_names (used_names events)) events bytes)
     (AreBytes-encoding End (AreBytes-cell end_number), tt))
   where
-    each : (names : List (List ℕ)) (events : List Event) → AllByRecursion AreEventBytes events → AllByRecursion (λ token. AreBytes (encoding token)) (map (token_of names) events)
+    each : (names : List (List ℕ)) (events : List Event) → AllByRecursion AreEventBytes events →
+        AllByRecursion (λ token. AreBytes (encoding token)) (map (token_of names) events)
     each names [] bytes = tt
     each names (event ∷ later) bytes = (AreBytes-encoding (token_of names event) (AreBytes-token_bytes names event bytes.0), each names later bytes.1)
 

@@ -10,7 +10,7 @@ use Rattle.bi_blob.proofs.Texts.NamesOnce.{found_at_offset}
 use Rattle.bi_blob.proofs.Texts.EventNames.{NameEndsAtZero}
 use Rattle.bi_blob.proofs.Texts.TextTokens.{width-token}
 use Rattle.bi_blob.proofs.Texts.Places.{placed_from}
-use Rattle.bi_blob.proofs.Blobs.Passing.{length-Prop}
+use Rattle.bi_blob.proofs.Blobs.TreeTokens.{length-Prop}
 
 -- The tokens of a text are tokens, and encode its events.
 
@@ -56,7 +56,8 @@ pub offset_in-le : (names : List (List ℕ)) (name : List ℕ) → offset_in nam
 offset_in-le [] name = omega arith
 offset_in-le (first ∷ others) name = where_first (bytes_eq first name) refl (offset_in-le others name)
   where
-    where_first : (b : Bool) → bytes_eq first name ≡ b → offset_in others name ≤ length (strings_of others) → offset_in (first ∷ others) name ≤ length (strings_of (first ∷ others))
+    where_first : (b : Bool) → bytes_eq first name ≡ b → offset_in others name ≤ length (strings_of others) →
+        offset_in (first ∷ others) name ≤ length (strings_of (first ∷ others))
     where_first true is within = rw is (omega arith)
     where_first false is within = rw is (omega (arith, length-append (first ++ 0 ∷ []) (strings_of others), length-append first (0 ∷ [])))
 
@@ -74,7 +75,8 @@ are_tokens names (event ∷ later) good strings_fit structure_fits = (
   are_tokens names later good.1 strings_fit (omega (arith, length-append (encoding (token_of names event)) (flat_map encoding (map (token_of names) later)))),
 )
   where
-    where_event : (event : Event) → NameEndsAtZero event → length (encoding (token_of names event)) < 2 ^ 32 → IsToken (token_of names event)
+    where_event : (event : Event) → NameEndsAtZero event → length (encoding (token_of names event)) < 2 ^ 32 →
+        IsToken (token_of names event)
     where_event (NodeStart name) good fits = good
     where_event (NodeProperty property) good fits = (
       omega (arith, offset_in-le names property.0),

@@ -8,7 +8,7 @@ use Rattle.bi_blob.specs.Layout.{structure_block, strings_block}
 use Rattle.bi_base.proofs.CellLaws.{length-cell}
 use Rattle.bi_blob.proofs.Texts.TextTokens.{length-padding_to_4}
 
--- How long a text is.
+-- A text is as long as its header and its blocks, padded to a multiple of four.
 
 -- A header has 40 bytes.
 pub length-blob_header : (cpu reserved structure strings : ℕ) → length (blob_header cpu reserved structure strings) ≡ 40

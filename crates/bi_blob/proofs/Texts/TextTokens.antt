@@ -5,9 +5,9 @@ use Rattle.bi_base.specs.Cells.{up4}
 use Rattle.bi_blob.specs.Tokens.{Token, token_bytes, width, IsToken, IsEncoding, AreEncodings}
 use Rattle.bi_blob.specs.Events.{Event, NodeStart, NodeProperty, NodeEnd}
 use Rattle.bi_blob.specs.Layout.{padding_to_4, encoding, token_of, event_width, offset_in}
-use Rattle.bi_blob.proofs.Blobs.Passing.{length-Prop}
+use Rattle.bi_blob.proofs.Blobs.TreeTokens.{length-Prop}
 
--- The encodings of tokens in a text, with zeros as padding.
+-- A token with zeros as its padding is an encoding of the token, and is as long as the width of the token.
 
 -- Padding is as long as is missing to a multiple of four.
 pub length-padding_to_4 : (n : ℕ) → n + length (padding_to_4 n) ≡ up4 n

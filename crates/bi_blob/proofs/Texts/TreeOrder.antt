@@ -7,7 +7,7 @@ use Rattle.bi_blob.specs.Tree.{Nodes, none, node, Property, as_nodes, names, wit
 use Rattle.bi_blob.specs.Events.{NodeProperty, NodeEnd, events}
 use Rattle.bi_blob.specs.Layout.{AreEventBytes}
 use Rattle.bi_blob.specs.TextLaws.{ContentMayBeOrdered}
-use Rattle.bi_blob.proofs.Blobs.Complete.{depth-with_each}
+use Rattle.bi_blob.proofs.Blobs.BlockEnds.{depth-with_each}
 use Rattle.bi_blob.proofs.Texts.PropertyOrder.{each-in_byte_order, AreProperties-in_byte_order}
 
 -- A tree in normal order is a tree, as deep and with the same names and values.

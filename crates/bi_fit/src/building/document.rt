@@ -32,7 +32,7 @@ use std::alloc::{AllocError, Global};
 
 /// What the document of a tree to be built borrows.
 #[derive(Clone, Copy)]
-pub(super) struct Parts<'a> {
+pub(super) struct BuiltParts<'a> {
     pub(super) head: Head<'a>,
     pub(super) images: &'a [NamedImage<'a>],
     /// The SHA-256 of the payload of each image.
@@ -45,7 +45,7 @@ pub(super) struct Parts<'a> {
 /// names, payloads and digests, and copies none. It fails if memory runs out.
 pub(super) fn build_doc<'a>(
     alloc: Global,
-    parts: Parts<'a>,
+    parts: BuiltParts<'a>,
     form: Form,
 ) -> Result<Doc<'a>, AllocError>
     requires prepared { ArePrepared parts }
@@ -68,7 +68,7 @@ pub(super) fn build_doc<'a>(
 fn add_built_images<'a>(
     alloc: Global,
     doc: &mut Doc<'a>,
-    parts: Parts<'a>,
+    parts: BuiltParts<'a>,
     form: Form,
 ) -> Result<(), AllocError>
     requires prepared { ArePrepared parts }
@@ -90,7 +90,7 @@ fn add_built_images<'a>(
 fn add_built_image_nodes<'a>(
     alloc: Global,
     doc: &mut Doc<'a>,
-    parts: Parts<'a>,
+    parts: BuiltParts<'a>,
     form: Form,
 ) -> Result<(), AllocError>
     requires prepared { ArePrepared parts }
@@ -118,7 +118,7 @@ fn add_built_image_nodes<'a>(
 fn add_configurations<'a>(
     alloc: Global,
     doc: &mut Doc<'a>,
-    parts: Parts<'a>,
+    parts: BuiltParts<'a>,
 ) -> Result<(), AllocError>
     requires prepared { ArePrepared parts }
     requires may { let images = named_models parts.images.now in

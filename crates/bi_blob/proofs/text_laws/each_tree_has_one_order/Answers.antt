@@ -1,4 +1,4 @@
-use Rattle.bi_blob.proofs.Texts.Normal.{has_one_order}
+use Rattle.bi_blob.proofs.Texts.NormalOrder.{has_one_order}
 use Rattle.bi_blob.proofs.text_laws.each_tree_has_one_order.Goals as goal
 
 pub returns : goal.returns

@@ -1,5 +1,5 @@
-use Rattle.bi_blob.proofs.Texts.Normal.{normal_text_tells_content}
-use Rattle.bi_blob.proofs.Texts.Rests.{normal_text_with_rest_tells_content}
+use Rattle.bi_blob.proofs.Texts.NormalOrder.{normal_text_tells_content}
+use Rattle.bi_blob.proofs.Texts.TextsWithRest.{normal_text_with_rest_tells_content}
 use Rattle.bi_blob.proofs.text_laws.normal_text_tells_content.Goals as goal
 
 pub returns : goal.returns

@@ -1,5 +1,5 @@
 use Rattle.bi_blob.proofs.Texts.TextContent.{text_has_one_content}
-use Rattle.bi_blob.proofs.Texts.Rests.{text_with_rest_has_one_content}
+use Rattle.bi_blob.proofs.Texts.TextsWithRest.{text_with_rest_has_one_content}
 use Rattle.bi_blob.proofs.text_laws.text_has_one_content.Goals as goal
 
 pub returns : goal.returns

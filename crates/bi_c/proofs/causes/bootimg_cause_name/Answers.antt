@@ -1,7 +1,7 @@
 use Rattle.std.proofs.Common.{refl, ◌∙◌}
 use Rattle.bi_c.specs.declared.failure.Failure.TheVariants.{WrongArgument}
 use Rattle.bi_c.specs.Answers.{FilledNothing}
-use Rattle.bi_c.proofs.Answering.{buffer_is_filled}
+use Rattle.bi_c.proofs.CallAnswers.{buffer_is_filled}
 use Rattle.bi_c.proofs.causes.bootimg_cause_name.Goals as goal
 
 pub returns-in-Some : goal.returns-in-Some

@@ -1,5 +1,5 @@
 use Rattle.std.proofs.Common.{refl}
-use Rattle.bi_c.proofs.Answering.{buffer_is_filled}
+use Rattle.bi_c.proofs.CallAnswers.{buffer_is_filled}
 use Rattle.bi_c.proofs.causes.bootimg_version.Goals as goal
 
 pub returns : goal.returns

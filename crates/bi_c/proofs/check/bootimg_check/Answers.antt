@@ -7,7 +7,7 @@ use Rattle.bi_c.specs.declared.failure.Failure.TheVariants.{WrongArgument}
 use Rattle.bi_c.specs.Answers.{FilledNothing}
 use Rattle.bi_c.specs.Arguments.{bounds, allowed_of}
 use Rattle.bi_c.specs.Calls.{HasKinds}
-use Rattle.bi_c.proofs.Answering.{not_so, is_so, byte_is_flag, clean_by_length, buffer_is_filled, failed_by}
+use Rattle.bi_c.proofs.CallAnswers.{not_so, is_so, byte_is_flag, clean_by_length, buffer_is_filled, failed_by}
 use Rattle.bi_c.proofs.check.bootimg_check.Goals as goal
 
 pub returns-in_default : goal.returns-in_default

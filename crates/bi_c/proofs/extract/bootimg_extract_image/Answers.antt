@@ -4,8 +4,8 @@ use Rattle.bi_commands.specs.declared.extract.Select.TheVariants.{Image}
 use Rattle.bi_c.specs.declared.failure.Failure.TheVariants.{WrongArgument}
 use Rattle.bi_c.specs.Answers.{Failed}
 use Rattle.bi_c.specs.Arguments.{bounds}
-use Rattle.bi_c.proofs.Answering.{not_so, is_so}
-use Rattle.bi_c.proofs.Extracting.{extract_answers}
+use Rattle.bi_c.proofs.CallAnswers.{not_so, is_so}
+use Rattle.bi_c.proofs.ExtractedFiles.{extract_answers}
 use Rattle.bi_c.proofs.extract.bootimg_extract_image.Goals as goal
 
 pub returns-in_default : goal.returns-in_default

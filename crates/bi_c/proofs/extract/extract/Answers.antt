@@ -1,5 +1,5 @@
 use Rattle.bi_c.specs.Answers.{Returned, Failed}
-use Rattle.bi_c.proofs.Extracting.{select_failure}
+use Rattle.bi_c.proofs.ExtractedFiles.{select_failure}
 use Rattle.bi_c.proofs.extract.extract.Goals as goal
 
 pub returns-in-Ok : goal.returns-in-Ok

@@ -3,10 +3,10 @@ use Rattle.bi_norm.specs.Opening.{IsReadBootImage}
 use Rattle.bi_c.specs.declared.failure.Failure.TheVariants.{WrongArgument}
 use Rattle.bi_c.specs.Answers.{FilledNothing}
 use Rattle.bi_c.specs.Arguments.{HasForm}
-use Rattle.bi_c.proofs.Answering.{not_so, is_so}
+use Rattle.bi_c.proofs.CallAnswers.{not_so, is_so}
 use Rattle.bi_c.proofs.SliceWriting.{fills_as}
 use Rattle.bi_norm.proofs.NormalForms.{open_error}
-use Rattle.bi_c.proofs.Normalising.{normalised_as, not_normalised}
+use Rattle.bi_c.proofs.NormalisedFiles.{normalised_as, not_normalised}
 use Rattle.bi_c.proofs.normalise.bootimg_normalise.Goals as goal
 
 pub returns-in_default : goal.returns-in_default

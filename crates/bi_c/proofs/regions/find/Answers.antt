@@ -4,11 +4,11 @@ use Rattle.bi_fit.specs.Reading.{IsReadFit}
 use Rattle.bi_norm.specs.Meaning.{OfLegacy, OfFit}
 use Rattle.bi_norm.specs.Opening.{IsReadBootImage}
 use Rattle.bi_commands.specs.Extracting.{choice_of}
-use Rattle.bi_commands.proofs.Opened.{tree_needs_memory}
+use Rattle.bi_commands.proofs.ImageCalls.{tree_needs_memory}
 use Rattle.bi_c.specs.Extracting.{IsChosenAt}
 use Rattle.bi_fit.proofs.PlacedImages.{are_placed}
-use Rattle.bi_commands.proofs.Opened.{refused_of_file, failed_of_file}
-use Rattle.bi_c.proofs.Extracting.{found_in_file, payload_offset_in_file}
+use Rattle.bi_commands.proofs.ImageCalls.{refused_of_file, failed_of_file}
+use Rattle.bi_c.proofs.ExtractedFiles.{found_in_file, payload_offset_in_file}
 use Rattle.bi_c.proofs.regions.find.Goals as goal
 
 pub find_payload-requires : goal.find_payload-requires

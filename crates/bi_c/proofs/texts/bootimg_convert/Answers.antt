@@ -3,7 +3,7 @@ use Rattle.bi_base.specs.Limits.{IsInRange}
 use Rattle.bi_norm.specs.Converting.{IsConvertedFile, IsConvertError}
 use Rattle.bi_c.specs.declared.failure.Failure.TheVariants.{WrongArgument}
 use Rattle.bi_c.specs.Answers.{FilledNothing}
-use Rattle.bi_c.proofs.Answering.{not_so, is_so, buffer_is_filled, failed_of_one, text_of_call}
+use Rattle.bi_c.proofs.CallAnswers.{not_so, is_so, buffer_is_filled, failed_of_one, text_of_call}
 use Rattle.bi_c.proofs.texts.bootimg_convert.Goals as goal
 
 pub returns-in_default : goal.returns-in_default

@@ -2,13 +2,13 @@ use Rattle.std.proofs.Common.{◌≡◌, ◌++◌, List, ℕ, refl, subst, sym, 
 use Rattle.bi_base.specs.Limits.{Limits}
 use Rattle.bi_fit.specs.declared.changes.Changes.{Changes}
 use Rattle.bi_fit.specs.declared.form.Form.{Form}
-use Rattle.bi_fit.proofs.Appending.{error_in_memory}
+use Rattle.bi_fit.proofs.AppendedTexts.{error_in_memory}
 use Rattle.bi_commands.specs.UpdatedFiles.{IsUpdated, Updated, IsUpdateError}
 use Rattle.bi_commands.proofs.UpdatedFiles.{updated_needs_memory}
 use Rattle.bi_c.specs.declared.failure.Failure.TheVariants.{WrongArgument}
 use Rattle.bi_c.specs.Answers.{FilledNothing}
 use Rattle.bi_c.specs.Arguments.{bounds, form_of, changes_of, HasChanges}
-use Rattle.bi_c.proofs.Answering.{not_so, is_so, buffer_is_filled, failed_by}
+use Rattle.bi_c.proofs.CallAnswers.{not_so, is_so, buffer_is_filled, failed_by}
 use Rattle.bi_c.proofs.update.bootimg_update.Goals as goal
 
 pub returns-in_default : goal.returns-in_default

@@ -4,7 +4,7 @@ use Rattle.bi_base.specs.Pipes.{IsPiped}
 use Rattle.bi_commands.specs.BuildCommands.{build_fit_promise, IsFitOutput, IsFitOutputError}
 use Rattle.bi_commands.specs.Parts.{parts_of_lengths}
 use Rattle.bi_commands.specs.declared.parts.Part.{Part}
-use Rattle.bi_commands.proofs.NotBegun.{not_begun}
+use Rattle.bi_commands.proofs.MemoryBeforeRun.{not_begun}
 use Rattle.bi_commands.proofs.build_fit.build_fit_to.Goals as goal
 
 pub returns-in_err-payloads : goal.returns-in_err-payloads

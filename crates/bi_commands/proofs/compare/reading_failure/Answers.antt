@@ -1,4 +1,4 @@
-use Rattle.bi_commands.proofs.Compared.{memory_of_reading}
+use Rattle.bi_commands.proofs.ComparedImages.{memory_of_reading}
 use Rattle.bi_commands.proofs.compare.reading_failure.Goals as goal
 
 pub returns-in_default : goal.returns-in_default

@@ -3,7 +3,7 @@ use Rattle.bi_fit.specs.Content.{tree_of}
 use Rattle.bi_fit.specs.Reading.{IsReadFit}
 use Rattle.bi_norm.specs.Meaning.{OfLegacy, OfFit}
 use Rattle.bi_norm.specs.Opening.{IsReadBootImage}
-use Rattle.bi_commands.proofs.Opened.{tree_needs_memory, chosen_of_file, refused_of_file, failed_of_file}
+use Rattle.bi_commands.proofs.ImageCalls.{tree_needs_memory, chosen_of_file, refused_of_file, failed_of_file}
 use Rattle.bi_commands.proofs.extract.extract.Goals as goal
 
 pub select_payload-requires : goal.select_payload-requires

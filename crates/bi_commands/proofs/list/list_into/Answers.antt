@@ -1,5 +1,5 @@
 use Rattle.std.proofs.Common.{rules, refl}
-use Rattle.bi_fit.proofs.Appending.{wrote_of_kind, wrote_none_of_kind}
+use Rattle.bi_fit.proofs.AppendedTexts.{wrote_of_kind, wrote_none_of_kind}
 use Rattle.bi_norm.specs.NormalForm.{IsOpenError}
 use Rattle.bi_commands.specs.Listing.{IsListing, OfLegacyImage}
 use Rattle.bi_commands.proofs.FitListings.{tree_listing}

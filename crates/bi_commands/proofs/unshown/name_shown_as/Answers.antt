@@ -4,7 +4,7 @@ use Rattle.bi_base.proofs.EqualBytes.{other_bytes, same_bytes}
 use Rattle.bi_base.specs.Cells.{AreBytes}
 use Rattle.bi_commands.specs.Shown.{shown_text, shown_byte}
 use Rattle.bi_commands.specs.Unshown.{IsNameShownAs}
-use Rattle.bi_commands.proofs.Readable.ShownNames.{some_shown}
+use Rattle.bi_commands.proofs.ReadableDescriptions.ShownNames.{some_shown}
 use Rattle.bi_commands.proofs.UnshownNames.{bytes_are_name, dash_is_bytes, empty_list, only_name, some_holds, some_list}
 use Rattle.bi_commands.proofs.unshown.name_shown_as.Goals as goal
 use Rattle.bi_base.proofs.ByteLists.{AreBytes-none}

@@ -1,5 +1,5 @@
 use Rattle.std.proofs.lemmas.Result.{err_from_is_err_and}
-use Rattle.bi_fit.proofs.Appending.{error_in_memory}
+use Rattle.bi_fit.proofs.AppendedTexts.{error_in_memory}
 use Rattle.bi_commands.specs.UpdatedFiles.{IsUpdated, IsUpdateError}
 use Rattle.bi_commands.proofs.UpdatedFiles.{updated_needs_memory}
 use Rattle.bi_commands.proofs.update.update.Goals as goal

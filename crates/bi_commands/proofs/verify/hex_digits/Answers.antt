@@ -1,5 +1,5 @@
 use Rattle.std.proofs.Common.{◌≡◌, ℕ, List, IfOk, string_bytes, subst, arith}
-use Rattle.bi_commands.proofs.Reported.{hex_of_bytes}
+use Rattle.bi_commands.proofs.ImageReports.{hex_of_bytes}
 use Rattle.bi_commands.proofs.verify.hex_digits.Goals as goal
 
 pub returns : goal.returns

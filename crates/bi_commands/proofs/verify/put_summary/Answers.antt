@@ -1,6 +1,6 @@
 use Rattle.std.proofs.Common.{string_bytes, map}
 use Rattle.bi_fit.specs.JudgementCalls.{checked_hash_of}
-use Rattle.bi_commands.proofs.Reported.{summary_line_of}
+use Rattle.bi_commands.proofs.ImageReports.{summary_line_of}
 use Rattle.bi_commands.proofs.verify.put_summary.Goals as goal
 
 pub returns : goal.returns

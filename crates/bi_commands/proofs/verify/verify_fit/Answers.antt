@@ -5,9 +5,9 @@ use Rattle.bi_fit.specs.declared.hashes.Checked.{Checked}
 use Rattle.bi_fit.specs.JudgementCalls.{checked_hash_of}
 use Rattle.bi_hash.specs.declared.verdicts.Verdict.TheVariants.{Good}
 use Rattle.bi_commands.specs.Reports.{hash_line, summary_line, is_verdict}
-use Rattle.bi_commands.proofs.Reported.{tree_verified}
+use Rattle.bi_commands.proofs.ImageReports.{tree_verified}
 use Rattle.bi_commands.proofs.verify.verify_fit.Goals as goal
-use Rattle.bi_commands.proofs.Opened.{tree_needs_memory}
+use Rattle.bi_commands.proofs.ImageCalls.{tree_needs_memory}
 
 pub returns-clause-verified : goal.returns-clause-verified
 returns-clause-verified c limits file is =

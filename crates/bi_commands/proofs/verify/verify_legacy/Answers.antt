@@ -1,6 +1,6 @@
 use Rattle.std.proofs.lemmas.Result.{err_from_is_err_and}
 use Rattle.bi_norm.specs.NormalForm.{ForLegacyImage}
-use Rattle.bi_commands.proofs.Reported.{legacy_verified}
+use Rattle.bi_commands.proofs.ImageReports.{legacy_verified}
 use Rattle.bi_commands.proofs.verify.verify_legacy.Goals as goal
 
 pub returns-clause-verified : goal.returns-clause-verified

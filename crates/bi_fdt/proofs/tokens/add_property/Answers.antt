@@ -5,7 +5,7 @@ use Rattle.bi_base.proofs.Refusals.{refused_by, refusal_passed_on}
 use Rattle.bi_blob.specs.Tree.{FileProperty, IsNew}
 use Rattle.bi_blob.specs.BlobFaults.{token_fault, IsNewProperty}
 use Rattle.bi_blob.specs.OpenNodes.{IsOpenAt, OpenTree, open_node_of, outer_nodes_of, with_one_property}
-use Rattle.bi_blob.proofs.Blobs.Steps.{property_at}
+use Rattle.bi_blob.proofs.Blobs.ReaderSteps.{property_at}
 use Rattle.bi_fdt.specs.Blocks.{blocks_of}
 use Rattle.bi_fdt.specs.Table.{property_in}
 use Rattle.bi_fdt.proofs.FirstZero.{no_zero_in_name}

@@ -6,7 +6,7 @@ use Rattle.bi_blob.specs.OpenNodes.{IsOpenAt, OpenTree, open_node_of, outer_node
 use Rattle.bi_fdt.specs.Blocks.{blocks_of}
 use Rattle.bi_fdt.proofs.NameEnds.{name_there}
 use Rattle.bi_fdt.proofs.TokenSteps.{up4-within, begin_fault, duplicate_node, after_begin}
-use Rattle.bi_blob.proofs.Blobs.Steps.{length-outer_nodes_of}
+use Rattle.bi_blob.proofs.Blobs.ReaderSteps.{length-outer_nodes_of}
 use Rattle.bi_fdt.proofs.tokens.begin_node.Goals as goal
 
 pub returns-in_err-name-clause-failed : goal.returns-in_err-name-clause-failed

@@ -7,7 +7,7 @@ use Rattle.bi_fit.specs.BuiltNodes.{built_payloads}
 use Rattle.bi_fit.specs.Documents.{length_after_blob, IsTextOfTree, IsTextFault}
 use Rattle.bi_fit.specs.NamedImages.{head_model, named_models}
 use Rattle.bi_fit.specs.NormalNodes.{payloads_of}
-use Rattle.bi_fit.proofs.Appending.{wrote_of_kind, wrote_none_of_kind}
+use Rattle.bi_fit.proofs.AppendedTexts.{wrote_of_kind, wrote_none_of_kind}
 use Rattle.bi_fit.proofs.BuiltPayloads.{are_within, payloads_to_place}
 use Rattle.bi_fit.proofs.WholeTexts.{too_long_after, too_long_text, is_text_of_tree}
 use Rattle.bi_fit.proofs.building.append_built.Goals as goal

@@ -1,5 +1,5 @@
 use Rattle.std.proofs.Common.{◌+◌, ap, ◌∙◌, sym}
-use Rattle.bi_lay.proofs.Scanning.{knows-begun, depth-begun}
+use Rattle.bi_lay.proofs.ChildSearch.{knows-begun, depth-begun}
 use Rattle.bi_lay.proofs.siblings.scan_after.Goals as goal
 
 pub returns-in-Begin : goal.returns-in-Begin

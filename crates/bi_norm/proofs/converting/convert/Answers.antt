@@ -1,6 +1,6 @@
 use Rattle.std.proofs.lemmas.Result.{err_from_is_err_and}
 use Rattle.bi_norm.specs.Converting.{IsConvertedFile, IsConvertError}
-use Rattle.bi_fit.proofs.Appending.{error_in_memory}
+use Rattle.bi_fit.proofs.AppendedTexts.{error_in_memory}
 use Rattle.bi_norm.proofs.converting.convert.Goals as goal
 
 pub returns-in_err-convert_into-clause-failed : goal.returns-in_err-convert_into-clause-failed

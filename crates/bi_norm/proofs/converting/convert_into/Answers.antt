@@ -8,7 +8,7 @@ use Rattle.bi_fit.specs.Documents.{IsTextOfTree, IsTextFault}
 use Rattle.bi_fit.specs.NamedImages.{named_models}
 use Rattle.bi_norm.specs.Converting.{converted_images, IsConvertedFile, IsConvertError, NotLegacy, NotConvertible, head_of_image}
 use Rattle.bi_base.specs.Commands.{WasRefused}
-use Rattle.bi_fit.proofs.Appending.{result_appended_as, result_failed_as}
+use Rattle.bi_fit.proofs.AppendedTexts.{result_appended_as, result_failed_as}
 use Rattle.bi_norm.proofs.Conversions.{conversion_can_be_built, tree_is, is_converted, is_convert_error}
 use Rattle.bi_norm.proofs.converting.convert_into.Goals as goal
 

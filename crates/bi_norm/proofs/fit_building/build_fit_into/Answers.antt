@@ -6,7 +6,7 @@ use Rattle.bi_blob.specs.Layout.{longest_text}
 use Rattle.bi_fit.specs.Building.{ImageSpecModel, CanBeBuilt, built_tree}
 use Rattle.bi_fit.specs.Documents.{IsTextOfTree, IsTextFault}
 use Rattle.bi_fit.specs.NamedImages.{head_model, named_models}
-use Rattle.bi_fit.proofs.Appending.{result_appended_as, result_failed_as}
+use Rattle.bi_fit.proofs.AppendedTexts.{result_appended_as, result_failed_as}
 use Rattle.bi_norm.specs.FitBuilding.{spec_models, tree_of_images, IsBuilt, IsBuildError}
 use Rattle.bi_norm.proofs.BuiltTexts.{text_is_built, text_build_error}
 use Rattle.bi_norm.proofs.fit_building.build_fit_into.Goals as goal

@@ -1,4 +1,4 @@
-use Rattle.bi_norm.proofs.Opening.{too_long_is_file_fault, too_long_is_not_converted, too_long_means_nothing}
+use Rattle.bi_norm.proofs.FilesWithoutMeaning.{too_long_is_file_fault, too_long_is_not_converted, too_long_means_nothing}
 use Rattle.bi_norm.proofs.laws.too_long_is_refused.Goals as goal
 
 pub returns : goal.returns

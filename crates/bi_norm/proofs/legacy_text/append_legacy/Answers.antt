@@ -5,7 +5,7 @@ use Rattle.bi_legacy.specs.Text.{legacy_text}
 use Rattle.bi_legacy.proofs.UpdatedImages.{updated_has_normal_form}
 use Rattle.bi_base.specs.Commands.{WasRefused}
 use Rattle.bi_base.specs.declared.fault.Error.TheVariants.{OutOfMemory}
-use Rattle.bi_fit.proofs.Appending.{wrote_text, wrote_no_text}
+use Rattle.bi_fit.proofs.AppendedTexts.{wrote_text, wrote_no_text}
 use Rattle.bi_norm.proofs.legacy_text.append_legacy.Goals as goal
 
 pub emit_updated_image-requires : goal.emit_updated_image-requires

@@ -1,6 +1,6 @@
 use Rattle.std.proofs.lemmas.Result.{err_from_is_err_and}
 use Rattle.bi_norm.specs.NormalForm.{IsNormalForm, IsNormaliseError}
-use Rattle.bi_fit.proofs.Appending.{error_in_memory}
+use Rattle.bi_fit.proofs.AppendedTexts.{error_in_memory}
 use Rattle.bi_norm.proofs.NormalForms.{normal_form_needs_memory}
 use Rattle.bi_norm.proofs.normal_form.normalise.Goals as goal
 

@@ -4,7 +4,7 @@ use Rattle.bi_fit.specs.JudgementCalls.{checked_hash_of}
 use Rattle.bi_commands.proofs.CheckedFiles.{payloads_refused, tree_checked}
 use Rattle.bi_commands.proofs.TreeLines.{within_bound}
 use Rattle.bi_commands.proofs.check.fit.check_fit.Goals as goal
-use Rattle.bi_commands.proofs.Opened.{tree_needs_memory}
+use Rattle.bi_commands.proofs.ImageCalls.{tree_needs_memory}
 
 pub returns-in_err-check_payloads-clause-failed : goal.returns-in_err-check_payloads-clause-failed
 returns-in_err-check_payloads-clause-failed c is =

@@ -1,6 +1,6 @@
 use Rattle.std.proofs.Common.{sym, subst, ◌∙◌, arith}
 use Rattle.bi_base.specs.Sinks.{Wrote}
-use Rattle.bi_commands.proofs.Reported.{hex_of_bytes}
+use Rattle.bi_commands.proofs.ImageReports.{hex_of_bytes}
 use Rattle.bi_commands.proofs.DescriptionPieces.{known_ok}
 use Rattle.bi_commands.proofs.describe.words.put_digits_of_piece.Goals as goal
 

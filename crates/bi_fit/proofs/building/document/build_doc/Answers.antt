@@ -7,7 +7,7 @@ use Rattle.bi_fit.specs.NamedImages.{head_model, named_models}
 use Rattle.bi_fit.proofs.BuiltDocuments.{root_begin, may_begin_root, may_add_images, may_add_configurations, may_end_root, is_document}
 use Rattle.bi_fit.proofs.BuiltDocuments.{is_closed, have_no_numbers}
 use Rattle.bi_lay.specs.Contents.{empty_content}
-use Rattle.bi_fit.proofs.PassedOn.{value_passed_on}
+use Rattle.bi_fit.proofs.PassedResults.{value_passed_on}
 use Rattle.bi_fit.proofs.WholeTexts.{same_content}
 use Rattle.bi_fit.proofs.building.document.build_doc.Goals as goal
 

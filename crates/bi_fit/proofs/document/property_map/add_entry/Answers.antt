@@ -7,7 +7,7 @@ use Rattle.bi_blob.specs.Following.{stage_of_events, MayHaveNextProperty}
 use Rattle.bi_lay.specs.Contents.{name_numbered, with_event}
 use Rattle.bi_lay.specs.Values.{value_bytes}
 use Rattle.bi_fit.specs.PropertyMapModels.{AreNumbersIn}
-use Rattle.bi_fit.proofs.PassedOn.{success_passed_on}
+use Rattle.bi_fit.proofs.PassedResults.{success_passed_on}
 use Rattle.bi_fit.proofs.document.property_map.add_entry.Goals as goal
 use Rattle.bi_fit.proofs.document.property_map.add_entry.Goals.{In-Some}
 

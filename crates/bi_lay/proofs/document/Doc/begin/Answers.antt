@@ -1,7 +1,7 @@
 use Rattle.std.proofs.Common.{sym, ap, subst, ◌∙◌, arith, refl, cond, is_ok, ◌+◌, ◌++◌, ◌∷◌, [], vec_len}
 use Rattle.bi_lay.specs.declared.items.Item.TheVariants.{Begin}
 use Rattle.bi_blob.specs.Following.{stage_of_events, MayBegin, most_open_nodes}
-use Rattle.bi_lay.proofs.Consistent.{kept-begun}
+use Rattle.bi_lay.proofs.DocInvariant.{kept-begun}
 use Rattle.bi_lay.proofs.document.Doc.begin.Goals as goal
 
 pub invariant_of-self-2 : goal.invariant_of-self-2

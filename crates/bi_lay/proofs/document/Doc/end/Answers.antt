@@ -3,7 +3,7 @@ use Rattle.bi_lay.specs.declared.items.Item.TheVariants.{End}
 use Rattle.bi_blob.specs.Following.{stage_of_events, MayEnd}
 use Rattle.bi_lay.specs.Documents.{stage_of_fields}
 use Rattle.bi_lay.proofs.OneMoreItem.{ended-depth}
-use Rattle.bi_lay.proofs.Consistent.{kept-ended}
+use Rattle.bi_lay.proofs.DocInvariant.{kept-ended}
 use Rattle.bi_lay.proofs.document.Doc.end.Goals as goal
 
 pub invariant_of-self : goal.invariant_of-self

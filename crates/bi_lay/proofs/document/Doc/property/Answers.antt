@@ -2,7 +2,7 @@ use Rattle.std.proofs.Common.{sym, ap, subst, ◌∙◌, arith, refl, cond, is_o
 use Rattle.bi_lay.specs.declared.items.Item.{Item}
 use Rattle.bi_lay.specs.declared.items.Item.TheVariants.{Property}
 use Rattle.bi_blob.specs.Following.{stage_of_events, MayHaveNextProperty}
-use Rattle.bi_lay.proofs.Consistent.{kept-added}
+use Rattle.bi_lay.proofs.DocInvariant.{kept-added}
 use Rattle.bi_lay.proofs.document.Doc.property.Goals as goal
 
 pub invariant_of-self-2 : goal.invariant_of-self-2

@@ -6,7 +6,7 @@ use Rattle.bi_blob.specs.Layout.{offset_in}
 use Rattle.bi_lay.specs.Contents.{name_numbered}
 use Rattle.bi_lay.specs.Names.{saturated_usize, with_name}
 use Rattle.bi_lay.specs.Documents.{stage_of_fields}
-use Rattle.bi_lay.proofs.Consistent.{kept-added}
+use Rattle.bi_lay.proofs.DocInvariant.{kept-added}
 use Rattle.bi_lay.proofs.document.Doc.property_numbered.Goals as goal
 
 pub invariant_of-self-2 : goal.invariant_of-self-2

@@ -2,7 +2,7 @@ use Rattle.std.proofs.Common.{◌≡◌, false, true, refl, subst}
 use Rattle.bi_base.specs.declared.fault.Error.TheVariants.{Refused}
 use Rattle.bi_base.proofs.Refusals.{error_passed_on}
 use Rattle.bi_fit.specs.Reading.{IsFitReadError}
-use Rattle.bi_norm.proofs.Opening.{no_tree_fault, tree_error, legacy_fault}
+use Rattle.bi_norm.proofs.FilesWithoutMeaning.{no_tree_fault, tree_error, legacy_fault}
 use Rattle.bi_norm.proofs.image.BootImage.read.Goals as goal
 
 pub returns-in_err-read-in-Err-clause-failed : goal.returns-in_err-read-in-Err-clause-failed

@@ -9,7 +9,7 @@ use Rattle.bi_commands.specs.Listing.{IsListing}
 use Rattle.bi_commands.specs.Reports.{IsReport}
 use Rattle.bi_commands.specs.UpdatedFiles.{IsUpdated, IsUpdateError}
 use Rattle.bootimg.specs.Selections.{select_of}
-use Rattle.bootimg.proofs.Selected.{same_chosen, same_failure}
+use Rattle.bootimg.proofs.SelectionNames.{same_chosen, same_failure}
 use Rattle.bootimg.proofs.TaskFailures.{call_failed, extract_failed}
 use Rattle.bootimg.proofs.tasks.TaskCommand.run.Goals as goal
 
