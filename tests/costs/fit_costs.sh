@@ -1,9 +1,11 @@
 #!/bin/sh
 # Measures what the program takes on large flattened image trees: time beside sha256sum of the same file, and memory beside the
 # length of the file. It fails if memory is more than the file and 8 MiB for a large payload, if 10,000 images take more than ten
-# times what sha256sum takes, if ten times as many take more than twelve times as long, or if describe or check of a large payload takes
+# times what sha256sum takes, if ten times as many take more than twenty times as long, or if describe or check of a large payload takes
 # more than 1.15 times as long as verify, which computes the same digest. Each time is the least of ten rounds. How many times as long a
 # file or a command takes as another is the median of the rounds. The script needs python3 and coreutils.
+# With ten times as many images, n log n comparisons are 12.5 times as many, and the larger maps are more often outside the caches of
+# the processor. A cost that grows with the square would be a hundred times as much.
 set -u
 
 root=$(cd "$(dirname "$0")/../.." && pwd)
@@ -127,7 +129,7 @@ for name, (arguments, status) in COMPARISONS.items():
 for name in measured:
     seconds, _ = least(measured[name]["more"])
     times = ratio(measured[name]["more"], measured[name]["many"])
-    judge(f"{name}, ten times as many images", times <= 12, f"{seconds:.3f} s, {times:.1f} times as long")
+    judge(f"{name}, ten times as many images", times <= 20, f"{seconds:.3f} s, {times:.1f} times as long")
 for command in ("describe", "check"):
     runs, verified = zip(*([run("large", [PROGRAM, each]) for each in (command, "verify")] for _ in range(10)))
     times = ratio(runs, verified)
