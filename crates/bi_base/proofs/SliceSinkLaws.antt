@@ -1,4 +1,4 @@
-use Rattle.std.proofs.Common.{◌≡◌, ◌≤◌, ℕ, List, [], ◌++◌, Result, Ok, Err, length, take, drop, ap, ◌∙◌, ◌+◌, subst, arith}
+use Rattle.std.proofs.Common.{◌≡◌, ◌≤◌, ℕ, List, ◌++◌, Result, Ok, Err, length, take, drop, ap, ◌∙◌, ◌+◌, subst, arith}
 use Rattle.bi_base.specs.declared.fault.Error.{Error}
 use Rattle.bi_base.specs.declared.slice_sink.SliceSink.{SliceSink}
 use Rattle.bi_base.specs.Commands.{AppendFailed, WasRefused, SinkFailed}

@@ -1,10 +1,11 @@
-use Rattle.std.specs.Prelude.{◌≡◌, ℕ, ◌<◌, ◌≤◌, ◌+◌, ⊤, List, length, take, Option, None, Some}
+use Rattle.std.specs.Prelude.{◌≡◌, ◌≢◌, ℕ, ◌<◌, ◌≤◌, ◌+◌, ⊤, List, length, take, Option, None, Some}
 use Rattle.std.specs.Io.KnownBytes.{Consumes, IsAtEnd, Keeps}
 use Rattle.bi_base.specs.declared.fault.Error.{Error}
 use Rattle.bi_base.specs.declared.fault.Error.TheVariants.{Refused, OutOfMemory, ReadFailed}
 use Rattle.bi_base.specs.declared.fault.Error.TheVariants.{WriteFailed}
 use Rattle.bi_base.specs.declared.fault.Cause.TheVariants.{TooLarge}
 use Rattle.bi_base.specs.declared.fault.Fault.{Fault}
+use Rattle.bi_base.specs.Limits.{Limits}
 use Rattle.bi_base.specs.Traces.{ReadTrace, ReadsWell, MustStopReading}
 
 -- What calls that read a whole input did (profile of this project).
@@ -59,3 +60,19 @@ IsReadError old most MustStop (Refused fault) =
 IsReadError old most MustStop OutOfMemory = ⊤
 IsReadError old most MustStop ReadFailed = MustStop
 IsReadError old most MustStop WriteFailed = ⊥
+
+-- A whole input within these limits was read from a traced reader, and no failed read was ignored.
+pub record IsInputRead (limits : Limits) (old new : ReadTrace) (input : List ℕ) : Type 0 where
+  pub whole : ReadWhole old.remaining new.remaining input
+  pub within : length input ≤ limits.file
+  pub takes_at_most_one_byte_more : TracedTakesAtMost old new (limits.file + 1)
+  pub no_failure_ignored : ReadsWell old → ReadsWell new
+  pub same_reader : new.reader ≡ old.reader
+
+-- Reading a whole input within these limits from a traced reader failed. A failed read was not
+-- ignored: the error is ReadFailed after one.
+pub record IsInputNotRead (limits : Limits) (old new : ReadTrace) (error : Error) : Type 0 where
+  pub cause : IsReadError old.remaining limits.file (MustStopReading new) error
+  pub takes_at_most_one_byte_more : TracedTakesAtMost old new (limits.file + 1)
+  pub no_failure_ignored : error ≢ ReadFailed → ReadsWell old → ReadsWell new
+  pub same_reader : new.reader ≡ old.reader

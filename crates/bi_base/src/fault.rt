@@ -140,12 +140,13 @@ pub enum Error {
     #[error("out of memory")]
     OutOfMemory,
     /// A read failed, with an error other than an interruption; or `MOST_INTERRUPTIONS` reads in a
-    /// row, which are 1,024, were interrupted.
+    /// row, which are 1,024, were interrupted. Only calls over a reader fail with it.
     #[error("read failed")]
     ReadFailed,
     /// A write or a flush failed, with an error other than an interruption; or a write wrote none
     /// of the remaining bytes; or `MOST_INTERRUPTIONS` calls in a row, which are 1,024, were
-    /// interrupted.
+    /// interrupted; or the slice of a `SliceSink` has no room. Only calls over a writer or a sink
+    /// fail with it.
     #[error("write failed")]
     WriteFailed,
 }

@@ -1,10 +1,9 @@
 //! Reading a whole input, of as many bytes as the limits allow.
 
-ghost use Rattle.std.specs.Prelude.{◌≡◌, ◌+◌, ◌≤◌, ⊤, vec_len, IfOk, IfErr, IsErrOf};
+ghost use Rattle.std.specs.Prelude.{◌+◌, ◌≤◌, ⊤, vec_len, IfOk, IfErr};
 ghost use Rattle.std.specs.Io.{ReadsAtMost};
-ghost use Rattle.bi_base.specs.Reading.{IsReadError, NothingRead, ReadSome, ReadWhole, TakesAtMost};
-ghost use Rattle.bi_base.specs.Reading.{TracedTakesAtMost};
-ghost use Rattle.bi_base.specs.Traces.{MustStopReading, ReadsWell};
+ghost use Rattle.bi_base.specs.Reading.{IsInputRead, IsInputNotRead, IsReadError, NothingRead};
+ghost use Rattle.bi_base.specs.Reading.{ReadSome, ReadWhole, TakesAtMost};
 
 use crate::fault::{Cause, Error, Fault};
 use crate::limits::Limits;
@@ -43,17 +42,10 @@ pub fn read_all_traced<S: TracedRead>(
     source: &mut S,
     limits: Limits,
 ) -> Result<Vec<u8>, Error>
-    ensures whole { IfOk result (λ bytes.
-        ReadWhole (S.trace source.old).remaining (S.trace source.new).remaining bytes.items) }
-    ensures within { IfOk result (λ bytes. vec_len bytes ≤ limits.file) }
+    ensures read { IfOk result (λ bytes.
+        IsInputRead limits (S.trace source.old) (S.trace source.new) bytes.items) }
     ensures failed { IfErr result
-        (IsReadError (S.trace source.old).remaining limits.file
-        (MustStopReading (S.trace source.new))) }
-    ensures takes_at_most_one_byte_more { TracedTakesAtMost (S.trace source.old)
-        (S.trace source.new) (limits.file + 1) }
-    ensures no_failure_ignored { ReadsWell (S.trace source.old) →
-        (IsErrOf result Error.ReadFailed → ⊥) → ReadsWell (S.trace source.new) }
-    ensures same_reader { (S.trace source.new).reader ≡ (S.trace source.old).reader }
+        (IsInputNotRead limits (S.trace source.old) (S.trace source.new)) }
 {
     let most = limits.file() as usize;
     let mut bytes = Vec::new(alloc);

@@ -1,7 +1,7 @@
 use Rattle.std.proofs.Common.{◌≡◌, List, ℕ, subst}
 use Rattle.bi_base.specs.Limits.{Limits}
 use Rattle.bi_fit.specs.declared.form.Form.{Form}
-use Rattle.bi_norm.specs.NormalForm.{Normalised, IsNormaliseError}
+use Rattle.bi_norm.specs.NormalForm.{IsNormaliseOutput, IsNormaliseError}
 use Rattle.bi_c.specs.declared.failure.Failure.{Failure}
 use Rattle.bi_c.specs.Answers.{IsFailureBy}
 use Rattle.bi_c.specs.Arguments.{bounds, form_of, HasForm}
@@ -12,11 +12,11 @@ use Rattle.bi_c.proofs.CallAnswers.{failed_by}
 -- normalising it does.
 
 pub normalised_as : (limit depth number : ℕ) (limits : Limits) (form : Form) (file : List ℕ) → HasForm limit depth number →
-    limits ≡ bounds limit depth → form ≡ form_of number → (text : List ℕ) (value : ℕ) → Normalised limits form value file text
+    limits ≡ bounds limit depth → form ≡ form_of number → (text : List ℕ) (value : ℕ) → IsNormaliseOutput limits form value file text
     → IsNormalised limit depth number file text value
 normalised_as limit depth number limits form file valid same_limits same_form text value is = record {
   arguments = valid;
-  is = subst (λ (f : Form). Normalised (bounds limit depth) f value file text) same_form (subst (λ (l : Limits). Normalised l form value file text) same_limits is);
+  is = subst (λ (f : Form). IsNormaliseOutput (bounds limit depth) f value file text) same_form (subst (λ (l : Limits). IsNormaliseOutput l form value file text) same_limits is);
 }
 
 pub not_normalised : (limit depth number : ℕ) (limits : Limits) (form : Form) (file : List ℕ) → HasForm limit depth number →

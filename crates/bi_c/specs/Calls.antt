@@ -8,9 +8,9 @@ use Rattle.bi_norm.specs.Comparing.{AreCompared}
 use Rattle.bi_norm.specs.declared.kind.Kind.{Kind}
 use Rattle.bi_norm.specs.declared.kind.Kind.TheVariants.{Legacy, Fit}
 use Rattle.bi_norm.specs.Kinds.{BeginsAs, IsKindFault}
-use Rattle.bi_norm.specs.NormalForm.{Normalised, IsNormaliseError}
-use Rattle.bi_commands.specs.CheckedFiles.{Checked}
-use Rattle.bi_commands.specs.UpdatedFiles.{Updated, IsUpdateError}
+use Rattle.bi_norm.specs.NormalForm.{IsNormaliseOutput, IsNormaliseError}
+use Rattle.bi_commands.specs.CheckedFiles.{IsCheckOutput}
+use Rattle.bi_commands.specs.UpdatedFiles.{IsUpdateOutput, IsUpdateError}
 use Rattle.bi_commands.specs.declared.compare.CompareError.{CompareError}
 use Rattle.bi_commands.specs.declared.compare.CompareError.TheVariants as compare
 use Rattle.bi_c.specs.Answers.{IsFailure}
@@ -57,7 +57,7 @@ IsNoCause number other = ⊥
 -- The normal form of the file, and the number of its signature nodes.
 pub record IsNormalised (limit depth form : ℕ) (file text : List ℕ) (value : ℕ) : Type 0 where
   pub arguments : HasForm limit depth form
-  pub is : Normalised (bounds limit depth) (form_of form) value file text
+  pub is : IsNormaliseOutput (bounds limit depth) (form_of form) value file text
 
 -- Why a file was not normalised.
 abbrev pub IsNormaliseFailure : (limit depth form : ℕ) → List ℕ → Failure → Type 0
@@ -70,7 +70,8 @@ pub record IsUpdatedText (limit depth form changes time : ℕ) (file text : List
     : Type 0
   where
     pub arguments : HasChanges limit depth form changes
-    pub is : Updated (changes_of changes time) (bounds limit depth) (form_of form) value file text
+    pub is : IsUpdateOutput (changes_of changes time) (bounds limit depth) (form_of form) value file
+        text
 
 -- Why a file was not updated.
 abbrev pub IsUpdateFailure : (limit depth form changes time : ℕ) → List ℕ → Failure → Type 0
@@ -145,4 +146,4 @@ pub record IsCheckText (limit depth kinds : ℕ) (file text : List ℕ) (value :
   pub arguments : HasKinds limit depth kinds
   pub clean : Bool
   pub number : value ≡ flag clean
-  pub is : Checked (allowed_of kinds) (bounds limit depth) clean file text
+  pub is : IsCheckOutput (allowed_of kinds) (bounds limit depth) clean file text

@@ -8,7 +8,7 @@ use Rattle.bi_fit.specs.declared.key.Key.{Key}
 use Rattle.bi_legacy.specs.Reading.{LegacyModel, IsReadLegacy, part_places}
 use Rattle.bi_fit.specs.Payloads.{IsAt}
 use Rattle.bi_fit.specs.declared.configurations.ConfigError.TheVariants as list
-use Rattle.bi_norm.specs.NormalForm.{IsOpenError}
+use Rattle.bi_norm.specs.Reading.{IsBootImageReadError}
 use Rattle.bi_commands.specs.declared.extract.ExtractError.{ExtractError}
 use Rattle.bi_commands.specs.declared.extract.ExtractError.TheVariants as extract
 use Rattle.bi_commands.specs.declared.extract.Select.{Select}
@@ -98,8 +98,8 @@ IsReasonNumber reason index (Chosen bytes) = ⊥
 abbrev pub IsSelectFailure : Limits → Select → List ℕ → Failure → Type 0
 IsSelectFailure limits select file WrongArgument = ⊥
 IsSelectFailure limits select file (Refused number fault) =
-    (number ≡ 1) × IsOpenError limits file (error.Refused fault)
-IsSelectFailure limits select file OutOfMemory = IsOpenError limits file error.OutOfMemory
+    (number ≡ 1) × IsBootImageReadError limits file (error.Refused fault)
+IsSelectFailure limits select file OutOfMemory = IsBootImageReadError limits file error.OutOfMemory
 IsSelectFailure limits select file (NotFound reason index) =
     MeansSuch limits file (λ meaning. IsReasonNumber reason index (choice_of select meaning))
 

@@ -4,7 +4,7 @@ ghost use Rattle.std.specs.Prelude.{ℕ, List};
 ghost use Rattle.bi_fit.specs.declared.form.Form.{Form};
 ghost use Rattle.bi_fit.specs.Reading.{IsReadFit};
 ghost use Rattle.bi_legacy.specs.Reading.{IsReadLegacy};
-ghost use Rattle.bi_norm.specs.NormalForm.{Normalised, IsNormaliseError};
+ghost use Rattle.bi_norm.specs.NormalForm.{IsNormaliseOutput, IsNormaliseError};
 ghost use Rattle.bi_c.specs.Answers.{Fills, IsFailureBy};
 ghost use Rattle.bi_c.specs.Calls.{IsNormalised, IsNormaliseFailure};
 
@@ -60,7 +60,8 @@ fn normalise_legacy(
     answer: &mut Answer,
 ) -> u32
     requires { IsReadLegacy limits file.now image.now }
-    ensures { (form : Form) → Fills (λ text value. Normalised limits form value file.now text)
+    ensures { (form : Form)
+        → Fills (λ text value. IsNormaliseOutput limits form value file.now text)
         (IsFailureBy (IsNormaliseError limits form file.now)) buffer.old buffer.new answer.new
         result }
 {
@@ -78,7 +79,7 @@ fn normalise_fit(
     answer: &mut Answer,
 ) -> u32
     ensures { (file : List ℕ) → IsReadFit limits file fit.now →
-        Fills (λ text value. Normalised limits form value file text)
+        Fills (λ text value. IsNormaliseOutput limits form value file text)
         (IsFailureBy (IsNormaliseError limits form file)) buffer.old buffer.new answer.new result }
 {
     match fit.text(alloc, form, limits) {

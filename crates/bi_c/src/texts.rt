@@ -4,9 +4,9 @@ ghost use Rattle.bi_c.specs.Answers.{Fills};
 ghost use Rattle.bi_c.specs.Calls.{IsTextOnly, IsTextWithFlag, IsFailureOfOne};
 ghost use Rattle.bi_commands.specs.Describing.{IsDescription, IsDescribeError};
 ghost use Rattle.bi_commands.specs.Listing.{IsListing};
-ghost use Rattle.bi_commands.specs.Reports.{Verified};
+ghost use Rattle.bi_commands.specs.Reports.{IsVerifyOutput};
 ghost use Rattle.bi_norm.specs.Converting.{IsConvertedFile, IsConvertError};
-ghost use Rattle.bi_norm.specs.NormalForm.{IsOpenError};
+ghost use Rattle.bi_norm.specs.Reading.{IsBootImageReadError};
 
 use crate::answer::{Answer, fail, fill};
 use crate::arguments::limits_of;
@@ -28,7 +28,7 @@ pub extern "C" fn bootimg_list(
     answer: &mut Answer,
 ) -> u32
     ensures { Fills (IsTextOnly limit depth (λ limits text. IsListing limits file.now text))
-        (IsFailureOfOne limit depth (λ limits error. IsOpenError limits file.now error))
+        (IsFailureOfOne limit depth (λ limits error. IsBootImageReadError limits file.now error))
         buffer.old buffer.new answer.new result }
 {
     let Some(limits) = limits_of(limit, depth) else {
@@ -75,8 +75,8 @@ pub extern "C" fn bootimg_verify(
     answer: &mut Answer,
 ) -> u32
     ensures { Fills
-        (IsTextWithFlag limit depth (λ limits good text. Verified limits good file.now text))
-        (IsFailureOfOne limit depth (λ limits error. IsOpenError limits file.now error))
+        (IsTextWithFlag limit depth (λ limits good text. IsVerifyOutput limits good file.now text))
+        (IsFailureOfOne limit depth (λ limits error. IsBootImageReadError limits file.now error))
         buffer.old buffer.new answer.new result }
 {
     let Some(limits) = limits_of(limit, depth) else {

@@ -23,7 +23,7 @@ use Rattle.bi_fit.specs.Reading.{IsReadFit}
 use Rattle.bi_fit.proofs.FileNodes.{sibling_by_name, bare_image, siblings-by_name, image_siblings}
 use Rattle.bi_legacy.specs.Reading.{LegacyModel, IsReadLegacy}
 use Rattle.bi_norm.specs.Meaning.{OfLegacy, OfFit}
-use Rattle.bi_norm.specs.NormalForm.{IsOpenError}
+use Rattle.bi_norm.specs.Reading.{IsBootImageReadError}
 use Rattle.bi_norm.proofs.NormalForms.{only_legacy, only_tree}
 use Rattle.bi_commands.specs.declared.check.Allowed.{Allowed}
 use Rattle.bi_commands.specs.CheckedFiles.{IsChecked, IsCheckError}
@@ -172,7 +172,7 @@ payloads_refused limits file content images limit fault is same are refused long
     inr (record { meaning = OfFit (tree_of content); means = is.means; is_over = omega (arith, longer, same, ap payloads_length payloads) }, refused ∙ ap too_large same)
 
 -- An error of reading a file is one of checking it.
-pub check_error_of_reading : (limits : Limits) (file : List ℕ) (error : Error) → IsOpenError limits file error →
+pub check_error_of_reading : (limits : Limits) (file : List ℕ) (error : Error) → IsBootImageReadError limits file error →
     IsCheckError limits file error
 check_error_of_reading limits file (Refused fault) is = inl is
 check_error_of_reading limits file OutOfMemory is = is

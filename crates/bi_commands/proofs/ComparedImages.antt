@@ -1,4 +1,4 @@
-use Rattle.std.proofs.Common.{◌≡◌, ◌≢◌, ◌↔◌, ◌⊎◌, ◌∙◌, ℕ, List, [], ◌∷◌, Bool, true, false, IsTrue, Result, Ok, Err, IfOk, IfErr, bytes_eq}
+use Rattle.std.proofs.Common.{◌≡◌, ◌≢◌, ◌↔◌, ◌⊎◌, ◌∙◌, ℕ, List, [], ◌∷◌, Bool, true, false, IsTrue, bytes_eq}
 use Rattle.std.proofs.Common.{if◌then◌else◌, inl, inr, refl, sym, subst}
 use Rattle.bi_base.specs.declared.fault.Error.{Error}
 use Rattle.bi_base.specs.declared.fault.Error.TheVariants.{Refused, OutOfMemory as NoMemory, ReadFailed, WriteFailed}
@@ -7,9 +7,7 @@ use Rattle.bi_base.specs.Limits.{Limits}
 use Rattle.bi_norm.specs.declared.image.BootImage.{BootImage}
 use Rattle.bi_norm.specs.Comparing.{AreCompared}
 use Rattle.bi_norm.specs.Meaning.{Meaning, OfLegacy, OfFit}
-use Rattle.bi_norm.specs.NormalForm.{IsOpenError, NeedsMemory}
-use Rattle.bi_norm.specs.OpenedMeaning.{meaning_of}
-use Rattle.bi_norm.specs.Opening.{IsReadBootImage}
+use Rattle.bi_norm.specs.Reading.{IsBootImageReadError, NeedsMemory, meaning_of, IsReadBootImage}
 use Rattle.bi_norm.proofs.NormalForms.{needs_memory}
 use Rattle.bi_commands.specs.declared.compare.CompareError.{CompareError}
 use Rattle.bi_commands.specs.declared.compare.CompareError.TheVariants.{OutOfMemory}
@@ -25,7 +23,7 @@ use Rattle.bi_norm.proofs.Comparisons.{opened_means}
 
 -- An error that refuses no file is that memory ran out.
 pub memory_of_reading : (limits : Limits) (file : List ℕ) (error : Error) → ((fault : Fault) → error ≢ Refused fault) →
-    IsOpenError limits file error → NeedsMemory limits file
+    IsBootImageReadError limits file error → NeedsMemory limits file
 memory_of_reading limits file (Refused fault) other is = absurd (other fault refl)
 memory_of_reading limits file NoMemory other is = is
 memory_of_reading limits file ReadFailed other is = absurd is

@@ -8,7 +8,7 @@ use Rattle.bi_legacy.specs.Reading.{LegacyModel}
 use Rattle.bi_norm.specs.declared.image.BootImage.{BootImage}
 use Rattle.bi_norm.specs.declared.image.BootImage.TheVariants.{Legacy, Fit}
 use Rattle.bi_norm.specs.Meaning.{Meaning}
-use Rattle.bi_norm.specs.OpenedMeaning.{meaning_of}
+use Rattle.bi_norm.specs.Reading.{meaning_of}
 use Rattle.bi_commands.specs.Comparing.{comparison, differences_or_reason, other_order_line, other_payloads_line}
 use Rattle.bi_commands.specs.Descriptions.{description, description_texts}
 use Rattle.bi_commands.specs.Differences.{differences}

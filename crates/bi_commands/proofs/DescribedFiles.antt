@@ -4,9 +4,7 @@ use Rattle.bi_base.specs.declared.fault.Error.{Error}
 use Rattle.bi_base.specs.declared.fault.Error.TheVariants.{Refused, OutOfMemory, ReadFailed, WriteFailed}
 use Rattle.bi_base.specs.Limits.{Limits}
 use Rattle.bi_norm.specs.declared.image.BootImage.{BootImage}
-use Rattle.bi_norm.specs.NormalForm.{IsOpenError}
-use Rattle.bi_norm.specs.OpenedMeaning.{meaning_of}
-use Rattle.bi_norm.specs.Opening.{IsReadBootImage}
+use Rattle.bi_norm.specs.Reading.{IsBootImageReadError, meaning_of, IsReadBootImage}
 use Rattle.bi_norm.proofs.NormalForms.{needs_memory}
 use Rattle.bi_commands.specs.Descriptions.{description}
 use Rattle.bi_commands.specs.Describing.{CanBeDescribed, IsDescription, IsDescribeError, IsImageError}
@@ -50,7 +48,7 @@ failed_of_result limits file image (Ok value) opened is = tt
 failed_of_result limits file image (Err error) opened is = error_of_file limits file image error opened is
 
 -- An error of reading a file is one of describing it.
-pub describe_error_of_reading : (limits : Limits) (file : List ℕ) (error : Error) → IsOpenError limits file error →
+pub describe_error_of_reading : (limits : Limits) (file : List ℕ) (error : Error) → IsBootImageReadError limits file error →
     IsDescribeError limits file error
 describe_error_of_reading limits file (Refused fault) is = inl is
 describe_error_of_reading limits file OutOfMemory is = is

@@ -4,8 +4,8 @@ use Rattle.std.specs.Result.{is_err}
 use Rattle.std.specs.Borrow.{Bor}
 use Rattle.std.specs.List.{join_with_byte}
 use Rattle.std.proofs.lemmas.List.Folds.{flat_map-map}
-use Rattle.bi_commands.specs.declared.describe.words.Word.{Word}
-use Rattle.bi_commands.specs.declared.describe.words.Word.TheVariants.{Text}
+use Rattle.bi_commands.specs.declared.words.Word.{Word}
+use Rattle.bi_commands.specs.declared.words.Word.TheVariants.{Text}
 use Rattle.std.proofs.lemmas.Grind.{flat_map-append}
 use Rattle.std.specs.Fmt.{decimal}
 use Rattle.std.proofs.lemmas.List.{drop_more}

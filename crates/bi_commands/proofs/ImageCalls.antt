@@ -10,7 +10,7 @@ use Rattle.bi_fit.specs.Reading.{IsReadFit}
 use Rattle.bi_norm.specs.declared.kind.Kind.TheVariants.{Legacy}
 use Rattle.bi_norm.specs.Kinds.{BeginsAs}
 use Rattle.bi_norm.specs.Meaning.{Meaning, Means}
-use Rattle.bi_norm.specs.NormalForm.{NeedsMemory, ForTree}
+use Rattle.bi_norm.specs.Reading.{NeedsMemory, ForTree}
 use Rattle.bi_commands.specs.declared.extract.Select.{Select}
 use Rattle.bi_commands.specs.declared.extract.ExtractError.{ExtractError}
 use Rattle.bi_commands.specs.declared.extract.ExtractError.TheVariants.{Failed, WrongKind, NoPart, NoImage, Config, NoIndex, NoPayload}

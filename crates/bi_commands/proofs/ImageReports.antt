@@ -15,7 +15,7 @@ use Rattle.bi_fit.specs.Reading.{IsReadFit}
 use Rattle.bi_legacy.specs.Reading.{LegacyModel, IsReadLegacy}
 use Rattle.bi_norm.specs.Meaning.{OfLegacy, OfFit}
 use Rattle.hex.specs.Hex.{encode_lower, encode_with, lower_digits}
-use Rattle.bi_commands.specs.Reports.{is_verdict, count_of, AreGood, Verified, legacy_report, hash_line, summary_line}
+use Rattle.bi_commands.specs.Reports.{is_verdict, count_of, AreGood, IsVerifyOutput, legacy_report, hash_line, summary_line}
 use Rattle.bi_commands.specs.Shown.{line, digits_of_byte}
 
 -- The report on what was read from a file is the report on the file.
@@ -64,7 +64,7 @@ all_good (hash ∷ later) = (forth (all_good later).0, back (all_good later).1) 
 
 -- The report on a legacy image that was read from a file.
 pub legacy_verified : (limits : Limits) (file text : List ℕ) (parsed : LegacyModel) → IsReadLegacy limits file parsed →
-    text ≡ legacy_report → Verified limits true file text
+    text ≡ legacy_report → IsVerifyOutput limits true file text
 legacy_verified limits file text parsed opened is = record {
   report = record { meaning = OfLegacy parsed.image; means = opened.means; is = is };
   all_good = (λ _. tt, λ _. refl);
@@ -75,7 +75,7 @@ pub tree_verified : (limits : Limits) (file text : List ℕ) (content : FitModel
     IsReadFit limits file content →
     map checked_hash_of hashes ≡ verdicts_of (tree_of content) →
     text ≡ flat_map hash_line (map checked_hash_of hashes) ++ summary_line (map checked_hash_of hashes) →
-    good ≡ list_all (λ (hash : Checked). is_verdict Good hash.verdict) hashes → Verified limits good file text
+    good ≡ list_all (λ (hash : Checked). is_verdict Good hash.verdict) hashes → IsVerifyOutput limits good file text
 tree_verified limits file text content hashes good is are written tested =
     let test = tested ∙ sym (list_all-map (λ (hash : CheckedHash). is_verdict Good hash.verdict) checked_hash_of hashes)
     ∙ ap (list_all (λ (hash : CheckedHash). is_verdict Good hash.verdict)) are in

@@ -15,7 +15,7 @@ use Rattle.bi_legacy.specs.Codes.{os_names, arch_names, type_names, compression_
 use Rattle.bi_legacy.specs.Meaning.{LegacyImage, image_of}
 use Rattle.bi_legacy.specs.Reading.{LegacyModel}
 use Rattle.bi_norm.specs.Meaning.{OfFit}
-use Rattle.bi_norm.specs.NormalForm.{NeedsMemory, ForLegacyImage, IsOpenError}
+use Rattle.bi_norm.specs.Reading.{NeedsMemory, ForLegacyImage, IsBootImageReadError}
 use Rattle.bi_norm.proofs.NormalForms.{needs_memory}
 use Rattle.bi_commands.specs.Descriptions.{field_words, code_words, reservation_words}
 use Rattle.bi_commands.specs.FitListing.{default_line, reservation_line}
@@ -80,8 +80,8 @@ listing_needs_memory limits file text (OfImageTree is) = needs_memory limits fil
 
 -- An error of listing a file to memory.
 pub failed_in_memory : (limits : Limits) (file old new : List ℕ) (error : Error) →
-    AppendFailed (FailsWithin Grows IsOutOfMemory) (IsListing limits file) (IsOpenError limits file) old new error →
-    IsOpenError limits file error
+    AppendFailed (FailsWithin Grows IsOutOfMemory) (IsListing limits file) (IsBootImageReadError limits file) old new error →
+    IsBootImageReadError limits file error
 failed_in_memory limits file old new error (WasRefused is kept) = is
 failed_in_memory limits file old new error (SinkFailed text cause is failed same) =
-    subst (IsOpenError limits file) (sym (same ∙ failed.1)) (listing_needs_memory limits file text is)
+    subst (IsBootImageReadError limits file) (sym (same ∙ failed.1)) (listing_needs_memory limits file text is)

@@ -22,15 +22,16 @@ use Rattle.bi_legacy.specs.Reading.{LegacyModel, IsReadLegacy}
 use Rattle.bi_legacy.specs.Text.{legacy_text}
 use Rattle.bi_legacy.proofs.UpdatedImages.{updated_has_normal_form}
 use Rattle.bi_norm.specs.Meaning.{Meaning, OfLegacy, OfFit, normal_text}
-use Rattle.bi_norm.specs.NormalForm.{IsNormalForm, IsOpenError, NeedsMemory, ForLegacyImage}
+use Rattle.bi_norm.specs.NormalForm.{IsNormalForm}
+use Rattle.bi_norm.specs.Reading.{IsBootImageReadError, NeedsMemory, ForLegacyImage}
 use Rattle.bi_norm.proofs.NormalForms.{only_legacy, only_tree, needs_memory}
-use Rattle.bi_commands.specs.UpdatedFiles.{IsUpdated, Updated, IsUpdateError, HashesTooMuch, IsDigestsError, updated_meaning}
+use Rattle.bi_commands.specs.UpdatedFiles.{IsUpdated, IsUpdateOutput, IsUpdateError, HashesTooMuch, IsDigestsError, updated_meaning}
 
 -- The text of an updated image that was read is that of the updated file, and without changes it is the normal form of the file.
 
 -- An error of reading a file is one of updating it.
 pub error_of_reading_updated : (changes : Changes) (limits : Limits) (form : Form) (file : List ℕ) (error : Error) →
-    IsOpenError limits file error → IsUpdateError changes limits form file error
+    IsBootImageReadError limits file error → IsUpdateError changes limits form file error
 error_of_reading_updated changes limits form file (Refused fault) is = inl is
 error_of_reading_updated changes limits form file OutOfMemory is = is
 error_of_reading_updated changes limits form file ReadFailed is = is
@@ -60,7 +61,7 @@ module _ (changes : Changes) (limits : Limits) (form : Form) (file : List ℕ) (
   }
 
   pub legacy_updated : {S : Type 0} {appends : S → List ℕ → S → Type 0} (old new : S) → appends old updated_legacy_text new →
-      Appended appends (Updated changes limits form 0 file) old new
+      Appended appends (IsUpdateOutput changes limits form 0 file) old new
   unfolding legacy_is_updated
   legacy_updated old new appended = record {
     text = updated_legacy_text;
@@ -98,7 +99,7 @@ module _ (changes : Changes) (limits : Limits) (form : Form) (file : List ℕ) (
 
   pub tree_updated : (count : ℕ) (within : ¬ (HashesTooMuch changes limits (OfFit (tree_of content))))
       (fits : length (fit_text form updated_tree) ≤ limits.file) → count ≡ signatures_of_tree (tree_of content) →
-      Updated changes limits form count file (fit_text form updated_tree)
+      IsUpdateOutput changes limits form count file (fit_text form updated_tree)
   unfolding tree_is_updated
   tree_updated count within fits is_count = record {
     is = tree_is_updated within fits;

@@ -4,7 +4,7 @@ use Rattle.bi_base.specs.declared.fault.Error.{Error}
 use Rattle.bi_base.specs.Limits.{Limits}
 use Rattle.bi_norm.specs.Comparing.{MeansOnly}
 use Rattle.bi_norm.specs.Meaning.{Meaning, Means}
-use Rattle.bi_norm.specs.NormalForm.{IsOpenErrorOrTooLarge}
+use Rattle.bi_norm.specs.Reading.{IsReadErrorOrTooLarge}
 use Rattle.bi_commands.specs.declared.check.Allowed.{Allowed}
 use Rattle.bi_commands.specs.Checking.{Concern, AreConcerns, concern_lines}
 use Rattle.bi_commands.specs.PayloadBounds.{IsOverPayloadBound}
@@ -30,11 +30,11 @@ pub record HoldsTooMuch (limits : Limits) (file : List ℕ) : Type 0 where
 -- The error that checking a file in memory can have: one of reading it, or TooLarge at the limit
 -- if it means something whose payloads are over the payload bound.
 abbrev pub IsCheckError : Limits → List ℕ → Error → Type 0
-IsCheckError limits file = IsOpenErrorOrTooLarge limits file (HoldsTooMuch limits file)
+IsCheckError limits file = IsReadErrorOrTooLarge limits file (HoldsTooMuch limits file)
 
 -- The text has the lines of the concerns about the file that are not allowed, and this is whether
 -- there are none.
-pub record Checked (allowed : Allowed) (limits : Limits) (clean : Bool) (file text : List ℕ)
+pub record IsCheckOutput (allowed : Allowed) (limits : Limits) (clean : Bool) (file text : List ℕ)
     : Type 0
   where
     pub checked : IsChecked allowed limits file text
@@ -43,7 +43,7 @@ pub record Checked (allowed : Allowed) (limits : Limits) (clean : Bool) (file te
 -- What checking promises as a command.
 abbrev pub check_promise : Allowed → Limits → CommandPromise Bool Error
 check_promise allowed limits = record {
-  is_output = λ clean file text. Checked allowed limits clean file text;
+  is_output = λ clean file text. IsCheckOutput allowed limits clean file text;
   is_text = IsChecked allowed limits;
   has_error = IsCheckError limits;
   wraps = λ error. error;

@@ -5,7 +5,7 @@ use Rattle.bi_base.specs.Limits.{Limits}
 use Rattle.bi_base.specs.Reading.{too_large}
 use Rattle.bi_norm.specs.Comparing.{AreCompared, IsErrorOfSecond}
 use Rattle.bi_norm.specs.Meaning.{Meaning, OfLegacy, OfFit}
-use Rattle.bi_norm.specs.NormalForm.{IsOpenError, NeedsMemory}
+use Rattle.bi_norm.specs.Reading.{IsBootImageReadError, NeedsMemory}
 use Rattle.bi_commands.specs.declared.compare.CompareError.{CompareError}
 use Rattle.bi_commands.specs.declared.compare.CompareError.TheVariants.{One, Other, OutOfMemory}
 use Rattle.bi_commands.specs.Descriptions.{description, description_texts}
@@ -60,7 +60,7 @@ pub record IsComparison (limits : Limits) (one other : List ℕ) (same : Bool) (
 -- The error that reading two files can have: the fault of the first one, or else of the second one,
 -- or that memory ran out. The error names the file.
 abbrev pub IsReadingError : Limits → (one other : List ℕ) → CompareError → Type 0
-IsReadingError limits one other (One fault) = IsOpenError limits one (Refused fault)
+IsReadingError limits one other (One fault) = IsBootImageReadError limits one (Refused fault)
 IsReadingError limits one other (Other fault) = IsErrorOfSecond limits one other (Refused fault)
 IsReadingError limits one other OutOfMemory = NeedsMemory limits one
 

@@ -6,7 +6,7 @@ use Rattle.bi_base.specs.Limits.{Limits}
 use Rattle.bi_base.specs.Reading.{too_large}
 use Rattle.bi_norm.specs.Comparing.{MeansOnly}
 use Rattle.bi_norm.specs.Meaning.{Meaning, Means}
-use Rattle.bi_norm.specs.NormalForm.{IsOpenErrorOrTooLarge}
+use Rattle.bi_norm.specs.Reading.{IsReadErrorOrTooLarge}
 use Rattle.bi_commands.specs.Descriptions.{description}
 use Rattle.bi_commands.specs.PayloadBounds.{IsOverPayloadBound}
 
@@ -47,7 +47,7 @@ pub record MeansTooMuch (limits : Limits) (file : List ℕ) : Type 0 where
 -- The error that describing a file in memory can have: one of reading it, or TooLarge at the limit
 -- if it means something that is too long to describe.
 abbrev pub IsDescribeError : Limits → List ℕ → Error → Type 0
-IsDescribeError limits file = IsOpenErrorOrTooLarge limits file (MeansTooMuch limits file)
+IsDescribeError limits file = IsReadErrorOrTooLarge limits file (MeansTooMuch limits file)
 
 -- What describing promises as a command.
 abbrev pub describe_promise : Limits → CommandPromise (Unit {0}) Error

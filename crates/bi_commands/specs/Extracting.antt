@@ -12,7 +12,7 @@ use Rattle.bi_fit.specs.Judgement.{Image as TreeImage, ListResult, NoConfig, NoK
 use Rattle.bi_fit.specs.Judgement.{Missing, ListedImages, ListedImage}
 use Rattle.bi_fit.specs.Judgement.{images_of, image_named, listed_of, default_of}
 use Rattle.bi_norm.specs.Meaning.{Meaning, OfLegacy, OfFit, Means}
-use Rattle.bi_norm.specs.NormalForm.{IsOpenError}
+use Rattle.bi_norm.specs.Reading.{IsBootImageReadError}
 use Rattle.bi_commands.specs.declared.extract.Select.{Select}
 use Rattle.bi_commands.specs.declared.extract.Select.TheVariants.{Part, Image, Config, Default}
 use Rattle.bi_commands.specs.declared.extract.ExtractError.{ExtractError}
@@ -122,7 +122,7 @@ IsReason error.NoPayload choice = choice ≡ HasNoPayload
 -- The error that extracting from a file in memory can have: one of reading it, or the first reason
 -- why the selection chooses no bytes of what the file means.
 abbrev pub IsExtractError : Select → Limits → List ℕ → ExtractError → Type 0
-IsExtractError select limits file (error.Failed failed) = IsOpenError limits file failed
+IsExtractError select limits file (error.Failed failed) = IsBootImageReadError limits file failed
 IsExtractError select limits file other =
     MeansSuch limits file (λ meaning. IsReason other (choice_of select meaning))
 

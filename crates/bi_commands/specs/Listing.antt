@@ -8,7 +8,7 @@ use Rattle.bi_legacy.specs.Codes.{name_of_code}
 use Rattle.bi_legacy.specs.Meaning.{LegacyImage}
 use Rattle.bi_legacy.specs.PlacedParts.{PartModel, placed_parts}
 use Rattle.bi_legacy.specs.Reading.{LegacyModel, IsReadLegacy}
-use Rattle.bi_norm.specs.NormalForm.{IsOpenError}
+use Rattle.bi_norm.specs.Reading.{IsBootImageReadError}
 use Rattle.bi_commands.specs.FitListing.{IsFitListing}
 use Rattle.bi_commands.specs.Shown.{line, hexadecimal, shown_text}
 
@@ -69,9 +69,9 @@ pub data IsListing (limits : Limits) (file text : List ℕ) : Type 0 where
 -- What listing promises as a command.
 abbrev pub list_promise : Limits → CommandPromise (Unit {0}) Error
 list_promise limits =
-    unit_promise (IsListing limits) (IsOpenError limits)
+    unit_promise (IsListing limits) (IsBootImageReadError limits)
 
 pub list_laws : (limits : Limits) → PromiseLaws (list_promise limits)
 list_laws limits =
-    unit_laws (IsListing limits) (IsOpenError limits)
+    unit_laws (IsListing limits) (IsBootImageReadError limits)
     (λ input is. is) (λ input is. is)

@@ -12,7 +12,7 @@ use Rattle.bi_hash.specs.declared.verdicts.Verdict.{Verdict}
 use Rattle.bi_hash.specs.declared.verdicts.Verdict.TheVariants.{Good, Bad, UnknownAlgo, NoPayload}
 use Rattle.bi_hash.specs.declared.verdicts.Verdict.TheVariants.{Malformed}
 use Rattle.bi_norm.specs.Meaning.{Meaning, OfLegacy, OfFit, Means}
-use Rattle.bi_norm.specs.NormalForm.{IsOpenError}
+use Rattle.bi_norm.specs.Reading.{IsBootImageReadError}
 use Rattle.bi_commands.specs.Shown.{line, digits_of_byte, shown_text}
 
 -- The text of a report on the checksums and digests of a boot image (profile of this project).
@@ -99,16 +99,16 @@ abbrev pub AreGood : List CheckedHash → Type 0
 AreGood hashes = AllByRecursion (λ hash. hash.verdict ≡ Good) hashes
 
 -- The text is the report on the file, and this is whether no verdict in it is other than Good.
-pub record Verified (limits : Limits) (good : Bool) (file text : List ℕ) : Type 0 where
+pub record IsVerifyOutput (limits : Limits) (good : Bool) (file text : List ℕ) : Type 0 where
   pub report : IsReport limits file text
   pub all_good : IsTrue good ↔ AreGood (hashes_of report.meaning)
 
 -- What verifying promises as a command.
 abbrev pub verify_promise : Limits → CommandPromise Bool Error
 verify_promise limits = record {
-  is_output = λ good file text. Verified limits good file text;
+  is_output = λ good file text. IsVerifyOutput limits good file text;
   is_text = IsReport limits;
-  has_error = IsOpenError limits;
+  has_error = IsBootImageReadError limits;
   wraps = λ error. error;
 }
 

@@ -13,7 +13,7 @@ use Rattle.bi_legacy.specs.Meaning.{with_new_time}
 use Rattle.bi_norm.specs.Comparing.{MeansOnly}
 use Rattle.bi_norm.specs.Meaning.{Meaning, OfLegacy, OfFit, Means, normal_text}
 use Rattle.bi_norm.specs.Meaning.{meaning_signature_count}
-use Rattle.bi_norm.specs.NormalForm.{IsOpenErrorOrTooLarge}
+use Rattle.bi_norm.specs.Reading.{IsReadErrorOrTooLarge}
 use Rattle.bi_commands.specs.PayloadBounds.{IsOverPayloadBound}
 
 -- Updating a boot image: its time, and the digests in its hash nodes (profile of this project).
@@ -48,7 +48,7 @@ pub record IsUpdated (changes : Changes) (limits : Limits) (form : Form) (file t
   pub judgement : UpdatesJudgement changes meaning
 
 -- The text is that of the updated file, and this is the number of its signature nodes.
-pub record Updated (changes : Changes) (limits : Limits) (form : Form) (count : ℕ)
+pub record IsUpdateOutput (changes : Changes) (limits : Limits) (form : Form) (count : ℕ)
     (file text : List ℕ) : Type 0 where
   pub is : IsUpdated changes limits form file text
   pub signatures : count ≡ meaning_signature_count (updated_meaning changes is.meaning)
@@ -65,7 +65,7 @@ pub record IsTooLongToUpdate (changes : Changes) (limits : Limits) (form : Form)
 -- The error that updating a file in memory can have: one of reading it, or TooLarge at the limit.
 abbrev pub IsUpdateError : Changes → Limits → Form → List ℕ → Error → Type 0
 IsUpdateError changes limits form file =
-    IsOpenErrorOrTooLarge limits file (IsTooLongToUpdate changes limits form file)
+    IsReadErrorOrTooLarge limits file (IsTooLongToUpdate changes limits form file)
 
 -- These are the digests that the hash nodes get, one after another. If there are any, the payloads
 -- are within the payload bound.
@@ -83,7 +83,7 @@ IsDigestsError changes limits tree =
 -- What updating promises as a command.
 abbrev pub update_promise : Changes → Form → Limits → CommandPromise ℕ Error
 update_promise changes form limits = record {
-  is_output = λ count file text. Updated changes limits form count file text;
+  is_output = λ count file text. IsUpdateOutput changes limits form count file text;
   is_text = IsUpdated changes limits form;
   has_error = IsUpdateError changes limits form;
   wraps = λ error. error;

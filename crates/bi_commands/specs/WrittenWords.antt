@@ -2,10 +2,10 @@ use Rattle.std.specs.Prelude.{ℕ, List, map}
 use Rattle.std.specs.Borrow.{Bor}
 use Rattle.std.specs.Fmt.{decimal}
 use Rattle.std.specs.List.{join_with_byte}
-use Rattle.bi_commands.specs.declared.describe.words.Word.{Word}
-use Rattle.bi_commands.specs.declared.describe.words.Word.TheVariants.{Text, Shown, Decimal}
-use Rattle.bi_commands.specs.declared.describe.words.Word.TheVariants.{Hexadecimal, Hexadecimal64}
-use Rattle.bi_commands.specs.declared.describe.words.Word.TheVariants.{Sha256, Path, Value}
+use Rattle.bi_commands.specs.declared.words.Word.{Word}
+use Rattle.bi_commands.specs.declared.words.Word.TheVariants.{Text, Shown, Decimal}
+use Rattle.bi_commands.specs.declared.words.Word.TheVariants.{Hexadecimal, Hexadecimal64}
+use Rattle.bi_commands.specs.declared.words.Word.TheVariants.{Sha256, Path, Value}
 use Rattle.bi_commands.specs.Descriptions.{Words, path}
 use Rattle.bi_commands.specs.FitListing.{hexadecimal_64}
 use Rattle.bi_commands.specs.Shown.{hexadecimal, shown_text}

@@ -8,9 +8,7 @@ ghost use Rattle.std.specs.Prelude.{string_bytes};
 ghost use Rattle.bi_base.specs.Limits.{Limits};
 ghost use Rattle.bi_norm.specs.Comparing.{AreCompared};
 ghost use Rattle.bi_norm.specs.Meaning.{Meaning, Means};
-ghost use Rattle.bi_norm.specs.NormalForm.{IsOpenError};
-ghost use Rattle.bi_norm.specs.OpenedMeaning.{meaning_of};
-ghost use Rattle.bi_norm.specs.Opening.{IsReadBootImage};
+ghost use Rattle.bi_norm.specs.Reading.{IsBootImageReadError, meaning_of, IsReadBootImage};
 ghost use Rattle.bi_commands.specs.Comparing.{IsComparison, IsComparisonError};
 ghost use Rattle.bi_commands.specs.Comparing.{IsReadingError, IsDescribingError, comparison};
 ghost use Rattle.bi_commands.specs.Descriptions.{description};
@@ -124,7 +122,7 @@ fn read_one(alloc: Global, file: &[u8], limits: Limits) -> Result<BootImage<'_>,
 
 /// Returns the failure for an error of reading the first file.
 fn reading_failure(error: Error) -> CompareError
-    ensures { (limits : Limits) (file other : List ℕ) → IsOpenError limits file error
+    ensures { (limits : Limits) (file other : List ℕ) → IsBootImageReadError limits file error
         → IsReadingError limits file other result }
 {
     match error {

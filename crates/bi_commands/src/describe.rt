@@ -3,7 +3,7 @@
 ghost use Rattle.std.specs.Prelude.{◌≡◌, ⊤, IfOk, OnOk, IfErr, IsAscii, string_bytes};
 ghost use Rattle.bi_base.specs.Commands.{Appended, AppendFailed};
 ghost use Rattle.bi_base.specs.Pipes.{IsPiped};
-ghost use Rattle.bi_norm.specs.OpenedMeaning.{meaning_of};
+ghost use Rattle.bi_norm.specs.Reading.{meaning_of};
 ghost use Rattle.bi_commands.specs.Descriptions.{description};
 ghost use Rattle.bi_commands.specs.Describing.{CanBeDescribed, IsImageError};
 ghost use Rattle.bi_commands.specs.Describing.{IsDescription, IsDescribeError};
@@ -20,19 +20,13 @@ mod lines;
 mod long_names;
 mod nodes;
 mod properties;
-mod values;
-mod words;
 
 use bi_base::{Command, Error, Limits, Sink, VecSink, are_bytes, pipe_to};
 use bi_norm::BootImage;
-pub(crate) use digests::{check_payloads, length_of};
 use fit::describe_fit;
-pub(crate) use fit::put_reservations;
 use legacy::describe_legacy;
-pub(crate) use legacy::{put_codes, put_kind_and_fields};
 use std::alloc::Global;
 use std::io::{Read, Write};
-pub(crate) use words::{Word, put_decimal, put_later_word, put_line, put_lines, put_words};
 
 /// Returns the description of what a boot image means.
 ///
@@ -40,8 +34,7 @@ pub(crate) use words::{Word, put_decimal, put_later_word, put_line, put_lines, p
 /// payloads of a flattened image tree together are longer than that, each counted for each image
 /// that has it, or if the description is. OutOfMemory may come in place of any of these, but only
 /// after the checks of a legacy image, or of the header and the memory reservation block of a blob.
-/// ReadFailed and WriteFailed never come. No payload is hashed before the lengths of the payloads
-/// are checked.
+/// No payload is hashed before the lengths of the payloads are checked.
 pub fn describe(alloc: Global, file: &[u8], limits: Limits) -> Result<String, Error>
     ensures described { IfOk result (λ text. IsDescription limits file.now (string_bytes text)) }
     ensures failed { IfErr result (IsDescribeError limits file.now) }

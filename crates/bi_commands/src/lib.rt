@@ -5,6 +5,7 @@
 pub mod build_fit;
 pub mod build_legacy;
 pub mod check;
+mod common_lines;
 pub mod compare;
 pub mod convert;
 pub mod describe;
@@ -13,7 +14,9 @@ pub mod known_texts;
 pub mod laws;
 pub mod list;
 pub mod parts;
+mod payload_bounds;
 pub mod shown;
 pub mod unshown;
 pub mod update;
 pub mod verify;
+mod words;

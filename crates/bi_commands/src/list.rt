@@ -8,7 +8,7 @@ mod names;
 ghost use Rattle.std.specs.Prelude.{⊤, IfOk, OnOk, IfErr, string_bytes};
 ghost use Rattle.bi_base.specs.Commands.{Appended, AppendFailed};
 ghost use Rattle.bi_base.specs.Pipes.{IsPiped};
-ghost use Rattle.bi_norm.specs.NormalForm.{IsOpenError};
+ghost use Rattle.bi_norm.specs.Reading.{IsBootImageReadError};
 ghost use Rattle.bi_commands.specs.Listing.{IsListing, list_promise, list_laws};
 
 use bi_base::{Command, Error, Limits, Sink, VecSink, pipe_to};
@@ -24,10 +24,10 @@ use std::io::{Read, Write};
 /// Errors, the first that applies: TooLarge at the limit, if the file is longer; Truncated at 0, if
 /// it has fewer than four bytes; BadMagic at 0; those of `Legacy::read` or of `Fit::read`.
 /// OutOfMemory may come in place of any of these, but only after the checks of a legacy image, or
-/// of the header and the memory reservation block of a blob. ReadFailed and WriteFailed never come.
+/// of the header and the memory reservation block of a blob.
 pub fn listing(alloc: Global, file: &[u8], limits: Limits) -> Result<String, Error>
     ensures lists { IfOk result (λ text. IsListing limits file.now (string_bytes text)) }
-    ensures failed { IfErr result (IsOpenError limits file.now) }
+    ensures failed { IfErr result (IsBootImageReadError limits file.now) }
 {
     let mut sink = VecSink::new(alloc);
     list_into(alloc, file, limits, &mut sink)?;
@@ -43,7 +43,7 @@ fn list_into<S: Sink>(alloc: Global, file: &[u8], limits: Limits, sink: &mut S) 
     ensures appended { OnOk result (Appended S.appends (IsListing limits file.now)
         sink.old sink.new) }
     ensures failed { IfErr result (AppendFailed S.fails (IsListing limits file.now)
-        (IsOpenError limits file.now) sink.old sink.new) }
+        (IsBootImageReadError limits file.now) sink.old sink.new) }
 {
     match BootImage::read(alloc, file, limits)? {
         BootImage::Legacy(image) => list_legacy(&image, sink),

@@ -6,11 +6,11 @@ ghost use Rattle.bi_base.specs.Pipes.{IsPiped};
 ghost use Rattle.bi_fit.specs.Content.{tree_of};
 ghost use Rattle.bi_fit.specs.Reading.{IsReadFit};
 ghost use Rattle.bi_legacy.specs.Reading.{IsReadLegacy};
-ghost use Rattle.bi_commands.specs.UpdatedFiles.{IsUpdated, Updated, IsUpdateError};
+ghost use Rattle.bi_commands.specs.UpdatedFiles.{IsUpdated, IsUpdateOutput, IsUpdateError};
 ghost use Rattle.bi_commands.specs.UpdatedFiles.{HasNewDigests, IsDigestsError};
 ghost use Rattle.bi_commands.specs.UpdatedFiles.{update_promise, update_laws};
 
-use crate::describe::check_payloads;
+use crate::payload_bounds::check_payloads;
 use bi_base::{Command, Error, Limits, Sink, VecSink, pipe_to};
 pub use bi_fit::Changes;
 use bi_fit::{Fit, Form};
@@ -28,7 +28,7 @@ use std::io::{Read, Write};
 /// longer than that, each counted for each image that has it; TooLarge at the limit, if the text of
 /// a flattened image tree is longer. No payload is hashed before the lengths of the payloads are
 /// checked. OutOfMemory comes only after the checks of a legacy image, or of the header and the
-/// memory reservation block of a blob. ReadFailed and WriteFailed never come.
+/// memory reservation block of a blob.
 pub fn update(
     alloc: Global,
     file: &[u8],
@@ -60,7 +60,7 @@ pub fn update_into<S: Sink>(
     sink: &mut S,
 ) -> Result<usize, Error>
     ensures appended { IfOk result (λ count. Appended S.appends
-        (Updated changes limits form count file.now) sink.old sink.new) }
+        (IsUpdateOutput changes limits form count file.now) sink.old sink.new) }
     ensures failed { IfErr result (AppendFailed S.fails (IsUpdated changes limits form file.now)
         (IsUpdateError changes limits form file.now) sink.old sink.new) }
 {
@@ -131,7 +131,7 @@ fn update_legacy<S: Sink>(
     sink: &mut S,
 ) -> Result<usize, Error>
     ensures appended { (form : Form) (file : List ℕ) → IsReadLegacy limits file image.now →
-        IfOk result (λ count. Appended S.appends (Updated changes limits form count file)
+        IfOk result (λ count. Appended S.appends (IsUpdateOutput changes limits form count file)
         sink.old sink.new) }
     ensures failed { (form : Form) (file : List ℕ) → IsReadLegacy limits file image.now →
         IfErr result (AppendFailed S.fails (IsUpdated changes limits form file)
@@ -153,7 +153,7 @@ fn update_fit<S: Sink>(
     sink: &mut S,
 ) -> Result<usize, Error>
     ensures appended { (file : List ℕ) → IsReadFit limits file fit.now →
-        IfOk result (λ count. Appended S.appends (Updated changes limits form count file)
+        IfOk result (λ count. Appended S.appends (IsUpdateOutput changes limits form count file)
         sink.old sink.new) }
     ensures failed { (file : List ℕ) → IsReadFit limits file fit.now →
         IfErr result (AppendFailed S.fails (IsUpdated changes limits form file)

@@ -9,8 +9,8 @@ ghost use Rattle.bi_fit.specs.JudgementCalls.{checked_hash_of};
 ghost use Rattle.bi_hash.specs.declared.verdicts.Verdict.TheVariants.{Good};
 ghost use Rattle.bi_fit.specs.Reading.{IsReadFit};
 ghost use Rattle.bi_legacy.specs.Reading.{IsReadLegacy};
-ghost use Rattle.bi_norm.specs.NormalForm.{IsOpenError};
-ghost use Rattle.bi_commands.specs.Reports.{Verified, hash_line, summary_line};
+ghost use Rattle.bi_norm.specs.Reading.{IsBootImageReadError};
+ghost use Rattle.bi_commands.specs.Reports.{IsVerifyOutput, hash_line, summary_line};
 ghost use Rattle.bi_commands.specs.Reports.{verify_promise, verify_laws};
 ghost use Rattle.bi_commands.specs.Reports.{count_of as number_of, verdict_word as word_of};
 ghost use Rattle.bi_commands.specs.Reports.{is_verdict as has_verdict};
@@ -43,11 +43,11 @@ pub struct Report {
 /// Errors, the first that applies: TooLarge at the limit, if the file is longer; Truncated at 0, if
 /// it has fewer than four bytes; BadMagic at 0; those of `Legacy::read` or of `Fit::read`.
 /// OutOfMemory may come in place of any of these, but only after the checks of a legacy image, or
-/// of the header and the memory reservation block of a blob. ReadFailed and WriteFailed never come.
+/// of the header and the memory reservation block of a blob.
 pub fn verify(alloc: Global, file: &[u8], limits: Limits) -> Result<Report, Error>
-    ensures verified { IfOk result (λ report. Verified limits report.all_good file.now
+    ensures verified { IfOk result (λ report. IsVerifyOutput limits report.all_good file.now
         (string_bytes report.text)) }
-    ensures failed { IfErr result (IsOpenError limits file.now) }
+    ensures failed { IfErr result (IsBootImageReadError limits file.now) }
 {
     match BootImage::read(alloc, file, limits)? {
         BootImage::Legacy(image) => verify_legacy(alloc, &image),
@@ -104,9 +104,10 @@ pub fn verify_to<R: Read, W: Write>(
 /// Returns the report on a legacy image that was read, so its checksums are right.
 fn verify_legacy(alloc: Global, _image: &Legacy) -> Result<Report, Error>
     ensures verified { (limits : Limits) (file : List ℕ) → IsReadLegacy limits file _image.now →
-        IfOk result (λ report. Verified limits report.all_good file (string_bytes report.text)) }
+        IfOk result (λ report. IsVerifyOutput limits report.all_good file
+        (string_bytes report.text)) }
     ensures failed { (limits : Limits) (file : List ℕ) → IsReadLegacy limits file _image.now →
-        IfErr result (IsOpenError limits file) }
+        IfErr result (IsBootImageReadError limits file) }
 {
     let text = legacy_lines(alloc)?;
     Ok(Report {
@@ -125,9 +126,10 @@ fn legacy_lines(alloc: Global) -> Result<String, AllocError>
 /// Returns the report on a flattened image tree that was read.
 fn verify_fit(alloc: Global, fit: &Fit) -> Result<Report, Error>
     ensures verified { (limits : Limits) (file : List ℕ) → IsReadFit limits file fit.now →
-        IfOk result (λ report. Verified limits report.all_good file (string_bytes report.text)) }
+        IfOk result (λ report. IsVerifyOutput limits report.all_good file
+        (string_bytes report.text)) }
     ensures failed { (limits : Limits) (file : List ℕ) → IsReadFit limits file fit.now →
-        IfErr result (IsOpenError limits file) }
+        IfErr result (IsBootImageReadError limits file) }
 {
     let hashes = fit.verdicts(alloc)?;
     let text = hash_lines(alloc, &hashes)?;

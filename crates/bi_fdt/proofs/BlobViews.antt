@@ -20,7 +20,7 @@ use Rattle.bi_fdt.specs.Table.{item_in}
 use Rattle.bi_fdt.specs.Reading.{IsTable, HasTable}
 use Rattle.bi_fdt.specs.Content.{root_in}
 use Rattle.bi_fdt.specs.Fields.{IsBlobHeld, HaveNameOffsets}
-use Rattle.bi_fdt.specs.ReadBlobs.{IsOnlyFault, IsReadBlob, IsBlobReadError}
+use Rattle.bi_fdt.specs.ReadBlobs.{IsOnlyBlobFault, IsReadBlob, IsBlobReadError}
 use Rattle.bi_blob.proofs.Blobs.OneBlob.{one_blob}
 use Rattle.bi_blob.proofs.Blobs.Faults.{blob_has_no_fault}
 use Rattle.bi_fdt.proofs.TableTrees.{root_in-table}
@@ -29,7 +29,7 @@ use Rattle.bi_fdt.proofs.NameOffsetsOfTables.{names_in_tree}
 -- A blob that was read from a file without faults has the reservations and the tree of the file, and the fault of a file is its only one.
 
 -- The fault of a file is its only one.
-pub only_fault : (limits : Limits) (file : List ℕ) (fault : Fault) → IsBlobFault limits file fault → IsOnlyFault limits file fault
+pub only_fault : (limits : Limits) (file : List ℕ) (fault : Fault) → IsBlobFault limits file fault → IsOnlyBlobFault limits file fault
 only_fault limits file fault is = record {
   is_fault = is;
   only = λ other is_other. one_blob_fault limits file other fault is_other is;

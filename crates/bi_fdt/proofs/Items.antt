@@ -2,13 +2,17 @@ use Rattle.std.proofs.Common.{◌≡◌, ℕ, ◌+◌, ◌-◌, ◌<◌, ◌≤�
 use Rattle.std.specs.Prelude.{if◌then◌else◌}
 use Rattle.std.proofs.lemmas.Bool.{lt-ltb, le-ltb}
 use Rattle.std.proofs.lemmas.List.{append_assoc, append-nil, length-append, length-map}
-use Rattle.bi_blob.specs.Tree.{Nodes, none, node, FileProperty, FileNode, names}
-use Rattle.bi_blob.specs.Events.{FileEvent, FileNodeStart, FileNodeProperty, FileNodeEnd, file_events}
+use Rattle.bi_blob.specs.Tree.{Nodes, none, node, Root, FileProperty, FileNode, names}
+use Rattle.bi_blob.specs.Events.{FileEvent, FileNodeStart, FileNodeProperty, FileNodeEnd, file_events, file_events_of}
 use Rattle.bi_blob.specs.OpenNodes.{OpenFileNode, events_of_open_node, events_of_open_nodes}
 use Rattle.bi_blob.proofs.Blobs.OpenNodes.{no_children}
 use Rattle.bi_fdt.specs.Table.{TableItem, NodeItem, PropertyItem, items_of, count_inside}
 
 -- The items of the events of nodes are the items of the nodes, and all items of an open node after its beginning are inside it.
+
+-- The table of a tree.
+abbrev pub table_of : Root FileNode → List TableItem
+table_of root = items_of 0 (file_events_of root)
 
 -- How many nodes are open after events.
 abbrev pub depth_after : ℕ → List FileEvent → ℕ

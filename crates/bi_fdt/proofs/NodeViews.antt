@@ -12,10 +12,10 @@ use Rattle.bi_fdt.specs.declared.table.Entry.TheVariants as entry
 use Rattle.bi_fdt.specs.declared.table.NodeEntry.{NodeEntry}
 use Rattle.bi_fdt.specs.declared.table.PropertyEntry.{PropertyEntry}
 use Rattle.bi_fdt.specs.Table.{TableItem, NodeItem, PropertyItem, first_properties, nodes_of, count_inside, node_name_in, property_in, item_in}
-use Rattle.bi_fdt.specs.Content.{begins_with_node, first_sibling, table_of}
+use Rattle.bi_fdt.specs.Content.{begins_with_node, first_sibling}
 use Rattle.bi_fdt.specs.Fields.{IsNodeOf}
 use Rattle.bi_fdt.proofs.TableTrees.{nodes-same, nodes-above, nodes-deeper, nodes-table}
-use Rattle.bi_fdt.proofs.Items.{inside-deeper, inside-stops}
+use Rattle.bi_fdt.proofs.Items.{table_of, inside-deeper, inside-stops}
 use Rattle.bi_fdt.proofs.GrowingTables.{drop-within}
 use Rattle.bi_fdt.proofs.NodeEntries.{IsFirstAt, first_at, items_here, drop-next, first_most, first_take, first_depth, first_rest}
 use Rattle.bi_fdt.proofs.NodeEntries.{nodes-past_properties, inside-past_properties, nodes-past_inside, after_inside}

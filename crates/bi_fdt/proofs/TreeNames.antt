@@ -5,7 +5,7 @@ use Rattle.bi_blob.specs.Tree.{Root, FileNode, FileProperty}
 use Rattle.bi_blob.specs.Events.{FileEvent, FileNodeStart, FileNodeProperty, FileNodeEnd, file_events_of}
 use Rattle.bi_blob.proofs.Blobs.OpenNodes.{All-push}
 use Rattle.bi_fdt.specs.declared.table.Entry.{Entry}
-use Rattle.bi_fdt.specs.Content.{table_of}
+use Rattle.bi_fdt.proofs.Items.{table_of}
 use Rattle.bi_fdt.specs.NameTables.{HasAtMostNameOf}
 use Rattle.bi_fdt.specs.Table.{TableItem, NodeItem, PropertyItem, item_in, items_of}
 use Rattle.bi_fdt.specs.TreeNames.{IsNameIn, HasMoreNamesOf}

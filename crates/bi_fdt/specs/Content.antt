@@ -1,10 +1,8 @@
 use Rattle.std.specs.Prelude.{ℕ, ◌+◌, List, [], ◌∷◌, Bool, true, false}
 use Rattle.bi_blob.specs.Tree.{Nodes, none, node, Root, FileNode}
-use Rattle.bi_blob.specs.Events.{file_events_of}
 use Rattle.bi_blob.specs.Lookups.{Sibling}
 use Rattle.bi_blob.specs.Blob.{Reservation}
 use Rattle.bi_fdt.specs.Table.{TableItem, NodeItem, PropertyItem, first_properties, nodes_of}
-use Rattle.bi_fdt.specs.Table.{items_of}
 
 -- What a blob that was read holds.
 
@@ -29,10 +27,6 @@ root_in items = first_as_root (nodes_of 0 items)
 -- The tree that a blob holds.
 abbrev pub root_of : Blob → Root FileNode
 root_of content = root_in content.table
-
--- The table of a tree.
-abbrev pub table_of : Root FileNode → List TableItem
-table_of root = items_of 0 (file_events_of root)
 
 -- Whether items begin with a node.
 abbrev pub begins_with_node : List TableItem → Bool

@@ -24,7 +24,7 @@ pub record IsReadBlob (limits : Limits) (file : List ℕ) (blob : Blob) : Type 0
   pub no_fault : (fault : Fault) → ¬ (IsBlobFault limits file fault)
 
 -- The file has this fault and no other, and is no blob within the limits.
-pub record IsOnlyFault (limits : Limits) (file : List ℕ) (fault : Fault) : Type 0 where
+pub record IsOnlyBlobFault (limits : Limits) (file : List ℕ) (fault : Fault) : Type 0 where
   pub is_fault : IsBlobFault limits file fault
   pub only : (other : Fault) → IsBlobFault limits file other → other ≡ fault
   pub means_nothing : ¬ (IsBlobWithin limits file)
@@ -32,4 +32,5 @@ pub record IsOnlyFault (limits : Limits) (file : List ℕ) (fault : Fault) : Typ
 -- The error of reading a file: its fault; or that memory ran out, which happens only if the header
 -- and the memory reservation block have no fault.
 abbrev pub IsBlobReadError : Limits → List ℕ → Error → Type 0
-IsBlobReadError limits file = FailsWith (IsOnlyFault limits file) (HasNoFaultBeforeTree limits file)
+IsBlobReadError limits file =
+    FailsWith (IsOnlyBlobFault limits file) (HasNoFaultBeforeTree limits file)

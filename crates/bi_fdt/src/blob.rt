@@ -81,7 +81,6 @@ impl<'a> Blob<'a> {
     ///   and DuplicateProperty for a property.
     ///
     /// OutOfMemory comes only if the header and the memory reservation block have no fault.
-    /// ReadFailed and WriteFailed never come.
     pub fn read(alloc: Global, file: &'a [u8], limits: Limits) -> Result<Blob<'a>, Error>
         ensures read { IfOk result (IsReadBlob limits file.entry.now) }
         ensures failed { IfErr result (IsBlobReadError limits file.entry.now) }

@@ -1,6 +1,6 @@
 //! Parts of names, and their numbers.
 
-ghost use Rattle.std.specs.Prelude.{◌≡◌, ◌+◌, ◌<◌, ◌^◌, [], IfOk, IfErr, length};
+ghost use Rattle.std.specs.Prelude.{◌≡◌, ◌<◌, ◌^◌, [], IfOk, IfErr, length};
 
 use bi_blob::name_prefix;
 use std::alloc::{AllocError, Global};

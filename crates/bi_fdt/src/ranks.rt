@@ -1,6 +1,6 @@
 //! The ranks of the names of properties: names with lower ranks are first in byte order.
 
-ghost use Rattle.std.specs.Prelude.{◌≡◌, ℕ, List, Some, length, map, slice_get, slice_index};
+ghost use Rattle.std.specs.Prelude.{◌≡◌, List, length, map, slice_index};
 ghost use Rattle.std.specs.Prelude.{IfOk, All, Contains};
 ghost use Rattle.std.specs.List.{AllZip};
 ghost use Rattle.std.specs.List.Sorted.{IsStrictlySortedBy};

@@ -12,8 +12,8 @@ use Rattle.bi_hash.proofs.DigestBytes.{length-digest_of}
 use Rattle.bi_fit.specs.declared.form.Form.TheVariants.{Embedded}
 use Rattle.bi_fit.specs.Names.{data_name, default_name}
 use Rattle.bi_fit.specs.Text.{normal_tree}
-use Rattle.bi_fit.specs.Building.{text_value, root_properties, built_image_properties, hash_properties, configuration_name}
-use Rattle.bi_fit.specs.Building.{configuration_properties, built_tree}
+use Rattle.bi_fit.specs.Building.{text_value, built_root_properties, built_image_properties, built_hash_properties, configuration_name}
+use Rattle.bi_fit.specs.Building.{built_configuration_properties, built_tree}
 use Rattle.bi_fit.specs.KnownBuilds.{known_head, known_kernel, known_ramdisk, known_tree, known_text, BuiltIsKnown, EachKeyIsKnown}
 use Rattle.bi_fit.proofs.FileFacts.{no_entries}
 
@@ -41,15 +41,15 @@ abc_digest = digest_of Sha256 (codes "abc")
 known_is_tree : normal_tree Embedded (built_tree known_head (known_kernel ∷ known_ramdisk ∷ [])) ≡ known_tree hello_digest abc_digest
 known_is_tree =
     λ i. record {
-      own = entries_in_order (root_properties known_head) i;
+      own = entries_in_order (built_root_properties known_head) i;
       children = node (codes "images") (no_entries i)
           (node (codes "kernel-1") (entries_in_order ((data_name, codes "hello") ∷ built_image_properties known_head known_kernel) i)
-          (node (codes "hash-1") (entries_in_order (hash_properties (codes "hello")) i) none none)
+          (node (codes "hash-1") (entries_in_order (built_hash_properties (codes "hello")) i) none none)
           (node (codes "ramdisk-1") (entries_in_order ((data_name, codes "abc") ∷ built_image_properties known_head known_ramdisk) i)
-          (node (codes "hash-1") (entries_in_order (hash_properties (codes "abc")) i) none none)
+          (node (codes "hash-1") (entries_in_order (built_hash_properties (codes "abc")) i) none none)
           none))
           (node (codes "configurations") (entries_in_order ((default_name, text_value configuration_name) ∷ []) i)
-          (node (codes "conf-1") (entries_in_order (configuration_properties known_head (known_kernel ∷ known_ramdisk ∷ [])) i) none none)
+          (node (codes "conf-1") (entries_in_order (built_configuration_properties known_head (known_kernel ∷ known_ramdisk ∷ [])) i) none none)
           none);
     }
 

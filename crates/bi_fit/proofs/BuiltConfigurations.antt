@@ -17,8 +17,8 @@ use Rattle.bi_fit.specs.declared.key.Key.{Key}
 use Rattle.bi_fit.specs.declared.key.Key.TheVariants.{Kernel, Fdt, Ramdisk, Firmware, Loadables, Script}
 use Rattle.bi_fit.specs.Names.{key_name, all_keys, default_name}
 use Rattle.bi_fit.specs.Judgement.{Image, images_with, ListedImages, image_named, list_images, listed_at}
-use Rattle.bi_fit.specs.Building.{HeadModel, ImageSpecModel, text_value, built_image_properties, hash_properties, hash_node_name}
-use Rattle.bi_fit.specs.Building.{built_images, is_under, names_under, list_property, configuration_name, configuration_properties}
+use Rattle.bi_fit.specs.Building.{HeadModel, ImageSpecModel, text_value, built_image_properties, built_hash_properties, hash_node_name}
+use Rattle.bi_fit.specs.Building.{built_images, is_under, names_under, list_property, configuration_name, built_configuration_properties}
 use Rattle.bi_fit.specs.Building.{IsImageSpec}
 use Rattle.bi_fit.specs.Laws.{list_of_built, BuiltHasConfiguration}
 use Rattle.bi_fit.proofs.NameLists.{ends_later, names_listed}
@@ -112,7 +112,7 @@ module _ (images : List ImageSpecModel) where
 
 -- The properties of the configuration by name.
 abbrev configuration_by_name : HeadModel → List ImageSpecModel → PropertyMap
-configuration_by_name head images = from_entries (configuration_properties head images)
+configuration_by_name head images = from_entries (built_configuration_properties head images)
 
 -- The description is no list.
 after_description : (key : Key) (value : List ℕ) (rest : List Property) →
@@ -128,7 +128,7 @@ after_description Script value rest = refl
 has_under : (head : HeadModel) (images : List ImageSpecModel) (key : Key) →
     get (configuration_by_name head images) (key_name key) ≡ list_value (names_under key images)
 has_under head images key =
-    get-from_entries nat_list_cmp_total (configuration_properties head images) (key_name key)
+    get-from_entries nat_list_cmp_total (built_configuration_properties head images) (key_name key)
     ∙ after_description key (text_value head.description) (lists_of images all_keys)
     ∙ found_key images key
 
@@ -163,7 +163,7 @@ first_image head image later = record {
   entry = record {
     name = image.name;
     own = from_entries (built_image_properties head image);
-    children = node hash_node_name (from_entries (hash_properties image.payload)) none none;
+    children = node hash_node_name (from_entries (built_hash_properties image.payload)) none none;
     later = built_images head later;
   };
   payload = Some image.payload;

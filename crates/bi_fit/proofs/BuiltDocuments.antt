@@ -4,7 +4,7 @@ use Rattle.std.specs.Cmp.Lexicographic.{slice_cmp}
 use Rattle.std.specs.FinMap.{from_entries, entries, get-from_entries}
 use Rattle.std.proofs.lemmas.Cmp.{nat_list_cmp_total}
 use Rattle.bi_base.specs.Cells.{up4}
-use Rattle.bi_blob.specs.Tree.{none, node, PropertyMap}
+use Rattle.bi_blob.specs.Tree.{Nodes, none, node, Property, PropertyMap}
 use Rattle.bi_blob.specs.Events.{Event, events, events_of, NodeEnd}
 use Rattle.bi_blob.specs.Following.{AreClosedEvents, MayFollowInText, MayEnd, stage_of_events}
 use Rattle.bi_blob.specs.Stages.{AfterRoot}
@@ -18,7 +18,7 @@ use Rattle.bi_fit.specs.declared.form.Form.{Form}
 use Rattle.bi_fit.specs.declared.form.Form.TheVariants.{Embedded, External}
 use Rattle.bi_fit.specs.NormalNodes.{MayAdd, with_events, begin_events, next_end}
 use Rattle.bi_fit.specs.PropertyMapModels.{PropertyMapModel, without_numbers, HaveNumbers}
-use Rattle.bi_fit.specs.Building.{HeadModel, ImageSpecModel, CanBeBuilt, built_tree, cell_property, built_image_properties, root_properties}
+use Rattle.bi_fit.specs.Building.{HeadModel, ImageSpecModel, CanBeBuilt, built_tree, cell_property, built_image_properties, built_root_properties}
 use Rattle.bi_fit.specs.Documents.{document_of}
 use Rattle.bi_fit.specs.ImageTree.{with_image_nodes, without_payload}
 use Rattle.bi_fit.specs.Names.{is_payload_name}
@@ -33,9 +33,25 @@ use Rattle.std.proofs.lemmas.List.{at_drop_more}
 use Rattle.bi_base.proofs.ListMembers.{each-append}
 use Rattle.bi_fit.specs.declared.building.NamedImage.{NamedImage}
 use Rattle.bi_fit.specs.NamedImages.{named_model, named_models}
-use Rattle.bi_fit.specs.BuiltNodes.{built_payloads, hash_node, hash_node_with, placed_properties, image_node, built_image_nodes, images_node, configurations_node}
+use Rattle.bi_fit.specs.BuiltNodes.{built_payloads, hash_node_with, built_image_nodes, built_images_node, built_configurations_node}
 
 -- The nodes of a tree to be built may be added to a document one after the other, and the document is then that of the tree.
+
+-- The hash node of an image with this payload.
+abbrev pub built_hash_node : List ℕ → Nodes (List Property)
+built_hash_node payload = hash_node_with (digest_of Sha256 payload)
+
+-- The properties of an image node, with those that give its payload.
+abbrev pub placed_properties : Form → (begin : ℕ) → HeadModel → ImageSpecModel → PropertyMap
+placed_properties form begin head image =
+    with_payload form begin (Some image.payload) (from_entries (built_image_properties head image))
+
+-- An image node without its siblings.
+abbrev pub built_image_node : Form → (begin : ℕ) → HeadModel → ImageSpecModel
+    → Nodes (List Property)
+built_image_node form begin head image =
+    node image.name (entries (placed_properties form begin head image))
+    (built_hash_node image.payload) none
 
 -- No name of the properties of a node to be built has a number.
 pub have_no_numbers : (names : List (List ℕ)) (properties : PropertyMapModel) (own : PropertyMap) → properties ≡ without_numbers own →
@@ -67,7 +83,7 @@ pub same_built_image : (one form : Form) (begin : ℕ) (head : HeadModel) (image
     (made : PropertyMapModel) (digest : List ℕ) →
     one ≡ form → made ≡ without_numbers (from_entries (built_image_properties head image)) → digest ≡ digest_of Sha256 image.payload →
     node image.name (entries (with_payload one begin (Some image.payload) (without_payload made.by_name))) (hash_node_with digest) none
-    ≡ image_node form begin head image
+    ≡ built_image_node form begin head image
 same_built_image one form begin head image made digest same_form is_made is_digest =
     ap (λ one. node image.name (entries (with_payload one begin (Some image.payload) (without_payload made.by_name))) (hash_node_with digest) none) same_form
     ∙ ap (λ own. node image.name (entries own) (hash_node_with digest) none)
@@ -79,7 +95,7 @@ embedded_anywhere : (one other : ℕ) (head : HeadModel) (images : List ImageSpe
     built_image_nodes Embedded one head images ≡ built_image_nodes Embedded other head images
 embedded_anywhere one other head [] = refl
 embedded_anywhere one other head (image ∷ later) =
-    ap (node image.name (entries (placed_properties Embedded (up4 one) head image)) (hash_node image.payload))
+    ap (node image.name (entries (placed_properties Embedded (up4 one) head image)) (built_hash_node image.payload))
     (embedded_anywhere (end_after one (Some image.payload)) (end_after other (Some image.payload)) head later)
 
 -- The image nodes after the first.
@@ -111,7 +127,7 @@ module _ (form : Form) (head : HeadModel) (images : List ImageSpecModel) where
 
   -- The root begins with these events, and its children are these.
   abbrev pub root_begin : List Event
-  root_begin = begin_events [] (from_entries {R = slice_cmp nat_cmp} (root_properties head))
+  root_begin = begin_events [] (from_entries {R = slice_cmp nat_cmp} (built_root_properties head))
 
   abbrev pub root_children : List Event
   root_children = events (normal_tree form (built_tree head images)).children
@@ -130,18 +146,18 @@ module _ (form : Form) (head : HeadModel) (images : List ImageSpecModel) where
       adding = adding_all begun (normal_tree form (built_tree head images)).children (may_have_children started root_begin root_children begun is_begun may_all)
 
       -- The node of the images may be added,
-      pub may_add_images : MayAdd begun (events (images_node form head images))
+      pub may_add_images : MayAdd begun (events (built_images_node form head images))
       may_add_images = may_add_first begun (with_events begun root_children) _ _ _ _ adding
 
-      module _ (more : Doc) (is_more : more ≡ with_events begun (events (images_node form head images))) where
-        after_images : IsAdding more (with_events begun root_children) (configurations_node head images)
+      module _ (more : Doc) (is_more : more ≡ with_events begun (events (built_images_node form head images))) where
+        after_images : IsAdding more (with_events begun root_children) (built_configurations_node head images)
         after_images = adding_later begun (with_events begun root_children) _ _ _ _ adding more is_more
 
         -- then that of the configuration,
-        pub may_add_configurations : MayAdd more (events (configurations_node head images))
+        pub may_add_configurations : MayAdd more (events (built_configurations_node head images))
         may_add_configurations = may_add_first more (with_events begun root_children) _ _ _ _ after_images
 
-        module _ (filled : Doc) (is_filled : filled ≡ with_events more (events (configurations_node head images))) where
+        module _ (filled : Doc) (is_filled : filled ≡ with_events more (events (built_configurations_node head images))) where
           all_children : filled ≡ with_events begun root_children
           all_children = adding_none filled (with_events begun root_children) (adding_later more (with_events begun root_children) _ _ _ _ after_images filled is_filled)
 

@@ -22,9 +22,9 @@ use Rattle.bi_fit.specs.declared.key.Key.{Key}
 use Rattle.bi_fit.specs.declared.key.Key.TheVariants.{Kernel, Fdt, Ramdisk, Firmware, Loadables, Script}
 use Rattle.bi_fit.specs.Names.{is_payload_name, all_keys, images_name, configurations_name, default_name}
 use Rattle.bi_fit.specs.ImageTree.{IsProperty, ArePropertiesByName, HaveByteNames, IsApart, IsImageTree, each_own}
-use Rattle.bi_fit.specs.Building.{HeadModel, ImageSpecModel, text_value, type_name, cell_property, root_properties, built_image_properties}
-use Rattle.bi_fit.specs.Building.{hash_properties, configuration_name, built_images, is_under, names_under, list_property}
-use Rattle.bi_fit.specs.Building.{configuration_properties, built_tree, IsText, IsImageSpec, CanBeBuilt}
+use Rattle.bi_fit.specs.Building.{HeadModel, ImageSpecModel, text_value, type_name, cell_property, built_root_properties, built_image_properties}
+use Rattle.bi_fit.specs.Building.{built_hash_properties, configuration_name, built_images, is_under, names_under, list_property}
+use Rattle.bi_fit.specs.Building.{built_configuration_properties, built_tree, IsText, IsImageSpec, CanBeBuilt}
 use Rattle.bi_fit.proofs.TreeContents.{may_be_in_name, tested_name, tested_property, AreBlobProperties, properties-empty}
 use Rattle.bi_fit.proofs.TreeContents.{properties-from_entries}
 
@@ -52,7 +52,7 @@ tested_bytes : (name : List ℕ) → list_all may_be_in_name name ≡ true → A
 tested_bytes name passes = (tested_name name passes).0
 
 -- The properties of the root are good.
-good_root : (head : HeadModel) → IsText head.description → AreBlobProperties (root_properties head)
+good_root : (head : HeadModel) → IsText head.description → AreBlobProperties (built_root_properties head)
 good_root head is = (
   tested_property _ _ (cell 1) refl (AreBytes-cell 1),
   (
@@ -101,7 +101,7 @@ good_image head image description is = (
 )
 
 -- The properties of a hash node are good.
-good_hash_properties : (payload : List ℕ) → AreBlobProperties (hash_properties payload)
+good_hash_properties : (payload : List ℕ) → AreBlobProperties (built_hash_properties payload)
 good_hash_properties payload = (
   tested_property _ _ (text_value (algorithm_name Sha256)) refl (bytes-text_value (algorithm_name Sha256) (tested_bytes _ refl)),
   (tested_property _ _ (digest_of Sha256 payload) refl (AreBytes-digest_of Sha256 payload), tt),
@@ -140,7 +140,7 @@ good_lists (key ∷ later) images each =
 
 -- The properties of the configuration are good.
 good_configuration : (head : HeadModel) (images : List ImageSpecModel) → CanBeBuilt head images →
-    AreBlobProperties (configuration_properties head images)
+    AreBlobProperties (built_configuration_properties head images)
 good_configuration head images can =
     (tested_property _ _ (text_value head.description) refl (bytes-text_value head.description can.description.bytes), good_lists all_keys images can.each)
 
@@ -162,7 +162,7 @@ built_images_are head (image ∷ later) description each distinct = (
   (
     record {
       is_name = tested_child _ _ refl refl;
-      is_own = properties-from_entries (hash_properties image.payload) (good_hash_properties image.payload);
+      is_own = properties-from_entries (built_hash_properties image.payload) (good_hash_properties image.payload);
       is_new = tt;
     },
     tt,
@@ -224,7 +224,7 @@ built_is_image_tree head images can = record {
   cpu_fits = omega arith;
   are_reservations = tt;
   is_tree = record {
-    is_own = properties-from_entries (root_properties head) (good_root head can.description);
+    is_own = properties-from_entries (built_root_properties head) (good_root head can.description);
     children = (
       record {
         is_name = tested_child _ _ refl refl;
@@ -242,7 +242,7 @@ built_is_image_tree head images can = record {
         (
           record {
             is_name = tested_child _ _ refl refl;
-            is_own = properties-from_entries (configuration_properties head images) (good_configuration head images can);
+            is_own = properties-from_entries (built_configuration_properties head images) (good_configuration head images can);
             is_new = tt;
           },
           tt,

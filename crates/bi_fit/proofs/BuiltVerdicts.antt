@@ -12,7 +12,7 @@ use Rattle.bi_hash.specs.Verdicts.{verdict_of}
 use Rattle.bi_hash.proofs.GoodValues.{good-from_digest}
 use Rattle.bi_fit.specs.Names.{algo_name, value_name}
 use Rattle.bi_fit.specs.Judgement.{images_with, checked_hash, hash_nodes}
-use Rattle.bi_fit.specs.Building.{HeadModel, ImageSpecModel, text_value, hash_properties, built_images, built_tree}
+use Rattle.bi_fit.specs.Building.{HeadModel, ImageSpecModel, text_value, built_hash_properties, built_images, built_tree}
 use Rattle.bi_fit.specs.Laws.{BuiltIsAccepted, good_hash, BuiltHasGoodPayloads}
 use Rattle.bi_fit.proofs.TextLaws.{fit_text_is_accepted}
 use Rattle.bi_fit.proofs.BuiltTrees.{built_is_image_tree, depth-built}
@@ -26,13 +26,13 @@ built_is_accepted bounds form head images can deep fits short =
 
 -- The properties of a hash node by their names.
 abbrev hash_by_name : List ℕ → PropertyMap
-hash_by_name payload = from_entries (hash_properties payload)
+hash_by_name payload = from_entries (built_hash_properties payload)
 
 algo_is : (payload : List ℕ) → get (hash_by_name payload) algo_name ≡ Some (text_value (algorithm_name Sha256))
-algo_is payload = get-from_entries nat_list_cmp_total (hash_properties payload) algo_name
+algo_is payload = get-from_entries nat_list_cmp_total (built_hash_properties payload) algo_name
 
 value_is : (payload : List ℕ) → get (hash_by_name payload) value_name ≡ Some (digest_of Sha256 payload)
-value_is payload = get-from_entries nat_list_cmp_total (hash_properties payload) value_name
+value_is payload = get-from_entries nat_list_cmp_total (built_hash_properties payload) value_name
 
 -- The verdict on it is Good.
 verdict_is : (payload : List ℕ) →

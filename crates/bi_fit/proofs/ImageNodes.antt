@@ -1,7 +1,7 @@
 use Rattle.std.proofs.Common.{◌≡◌, ℕ, ◌+◌, ◌≤◌, Bool, List, [], ◌∷◌, length, Option, Some, None, refl, ap, ◌∙◌, arith}
 use Rattle.std.specs.FinMap.{insert, entries}
 use Rattle.bi_base.specs.Cells.{up4}
-use Rattle.bi_blob.specs.Tree.{Nodes, none, node, PropertyMap, FileNode, with_each}
+use Rattle.bi_blob.specs.Tree.{Nodes, none, node, Property, PropertyMap, FileNode, with_each}
 use Rattle.bi_blob.specs.Lookups.{Sibling}
 use Rattle.bi_blob.specs.Events.{Event}
 use Rattle.bi_blob.specs.Layout.{longest_text}
@@ -13,11 +13,18 @@ use Rattle.bi_fit.specs.ImageTree.{without_payload, without_payloads}
 use Rattle.bi_fit.specs.Text.{with_payload, with_payloads, end_after, payloads_end}
 use Rattle.bi_fit.specs.TakenDigests.{algorithm_if_hashed, with_first_digest, images_with_digests_from}
 use Rattle.bi_fit.specs.NormalNodes.{HasCellSize, next_end, AreWithin, properties_by_name, nodes_by_name, begin_events, image_properties}
-use Rattle.bi_fit.specs.NormalNodes.{sorted_image, sorted_image_children, sorted_images}
+use Rattle.bi_fit.specs.NormalNodes.{sorted_image_children, sorted_images}
 use Rattle.bi_fit.proofs.PayloadAreas.{payloads_end-le}
 use Rattle.bi_fit.proofs.AddedEvents.{begin_events-same}
 
 -- An image node of a file that is added to a document is that of the normal text, and its payload ends within the longest text.
+
+-- An image node without its siblings, with these properties in byte order.
+abbrev pub sorted_image : PropertyMap → (hashed : Bool) → (digests : List ℕ) → Sibling FileNode
+    → Nodes (List Property)
+sorted_image properties hashed digests sibling =
+    node sibling.name (entries properties)
+    (sorted_image_children hashed digests sibling.children) none
 
 -- The properties of a child of an image node, with the first of these digests if it gets one.
 abbrev pub child_properties : (hashed : Bool) → (digests : List ℕ) → Sibling FileNode → PropertyMap

@@ -58,8 +58,8 @@ cell_property name None = []
 cell_property name (Some number) = (name, cell number) ∷ []
 
 -- The properties of the root.
-abbrev pub root_properties : HeadModel → List Property
-root_properties head =
+abbrev pub built_root_properties : HeadModel → List Property
+built_root_properties head =
     (codes "#address-cells", cell 1)
     ∷ (codes "description", text_value head.description)
     ∷ (timestamp_name, cell head.time)
@@ -81,8 +81,8 @@ sha256_properties digest =
     (algo_name, text_value (algorithm_name Sha256)) ∷ (value_name, digest) ∷ []
 
 -- The properties of the hash node of a payload: its SHA-256.
-abbrev pub hash_properties : List ℕ → List Property
-hash_properties payload = sha256_properties (digest_of Sha256 payload)
+abbrev pub built_hash_properties : List ℕ → List Property
+built_hash_properties payload = sha256_properties (digest_of Sha256 payload)
 
 -- The name of the hash node of each image.
 abbrev pub hash_node_name : List ℕ
@@ -97,7 +97,7 @@ abbrev pub built_images : HeadModel → List ImageSpecModel → Nodes PropertyMa
 built_images head [] = none
 built_images head (image ∷ later) =
     node image.name (from_entries (built_image_properties head image))
-    (node hash_node_name (from_entries (hash_properties image.payload)) none none)
+    (node hash_node_name (from_entries (built_hash_properties image.payload)) none none)
     (built_images head later)
 
 -- Whether an image is listed under this key.
@@ -121,8 +121,8 @@ list_property key [] = []
 list_property key (name ∷ later) = (key_name key, strings_of (name ∷ later)) ∷ []
 
 -- The properties of the configuration.
-abbrev pub configuration_properties : HeadModel → List ImageSpecModel → List Property
-configuration_properties head images =
+abbrev pub built_configuration_properties : HeadModel → List ImageSpecModel → List Property
+built_configuration_properties head images =
     (codes "description", text_value head.description)
     ∷ flat_map (λ key. list_property key (names_under key images)) all_keys
 
@@ -132,7 +132,7 @@ abbrev pub built_nodes : HeadModel → List ImageSpecModel → Nodes PropertyMap
 built_nodes head images =
     node images_name empty (built_images head images)
     (node configurations_name (from_entries ((default_name, text_value configuration_name) ∷ []))
-    (node configuration_name (from_entries (configuration_properties head images)) none none)
+    (node configuration_name (from_entries (built_configuration_properties head images)) none none)
     none)
 
 -- The tree that is built. The payloads are those of the images, in their order.
@@ -140,7 +140,10 @@ abbrev pub built_tree : HeadModel → List ImageSpecModel → ImageTree
 built_tree head images = record {
   cpu = 0;
   reservations = [];
-  root = record { own = from_entries (root_properties head); children = built_nodes head images };
+  root = record {
+    own = from_entries (built_root_properties head);
+    children = built_nodes head images;
+  };
   payloads = map (λ image. Some image.payload) images;
 }
 

@@ -3,19 +3,19 @@ use Rattle.std.specs.Ordering.{nat_cmp}
 use Rattle.std.specs.Cmp.Lexicographic.{slice_cmp}
 use Rattle.std.specs.FinMap.{entries, from_entries}
 use Rattle.bi_base.specs.Cells.{cell}
-use Rattle.bi_blob.specs.Tree.{Nodes, none, node, Property, PropertyMap, with_each}
+use Rattle.bi_blob.specs.Tree.{Nodes, none, node, Property, with_each}
 use Rattle.bi_blob.specs.Layout.{strings_of}
 use Rattle.bi_hash.specs.declared.algo.Algo.TheVariants.{Sha256}
 use Rattle.bi_hash.specs.Digests.{digest_of}
 use Rattle.bi_fit.specs.declared.form.Form.{Form}
 use Rattle.bi_fit.specs.declared.key.Key.TheVariants.{Kernel, Fdt, Ramdisk, Firmware, Loadables}
 use Rattle.bi_fit.specs.declared.key.Key.TheVariants.{Script}
-use Rattle.bi_fit.specs.Building.{HeadModel, ImageSpecModel, CanBeBuilt, built_image_properties}
+use Rattle.bi_fit.specs.Building.{HeadModel, ImageSpecModel, CanBeBuilt}
 use Rattle.bi_fit.specs.Building.{sha256_properties, hash_node_name, configuration_name}
 use Rattle.bi_fit.specs.Building.{text_value}
-use Rattle.bi_fit.specs.Building.{built_images, names_under, configuration_properties}
+use Rattle.bi_fit.specs.Building.{built_images, names_under, built_configuration_properties}
 use Rattle.bi_fit.specs.Names.{images_name, configurations_name, default_name}
-use Rattle.bi_fit.specs.Text.{with_payload, with_payloads}
+use Rattle.bi_fit.specs.Text.{with_payloads}
 use Rattle.bi_fit.specs.declared.building.document.BuiltParts.{BuiltParts}
 use Rattle.bi_fit.specs.declared.building.lists.KeyLists.{KeyLists}
 use Rattle.bi_fit.specs.NamedImages.{head_model, named_models}
@@ -44,21 +44,6 @@ built_payloads images = map (λ image. Some image.payload) images
 abbrev pub hash_node_with : (digest : List ℕ) → Nodes (List Property)
 hash_node_with digest = node hash_node_name (in_order (sha256_properties digest)) none none
 
--- The hash node of an image with this payload.
-abbrev pub hash_node : List ℕ → Nodes (List Property)
-hash_node payload = hash_node_with (digest_of Sha256 payload)
-
--- The properties of an image node, with those that give its payload.
-abbrev pub placed_properties : Form → (begin : ℕ) → HeadModel → ImageSpecModel → PropertyMap
-placed_properties form begin head image =
-    with_payload form begin (Some image.payload) (from_entries (built_image_properties head image))
-
--- An image node without its siblings.
-abbrev pub image_node : Form → (begin : ℕ) → HeadModel → ImageSpecModel → Nodes (List Property)
-image_node form begin head image =
-    node image.name (entries (placed_properties form begin head image)) (hash_node image.payload)
-    none
-
 -- Image nodes, where the payloads before theirs end at `end`.
 abbrev pub built_image_nodes : Form → (end : ℕ) → HeadModel → List ImageSpecModel
     → Nodes (List Property)
@@ -66,20 +51,20 @@ built_image_nodes form end head images =
     with_each entries (with_payloads form end (built_payloads images) (built_images head images))
 
 -- The node of the image nodes, without its siblings.
-abbrev pub images_node : Form → HeadModel → List ImageSpecModel → Nodes (List Property)
-images_node form head images =
+abbrev pub built_images_node : Form → HeadModel → List ImageSpecModel → Nodes (List Property)
+built_images_node form head images =
     node images_name (in_order []) (built_image_nodes form 0 head images) none
 
 -- The configuration node.
-abbrev pub configuration_node : HeadModel → List ImageSpecModel → Nodes (List Property)
-configuration_node head images =
-    node configuration_name (in_order (configuration_properties head images)) none none
+abbrev pub built_configuration_node : HeadModel → List ImageSpecModel → Nodes (List Property)
+built_configuration_node head images =
+    node configuration_name (in_order (built_configuration_properties head images)) none none
 
 -- The node of the configuration, without its siblings.
-abbrev pub configurations_node : HeadModel → List ImageSpecModel → Nodes (List Property)
-configurations_node head images =
+abbrev pub built_configurations_node : HeadModel → List ImageSpecModel → Nodes (List Property)
+built_configurations_node head images =
     node configurations_name (in_order ((default_name, text_value configuration_name) ∷ []))
-    (configuration_node head images) none
+    (built_configuration_node head images) none
 
 -- Properties with one of one cell, if its number is given.
 abbrev pub with_cell_property : List ℕ → Option ℕ → PropertyMapModel → PropertyMapModel

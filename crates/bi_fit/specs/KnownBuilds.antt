@@ -11,7 +11,7 @@ use Rattle.bi_fit.specs.declared.key.Key.TheVariants.{Script}
 use Rattle.bi_fit.specs.Names.{key_name, all_keys}
 use Rattle.bi_fit.specs.Text.{normal_tree, fit_text}
 use Rattle.bi_fit.specs.Building.{HeadModel, ImageSpecModel, text_value, type_name, built_tree}
-use Rattle.bi_fit.specs.Building.{configuration_properties}
+use Rattle.bi_fit.specs.Building.{built_configuration_properties}
 
 -- A small built tree with its nodes and properties, by which a reader can judge the definitions.
 
@@ -133,7 +133,7 @@ pub record EachKeyIsKnown : Type 0 where
   pub types : map type_name all_keys
       ≡ codes "kernel" ∷ codes "flat_dt" ∷ codes "ramdisk"
       ∷ codes "firmware" ∷ codes "standalone" ∷ codes "script" ∷ []
-  pub lists : configuration_properties known_head images_of_each_key
+  pub lists : built_configuration_properties known_head images_of_each_key
       ≡ (codes "description", text_value (codes "k"))
       ∷ (codes "kernel", text_value (codes "g"))
       ∷ (codes "fdt", text_value (codes "f"))

@@ -74,13 +74,6 @@ abbrev pub sorted_image_children : (hashed : Bool) → (digests : List ℕ) → 
 sorted_image_children hashed digests nodes =
     with_each entries (with_digests_from hashed digests (nodes_by_name nodes))
 
--- An image node without its siblings, with these properties in byte order.
-abbrev pub sorted_image : PropertyMap → (hashed : Bool) → (digests : List ℕ) → Sibling FileNode
-    → Nodes (List Property)
-sorted_image properties hashed digests sibling =
-    node sibling.name (entries properties)
-    (sorted_image_children hashed digests sibling.children) none
-
 -- Image nodes with the properties of each in byte order.
 abbrev pub sorted_images : (hashes : Bool) → Form → (end : ℕ) → List (Option (List ℕ))
     → (digests : List ℕ) → Nodes FileNode → Nodes (List Property)

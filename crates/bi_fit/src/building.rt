@@ -67,8 +67,7 @@ pub struct NamedImage<'a> {
 /// Errors: TooLarge at `limits.file()`, exactly if the text is longer than that, unless memory runs
 /// out; OutOfMemory; those of the sink. After any other error than those of the sink, the sink is
 /// unchanged. After an error of the sink, it is as a failed `put` of the text leaves it. All
-/// allocations but those of the sink are made before the first byte is appended. ReadFailed and
-/// WriteFailed come only from the sink.
+/// allocations but those of the sink are made before the first byte is appended.
 pub fn append_built<S: Sink>(
     alloc: Global,
     head: Head<'_>,

@@ -59,7 +59,7 @@ impl<'a> Fit<'a> {
     ///
     /// Errors: TooLarge at `limits.file()`, exactly if the text is longer than that, unless memory
     /// runs out; OutOfMemory, which never comes if the payloads after the blob are longer than that
-    /// by themselves. ReadFailed and WriteFailed never come.
+    /// by themselves.
     pub fn text<'b>(
         &'b self,
         alloc: Global,

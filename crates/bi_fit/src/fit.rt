@@ -56,7 +56,6 @@ impl<'a> Fit<'a> {
     /// file.
     ///
     /// OutOfMemory comes only if the header and the memory reservation block have no fault.
-    /// ReadFailed and WriteFailed never come.
     pub fn read(alloc: Global, file: &'a [u8], limits: Limits) -> Result<Fit<'a>, Error>
         ensures read { IfOk result (IsReadFit limits file.entry.now) }
         ensures failed { IfErr result (IsFitReadError limits file.entry.now) }

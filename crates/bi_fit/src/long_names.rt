@@ -7,8 +7,7 @@ ghost use Rattle.bi_fit.specs.LongNames.{name_if_long};
 
 use bi_base::{Cause, Fault, refuse};
 
-/// The length from which on a name is long. Names may share bytes, so long ones can have more bytes
-/// together than the file, and their comparisons can take long.
+/// The length from which on a name is long.
 const LEAST_LENGTH: usize = 64;
 
 /// Checks that the long ones of these names are together no longer than a limit. It reads no byte
@@ -23,7 +22,7 @@ pub(crate) fn check_long_names(names: &[&[u8]], limit: u32) -> Result<(), Fault>
 {
     let mut room = limit as usize;
     for name in names {
-        let length = long_length(name);
+        let length = long_name(name).len();
         if length > room {
             return refuse(Cause::TooLarge, limit);
         }
@@ -32,12 +31,14 @@ pub(crate) fn check_long_names(names: &[&[u8]], limit: u32) -> Result<(), Fault>
     Ok(())
 }
 
-/// Returns the length of a name, if it is long, and 0 if it is shorter.
-fn long_length(name: &[u8]) -> usize
-    ensures { result ≡ length (name_if_long name.now) }
+/// Returns a name of 64 bytes or more, and no bytes in place of a shorter one. Names may share
+/// bytes, so long ones can have more bytes together than the file, and their comparisons can take
+/// long.
+pub fn long_name(name: &[u8]) -> &[u8]
+    ensures { result.now ≡ name_if_long name.entry.now }
 {
     if name.len() < LEAST_LENGTH {
-        return 0;
+        return &[];
     }
-    name.len()
+    name
 }

@@ -1,8 +1,14 @@
-//! The names of the codes in a legacy header, as U-Boot's commands print them.
+//! The codes in a legacy header, and their names, as U-Boot's commands print them.
 
 ghost use Rattle.std.specs.Prelude.{◌≡◌, option_map};
 ghost use Rattle.bi_legacy.specs.Codes.{name_of_code, os_names, arch_names, type_names};
 ghost use Rattle.bi_legacy.specs.Codes.{compression_names};
+
+/// The type of a multi-file image (U-Boot, include/image.h).
+pub const IH_TYPE_MULTI: u8 = 4;
+
+/// The type of a script (U-Boot, include/image.h).
+pub const IH_TYPE_SCRIPT: u8 = 6;
 
 /// Returns the name of an operating system's code (U-Boot, include/image.h: `IH_OS_*`). Returns
 /// None if the code has no name here.

@@ -3,11 +3,7 @@
 ghost use Rattle.std.specs.Prelude.{◌≡◌};
 ghost use Rattle.bi_legacy.specs.Meaning.{has_part_table as is_part_table_type};
 
-/// The code of a multi-file image.
-const MULTI: u8 = 4;
-
-/// The code of a script.
-const SCRIPT: u8 = 6;
+use crate::codes::{IH_TYPE_MULTI, IH_TYPE_SCRIPT};
 
 /// The fields of a legacy header (U-Boot, include/image.h), except the checksums and the data size,
 /// which follow from these and the parts.
@@ -36,5 +32,5 @@ pub struct Fields<'a> {
 pub(crate) fn has_part_table(image_type: u8) -> bool
     ensures { result ≡ is_part_table_type image_type }
 {
-    image_type == MULTI || image_type == SCRIPT
+    image_type == IH_TYPE_MULTI || image_type == IH_TYPE_SCRIPT
 }

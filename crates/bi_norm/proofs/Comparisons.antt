@@ -5,9 +5,7 @@ use Rattle.bi_base.specs.Limits.{Limits}
 use Rattle.bi_norm.specs.declared.image.BootImage.{BootImage}
 use Rattle.bi_norm.specs.declared.image.BootImage.TheVariants.{Legacy, Fit}
 use Rattle.bi_norm.specs.Comparing.{MeansOnly, AreCompared, IsCompareError}
-use Rattle.bi_norm.specs.NormalForm.{IsOpenError}
-use Rattle.bi_norm.specs.OpenedMeaning.{meaning_of}
-use Rattle.bi_norm.specs.Opening.{IsReadBootImage}
+use Rattle.bi_norm.specs.Reading.{IsBootImageReadError, meaning_of, IsReadBootImage}
 use Rattle.bi_norm.proofs.NormalForms.{only_legacy, only_tree, needs_memory}
 
 -- Files that were read are compared by what they mean, and an error of reading either file is one of comparing them.
@@ -30,7 +28,7 @@ are_compared limits one other image other_image same opened other_opened is = re
 }
 
 -- An error of reading the first file, and of reading the second one.
-pub error_of_first : (limits : Limits) (one other : List ℕ) (error : Error) → IsOpenError limits one error →
+pub error_of_first : (limits : Limits) (one other : List ℕ) (error : Error) → IsBootImageReadError limits one error →
     IsCompareError limits one other error
 error_of_first limits one other (Refused fault) is = inl is
 error_of_first limits one other OutOfMemory is = is
@@ -38,7 +36,7 @@ error_of_first limits one other ReadFailed is = is
 error_of_first limits one other WriteFailed is = is
 
 pub error_of_second : (limits : Limits) (one other : List ℕ) (image : BootImage) (error : Error) → IsReadBootImage limits one image →
-    IsOpenError limits other error → IsCompareError limits one other error
+    IsBootImageReadError limits other error → IsCompareError limits one other error
 error_of_second limits one other image (Refused fault) opened is =
     inr (record { meaning = meaning_of image; means = (opened_means limits one image opened).means; has_error = is })
 error_of_second limits one other image OutOfMemory opened is = needs_memory limits one (meaning_of image) (opened_means limits one image opened).means

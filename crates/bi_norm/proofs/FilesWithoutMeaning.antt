@@ -24,7 +24,7 @@ use Rattle.bi_legacy.proofs.Magic.{file_begins}
 use Rattle.bi_norm.specs.declared.kind.Kind.TheVariants.{Legacy}
 use Rattle.bi_norm.specs.Kinds.{BeginsAs}
 use Rattle.bi_norm.specs.Meaning.{OfLegacy, OfFit, MeansNothing}
-use Rattle.bi_norm.specs.NormalForm.{IsOpenError, NeedsMemory, ForTree}
+use Rattle.bi_norm.specs.Reading.{IsBootImageReadError, NeedsMemory, ForTree}
 
 -- A file that is too long means nothing and has this fault. A file that has no tree and has a fault as a legacy image means nothing and has
 -- that fault.
@@ -111,7 +111,7 @@ tree_needs_memory limits file fine = ForTree (λ begins. omega (arith, begins.ma
 
 -- Another error of reading a file as a tree is that of opening it.
 pub tree_error : (limits : Limits) (file : List ℕ) (error : Error) → error ≢ Refused no_tree_fault → IsFitReadError limits file error →
-    IsOpenError limits file error
+    IsBootImageReadError limits file error
 tree_error limits file (Refused fault) other is = tree_fault limits file fault (λ same. other (ap Refused same)) is
 tree_error limits file OutOfMemory other is = tree_needs_memory limits file is
 tree_error limits file ReadFailed other is = is

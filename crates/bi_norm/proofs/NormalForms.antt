@@ -25,7 +25,8 @@ use Rattle.bi_fit.specs.Text.{fit_text}
 use Rattle.bi_fit.proofs.Faults.{fit_has_no_fault}
 use Rattle.bi_fit.proofs.TextLaws.{file_means_image_tree, normal_fit_text_is_accepted, same_text_same_tree, text_keeps_judgement}
 use Rattle.bi_norm.specs.Meaning.{Meaning, OfLegacy, OfFit, Means, normal_text}
-use Rattle.bi_norm.specs.NormalForm.{IsNormalForm, IsOpenError, IsNormaliseError, Normalised, NeedsMemory, ForLegacyImage, ForTree}
+use Rattle.bi_norm.specs.NormalForm.{IsNormalForm, IsNormaliseError, IsNormaliseOutput}
+use Rattle.bi_norm.specs.Reading.{IsBootImageReadError, NeedsMemory, ForLegacyImage, ForTree}
 use Rattle.bi_norm.proofs.FilesWithoutMeaning.{means_legacy, means_tree}
 
 -- The normal text of what was read from a file is the normal form of the file, and the file means nothing else.
@@ -88,7 +89,7 @@ legacy_normal_form limits form file parsed opened = record {
 
 -- It has no signature nodes.
 pub legacy_normalised : (limits : Limits) (form : Form) (file : List ℕ) (parsed : LegacyModel) → IsReadLegacy limits file parsed →
-    Normalised limits form 0 file (legacy_text parsed.image)
+    IsNormaliseOutput limits form 0 file (legacy_text parsed.image)
 unfolding legacy_normal_form
 legacy_normalised limits form file parsed opened = record { normal = legacy_normal_form limits form file parsed opened; signatures = refl }
 
@@ -134,7 +135,7 @@ tree_normal_form limits form file content opened fits most =
 -- It has as many signature nodes as the tree.
 pub tree_normalised : (limits : Limits) (form : Form) (file : List ℕ) (content : FitModel) (count : ℕ) → IsReadFit limits file content →
     length (fit_text form (tree_of content)) ≤ limits.file → limits.file ≤ longest_text → count ≡ signatures_of_tree (tree_of content) →
-    Normalised limits form count file (fit_text form (tree_of content))
+    IsNormaliseOutput limits form count file (fit_text form (tree_of content))
 unfolding tree_normal_form
 tree_normalised limits form file content count opened fits most is = record { normal = tree_normal_form limits form file content opened fits most; signatures = is }
 
@@ -161,12 +162,12 @@ text_error limits form file content ReadFailed opened is = is
 text_error limits form file content WriteFailed opened is = is
 
 -- An error of reading a file is one of normalising it.
-pub open_error : (limits : Limits) (form : Form) (file : List ℕ) (error : Error) → IsOpenError limits file error →
+pub normalise_error_of_reading : (limits : Limits) (form : Form) (file : List ℕ) (error : Error) → IsBootImageReadError limits file error →
     IsNormaliseError limits form file error
-open_error limits form file (Refused fault) is = inl is
-open_error limits form file OutOfMemory is = is
-open_error limits form file ReadFailed is = is
-open_error limits form file WriteFailed is = is
+normalise_error_of_reading limits form file (Refused fault) is = inl is
+normalise_error_of_reading limits form file OutOfMemory is = is
+normalise_error_of_reading limits form file ReadFailed is = is
+normalise_error_of_reading limits form file WriteFailed is = is
 
 -- A legacy image whose normal text was not written: memory ran out, or the sink failed.
 pub legacy_not_written : {S : Type 0} {fails : S → List ℕ → S → Error → Type 0} (limits : Limits) (form : Form) (file : List ℕ)

@@ -4,7 +4,7 @@ use Rattle.bi_base.specs.declared.fault.Error.{Error}
 use Rattle.bi_base.specs.declared.fault.Error.TheVariants.{Refused}
 use Rattle.bi_base.specs.Limits.{Limits}
 use Rattle.bi_norm.specs.Meaning.{Meaning, Means}
-use Rattle.bi_norm.specs.NormalForm.{IsOpenError, NeedsMemory}
+use Rattle.bi_norm.specs.Reading.{IsBootImageReadError, NeedsMemory}
 
 -- Comparing what two files mean (profile of this project).
 
@@ -25,12 +25,13 @@ pub record AreCompared (limits : Limits) (one other : List ℕ) (same : Bool) : 
 pub record IsErrorOfSecond (limits : Limits) (one other : List ℕ) (error : Error) : Type 0 where
   pub meaning : Meaning
   pub means : Means limits one meaning
-  pub has_error : IsOpenError limits other error
+  pub has_error : IsBootImageReadError limits other error
 
 -- The error that comparing two files can have: one of reading the first, or else one of reading the
 -- second. Memory never runs out if the first file fails a check that needs none.
 abbrev pub IsCompareError : Limits → List ℕ → List ℕ → Error → Type 0
 IsCompareError limits one other =
     FailsWith (λ fault.
-    IsOpenError limits one (Refused fault) ⊎ IsErrorOfSecond limits one other (Refused fault))
+    IsBootImageReadError limits one (Refused fault)
+    ⊎ IsErrorOfSecond limits one other (Refused fault))
     (NeedsMemory limits one)

@@ -1,8 +1,7 @@
 pub mod Kinds
-pub mod Opening
-pub mod OpenedMeaning
 pub mod Meaning
 pub mod Faults
+pub mod Reading
 pub mod NormalForm
 pub mod Converting
 pub mod CodeNames

@@ -1,23 +1,14 @@
-use Rattle.std.specs.Prelude.{ℕ, ◌<◌, ◌≡◌, ◌↔◌, ◌⊎◌, List, length}
-use Rattle.bi_base.specs.Errors.{FailsWith}
+use Rattle.std.specs.Prelude.{ℕ, ◌<◌, ◌≡◌, ◌↔◌, List, length}
 use Rattle.bi_base.specs.declared.fault.Error.{Error}
-use Rattle.bi_base.specs.declared.fault.Error.TheVariants.{Refused}
 use Rattle.bi_base.specs.Commands.{CommandPromise, PromiseLaws}
 use Rattle.bi_base.specs.Limits.{Limits}
-use Rattle.bi_base.specs.Reading.{too_large}
-use Rattle.bi_blob.specs.BlobFaults.{HasNoFaultBeforeTree}
 use Rattle.bi_fit.specs.declared.form.Form.{Form}
 use Rattle.bi_fit.specs.File.{FitMeans}
 use Rattle.bi_fit.specs.ImageTree.{ImageTree}
 use Rattle.bi_fit.specs.Judgement.{judgement}
 use Rattle.bi_fit.specs.Text.{fit_text}
-use Rattle.bi_legacy.specs.File.{LegacyMeans}
-use Rattle.bi_legacy.specs.Meaning.{LegacyImage}
-use Rattle.bi_norm.specs.declared.kind.Kind.TheVariants.{Legacy}
-use Rattle.bi_norm.specs.Faults.{IsFileFault}
-use Rattle.bi_norm.specs.Kinds.{BeginsAs}
-use Rattle.bi_norm.specs.Meaning.{Meaning, Means, MeansNothing, normal_text}
-use Rattle.bi_norm.specs.Meaning.{meaning_signature_count}
+use Rattle.bi_norm.specs.Meaning.{Meaning, Means, normal_text, meaning_signature_count}
+use Rattle.bi_norm.specs.Reading.{IsReadErrorOrTooLarge}
 
 -- What normalising promises: two accepted files of one kind have the same normal form exactly if
 -- they mean the same (profile of this project).
@@ -41,7 +32,8 @@ pub record IsNormalForm (limits : Limits) (form : Form) (file text : List ℕ) :
       → FitMeans limits text other → judgement other ≡ judgement tree
 
 -- The text is the normal form of the file, and this is the number of its signature nodes.
-pub record Normalised (limits : Limits) (form : Form) (count : ℕ) (file text : List ℕ) : Type 0
+pub record IsNormaliseOutput (limits : Limits) (form : Form) (count : ℕ) (file text : List ℕ)
+    : Type 0
   where
     pub normal : IsNormalForm limits form file text
     pub signatures : count ≡ meaning_signature_count normal.meaning
@@ -53,36 +45,15 @@ pub record IsTooLong (limits : Limits) (form : Form) (file : List ℕ) : Type 0 
   pub means : FitMeans limits file tree
   pub longer : limits.file < length (fit_text form tree)
 
--- Memory is needed only for a file that passes all checks that need none: a legacy image, or a file
--- that does not begin as one and whose header and memory reservation block, as those of a blob,
--- have no fault.
-pub data NeedsMemory (limits : Limits) (file : List ℕ) : Type 0 where
-  ForLegacyImage : (image : LegacyImage) → LegacyMeans limits file image → NeedsMemory limits file
-  ForTree : ¬ (BeginsAs file Legacy) → HasNoFaultBeforeTree limits file → NeedsMemory limits file
-
--- The error that reading a file in memory can have.
-abbrev pub IsOpenError : Limits → List ℕ → Error → Type 0
-IsOpenError limits file =
-    FailsWith (λ fault. IsFileFault limits file fault × MeansNothing limits file)
-    (NeedsMemory limits file)
-
--- The error of a call that reads a file in memory and makes something of it: one of reading it, or
--- TooLarge at the limit, if what is made is too large.
-abbrev pub IsOpenErrorOrTooLarge : Limits → List ℕ → (IsTooLarge : Type 0) → Error → Type 0
-IsOpenErrorOrTooLarge limits file IsTooLarge =
-    FailsWith (λ fault. IsOpenError limits file (Refused fault)
-    ⊎ (IsTooLarge × (fault ≡ too_large limits.file)))
-    (NeedsMemory limits file)
-
 -- The error that normalising a file in memory can have: one of reading it, or its normal text is
 -- longer than the limit.
 abbrev pub IsNormaliseError : Limits → Form → List ℕ → Error → Type 0
-IsNormaliseError limits form file = IsOpenErrorOrTooLarge limits file (IsTooLong limits form file)
+IsNormaliseError limits form file = IsReadErrorOrTooLarge limits file (IsTooLong limits form file)
 
 -- What normalising promises as a command.
 abbrev pub normalise_promise : Form → Limits → CommandPromise ℕ Error
 normalise_promise form limits = record {
-  is_output = λ count file text. Normalised limits form count file text;
+  is_output = λ count file text. IsNormaliseOutput limits form count file text;
   is_text = IsNormalForm limits form;
   has_error = IsNormaliseError limits form;
   wraps = λ error. error;

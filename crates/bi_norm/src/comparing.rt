@@ -2,7 +2,7 @@
 
 ghost use Rattle.std.specs.Prelude.{◌≡◌, ◌↔◌, IsTrue, IfOk, IfErr};
 ghost use Rattle.bi_norm.specs.Comparing.{AreCompared, IsCompareError};
-ghost use Rattle.bi_norm.specs.OpenedMeaning.{meaning_of};
+ghost use Rattle.bi_norm.specs.Reading.{meaning_of};
 
 use crate::image::BootImage;
 use bi_base::{Error, Limits};
@@ -15,7 +15,6 @@ use std::alloc::Global;
 ///
 /// Errors, the first that applies: those of `BootImage::read` for the first file; those for the
 /// second file. OutOfMemory never comes if the first file fails a check that needs no memory.
-/// ReadFailed and WriteFailed never come.
 pub fn same_meaning(alloc: Global, one: &[u8], other: &[u8], limits: Limits) -> Result<bool, Error>
     ensures compared { IfOk result (AreCompared limits one.now other.now) }
     ensures failed { IfErr result (IsCompareError limits one.now other.now) }

@@ -23,8 +23,7 @@ use std::alloc::Global;
 /// operating system, the architecture, the type or the compression has no name; EmptyPart at 64, if
 /// there are no parts; TooManyParts at 64, if a multi-file image has more than three parts or a
 /// script more than one; TooLarge at the limit, if the flattened image tree is longer; OutOfMemory,
-/// which comes only for a legacy image that passes every check before the last. ReadFailed and
-/// WriteFailed never come.
+/// which comes only for a legacy image that passes every check before the last.
 pub fn convert(alloc: Global, file: &[u8], limits: Limits) -> Result<Vec<u8>, Error>
     ensures converted { IfOk result (λ text. IsConvertedFile limits file.now text.items) }
     ensures failed { IfErr result (IsConvertError limits file.now) }

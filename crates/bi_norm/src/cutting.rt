@@ -13,7 +13,6 @@ use std::alloc::Global;
 ///
 /// Errors: BadPart at the beginning of the first piece that does not fit, or at the end of the
 /// pieces, if bytes are left; OutOfMemory, which comes only for an input that can be cut.
-/// ReadFailed and WriteFailed never come.
 pub fn cut<'a>(alloc: Global, input: &'a [u8], lengths: &[u32]) -> Result<Vec<&'a [u8]>, Error>
     requires { length input.now ≤ longest_text }
     ensures pieces { IfOk result (λ pieces. IsCut input.entry.now lengths.now

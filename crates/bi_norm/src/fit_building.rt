@@ -41,7 +41,7 @@ pub struct ImageSpec<'a> {
 /// NoCodeName, if one of its codes has no name; DuplicateNode, if an earlier image has its name;
 /// then TooLarge at the limit, if the text is longer. OutOfMemory comes only if the number of
 /// images, the description, and the name, type and codes of the first image are accepted, and then
-/// in place of any other error. ReadFailed and WriteFailed never come.
+/// in place of any other error.
 pub fn build_fit(
     alloc: Global,
     head: Head<'_>,

@@ -1,10 +1,9 @@
-//! Opening a boot image of any kind.
+//! Reading a boot image of any kind.
 
 ghost use Rattle.std.specs.Prelude.{◌≡◌, ◌↔◌, IfOk, IfErr, IsTrue};
 ghost use Rattle.bi_base.specs.declared.fault.Cause.TheVariants.{BadMagic};
 ghost use Rattle.bi_base.specs.declared.fault.Error.TheVariants.{Refused};
-ghost use Rattle.bi_norm.specs.NormalForm.{IsOpenError};
-ghost use Rattle.bi_norm.specs.Opening.{IsReadBootImage};
+ghost use Rattle.bi_norm.specs.Reading.{IsBootImageReadError, IsReadBootImage};
 
 use bi_base::{Cause, Error, Limits};
 use bi_fit::Fit;
@@ -29,7 +28,7 @@ impl<'a> BootImage<'a> {
     /// the memory reservation block of a blob.
     pub fn read(alloc: Global, file: &'a [u8], limits: Limits) -> Result<BootImage<'a>, Error>
         ensures read { IfOk result (IsReadBootImage limits file.entry.now) }
-        ensures failed { IfErr result (IsOpenError limits file.entry.now) }
+        ensures failed { IfErr result (IsBootImageReadError limits file.entry.now) }
     {
         match Fit::read(alloc, file, limits) {
             Ok(fit) => Ok(BootImage::Fit(fit)),

@@ -6,7 +6,7 @@ ghost use Rattle.bi_base.specs.Pipes.{IsPiped};
 ghost use Rattle.bi_fit.specs.declared.form.Form.{Form};
 ghost use Rattle.bi_fit.specs.Reading.{IsReadFit};
 ghost use Rattle.bi_legacy.specs.Reading.{IsReadLegacy};
-ghost use Rattle.bi_norm.specs.NormalForm.{IsNormalForm, IsNormaliseError, Normalised};
+ghost use Rattle.bi_norm.specs.NormalForm.{IsNormalForm, IsNormaliseError, IsNormaliseOutput};
 ghost use Rattle.bi_norm.specs.NormalForm.{normalise_promise, normalise_laws};
 
 use crate::image::BootImage;
@@ -25,7 +25,7 @@ use std::io::{Read, Write};
 /// longer; Truncated at 0, if it has fewer than four bytes; BadMagic at 0; those of `Legacy::read`
 /// or of `Fit::read`; TooLarge at the limit, if the normal form of a flattened image tree is
 /// longer. OutOfMemory comes only after the checks of a legacy image, or of the header and the
-/// memory reservation block of a blob. ReadFailed and WriteFailed never come.
+/// memory reservation block of a blob.
 pub fn normalise(alloc: Global, file: &[u8], form: Form, limits: Limits) -> Result<Vec<u8>, Error>
     ensures normal_form { IfOk result (λ text. IsNormalForm limits form file.now text.items) }
     ensures failed { IfErr result (IsNormaliseError limits form file.now) }
@@ -50,7 +50,7 @@ pub fn normalise_into<S: Sink>(
     sink: &mut S,
 ) -> Result<usize, Error>
     ensures appended { IfOk result (λ count. Appended S.appends
-        (Normalised limits form count file.now) sink.old sink.new) }
+        (IsNormaliseOutput limits form count file.now) sink.old sink.new) }
     ensures failed { IfErr result (AppendFailed S.fails (IsNormalForm limits form file.now)
         (IsNormaliseError limits form file.now) sink.old sink.new) }
 {
@@ -69,7 +69,7 @@ fn emit_legacy<S: Sink>(
     sink: &mut S,
 ) -> Result<usize, Error>
     ensures appended { (form : Form) (file : List ℕ) → IsReadLegacy limits file image.now →
-        IfOk result (λ count. Appended S.appends (Normalised limits form count file)
+        IfOk result (λ count. Appended S.appends (IsNormaliseOutput limits form count file)
         sink.old sink.new) }
     ensures failed { (form : Form) (file : List ℕ) → IsReadLegacy limits file image.now →
         IfErr result (AppendFailed S.fails (IsNormalForm limits form file)
@@ -89,7 +89,7 @@ fn emit_fit<S: Sink>(
     sink: &mut S,
 ) -> Result<usize, Error>
     ensures appended { (file : List ℕ) → IsReadFit limits file fit.now →
-        IfOk result (λ count. Appended S.appends (Normalised limits form count file)
+        IfOk result (λ count. Appended S.appends (IsNormaliseOutput limits form count file)
         sink.old sink.new) }
     ensures failed { (file : List ℕ) → IsReadFit limits file fit.now →
         IfErr result (AppendFailed S.fails (IsNormalForm limits form file)

@@ -1,6 +1,7 @@
 use Rattle.std.proofs.Common.{◌≡◌, ℕ, List, [], Option, None, Some, Bor, Result, Ok, Err, IfOk, IfErr, refl, subst, sym}
 use Rattle.bi_base.specs.declared.fault.Cause.{Cause}
 use Rattle.bi_base.specs.Limits.{Limits}
+use Rattle.bi_base.specs.Reading.{IsInputRead}
 use Rattle.bi_base.specs.Traces.{ReadTrace, ReadsWell, WriteTrace, WritesWell}
 use Rattle.bootimg.specs.declared.command_line.Job.{Job}
 use Rattle.bootimg.specs.declared.command_line.Job.TheVariants.{Compare, Build, Explain}
@@ -14,7 +15,7 @@ use Rattle.bootimg.specs.declared.failure.Failure.TheVariants.{CannotOpen}
 use Rattle.bootimg.specs.Files.{FilePromise, IsOpenFile}
 use Rattle.bootimg.specs.declared.jobs.Problem.{Problem}
 use Rattle.bootimg.specs.declared.tasks.Done.{Done}
-use Rattle.bootimg.specs.Runs.{Work, with_input, problem, IsRead, IsNotRead, IsImageRead, InputRead, FileRead, IsImageNotRead, InputNotRead}
+use Rattle.bootimg.specs.Runs.{Work, with_input, problem, IsNotRead, IsImageRead, InputRead, FileRead, IsImageNotRead, InputNotRead}
 use Rattle.bootimg.specs.Runs.{FileNotRead, IsFileRead, IsFileNotRead, OpenedNotRead, IsTaskWork, IsImageWork, DoneOnInput, DoneOnFile}
 use Rattle.bootimg.specs.Runs.{FileNotOpened, IsComparedWork, IsCompareWork, BothRead, IsBuildWork, IsExplainWork, IsJobWork, IsHeldWork}
 use Rattle.bootimg.specs.Runs.{IsHeldFailure, failure_in_memory, Run, work_of, IsOutputRun, IsSavedWork, ToStandardOutput, ToFile}
@@ -32,7 +33,7 @@ image_is_opened files name remaining trace is same well none = record {
 
 -- Reading standard input reads the image.
 pub input_read : {V E : Type 0} (items : V → List ℕ) (files : FilePromise) (limits : Limits) (old new : ReadTrace)
-    (source : ImageSource) (result : Result V E) → source ≡ Standard → IfOk result (λ v. IsRead limits old new (items v))
+    (source : ImageSource) (result : Result V E) → source ≡ Standard → IfOk result (λ v. IsInputRead limits old new (items v))
     → IfOk result (λ v. IsImageRead files limits old new (items v) source)
 input_read items files limits old new source (Err error) is read = tt
 input_read items files limits old new source (Ok v) is read =
@@ -48,7 +49,7 @@ input_not_read files limits old new source (Err failure) is not_read =
 -- Reading a file that was opened reads the whole file.
 pub whole_file_read : {V E : Type 0} (items : V → List ℕ) (files : FilePromise) (limits : Limits) (name : List ℕ)
     (image_is_opened end : ReadTrace)
-    (result : Result V E) → IsOpenFile files name image_is_opened → IfOk result (λ v. IsRead limits image_is_opened end (items v))
+    (result : Result V E) → IsOpenFile files name image_is_opened → IfOk result (λ v. IsInputRead limits image_is_opened end (items v))
     → IfOk result (λ v. IsFileRead files limits name (items v))
 whole_file_read items files limits name image_is_opened end (Err error) is_opened read = tt
 whole_file_read items files limits name image_is_opened end (Ok v) is_opened read =

@@ -49,7 +49,7 @@ read_keeps files limits old new image source (FileRead name read same) = ap (λ 
 
 not_read_keeps : (files : FilePromise) (limits : Limits) (old new : ReadTrace) (failure : Failure) (source : ImageSource)
     → IsImageNotRead files limits old new failure source → new.reader ≡ old.reader
-not_read_keeps files limits old new failure source (InputNotRead read) = read.same_reader
+not_read_keeps files limits old new failure source (InputNotRead read) = read.not_read.same_reader
 not_read_keeps files limits old new failure source (FileNotRead name read same) = ap (λ trace. trace.reader) same
 
 rejection_keeps : (source : ImageSource) (failure : Failure) (run : Run) → IsRejection source failure run → KeepsStreams run

@@ -1,4 +1,4 @@
-use Rattle.std.specs.Prelude.{◌≡◌, ◌≢◌, ◌⊎◌, ◌++◌, ◌+◌, ◌<◌, ◌≤◌, ℕ, Bool, true, false, List, []}
+use Rattle.std.specs.Prelude.{◌≡◌, ◌≢◌, ◌⊎◌, ◌++◌, ◌+◌, ◌<◌, ℕ, Bool, true, false, List, []}
 use Rattle.std.specs.Prelude.{◌∷◌}
 use Rattle.std.specs.Prelude.{Option, None, Some}
 use Rattle.std.specs.Prelude.{Result, Ok, Err, codes, length}
@@ -10,8 +10,8 @@ use Rattle.bi_base.specs.declared.fault.Error.{Error}
 use Rattle.bi_base.specs.declared.fault.Error.TheVariants.{OutOfMemory, WriteFailed}
 use Rattle.bi_base.specs.Limits.{Limits}
 use Rattle.bi_base.specs.Pipes.{IsTracedPipe}
-use Rattle.bi_base.specs.Reading.{IsReadError, ReadWhole, TracedTakesAtMost}
-use Rattle.bi_base.specs.Traces.{ReadTrace, WriteTrace, ReadsWell, WritesWell, MustStopReading}
+use Rattle.bi_base.specs.Reading.{IsInputRead, IsInputNotRead}
+use Rattle.bi_base.specs.Traces.{ReadTrace, WriteTrace, ReadsWell, WritesWell}
 use Rattle.bi_base.specs.Writing.{WroteAll, WriteStopped, WroteAndFlushed, WriteOrFlushStopped}
 use Rattle.bi_base.specs.Commands.{CommandPromise}
 use Rattle.bi_commands.specs.BuildCommands.{build_legacy_promise, build_fit_promise}
@@ -129,28 +129,18 @@ pub data IsImageWork (files : FilePromise) (task : Task) (limits : Limits) (work
 
 -- ---- whole inputs and files
 
--- A whole input of at most this many bytes was read, and no failed read was ignored.
-pub record IsRead (limits : Limits) (old new : ReadTrace) (input : List ℕ) : Type 0 where
-  pub whole : ReadWhole old.remaining new.remaining input
-  pub within : length input ≤ limits.file
-  pub takes_at_most_one_byte_more : TracedTakesAtMost old new (limits.file + 1)
-  pub no_failure_ignored : ReadsWell old → ReadsWell new
-  pub same_reader : new.reader ≡ old.reader
-
 -- Reading a whole input failed.
 pub record IsNotRead (limits : Limits) (old new : ReadTrace) (failure : Failure) : Type 0 where
   pub error : Error
-  pub has_error : IsReadError old.remaining limits.file (MustStopReading new) error
+  pub not_read : IsInputNotRead limits old new error
   pub is : failure ≡ Call error
-  pub takes_at_most_one_byte_more : TracedTakesAtMost old new (limits.file + 1)
-  pub same_reader : new.reader ≡ old.reader
 
 -- The whole file of this name was opened and read.
 pub record IsFileRead (files : FilePromise) (limits : Limits) (name bytes : List ℕ) : Type 0 where
   pub opened : ReadTrace
   pub end : ReadTrace
   pub is_opened : IsOpenFile files name opened
-  pub is_read : IsRead limits opened end bytes
+  pub is_read : IsInputRead limits opened end bytes
 
 -- The file of this name was not read, for this reason.
 pub data IsFileNotRead (files : FilePromise) (limits : Limits) (name : List ℕ) (failure : Failure)
@@ -167,7 +157,7 @@ pub data IsFileNotRead (files : FilePromise) (limits : Limits) (name : List ℕ)
 pub data IsImageRead (files : FilePromise) (limits : Limits) (old new : ReadTrace) (image : List ℕ)
     : (source : ImageSource) → Type 0
   where
-    InputRead : IsRead limits old new image → IsImageRead files limits old new image Standard
+    InputRead : IsInputRead limits old new image → IsImageRead files limits old new image Standard
     FileRead : (name : Bor (List ℕ)) → IsFileRead files limits name.now image → new ≡ old
         → IsImageRead files limits old new image (File name)
 

@@ -1,4 +1,4 @@
-use Rattle.std.specs.Prelude.{ℕ, List, [], fold, map}
+use Rattle.std.specs.Prelude.{ℕ, List, fold, map}
 use Rattle.clap.specs.Walk.{Rule}
 use Rattle.clap.specs.Simple.{App, Shape, with_subcommand}
 use Rattle.bootimg.specs.Program.{command, flag_option, option_with_default, required_option}
@@ -33,7 +33,3 @@ shape_of_text text = command text.name.now (map rule_of_option text.options.now)
 -- The program with these commands more.
 abbrev pub with_subcommands : App → List Shape → App
 with_subcommands program shapes = fold with_subcommand program shapes
-
--- A command of this name with these options, by itself.
-abbrev pub app_of_command : List ℕ → List Rule → App
-app_of_command name rules = record { top = command name rules; subs = [] }

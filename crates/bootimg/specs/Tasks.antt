@@ -6,15 +6,16 @@ use Rattle.bi_base.specs.declared.fault.Error.TheVariants.{WriteFailed}
 use Rattle.bi_base.specs.Commands.{CommandPromise, PromiseLaws}
 use Rattle.bi_base.specs.Limits.{Limits}
 use Rattle.bi_norm.specs.Converting.{IsConvertedFile, IsConvertError}
-use Rattle.bi_norm.specs.NormalForm.{IsNormalForm, IsNormaliseError, IsOpenError, Normalised}
+use Rattle.bi_norm.specs.NormalForm.{IsNormalForm, IsNormaliseError, IsNormaliseOutput}
+use Rattle.bi_norm.specs.Reading.{IsBootImageReadError}
 use Rattle.bi_commands.specs.declared.extract.ExtractError.{ExtractError}
 use Rattle.bi_commands.specs.declared.extract.ExtractError.TheVariants as extract
-use Rattle.bi_commands.specs.CheckedFiles.{IsChecked, IsCheckError, Checked}
+use Rattle.bi_commands.specs.CheckedFiles.{IsChecked, IsCheckError, IsCheckOutput}
 use Rattle.bi_commands.specs.Describing.{IsDescription, IsDescribeError}
 use Rattle.bi_commands.specs.Extracting.{IsChosen, IsExtractError}
 use Rattle.bi_commands.specs.Listing.{IsListing}
-use Rattle.bi_commands.specs.Reports.{IsReport, Verified}
-use Rattle.bi_commands.specs.UpdatedFiles.{IsUpdated, IsUpdateError, Updated}
+use Rattle.bi_commands.specs.Reports.{IsReport, IsVerifyOutput}
+use Rattle.bi_commands.specs.UpdatedFiles.{IsUpdated, IsUpdateError, IsUpdateOutput}
 use Rattle.bi_fit.specs.declared.configurations.ConfigError.TheVariants as list
 use Rattle.bootimg.specs.declared.command_line.Task.{Task}
 use Rattle.bootimg.specs.declared.command_line.Task.TheVariants.{Normalise, List as ListImage}
@@ -42,15 +43,16 @@ pub record EndedWith (status : ℕ) (done : Done) : Type 0 where
 -- The task makes this output of the input, and ends so.
 abbrev pub TaskDone : Task → Limits → Done → (input output : List ℕ) → Type 0
 TaskDone (Normalise form) limits done input output =
-    Normalised limits form done.signatures input output × (done.status ≡ 0)
+    IsNormaliseOutput limits form done.signatures input output × (done.status ≡ 0)
 TaskDone ListImage limits done input output = IsListing limits input output × EndedWith 0 done
 TaskDone Describe limits done input output = IsDescription limits input output × EndedWith 0 done
 TaskDone Verify limits done input output =
-    (good : Bool) × Verified limits good input output × EndedWith (status_of good) done
+    (good : Bool) × IsVerifyOutput limits good input output × EndedWith (status_of good) done
 TaskDone (Check allowed) limits done input output =
-    (clean : Bool) × Checked allowed limits clean input output × EndedWith (status_of clean) done
+    (clean : Bool) × IsCheckOutput allowed limits clean input output
+    × EndedWith (status_of clean) done
 TaskDone (Update changes form) limits done input output =
-    Updated changes limits form done.signatures input output × (done.status ≡ 0)
+    IsUpdateOutput changes limits form done.signatures input output × (done.status ≡ 0)
 TaskDone (Extract selection) limits done input output =
     IsChosen (select_of selection) limits input output × EndedWith 0 done
 TaskDone Convert limits done input output = IsConvertedFile limits input output × EndedWith 0 done
@@ -83,9 +85,9 @@ pub record IsExtractFailure (HasError : ExtractError → Type 0) (failure : Fail
 abbrev pub TaskFails : Task → Limits → (input : List ℕ) → Failure → Type 0
 TaskFails (Normalise form) limits input failure =
     IsCallFailure (IsNormaliseError limits form input) failure
-TaskFails ListImage limits input failure = IsCallFailure (IsOpenError limits input) failure
+TaskFails ListImage limits input failure = IsCallFailure (IsBootImageReadError limits input) failure
 TaskFails Describe limits input failure = IsCallFailure (IsDescribeError limits input) failure
-TaskFails Verify limits input failure = IsCallFailure (IsOpenError limits input) failure
+TaskFails Verify limits input failure = IsCallFailure (IsBootImageReadError limits input) failure
 TaskFails (Check allowed) limits input failure = IsCallFailure (IsCheckError limits input) failure
 TaskFails (Update changes form) limits input failure =
     IsCallFailure (IsUpdateError changes limits form input) failure
@@ -164,11 +166,11 @@ task_in_memory : (task : Task) (limits : Limits) (input : List ℕ) (failure : F
 task_in_memory (Normalise form) limits input failure is =
     call_in_memory (IsNormaliseError limits form input) (λ no. no) (λ no. no) failure is
 task_in_memory ListImage limits input failure is =
-    call_in_memory (IsOpenError limits input) (λ no. no) (λ no. no) failure is
+    call_in_memory (IsBootImageReadError limits input) (λ no. no) (λ no. no) failure is
 task_in_memory Describe limits input failure is =
     call_in_memory (IsDescribeError limits input) (λ no. no) (λ no. no) failure is
 task_in_memory Verify limits input failure is =
-    call_in_memory (IsOpenError limits input) (λ no. no) (λ no. no) failure is
+    call_in_memory (IsBootImageReadError limits input) (λ no. no) (λ no. no) failure is
 task_in_memory (Check allowed) limits input failure is =
     call_in_memory (IsCheckError limits input) (λ no. no) (λ no. no) failure is
 task_in_memory (Update changes form) limits input failure is =

@@ -9,8 +9,9 @@ ghost use Rattle.bootimg.specs.declared.command_line.source.ImageSource.TheVaria
 ghost use Rattle.bootimg.specs.declared.failure.Failure.TheVariants.{Call};
 ghost use Rattle.bootimg.specs.Runs.{IsComparedWork, IsCompareWork, IsFileNotRead, IsFileRead};
 ghost use Rattle.bootimg.specs.Runs.{IsExplainWork, IsImageNotRead, IsImageRead};
-ghost use Rattle.bootimg.specs.Runs.{IsImageWork, IsJobWork, IsNotRead, IsRead, IsTaskWork};
+ghost use Rattle.bootimg.specs.Runs.{IsImageWork, IsJobWork, IsNotRead, IsTaskWork};
 ghost use Rattle.bootimg.specs.Runs.{problem};
+ghost use Rattle.bi_base.specs.Reading.{IsInputRead};
 ghost use Rattle.bi_base.specs.Traces.{ReadTrace};
 
 use crate::builds::build_image;
@@ -231,8 +232,8 @@ fn read_input<S: TracedRead>(
     limits: Limits,
     input: &mut S,
 ) -> Result<Vec<u8>, Failure>
-    ensures read { IfOk result (λ bytes. IsRead limits (S.trace input.old) (S.trace input.new)
-        bytes.items) }
+    ensures read { IfOk result (λ bytes. IsInputRead limits (S.trace input.old)
+        (S.trace input.new) bytes.items) }
     ensures failed { IfErr result (IsNotRead limits (S.trace input.old) (S.trace input.new)) }
 {
     match read_all_traced(alloc, input, limits) {

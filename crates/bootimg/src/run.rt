@@ -12,14 +12,12 @@ use crate::failure::Failure;
 use crate::files::{FileSystem, NoFiles};
 use crate::reports::{FAILED, report};
 use crate::requests::perform;
+use crate::tasks::SUCCESS;
 use bi_base::{
     Error, TracedRead, TracedReader, TracedWrite, TracedWriter, write_all, write_and_flush,
 };
 use std::alloc::{AllocError, Global};
 use std::io::{Read, Write};
-
-/// The exit status after help or the version.
-const SUCCESS: u8 = 0;
 
 /// Runs the program without files: `run_with_files`, where no file can be opened or made, and so no
 /// output can be saved.

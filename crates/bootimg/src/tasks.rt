@@ -16,7 +16,7 @@ use bi_commands::verify::Verifier;
 use bi_norm::Normaliser;
 use std::alloc::Global;
 
-/// The exit status after success.
+/// The exit status after success, help and the version included.
 pub const SUCCESS: u8 = 0;
 
 /// The exit status after `verify` wrote a verdict that is not good, or `check` a line.

@@ -11,7 +11,7 @@ use super::Allowed;
 use super::configurations::{put_configurations, put_default};
 use super::images::put_images;
 use super::trailing::{content_end, put_trailing};
-use crate::describe::check_payloads;
+use crate::payload_bounds::check_payloads;
 use bi_base::{Error, Limits};
 use bi_fit::{Checked, Fit};
 use std::alloc::{AllocError, Global};

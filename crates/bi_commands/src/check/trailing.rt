@@ -12,7 +12,7 @@ ghost use Rattle.bi_commands.specs.ReadChecking.{end_at, offset_of as offset_at}
 ghost use Rattle.bi_commands.specs.ReadChecking.{end_of_read_payloads};
 
 use super::Allowed;
-use crate::describe::length_of;
+use crate::payload_bounds::length_of;
 use bi_base::Error;
 use bi_fit::{Fit, Image, Place};
 use bi_legacy::Legacy;

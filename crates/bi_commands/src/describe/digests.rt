@@ -1,16 +1,10 @@
 //! The digests of payloads in a description.
 
-ghost use Rattle.std.specs.Prelude.{◌≡◌, ◌<◌, ◌≤◌, ◌^◌, OnOk, IfErr};
-ghost use Rattle.std.specs.Option.{option_map};
-ghost use Rattle.bi_base.specs.Reading.{too_large};
-ghost use Rattle.bi_fit.specs.NormalNodes.{payloads_of};
+ghost use Rattle.std.specs.Prelude.{◌≡◌};
 ghost use Rattle.bi_commands.specs.Descriptions.{digest_of_payload};
-ghost use Rattle.bi_commands.specs.PayloadBounds.{payload_length, payloads_length};
 ghost use Rattle.bi_commands.specs.TreeEntries.{digest_made};
 
 use super::entries::PayloadDigest;
-use bi_base::{Cause, Fault, refuse};
-use bi_fit::Image;
 use bi_hash::Algo;
 
 /// Returns the size and the SHA-256 of a payload.
@@ -25,34 +19,5 @@ pub(super) fn digest_of(payload: &[u8]) -> PayloadDigest
     PayloadDigest {
         size: payload.len(),
         sha256,
-    }
-}
-
-/// Checks that the payloads of images together are no longer than a limit.
-///
-/// Error: TooLarge at the limit, exactly if they are longer.
-pub(crate) fn check_payloads(images: &[Image], limit: u32) -> Result<(), Fault>
-    ensures ok { OnOk result (payloads_length (payloads_of images.now) ≤ limit) }
-    ensures fault { IfErr result (λ fault. (fault ≡ too_large limit)
-        × (limit < payloads_length (payloads_of images.now))) }
-{
-    let mut total = 0;
-    for image in images {
-        total += length_of(image.payload);
-        if total > limit as usize {
-            return refuse(Cause::TooLarge, limit);
-        }
-    }
-    Ok(())
-}
-
-/// Returns the length of a payload, 0 if there is none.
-pub(crate) fn length_of(payload: Option<&[u8]>) -> usize
-    ensures length { result ≡ payload_length (option_map (λ payload. payload.now) payload.entry) }
-    ensures small { result < 2 ^ 63 }
-{
-    match payload {
-        Some(payload) => payload.len(),
-        None => 0,
     }
 }

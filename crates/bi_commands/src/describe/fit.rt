@@ -6,19 +6,18 @@ ghost use Rattle.bi_base.specs.Sinks.{Wrote};
 ghost use Rattle.bi_fit.specs.Content.{IsHeld, tree_of};
 ghost use Rattle.bi_norm.specs.Meaning.{OfFit};
 ghost use Rattle.bi_commands.specs.Describing.{IsImageError};
-ghost use Rattle.bi_blob.specs.Blob.{Reservation};
-ghost use Rattle.bi_commands.specs.Descriptions.{reservation_words};
 ghost use Rattle.bi_commands.specs.Shown.{line};
 ghost use Rattle.bi_commands.specs.ReadDescription.{IsDescriptionOf, head_lines, read_lines};
 ghost use Rattle.bi_commands.specs.TreeEntries.{most_open, as_entry};
 
-use super::digests::check_payloads;
 use super::entries::Entry;
 use super::image_nodes::entries_of;
 use super::limited_sink::LimitedSink;
 use super::lines::{most_open, put_tree};
 use super::long_names::check_long_names;
-use super::words::{Word, put_line, put_lines};
+use crate::common_lines::put_reservations;
+use crate::payload_bounds::check_payloads;
+use crate::words::{Word, put_lines};
 use bi_base::{Error, Limits, Sink};
 use bi_fdt::Blob;
 use bi_fit::Fit;
@@ -78,30 +77,4 @@ fn put_head<S: Sink>(boot_cpu: u32, sink: &mut S) -> Result<(), Error>
         ],
         sink,
     )
-}
-
-/// Appends a line for each memory reservation. Fails as the sink does.
-pub(crate) fn put_reservations<S: Sink>(blob: &Blob, sink: &mut S) -> Result<(), Error>
-    ensures { Wrote S.appends S.fails sink.old
-        (flat_map line (map reservation_words blob.now.reservations)) result sink.new }
-{
-    for index in 0..blob.reservation_count() {
-        if let Some((address, size)) = blob.reservation(index) {
-            put_reservation(address, size, sink)?;
-        }
-    }
-    Ok(())
-}
-
-/// Appends the line of a memory reservation. Fails as the sink does.
-fn put_reservation<S: Sink>(address: u64, size: u64, sink: &mut S) -> Result<(), Error>
-    ensures { let reservation : Reservation = record { address = address; size = size } in
-        Wrote S.appends S.fails sink.old (line (reservation_words reservation)) result sink.new }
-{
-    let words = [
-        Word::Text(b"reservation"),
-        Word::Hexadecimal64(address),
-        Word::Hexadecimal64(size),
-    ];
-    put_line(&words, sink)
 }

@@ -17,7 +17,7 @@ ghost use Rattle.bi_commands.specs.TreeEntries.{open_after as open_after_of};
 ghost use Rattle.bi_commands.specs.WrittenWords.{bytes_of_names};
 
 use super::entries::{Entry, PayloadDigest};
-use super::words::{Word, put_line};
+use crate::words::{Word, put_line};
 use bi_base::{Error, Sink};
 
 /// Returns how many nodes are open at most.

@@ -13,10 +13,7 @@ ghost use Rattle.bi_commands.specs.LongNames.{long_names, long_names_from, long_
 use super::limited_sink::LimitedSink;
 use bi_base::{Error, Sink};
 use bi_fdt::NodeRef;
-
-/// The length from which on a name is long. Names may share bytes, so long ones can have more bytes
-/// together than the file, and their comparisons can take long.
-const LEAST_LENGTH: usize = 64;
+use bi_fit::long_name;
 
 /// Checks that the long names of the properties of a node and of all nodes below it are together no
 /// longer than a limit. It allocates nothing, and takes time linear in the number of nodes and
@@ -73,8 +70,5 @@ fn put_own_names(node: NodeRef<'_, '_>, sink: &mut LimitedSink) -> Result<(), Er
 fn put_if_long(name: &[u8], sink: &mut LimitedSink) -> Result<(), Error>
     ensures { Wrote Takes HasNoRoom sink.old (name_if_long name.now) result sink.new }
 {
-    if name.len() < LEAST_LENGTH {
-        return Ok(());
-    }
-    sink.put(name)
+    sink.put(long_name(name))
 }

@@ -16,7 +16,7 @@ ghost use Rattle.bi_commands.specs.Shown.{line, shown_text};
 
 use super::fit::KEYS;
 use super::names::first_missing;
-use crate::describe::{Word, put_later_word, put_line, put_words};
+use crate::words::{Word, put_later_word, put_line, put_words};
 use bi_base::{Error, Sink};
 use bi_fdt::NodeRef;
 use bi_fit::{Fit, Key, split_name};

@@ -10,7 +10,8 @@ ghost use Rattle.bi_commands.specs.ReadListing.{read_listing};
 ghost use Rattle.bi_commands.specs.Shown.{line, shown_text};
 
 use super::configurations::put_configurations;
-use crate::describe::{Word, put_line, put_lines, put_reservations};
+use crate::common_lines::put_reservations;
+use crate::words::{Word, put_line, put_lines};
 use bi_base::{Error, Sink};
 use bi_fdt::Blob;
 use bi_fit::{Fit, Image, Key, Place};

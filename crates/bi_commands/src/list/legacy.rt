@@ -6,7 +6,8 @@ ghost use Rattle.bi_base.specs.Sinks.{Wrote};
 ghost use Rattle.bi_legacy.specs.PlacedParts.{part_model};
 ghost use Rattle.bi_commands.specs.Listing.{legacy_listing, parts_lines, part_line};
 
-use crate::describe::{Word, put_codes, put_decimal, put_kind_and_fields, put_line};
+use crate::common_lines::{put_codes, put_kind_and_fields};
+use crate::words::{Word, put_decimal, put_line};
 use bi_base::{Error, Sink};
 use bi_legacy::{Legacy, Part};
 

@@ -12,8 +12,9 @@ ghost use Rattle.bi_fit.specs.NormalNodes.{MayAdd, with_events, AreWithin};
 ghost use Rattle.bi_fit.specs.Documents.{document_of};
 ghost use Rattle.bi_fit.specs.Building.{built_tree};
 ghost use Rattle.bi_fit.specs.NamedImages.{head_model, named_models};
-ghost use Rattle.bi_fit.specs.BuiltNodes.{built_image_nodes, images_node, configurations_node};
-ghost use Rattle.bi_fit.specs.BuiltNodes.{built_payloads, ArePrepared};
+ghost use Rattle.bi_fit.specs.BuiltNodes.{built_image_nodes, built_images_node};
+ghost use Rattle.bi_fit.specs.BuiltNodes.{built_configurations_node, built_payloads};
+ghost use Rattle.bi_fit.specs.BuiltNodes.{ArePrepared};
 
 use crate::building::lists::KeyLists;
 use crate::building::properties::{
@@ -74,10 +75,10 @@ fn add_built_images<'a>(
     requires prepared { ArePrepared parts }
     requires within { AreWithin form 0 (built_payloads (named_models parts.images.now)) }
     requires may { let images = named_models parts.images.now in
-        MayAdd doc.old (events (images_node form (head_model parts.head) images)) }
+        MayAdd doc.old (events (built_images_node form (head_model parts.head) images)) }
     ensures added { let images = named_models parts.entry.images.now in
         OnOk result (doc.new ≡ with_events doc.old
-        (events (images_node form (head_model parts.entry.head) images))) }
+        (events (built_images_node form (head_model parts.entry.head) images))) }
 {
     let properties = PropertyMap::new(alloc);
     begin_with(doc, b"images", &properties)?;
@@ -122,10 +123,10 @@ fn add_configurations<'a>(
 ) -> Result<(), AllocError>
     requires prepared { ArePrepared parts }
     requires may { let images = named_models parts.images.now in
-        MayAdd doc.old (events (configurations_node (head_model parts.head) images)) }
+        MayAdd doc.old (events (built_configurations_node (head_model parts.head) images)) }
     ensures added { let images = named_models parts.entry.images.now in
         OnOk result (doc.new ≡ with_events doc.old
-        (events (configurations_node (head_model parts.entry.head) images))) }
+        (events (built_configurations_node (head_model parts.entry.head) images))) }
 {
     let properties = default_properties(alloc)?;
     begin_with(doc, b"configurations", &properties)?;

@@ -5,9 +5,8 @@ ghost use Rattle.std.specs.FinMap.{from_entries};
 ghost use Rattle.bi_blob.specs.Layout.{strings_of};
 ghost use Rattle.bi_blob.specs.Tree.{Property};
 ghost use Rattle.bi_fit.specs.Building.{ImageSpecModel, list_property};
-ghost use Rattle.bi_fit.specs.Building.{root_properties as root_properties_of};
-ghost use Rattle.bi_fit.specs.Building.{built_image_properties as image_properties_of};
-ghost use Rattle.bi_fit.specs.Building.{configuration_properties as configuration_properties_of};
+ghost use Rattle.bi_fit.specs.Building.{built_root_properties, built_image_properties};
+ghost use Rattle.bi_fit.specs.Building.{built_configuration_properties};
 ghost use Rattle.bi_fit.specs.Building.{configuration_name, text_value};
 ghost use Rattle.bi_fit.specs.Names.{default_name};
 ghost use Rattle.bi_fit.specs.BuiltNodes.{AreKeyLists, with_cell_property};
@@ -30,7 +29,7 @@ pub(super) fn root_properties<'a>(
     head: Head<'a>,
 ) -> Result<PropertyMap<'a>, AllocError>
     ensures { IfOk result (λ properties. properties
-        ≡ without_numbers (from_entries (root_properties_of (head_model head.entry)))) }
+        ≡ without_numbers (from_entries (built_root_properties (head_model head.entry)))) }
 {
     let mut properties = PropertyMap::new(alloc);
     properties.insert(b"timestamp", Value::Cell(head.time))?;
@@ -47,7 +46,7 @@ pub(super) fn image_properties<'a>(
 ) -> Result<PropertyMap<'a>, AllocError>
     ensures { IfOk result (λ properties. properties
         ≡ without_numbers (from_entries
-        (image_properties_of (head_model head.entry) (named_model image.now)))) }
+        (built_image_properties (head_model head.entry) (named_model image.now)))) }
 {
     let mut properties = PropertyMap::new(alloc);
     insert_cell(&mut properties, b"entry", image.entry)?;
@@ -79,7 +78,7 @@ pub(super) fn configuration_properties<'a>(
     ensures { (images : List ImageSpecModel) → AreKeyLists images lists.entry.now →
         IfOk result (λ properties. properties
         ≡ without_numbers (from_entries
-        (configuration_properties_of (head_model head.entry) images))) }
+        (built_configuration_properties (head_model head.entry) images))) }
 {
     let mut properties = PropertyMap::new(alloc);
     insert_list(&mut properties, Key::Script, &lists.script)?;

@@ -4,7 +4,7 @@ ghost use Rattle.std.specs.Prelude.{◌≡◌, ◌↔◌, IsTrue, IfOk};
 ghost use Rattle.bi_blob.specs.Tree.{EachOwn};
 ghost use Rattle.bi_fdt.specs.Views.{node_of};
 ghost use Rattle.bi_fit.specs.NormalNodes.{HasDistinctNames, alone};
-ghost use Rattle.bi_fit.specs.ComparedNodes.{HaveOneNumbering, compared_nodes, role_below};
+ghost use Rattle.bi_fit.specs.ComparedNodes.{HaveOneNumbering, compared_nodes};
 
 use crate::comparing::numbers::Numbers;
 use crate::comparing::properties::have_same_properties;

@@ -19,12 +19,9 @@ use crate::keys::keys_of_type;
 use bi_base::{Cause, Error, Fault, Limits, are_bytes, refuse};
 use bi_blob::is_child_name;
 use bi_fit::{Head, Key, NamedImage};
-use bi_legacy::codes::{arch_name, compression_name, os_name, type_name};
+use bi_legacy::codes::{IH_TYPE_MULTI, arch_name, compression_name, os_name, type_name};
 use std::alloc::Global;
 use std::collections::BTreeSet;
-
-/// The code of multi-file images (U-Boot, include/image.h: `IH_TYPE_MULTI`).
-const MULTI: u8 = 4;
 
 /// Makes all checks of what is to be built but the last: that the text is within the limit. Returns
 /// the images with the names of their codes.
@@ -95,7 +92,7 @@ fn check_image<'a>(image: &ImageSpec<'a>, index: u32) -> Result<NamedImage<'a>, 
     ensures named { IfOk result (λ named. named_model named ≡ spec_model image.now) }
     ensures fault { IfErr result (IsFirstFailure (fields_and_names index image.now)) }
 {
-    if !is_child_name(image.name) || image.image_type == MULTI {
+    if !is_child_name(image.name) || image.image_type == IH_TYPE_MULTI {
         return refuse(Cause::BadField, index);
     }
     let Some(named) = name_codes(image) else {

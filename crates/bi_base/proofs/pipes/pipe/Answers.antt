@@ -14,7 +14,7 @@ returns-in_err-input g c =
       done = search rules;
       failed = rw (p.1, same)
           (reading_failed promise limits (g.met.C.Command.laws command limits) _ _ _ c.in_err-input.field-0.0
-          c.in_err-input.ensures.failed);
+          c.in_err-input.ensures.failed.cause);
       takes_at_most_one_byte_more = search rules;
       no_failed_read_ignored = search rules;
       no_failed_write_ignored = search rules;
@@ -29,7 +29,7 @@ returns g c =
     record {
       done = search rules;
       failed = piping_failed promise limits (g.met.C.Command.laws command limits) _ _ _ _ c.deref.result.now
-          c.in_ok-input.input.items c.write_output.result c.in_ok-input.ensures.whole c.deref.ensures.value
+          c.in_ok-input.input.items c.write_output.result c.in_ok-input.ensures.read.whole c.deref.ensures.value
           c.write_output.ensures.failed;
       takes_at_most_one_byte_more = search rules;
       no_failed_read_ignored = search rules;

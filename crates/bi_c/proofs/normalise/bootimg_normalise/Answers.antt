@@ -1,11 +1,11 @@
 use Rattle.std.proofs.Common.{refl, subst}
-use Rattle.bi_norm.specs.Opening.{IsReadBootImage}
+use Rattle.bi_norm.specs.Reading.{IsReadBootImage}
 use Rattle.bi_c.specs.declared.failure.Failure.TheVariants.{WrongArgument}
 use Rattle.bi_c.specs.Answers.{FilledNothing}
 use Rattle.bi_c.specs.Arguments.{HasForm}
 use Rattle.bi_c.proofs.CallAnswers.{not_so, is_so}
 use Rattle.bi_c.proofs.SliceWriting.{fills_as}
-use Rattle.bi_norm.proofs.NormalForms.{open_error}
+use Rattle.bi_norm.proofs.NormalForms.{normalise_error_of_reading}
 use Rattle.bi_c.proofs.NormalisedFiles.{normalised_as, not_normalised}
 use Rattle.bi_c.proofs.normalise.bootimg_normalise.Goals as goal
 
@@ -49,5 +49,5 @@ returns-in-Err c =
     (not_normalised c.args.limit c.args.depth c.args.form limits form file valid c.in-Some.ensures.value c.in-Some-form_of.ensures.value c.failure_of.result (record {
       cause = c.in-Err.error;
       is_failure = c.failure_of.ensures;
-      is_error = open_error limits form file c.in-Err.error c.in-Err.ensures.failed;
+      is_error = normalise_error_of_reading limits form file c.in-Err.error c.in-Err.ensures.failed;
     })) refl c.fail-in-Err.ensures.answer c.fail-in-Err.ensures.status

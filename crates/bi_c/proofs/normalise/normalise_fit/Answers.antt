@@ -1,6 +1,6 @@
 use Rattle.std.proofs.Common.{◌≤◌, length, refl, subst, sym, ◌∙◌, ℕ, arith}
 use Rattle.bi_blob.specs.Layout.{longest_text}
-use Rattle.bi_norm.specs.NormalForm.{Normalised}
+use Rattle.bi_norm.specs.NormalForm.{IsNormaliseOutput}
 use Rattle.bi_norm.proofs.NormalForms.{text_error, tree_normalised}
 use Rattle.bi_c.specs.Answers.{FilledNothing}
 use Rattle.bi_c.proofs.SliceWriting.{fills_as}
@@ -15,8 +15,8 @@ returns-in-Ok c file read =
     let fits = subst (λ text. length text ≤ limits.file) made.is_text made.short in
     let normalised = tree_normalised limits form file c.args.fit.now c.signature_count.result read fits most c.signature_count.ensures in
     fills_as _ _ _ _ _ _ _ _
-    (λ text value just. subst (λ (n : ℕ). Normalised limits form n file text) (sym just.is_number)
-    (subst (Normalised limits form c.signature_count.result file) (sym (just.is_text ∙ made.is_text)) normalised))
+    (λ text value just. subst (λ (n : ℕ). IsNormaliseOutput limits form n file text) (sym just.is_number)
+    (subst (IsNormaliseOutput limits form c.signature_count.result file) (sym (just.is_text ∙ made.is_text)) normalised))
     (λ failure none. absurd none) c.write_tree.ensures
 
 pub returns-in-Err : goal.returns-in-Err

@@ -1,6 +1,6 @@
 use Rattle.std.proofs.Common.{subst, sym, ℕ}
 use Rattle.bi_base.specs.declared.fault.Error.TheVariants as error
-use Rattle.bi_norm.specs.NormalForm.{Normalised}
+use Rattle.bi_norm.specs.NormalForm.{IsNormaliseOutput}
 use Rattle.bi_norm.proofs.NormalForms.{legacy_normal_form, legacy_normalised, normal_form_needs_memory}
 use Rattle.bi_legacy.specs.Text.{legacy_text}
 use Rattle.bi_c.proofs.SliceWriting.{fills_as}
@@ -13,7 +13,7 @@ returns c form =
     let parsed = c.args.image.now in
     let is = legacy_normalised limits form file parsed c.requires in
     fills_as _ _ _ _ _ _ _ _
-    (λ text value just. subst (λ (n : ℕ). Normalised limits form n file text) (sym just.is_number) (subst (Normalised limits form 0 file) (sym just.is_text) is))
+    (λ text value just. subst (λ (n : ℕ). IsNormaliseOutput limits form n file text) (sym just.is_number) (subst (IsNormaliseOutput limits form 0 file) (sym just.is_text) is))
     (λ failure same. record {
       cause = error.OutOfMemory;
       is_failure = same;

@@ -2,7 +2,7 @@ use Rattle.std.proofs.Common.{List, ℕ, IfOk, subst}
 use Rattle.bi_fit.specs.Content.{tree_of}
 use Rattle.bi_fit.specs.Reading.{IsReadFit}
 use Rattle.bi_norm.specs.Meaning.{OfLegacy, OfFit}
-use Rattle.bi_norm.specs.Opening.{IsReadBootImage}
+use Rattle.bi_norm.specs.Reading.{IsReadBootImage}
 use Rattle.bi_commands.specs.Extracting.{choice_of}
 use Rattle.bi_commands.proofs.ImageCalls.{tree_needs_memory}
 use Rattle.bi_c.specs.Extracting.{IsChosenAt}

@@ -1,6 +1,6 @@
 use Rattle.std.proofs.Common.{refl, string_bytes}
 use Rattle.bi_base.specs.Limits.{IsInRange}
-use Rattle.bi_norm.specs.NormalForm.{IsOpenError}
+use Rattle.bi_norm.specs.Reading.{IsBootImageReadError}
 use Rattle.bi_commands.specs.Listing.{IsListing}
 use Rattle.bi_c.specs.declared.failure.Failure.TheVariants.{WrongArgument}
 use Rattle.bi_c.specs.Answers.{FilledNothing}
@@ -21,5 +21,5 @@ pub returns-in-Err : goal.returns-in-Err
 returns-in-Err c =
     let in_range : IsInRange c.args.limit c.args.depth = is_so _ c.in-Some.ensures.in_range in
     FilledNothing c.failure_of.result
-    (failed_of_one c.args.limit c.args.depth (λ limits error. IsOpenError limits c.args.file.now error) c.in-Some.limits c.in-Err.error c.failure_of.result in_range c.in-Some.ensures.value c.failure_of.ensures (λ l is. is) (λ l is. is) c.in-Err.ensures.failed)
+    (failed_of_one c.args.limit c.args.depth (λ limits error. IsBootImageReadError limits c.args.file.now error) c.in-Some.limits c.in-Err.error c.failure_of.result in_range c.in-Some.ensures.value c.failure_of.ensures (λ l is. is) (λ l is. is) c.in-Err.ensures.failed)
     refl c.fail-in-Err.ensures.answer c.fail-in-Err.ensures.status

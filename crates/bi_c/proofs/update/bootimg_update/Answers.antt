@@ -3,7 +3,7 @@ use Rattle.bi_base.specs.Limits.{Limits}
 use Rattle.bi_fit.specs.declared.changes.Changes.{Changes}
 use Rattle.bi_fit.specs.declared.form.Form.{Form}
 use Rattle.bi_fit.proofs.AppendedTexts.{error_in_memory}
-use Rattle.bi_commands.specs.UpdatedFiles.{IsUpdated, Updated, IsUpdateError}
+use Rattle.bi_commands.specs.UpdatedFiles.{IsUpdated, IsUpdateOutput, IsUpdateError}
 use Rattle.bi_commands.proofs.UpdatedFiles.{updated_needs_memory}
 use Rattle.bi_c.specs.declared.failure.Failure.TheVariants.{WrongArgument}
 use Rattle.bi_c.specs.Answers.{FilledNothing}
@@ -32,11 +32,11 @@ returns-in-Ok c =
     let count = c.in-Ok.count in
     let appended = c.in-Ok.ensures.appended in
     let same : c.deref.result.now ≡ appended.text = c.deref.ensures.value ∙ c.into_vec.ensures ∙ appended.appended ∙ ap (λ (l : List ℕ). l ++ appended.text) c.new-sink.ensures in
-    let updated : Updated (changes_of c.args.changes c.args.time) limits form count file c.deref.result.now =
-    subst (λ (text : List ℕ). Updated (changes_of c.args.changes c.args.time) limits form count file text) (sym same)
-    (subst (λ (changes : Changes). Updated changes limits form count file appended.text) c.in-Some-changes_of.ensures.value
-    (subst (λ (f : Form). Updated c.in-Some-changes_of.wanted limits f count file appended.text) c.in-Some-form_of.ensures.value
-    (subst (λ (l : Limits). Updated c.in-Some-changes_of.wanted l c.in-Some-form_of.kind count file appended.text) c.in-Some.ensures.value appended.is_text))) in
+    let updated : IsUpdateOutput (changes_of c.args.changes c.args.time) limits form count file c.deref.result.now =
+    subst (λ (text : List ℕ). IsUpdateOutput (changes_of c.args.changes c.args.time) limits form count file text) (sym same)
+    (subst (λ (changes : Changes). IsUpdateOutput changes limits form count file appended.text) c.in-Some-changes_of.ensures.value
+    (subst (λ (f : Form). IsUpdateOutput c.in-Some-changes_of.wanted limits f count file appended.text) c.in-Some-form_of.ensures.value
+    (subst (λ (l : Limits). IsUpdateOutput c.in-Some-changes_of.wanted l c.in-Some-form_of.kind count file appended.text) c.in-Some.ensures.value appended.is_text))) in
     buffer_is_filled _ _ c.deref.result.now _ _ count _ _
     (record {
       arguments = record {

@@ -2,7 +2,7 @@ use Rattle.std.proofs.Common.{inl, refl, string_bytes, ◌∙◌}
 use Rattle.std.proofs.lemmas.Result.{err_from_is_err_and}
 use Rattle.bi_commands.proofs.ComparedImages.{memory_error, describing_error, error_of_one, error_of_other, compared_same, compared_different}
 use Rattle.bi_commands.specs.declared.compare.CompareError.TheVariants.{OutOfMemory}
-use Rattle.bi_norm.specs.OpenedMeaning.{meaning_of}
+use Rattle.bi_norm.specs.Reading.{meaning_of}
 use Rattle.bi_commands.proofs.compare.compare.Goals as goal
 use Rattle.bi_norm.proofs.Comparisons.{opened_means}
 

@@ -2,7 +2,7 @@ use Rattle.std.proofs.Common.{refl}
 use Rattle.std.proofs.lemmas.Result.{err_from_is_err_and}
 use Rattle.bi_commands.proofs.ComparedImages.{are_compared, memory_error}
 use Rattle.bi_commands.specs.declared.compare.CompareError.TheVariants.{OutOfMemory}
-use Rattle.bi_norm.specs.OpenedMeaning.{meaning_of}
+use Rattle.bi_norm.specs.Reading.{meaning_of}
 use Rattle.bi_commands.proofs.compare.have_same_meaning.Goals as goal
 use Rattle.bi_norm.proofs.Comparisons.{opened_means}
 

@@ -1,6 +1,6 @@
 use Rattle.std.proofs.Common.{IsAscii, sym, subst, true≢false}
 use Rattle.std.specs.Prelude.{IsOk}
-use Rattle.bi_norm.specs.OpenedMeaning.{meaning_of}
+use Rattle.bi_norm.specs.Reading.{meaning_of}
 use Rattle.bi_commands.specs.ReadDescription.{IsDescriptionOf}
 use Rattle.bi_commands.proofs.AsciiTexts.{appended_utf8}
 use Rattle.bi_commands.proofs.describe.describe_image.Goals as goal

@@ -1,7 +1,7 @@
 use Rattle.std.proofs.Common.{IsAscii, sym, ap, subst}
 use Rattle.bi_base.specs.Cells.{AreBytes}
 use Rattle.bi_legacy.specs.Meaning.{LegacyImage}
-use Rattle.bi_norm.specs.OpenedMeaning.{meaning_of}
+use Rattle.bi_norm.specs.Reading.{meaning_of}
 use Rattle.bi_commands.specs.Descriptions.{description}
 use Rattle.bi_commands.specs.ReadDescription.{IsHeldImage}
 use Rattle.bi_commands.proofs.AsciiDescriptions.{legacy_is_ascii, fit_is_ascii}

@@ -2,7 +2,7 @@ use Rattle.std.proofs.Common.{subst}
 use Rattle.bi_fit.specs.Content.{tree_of}
 use Rattle.bi_fit.specs.Reading.{IsReadFit}
 use Rattle.bi_norm.specs.Meaning.{OfLegacy, OfFit}
-use Rattle.bi_norm.specs.Opening.{IsReadBootImage}
+use Rattle.bi_norm.specs.Reading.{IsReadBootImage}
 use Rattle.bi_commands.proofs.ImageCalls.{tree_needs_memory, chosen_of_file, refused_of_file, failed_of_file}
 use Rattle.bi_commands.proofs.extract.extract.Goals as goal
 

@@ -2,7 +2,7 @@ use Rattle.std.proofs.Common.{◌≤◌, length, refl, sym, subst, arith}
 use Rattle.std.proofs.lemmas.Result.{err_from_is_err_and}
 use Rattle.bi_base.specs.Commands.{WasRefused, SinkFailed}
 use Rattle.bi_blob.specs.Layout.{longest_text}
-use Rattle.bi_commands.specs.UpdatedFiles.{IsUpdated, Updated}
+use Rattle.bi_commands.specs.UpdatedFiles.{IsUpdated, IsUpdateOutput}
 use Rattle.bi_commands.proofs.UpdatedFiles.{tree_is_updated, tree_updated, text_not_made, digests_not_made}
 use Rattle.bi_commands.proofs.update.update_fit.Goals as goal
 
@@ -35,7 +35,7 @@ returns-clause-appended g c file opened =
     let fits = subst (λ text. length text ≤ c.args.limits.file) made.is_text made.short in
     record {
       text = c.in_ok-text.text;
-      is_text = subst (Updated c.args.changes c.args.limits c.args.form c.signature_count.result file) (sym made.is_text)
+      is_text = subst (IsUpdateOutput c.args.changes c.args.limits c.args.form c.signature_count.result file) (sym made.is_text)
           (tree_updated c.args.changes c.args.limits c.args.form file c.args.fit.now opened most c.signature_count.result c.in_ok-digests.ensures.digests.within fits c.signature_count.ensures);
       appended = c.in_ok-emit.ensures;
     }

@@ -1,5 +1,5 @@
 use Rattle.std.proofs.lemmas.Result.{err_from_is_err_and}
-use Rattle.bi_norm.specs.NormalForm.{ForLegacyImage}
+use Rattle.bi_norm.specs.Reading.{ForLegacyImage}
 use Rattle.bi_commands.proofs.ImageReports.{legacy_verified}
 use Rattle.bi_commands.proofs.verify.verify_legacy.Goals as goal
 

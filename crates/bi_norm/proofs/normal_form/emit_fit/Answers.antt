@@ -2,7 +2,7 @@ use Rattle.std.proofs.Common.{◌≤◌, length, refl, sym, subst, arith}
 use Rattle.std.proofs.lemmas.Result.{err_from_is_err_and}
 use Rattle.bi_base.specs.Commands.{WasRefused, SinkFailed}
 use Rattle.bi_blob.specs.Layout.{longest_text}
-use Rattle.bi_norm.specs.NormalForm.{IsNormalForm, Normalised}
+use Rattle.bi_norm.specs.NormalForm.{IsNormalForm, IsNormaliseOutput}
 use Rattle.bi_norm.proofs.NormalForms.{text_error, tree_normal_form, tree_normalised}
 use Rattle.bi_norm.proofs.normal_form.emit_fit.Goals as goal
 
@@ -27,7 +27,7 @@ returns-clause-appended g c file opened =
     let fits = subst (λ text. length text ≤ c.args.limits.file) made.is_text made.short in
     record {
       text = c.in_ok-text.text;
-      is_text = subst (Normalised c.args.limits c.args.form c.signature_count.result file) (sym made.is_text)
+      is_text = subst (IsNormaliseOutput c.args.limits c.args.form c.signature_count.result file) (sym made.is_text)
           (tree_normalised c.args.limits c.args.form file c.args.fit.now c.signature_count.result opened fits most c.signature_count.ensures);
       appended = c.in_ok-emit.ensures;
     }

@@ -1,14 +1,14 @@
 use Rattle.std.proofs.Common.{refl, subst}
 use Rattle.std.proofs.lemmas.Result.{err_from_is_err_and}
 use Rattle.bi_base.specs.Commands.{WasRefused}
-use Rattle.bi_norm.specs.Opening.{IsReadBootImage}
-use Rattle.bi_norm.proofs.NormalForms.{open_error}
+use Rattle.bi_norm.specs.Reading.{IsReadBootImage}
+use Rattle.bi_norm.proofs.NormalForms.{normalise_error_of_reading}
 use Rattle.bi_norm.proofs.normal_form.normalise_into.Goals as goal
 
 pub returns-in_err-image-clause-failed : goal.returns-in_err-image-clause-failed
 returns-in_err-image-clause-failed g c =
     let p = err_from_is_err_and c.from_residual.result c.from_residual.ensures.1 in
-    rw (p.1, p.2) (WasRefused (open_error c.args.limits c.args.form c.args.file.now c.in_err-image.field-0.0 c.in_err-image.ensures.failed) refl)
+    rw (p.1, p.2) (WasRefused (normalise_error_of_reading c.args.limits c.args.form c.args.file.now c.in_err-image.field-0.0 c.in_err-image.ensures.failed) refl)
 
 pub returns-in-Fit-clause-appended : goal.returns-in-Fit-clause-appended
 returns-in-Fit-clause-appended g c =

@@ -1,6 +1,6 @@
 use Rattle.std.proofs.Common.{◌≡◌, ℕ, ◌-◌, length, drop, string_bytes, subst}
 use Rattle.std.proofs.lemmas.Result.{err_from_is_err_and}
-use Rattle.bi_norm.specs.NormalForm.{ForLegacyImage}
+use Rattle.bi_norm.specs.Reading.{ForLegacyImage}
 use Rattle.bi_commands.specs.Checking.{concern_lines, trailing_concerns}
 use Rattle.bi_commands.proofs.CheckedFiles.{legacy_checked}
 use Rattle.bi_commands.proofs.check.trailing.check_legacy.Goals as goal

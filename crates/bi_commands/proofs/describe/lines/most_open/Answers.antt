@@ -1,5 +1,5 @@
 use Rattle.std.proofs.Common.{◌≡◌, ◌+◌, drop, get_or, map, max, ap, subst, ◌∙◌, arith}
-use Rattle.bi_commands.specs.TreeEntries.{as_entry, count_after}
+use Rattle.bi_commands.specs.TreeEntries.{as_entry}
 use Rattle.bi_commands.specs.TreeEntries as tree
 use Rattle.bi_commands.proofs.EntryLines.{entries_from, most_after, count_after-le, no_entry}
 use Rattle.bi_commands.proofs.describe.lines.most_open.Goals as goal

@@ -9,8 +9,9 @@ use Rattle.bi_fit.proofs.ImageNodes.{within_sized, within_first, within_later}
 use Rattle.bi_fit.proofs.NodeEvents.{IsAdding, may_add_first, adding_later}
 use Rattle.bi_fit.specs.Building.{built_image_properties}
 use Rattle.bi_fit.specs.NamedImages.{head_model, named_model, named_models}
-use Rattle.bi_fit.specs.BuiltNodes.{built_payloads, hash_node, placed_properties, image_node, built_image_nodes}
-use Rattle.bi_fit.proofs.BuiltDocuments.{nodes_later, nodes_at, have_no_numbers, same_built_image}
+use Rattle.bi_fit.specs.BuiltNodes.{built_payloads, built_image_nodes}
+use Rattle.bi_fit.proofs.BuiltDocuments.{built_hash_node, placed_properties, built_image_node, nodes_later, nodes_at, have_no_numbers}
+use Rattle.bi_fit.proofs.BuiltDocuments.{same_built_image}
 use Rattle.bi_fit.proofs.BuiltPayloads.{no_named_image, built_payloads_from, digest_at}
 use Rattle.bi_fit.proofs.building.document.add_built_image_nodes.Goals as goal
 
@@ -35,7 +36,7 @@ add_image_node-requires c =
       sized = subst (λ form. HasCellSize form (Some image.payload)) (sym c.loop-index.invariant.form) sized;
       children = tt;
       may = subst (λ nodes. MayAdd c.loop-index.doc (events nodes)) (sym same)
-          (may_add_first c.loop-index.doc target image.name (entries (placed_properties c.args.form (up4 end) head image)) (hash_node image.payload) later
+          (may_add_first c.loop-index.doc target image.name (entries (placed_properties c.args.form (up4 end) head image)) (built_hash_node image.payload) later
           (subst (IsAdding c.loop-index.doc target) (nodes_at c.args.form end head images index no_named_image c.loop-index-test.true) c.loop-index.invariant.adding));
     }
 
@@ -60,11 +61,11 @@ loop-index-preserved c =
     let digest = digest_at images c.args.parts.digests.now index c.loop-index-test.true c.requires.prepared.digests in
     let same = same_built_image c.loop-index.area.form c.args.form (up4 c.loop-index.area.end) head image c.in_ok-image_properties.field-0 (get_or c.args.parts.digests.now index [])
     c.loop-index.invariant.form c.in_ok-image_properties.ensures digest in
-    let added : c.add_image_node.new.doc ≡ with_events c.loop-index.doc (events (image_node c.args.form (up4 c.loop-index.area.end) head image)) =
+    let added : c.add_image_node.new.doc ≡ with_events c.loop-index.doc (events (built_image_node c.args.form (up4 c.loop-index.area.end) head image)) =
     c.in_ok-add_image_node.ensures.added ∙ ap (λ nodes. with_events c.loop-index.doc (events nodes)) same in
     rw at (record {
       adding = subst (IsAdding c.add_image_node.new.doc target) (nodes_later c.args.form c.loop-index.area.end image.payload head rest)
-          (adding_later c.loop-index.doc target image.name (entries (placed_properties c.args.form (up4 c.loop-index.area.end) head image)) (hash_node image.payload) later adding c.add_image_node.new.doc added);
+          (adding_later c.loop-index.doc target image.name (entries (placed_properties c.args.form (up4 c.loop-index.area.end) head image)) (built_hash_node image.payload) later adding c.add_image_node.new.doc added);
       within = within_later c.args.form c.loop-index.area.end payload (built_payloads rest) within;
       small = small;
       form = c.in_ok-add_image_node.ensures.form ∙ c.loop-index.invariant.form;

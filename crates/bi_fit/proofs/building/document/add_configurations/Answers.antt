@@ -3,11 +3,11 @@ use Rattle.std.specs.FinMap.{from_entries}
 use Rattle.bi_blob.specs.Events.{events}
 use Rattle.bi_blob.specs.Tree.{PropertyMap}
 use Rattle.bi_fit.specs.NormalNodes.{MayAdd, with_events, begin_events, leaf}
-use Rattle.bi_fit.specs.Building.{configuration_name, configuration_properties, text_value}
+use Rattle.bi_fit.specs.Building.{configuration_name, built_configuration_properties, text_value}
 use Rattle.bi_fit.specs.Names.{configurations_name, default_name}
 use Rattle.bi_fit.proofs.AddedEvents.{may_begin, may_have_children, may_end, whole_added}
 use Rattle.bi_fit.specs.NamedImages.{head_model, named_models}
-use Rattle.bi_fit.specs.BuiltNodes.{configuration_node}
+use Rattle.bi_fit.specs.BuiltNodes.{built_configuration_node}
 use Rattle.bi_fit.proofs.BuiltDocuments.{have_no_numbers}
 use Rattle.bi_fit.proofs.building.document.add_configurations.Goals as goal
 
@@ -24,13 +24,13 @@ begin_with-requires-clause-may c =
     let head = head_model c.args.parts.head in
     let begins : begin_events configurations_name c.in_ok-properties.properties.by_name ≡ begin_events configurations_name own =
     ap (λ properties. begin_events configurations_name properties.by_name) c.in_ok-properties.ensures in
-    let children = events (configuration_node head images) in
+    let children = events (built_configuration_node head images) in
     subst (MayAdd c.args.doc.now) (sym begins) (may_begin c.args.doc.now (begin_events configurations_name own) children c.requires.may)
 
 pub add_leaf-requires-clause-numbers : goal.add_leaf-requires-clause-numbers
 add_leaf-requires-clause-numbers c =
     let images = named_models c.args.parts.images.now in
-    have_no_numbers c.begin_with.new.doc.names c.in_ok-properties-2.properties (from_entries (configuration_properties (head_model c.args.parts.head) images))
+    have_no_numbers c.begin_with.new.doc.names c.in_ok-properties-2.properties (from_entries (built_configuration_properties (head_model c.args.parts.head) images))
     (c.in_ok-properties-2.ensures images c.requires.prepared.lists)
 
 pub add_leaf-requires-clause-may : goal.add_leaf-requires-clause-may
@@ -39,7 +39,7 @@ add_leaf-requires-clause-may c =
     let head = head_model c.args.parts.head in
     let begins : begin_events configurations_name c.in_ok-properties.properties.by_name ≡ begin_events configurations_name own =
     ap (λ properties. begin_events configurations_name properties.by_name) c.in_ok-properties.ensures in
-    let children = events (configuration_node head images) in
+    let children = events (built_configuration_node head images) in
     let begun : c.begin_with.new.doc ≡ with_events c.args.doc.now (begin_events configurations_name own) =
     c.in_ok-begin_with.ensures.added ∙ ap (with_events c.args.doc.now) begins in
     let leaf_is : events (leaf configuration_name c.in_ok-properties-2.properties.by_name) ≡ children =
@@ -52,7 +52,7 @@ end-requires c =
     let head = head_model c.args.parts.head in
     let begins : begin_events configurations_name c.in_ok-properties.properties.by_name ≡ begin_events configurations_name own =
     ap (λ properties. begin_events configurations_name properties.by_name) c.in_ok-properties.ensures in
-    let children = events (configuration_node head images) in
+    let children = events (built_configuration_node head images) in
     let begun : c.begin_with.new.doc ≡ with_events c.args.doc.now (begin_events configurations_name own) =
     c.in_ok-begin_with.ensures.added ∙ ap (with_events c.args.doc.now) begins in
     let leaf_is : events (leaf configuration_name c.in_ok-properties-2.properties.by_name) ≡ children =
@@ -67,7 +67,7 @@ returns c =
     let head = head_model c.args.parts.head in
     let begins : begin_events configurations_name c.in_ok-properties.properties.by_name ≡ begin_events configurations_name own =
     ap (λ properties. begin_events configurations_name properties.by_name) c.in_ok-properties.ensures in
-    let children = events (configuration_node head images) in
+    let children = events (built_configuration_node head images) in
     let begun : c.begin_with.new.doc ≡ with_events c.args.doc.now (begin_events configurations_name own) =
     c.in_ok-begin_with.ensures.added ∙ ap (with_events c.args.doc.now) begins in
     let leaf_is : events (leaf configuration_name c.in_ok-properties-2.properties.by_name) ≡ children =

@@ -1,6 +1,6 @@
 use Rattle.std.proofs.Common.{◌≡◌, [], sym, ap, subst, ◌∙◌}
 use Rattle.std.specs.FinMap.{from_entries}
-use Rattle.bi_fit.specs.Building.{built_tree, root_properties}
+use Rattle.bi_fit.specs.Building.{built_tree, built_root_properties}
 use Rattle.bi_fit.specs.Documents.{document_of}
 use Rattle.bi_fit.specs.NormalNodes.{MayAdd, with_events, begin_events}
 use Rattle.bi_fit.specs.NamedImages.{head_model, named_models}
@@ -13,7 +13,7 @@ use Rattle.bi_fit.proofs.building.document.build_doc.Goals as goal
 
 pub begin_with-requires-clause-numbers : goal.begin_with-requires-clause-numbers
 begin_with-requires-clause-numbers c =
-    have_no_numbers c.in_ok-doc.doc.names c.in_ok-properties.properties (from_entries (root_properties (head_model c.args.parts.head))) c.in_ok-properties.ensures
+    have_no_numbers c.in_ok-doc.doc.names c.in_ok-properties.properties (from_entries (built_root_properties (head_model c.args.parts.head))) c.in_ok-properties.ensures
 
 pub begin_with-requires-clause-may : goal.begin_with-requires-clause-may
 begin_with-requires-clause-may c =

@@ -11,11 +11,11 @@ use Rattle.bi_fit.specs.Text.{end_after}
 use Rattle.bi_fit.specs.Content.{image_model}
 use Rattle.bi_fit.specs.TakenDigests.{is_hashed, after_digests, HaveDigests, HaveImageDigests}
 use Rattle.bi_fit.specs.NormalNodes.{MayAdd, with_events, HasDistinctNames, HasCellSize, next_end, AreWithin, payloads_of, nodes_by_name, image_properties}
-use Rattle.bi_fit.specs.NormalNodes.{sorted_image, sorted_image_children, sorted_images}
+use Rattle.bi_fit.specs.NormalNodes.{sorted_image_children, sorted_images}
 use Rattle.bi_fit.proofs.AddedEvents.{still_ranked_next, HasNextRanks}
 use Rattle.bi_fit.proofs.NodeEvents.{nodes_from, nodes_from_first, IsAdding, adding_all, may_add_first, adding_later}
 use Rattle.bi_fit.proofs.PayloadEnds.{no_image, payloads_from}
-use Rattle.bi_fit.proofs.ImageNodes.{images-later, within_sized, within_first, within_later, added_is_sorted}
+use Rattle.bi_fit.proofs.ImageNodes.{sorted_image, images-later, within_sized, within_first, within_later, added_is_sorted}
 use Rattle.bi_fit.proofs.document.image_nodes.add_image_nodes.Goals as goal
 
 pub loop-image-init : goal.loop-image-init

@@ -3,7 +3,8 @@ use Rattle.std.proofs.lemmas.List.{map_more, take_all}
 use Rattle.clap.specs.Words.{with_rule}
 use Rattle.clap.specs.Simple.{App, app_of_fields}
 use Rattle.bootimg.specs.Program.{command}
-use Rattle.bootimg.specs.Table.{app_of_command, rule_of_option}
+use Rattle.bootimg.specs.Table.{rule_of_option}
+use Rattle.bootimg.proofs.command_line.table.command.Invariants.{app_of_command}
 use Rattle.bootimg.proofs.command_line.table.command.Goals as goal
 
 pub loop-option-init : goal.loop-option-init

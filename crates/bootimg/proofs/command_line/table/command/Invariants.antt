@@ -1,8 +1,15 @@
-use Rattle.std.proofs.Common.{◌≡◌, false, map, take}
+use Rattle.std.proofs.Common.{◌≡◌, ℕ, false, List, [], map, take}
+use Rattle.clap.specs.Simple.{App}
+use Rattle.clap.specs.Walk.{Rule}
 use Rattle.clap.specs.Words.{app_of}
 use Rattle.clap.specs.declared.builder.command.Command.TheViews.{out-Command}
-use Rattle.bootimg.specs.Table.{app_of_command, rule_of_option}
+use Rattle.bootimg.specs.Program.{command}
+use Rattle.bootimg.specs.Table.{rule_of_option}
 use Rattle.bootimg.proofs.command_line.table.command.Given as goal
+
+-- A command of this name with these options, by itself.
+abbrev pub app_of_command : List ℕ → List Rule → App
+app_of_command name rules = record { top = command name rules; subs = [] }
 
 -- The command has the options so far, and none of them is global.
 abbrev pub invariant-loop-option : goal.invariant-loop-option

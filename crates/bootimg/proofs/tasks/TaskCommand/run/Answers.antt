@@ -1,7 +1,8 @@
 use Rattle.std.proofs.Common.{rules}
 use Rattle.std.proofs.lemmas.Result.{err_from_is_err_and}
 use Rattle.bi_norm.specs.Converting.{IsConvertedFile, IsConvertError}
-use Rattle.bi_norm.specs.NormalForm.{IsNormalForm, IsNormaliseError, IsOpenError}
+use Rattle.bi_norm.specs.NormalForm.{IsNormalForm, IsNormaliseError}
+use Rattle.bi_norm.specs.Reading.{IsBootImageReadError}
 use Rattle.bi_commands.specs.CheckedFiles.{IsChecked, IsCheckError}
 use Rattle.bi_commands.specs.Describing.{IsDescription, IsDescribeError}
 use Rattle.bi_commands.specs.Extracting.{IsChosen, IsExtractError}
@@ -28,7 +29,7 @@ returns-in_err-run-in-List-clause-failed g c =
     let input = c.args.input.now in
     let p = err_from_is_err_and c.from_residual-in_err-run-in-List.result c.from_residual-in_err-run-in-List.ensures.1 in
     rw (c.in-List.is, p.1)
-    (call_failed g.S.Sink.fails (IsListing limits input) (IsOpenError limits input) c.args.sink.now c.run-in-List.new.sink c.in_err-run-in-List.field-0.0 p.0 p.2
+    (call_failed g.S.Sink.fails (IsListing limits input) (IsBootImageReadError limits input) c.args.sink.now c.run-in-List.new.sink c.in_err-run-in-List.field-0.0 p.0 p.2
     c.in_err-run-in-List.ensures.failed)
 
 pub returns-in_err-run-in-Describe-clause-failed : goal.returns-in_err-run-in-Describe-clause-failed
@@ -46,7 +47,7 @@ returns-in_err-good-in-Verify-clause-failed g c =
     let input = c.args.input.now in
     let p = err_from_is_err_and c.from_residual-in_err-good-in-Verify.result c.from_residual-in_err-good-in-Verify.ensures.1 in
     rw (c.in-Verify.is, p.1)
-    (call_failed g.S.Sink.fails (IsReport limits input) (IsOpenError limits input) c.args.sink.now c.run-in-Verify.new.sink c.in_err-good-in-Verify.field-0.0 p.0 p.2
+    (call_failed g.S.Sink.fails (IsReport limits input) (IsBootImageReadError limits input) c.args.sink.now c.run-in-Verify.new.sink c.in_err-good-in-Verify.field-0.0 p.0 p.2
     c.in_err-good-in-Verify.ensures.failed)
 
 pub returns-in_err-clean-in-Check-clause-failed : goal.returns-in_err-clean-in-Check-clause-failed
