@@ -1,7 +1,7 @@
 """Tries the wrong bodies of a crate, which are in tests/prover/wrong_bodies/CRATE, and prints a line for each.
 
-wrong_bodies.py [--unchanged] CRATE_DIRECTORY EDITS_DIRECTORY CHECK..: CHECK is a command that runs `rattle check` on the crate in the
-current directory. The script adds the flags --incremental, --allow-holes and --only. With --unchanged the edits change nothing, and a
+wrong_bodies.py [--unchanged] CRATE_DIRECTORY EDITS_DIRECTORY [CHECK..]: CHECK is a command that runs `rattle check` on the crate in the
+current directory; without it nothing is tried, and only the edits that cannot be made are printed. The script adds the flags --incremental, --allow-holes and --only. With --unchanged the edits change nothing, and a
 function has to be proved but for the holes of others.
 
 An edit has a line `refused: FUNCTION`, and then the lines of an edit for `rt must-fail`, which change what this function does. It is
@@ -337,10 +337,13 @@ def main():
     edits = [parse_edit(path) for path in sorted(Path(edits).glob("*.edit"))]
     texts = {str(file.relative_to(crate)): file.read_text(encoding="utf-8") for file in sorted(crate.glob("src/**/*.rt"))}
     functions = functions_of(texts)
-    applicable = [edit for edit in edits if edit.function in functions and apply(edit, texts)]
+    # An edit for `rt must-fail` names no function.
+    applicable = [edit for edit in edits if edit.function in (None, *functions) and apply(edit, texts)]
     for edit in edits:
         if edit not in applicable:
             report(crate, edit, False, "a text is not in its file once, or the sources have no such function")
+    if not command:
+        return 0 if len(applicable) == len(edits) else 1
     if wanted == "proved":
         # The text of a later change may be there only after an earlier one.
         unchanged = [tuple((file, old, old) for file, old, _ in edit.changes if texts[file].count(old) == 1) for edit in applicable]

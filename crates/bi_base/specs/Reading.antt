@@ -61,7 +61,7 @@ IsReadError old most MustStop OutOfMemory = ⊤
 IsReadError old most MustStop ReadFailed = MustStop
 IsReadError old most MustStop WriteFailed = ⊥
 
--- A whole input within these limits was read from a traced reader, and no failed read was ignored.
+-- A whole input was read from a traced reader under these limits, and no failed read was ignored.
 pub record IsInputRead (limits : Limits) (old new : ReadTrace) (input : List ℕ) : Type 0 where
   pub whole : ReadWhole old.remaining new.remaining input
   pub within : length input ≤ limits.file
@@ -69,8 +69,8 @@ pub record IsInputRead (limits : Limits) (old new : ReadTrace) (input : List ℕ
   pub no_failure_ignored : ReadsWell old → ReadsWell new
   pub same_reader : new.reader ≡ old.reader
 
--- Reading a whole input within these limits from a traced reader failed. A failed read was not
--- ignored: the error is ReadFailed after one.
+-- Reading a whole input from a traced reader under these limits failed with this error. If a read
+-- was a reason to stop, the error is ReadFailed.
 pub record IsInputNotRead (limits : Limits) (old new : ReadTrace) (error : Error) : Type 0 where
   pub cause : IsReadError old.remaining limits.file (MustStopReading new) error
   pub takes_at_most_one_byte_more : TracedTakesAtMost old new (limits.file + 1)

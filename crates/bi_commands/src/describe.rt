@@ -91,7 +91,7 @@ pub fn describe_to<R: Read, W: Write>(
     pipe_to(alloc, &Describer, reader, writer, limits)
 }
 
-/// Returns the description of what a boot image means that was read.
+/// Returns the description of what a boot image that was read means.
 ///
 /// Errors: TooLarge at the limit, if the payloads or the description are longer; OutOfMemory.
 pub(crate) fn describe_image(
@@ -124,7 +124,7 @@ fn description_is_ascii(image: &BootImage)
     }
 }
 
-/// Appends the description of what a boot image means that was read. Each refusal and each
+/// Appends the description of what a boot image that was read means. Each refusal and each
 /// allocation comes before the first byte.
 fn describe_into<S: Sink>(
     alloc: Global,

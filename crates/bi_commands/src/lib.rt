@@ -1,5 +1,5 @@
-//! The commands of `bootimg`, over any reader and writer: list, describe, verify, check, update,
-//! extract from, convert and build boot images. And a call that compares two boot images.
+//! The commands of `bootimg` on boot images: list, describe, verify, check, update, extract,
+//! convert and build, over any reader and writer, and compare, over two files in memory.
 #![tactic(auto)]
 
 pub mod build_fit;

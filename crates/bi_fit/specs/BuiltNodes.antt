@@ -50,17 +50,17 @@ abbrev pub built_image_nodes : Form → (end : ℕ) → HeadModel → List Image
 built_image_nodes form end head images =
     with_each entries (with_payloads form end (built_payloads images) (built_images head images))
 
--- The node of the image nodes, without its siblings.
+-- The node `images`, without its siblings.
 abbrev pub built_images_node : Form → HeadModel → List ImageSpecModel → Nodes (List Property)
 built_images_node form head images =
     node images_name (in_order []) (built_image_nodes form 0 head images) none
 
--- The configuration node.
+-- The node of the one configuration, below `configurations`.
 abbrev pub built_configuration_node : HeadModel → List ImageSpecModel → Nodes (List Property)
 built_configuration_node head images =
     node configuration_name (in_order (built_configuration_properties head images)) none none
 
--- The node of the configuration, without its siblings.
+-- The node `configurations`, without its siblings.
 abbrev pub built_configurations_node : HeadModel → List ImageSpecModel → Nodes (List Property)
 built_configurations_node head images =
     node configurations_name (in_order ((default_name, text_value configuration_name) ∷ []))

@@ -23,7 +23,7 @@ pub data FitCheck : Type 0 where
   HasSizeCell : (size : FileProperty) → FitCheck
   IsInFile : (end begin_place : ℕ) → FitCheck
 
--- What each of them asks of a file.
+-- What each of them requires of a file.
 abbrev pub FitPasses : List ℕ → FitCheck → Type 0
 FitPasses file (HasImages images root_place) = IsSome images
 FitPasses file (HasBeginCell begin) = length begin.value ≡ 4

@@ -72,7 +72,7 @@ abbrev pub configuration_nodes : ImageTree → Nodes PropertyMap
 configuration_nodes tree = nodes_or_none (children_of configurations_name tree.root.children)
 
 -- The name of the default configuration: the text of the property `default` of `configurations`.
--- Whether there is such a configuration is not asked.
+-- The configuration need not exist.
 abbrev pub default_of : ImageTree → Option (List ℕ)
 default_of tree =
     option_and_then

@@ -109,7 +109,7 @@ tree_fault limits file fault other is = by (legacy_or_not file) (nat_le_decided 
 tree_needs_memory : (limits : Limits) (file : List ℕ) → HasNoFaultBeforeTree limits file → NeedsMemory limits file
 tree_needs_memory limits file fine = ForTree (λ begins. omega (arith, begins.magic, fine.header.1.1.0)) fine
 
--- Another error of reading a file as a tree is that of opening it.
+-- Another error of reading a file as a tree is that of reading it as a boot image.
 pub tree_error : (limits : Limits) (file : List ℕ) (error : Error) → error ≢ Refused no_tree_fault → IsFitReadError limits file error →
     IsBootImageReadError limits file error
 tree_error limits file (Refused fault) other is = tree_fault limits file fault (λ same. other (ap Refused same)) is

@@ -15,7 +15,7 @@ use Rattle.bootimg.specs.Runs.{problem, IsFileNotRead, IsFileRead, IsPartNotRead
 
 -- The parts of an image to be built, once their files are read (profile of this project).
 
--- This is the part: of this length, or with the bytes of the whole file.
+-- What was read for a part: its length, or the bytes of its whole file.
 abbrev pub WasRead : FilePromise → Limits → PartSource → ReadPart → Type 0
 WasRead files limits (part.Input size) (read.Input other) = other ≡ size
 WasRead files limits (part.File name) (read.File bytes) =

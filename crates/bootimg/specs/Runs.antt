@@ -221,7 +221,7 @@ pub data IsExplainWork (cause : Option Cause) (work : Work) : Type 0 where
 
 -- ---- building
 
--- This is the part: of this length, or with the bytes of the whole file.
+-- A part from its source: of the length that is given, or with the bytes of the whole file.
 abbrev pub IsPart : FilePromise → Limits → PartSource → Part → Type 0
 IsPart files limits (part.Input size) (Length other) = other ≡ size
 IsPart files limits (part.File name) (Bytes bytes) = IsFileRead files limits name.now bytes.now

@@ -71,8 +71,8 @@ pub fn run_with_files<'a, R: Read, W: Write, E: Write, F: FileSystem>(
     run_traced(alloc, arguments, files, &mut input, &mut output, &mut log)
 }
 
-/// Runs the program over streams whose calls are traced, as `run_with_files` does. So this promise
-/// has which failed call is the reason for a failure, and that the output was flushed.
+/// Runs the program over streams whose calls are traced, as `run_with_files` does. So its contract
+/// also states which failed call is the reason for a failure, and that the output was flushed.
 pub fn run_traced<'a, S: TracedRead, T: TracedWrite, E: TracedWrite, F: FileSystem>(
     alloc: Global,
     arguments: &'a [&'a str],
