@@ -1,8 +1,8 @@
 """Tries the wrong bodies of a crate, which are in tests/prover/wrong_bodies/CRATE, and prints a line for each.
 
 wrong_bodies.py [--unchanged] CRATE_DIRECTORY EDITS_DIRECTORY [CHECK..]: CHECK is a command that runs `rattle check` on the crate in the
-current directory; without it nothing is tried, and only the edits that cannot be made are printed. The script adds the flags --incremental, --allow-holes and --only. With --unchanged the edits change nothing, and a
-function has to be proved but for the holes of others.
+current directory. The script adds the flags --incremental, --allow-holes and --only. Without CHECK nothing is tried, and only the edits
+that cannot be made are printed. With --unchanged the edits change nothing, and a function has to be proved but for the holes of others.
 
 An edit has a line `refused: FUNCTION`, and then the lines of an edit for `rt must-fail`, which change what this function does. It is
 refused if a goal of the function stays open, or if an answer to one of its goals is wrong.
@@ -334,11 +334,13 @@ def main():
         del arguments[0]
     crate, edits, *command = arguments
     crate = Path(crate)
+    # An edit for `rt must-fail` names no function.
+    is_for_rt = Path(edits).name == "must-fail"
     edits = [parse_edit(path) for path in sorted(Path(edits).glob("*.edit"))]
     texts = {str(file.relative_to(crate)): file.read_text(encoding="utf-8") for file in sorted(crate.glob("src/**/*.rt"))}
     functions = functions_of(texts)
-    # An edit for `rt must-fail` names no function.
-    applicable = [edit for edit in edits if edit.function in (None, *functions) and apply(edit, texts)]
+    names = {None} if is_for_rt else functions
+    applicable = [edit for edit in edits if edit.function in names and apply(edit, texts)]
     for edit in edits:
         if edit not in applicable:
             report(crate, edit, False, "a text is not in its file once, or the sources have no such function")
