@@ -13,6 +13,8 @@ and nothing is measured. With --most, the status is 1 if a command was ended, or
 each of its files; otherwise nothing is judged.
 """
 import argparse
+import hashlib
+import itertools
 import os
 import random
 import subprocess
@@ -149,6 +151,51 @@ def properties_in_order(order):
     return file_of(node_around(b"images", node_around(b"image", properties)), b"\0".join(names) + b"\0")
 
 
+def named_properties(names):
+    """In one node, a property for each of these names of one length, in no order. The strings block has them in their order."""
+    names = list(names)
+    step = len(names[0]) + 1
+    offsets = [step * index for index in range(len(names))]
+    random.Random(1).shuffle(offsets)
+    image = node_around(b"image", b"".join(map(property_at, offsets)))
+    return file_of(node_around(b"images", image), b"\0".join(names) + b"\0")
+
+
+def short_names(size):
+    """In one node, properties of names of four bytes, which are in no order."""
+    digits = b"0123456789abcdefghijklmnopqrstuvwxyz"
+    return named_properties(bytes(digit) for digit in itertools.islice(itertools.product(digits, repeat=4), size // 17))
+
+
+def equal_beginnings(size):
+    """In one node, properties of names of 16 bytes whose first eight are the same, in no order."""
+    return named_properties(b"property%08x" % index for index in range(size // 29))
+
+
+def colliding_names(size):
+    """In one node, properties of names to which `FoldHasher` of the kit, the hasher of `indexmap`, gives the same hash if a name
+    is one write after a zero: their first eight bytes cancel the state of the hasher."""
+    names = range(size // 41)
+    digits = ([0x80 | index >> shift & 0x7F for shift in (0, 7, 14, 21)] for index in names)
+    return named_properties(bytes.fromhex("32bb70adfd2d8da5") + bytes(four) + b"A" * 16 for four in digits)
+
+
+def chosen_offsets(size):
+    """In one node, properties of names that are ends of runs of 63 bytes. Of all ends, they have the lowest groups in a hash
+    table whose hasher is SipHash-1-3 with the SHA-256 of the strings block as its key: the offsets are chosen after the key."""
+    generator = random.Random(1)
+    run = lambda: generator.randbytes(63).replace(b"\0", b"\1") + b"\0"
+    strings = b"".join(run() for _ in range(size // 2 // 64))
+    source = os.path.join(ROOT, "bench/chosen_offsets.c")
+    with tempfile.TemporaryDirectory() as directory:
+        program = os.path.join(directory, "chosen_offsets")
+        subprocess.run(["cc", "-O2", "-o", program, source], check=True)
+        words = [program, str(size // 56), hashlib.sha256(strings).hexdigest()]
+        chosen = subprocess.run(words, input=strings, stdout=subprocess.PIPE, check=True).stdout
+    offsets = map(int, chosen.split())
+    return file_of(node_around(b"images", node_around(b"image", b"".join(map(property_at, offsets)))), strings)
+
+
 def many_properties(size):
     """In one node, properties of short names, which are in byte order."""
     return properties_in_order(range(size // 20))
@@ -192,6 +239,10 @@ SHAPES = {
     "reservations": reservations,
     "many-properties": many_properties,
     "mixed-properties": mixed_properties,
+    "short-names": short_names,
+    "equal-beginnings": equal_beginnings,
+    "colliding-names": colliding_names,
+    "chosen-offsets": chosen_offsets,
     "many-nodes": many_nodes,
     "many-parts": many_parts,
 }
