@@ -1,0 +1,287 @@
+#!/usr/bin/env python3
+"""Proves and builds the program, or the library for C, with the compiler of the Rattle kit.
+
+    scripts/build.py [--jobs NUMBER] [--library | --run -- ARGUMENT ..]
+
+With --run it ends as the program does with these arguments, and with --library it builds the library for C instead. A crate begins as soon as those that it uses
+are proved; of those that can begin, the one with the longest chain of crates above it is first. As many crates as --jobs, or as
+there are processors, are proved at once, and a crate that is proved alone gets all of them. Of each library the statements are
+kept, and not the proofs: that takes less time and memory. A crate is proved again only if it, or one that it uses, has changed.
+In a checkout in which rt has proved the program, rt builds it, since rt goes on from the proofs that it kept.
+
+The libraries go to crates/CRATE/out/built, the program to crates/bootimg/out/bootimg, and the library for C to
+crates/bi_c/out/libbi_c.a. What the compiler prints is in crates/CRATE/out/build.log. The program has the time at which its build
+began, so a source that is edited meanwhile is newer. One build works in a checkout at a time. The status is 2 if it fails.
+"""
+import argparse
+import fcntl
+import hashlib
+import os
+import re
+import shutil
+import signal
+import subprocess
+import sys
+import time
+from dataclasses import dataclass, field
+from pathlib import Path
+
+ROOT = Path(__file__).resolve().parent.parent
+KIT = Path(os.path.realpath(shutil.which("rt") or "/")).parent.parent
+TARGET = "x86_64-unknown-linux-gnu"
+SECONDS_BETWEEN_LINES = 20
+
+
+@dataclass
+class Crate:
+    """A crate of the repository: the libraries that it uses, of the repository and of the kit, and whether it is a static library."""
+
+    name: str
+    uses: list
+    is_static: bool
+    lines: int = 0
+    inputs: str = ""
+    above: int = 0
+    below: list = field(default_factory=list)
+
+    @property
+    def out(self):
+        return ROOT / "crates" / self.name / "out"
+
+    @property
+    def is_program(self):
+        return (ROOT / "crates" / self.name / "src/main.rt").exists()
+
+    @property
+    def library(self):
+        return self.out / "built" / f"{self.name}.rlib"
+
+    @property
+    def result(self):
+        if self.is_program:
+            return self.out / self.name
+        return self.out / f"lib{self.name}.a" if self.is_static else self.library
+
+    @property
+    def record(self):
+        """The file that has the checksum of what the result was built from."""
+        return self.out / "built" / "inputs"
+
+    def is_current(self):
+        return self.result.exists() and self.record.exists() and self.record.read_text() == self.inputs
+
+
+def read_crates(wanted):
+    """The crates that the wanted one needs and itself, each after those that it uses."""
+    crates = {}
+    for line in (ROOT / "crates.txt").read_text().splitlines():
+        found = re.fullmatch(r"([a-z0-9_]+)( staticlib)?:(.*)", line)
+        if found:
+            crates[found[1]] = Crate(found[1], found[3].split(), found[2] is not None)
+    ordered = {}
+
+    def add(crate):
+        for name in crate.uses:
+            if name in crates:
+                add(crates[name])
+        ordered.setdefault(crate.name, crate)
+
+    add(crates[wanted])
+    for crate in ordered.values():
+        measure(crate, ordered)
+    for crate in reversed(ordered.values()):
+        users = [other.above for other in ordered.values() if crate.name in other.uses]
+        crate.above = crate.lines + max(users, default=0)
+    return ordered
+
+
+def measure(crate, crates):
+    """Counts the lines of a crate, and computes the checksum of all that its result is built from."""
+    checksum = hashlib.sha256((KIT / "KIT-ID").read_bytes())
+    for part in ("src", "specs", "proofs"):
+        for path in sorted((ROOT / "crates" / crate.name / part).rglob("*")):
+            if path.suffix in (".rt", ".antt") and path.name[0] not in ".#":
+                text = path.read_bytes()
+                crate.lines += text.count(b"\n")
+                checksum.update(b"%s %d\n" % (bytes(path.relative_to(ROOT)), len(text)) + text)
+    for name in crate.uses:
+        if name in crates:
+            crate.below += [other for other in [*crates[name].below, crates[name]] if other not in crate.below]
+            checksum.update(crates[name].inputs.encode())
+        checksum.update(f"uses {name}\n".encode())
+    crate.inputs = checksum.hexdigest()
+
+
+def words_of(crate, jobs):
+    """The command that proves a crate and builds it."""
+    libraries = {other.name: other.library for other in crate.below}
+    root_file = "src/main.rt" if crate.is_program else "src/lib.rt"
+    words = [KIT / "bin/rattle", "build", "--crate-name", crate.name, root_file]
+    for name in ["std", *crate.uses]:
+        words += ["--extern", f"{name}={libraries.get(name, KIT / 'rlibs' / f'{name}.rlib')}"]
+    for directory in [KIT / "rlibs", *(path.parent for path in libraries.values())]:
+        words += ["-L", f"dependency={directory}"]
+    words += ["--antt-project", KIT / "rattle/logic/antt-project.json", "--logic-built", KIT / "logic_built"]
+    words += ["--links", f"{crate.name}=", "--jobs", str(jobs)]
+    if crate.is_program:
+        return words + ["--toolchain", KIT / "toolchain", "--backend", "llvm", "-o", f"out/{crate.name}.o"]
+    if crate.is_static:
+        return words + ["--crate-type", "staticlib", "--toolchain", KIT / "toolchain", "--backend", "llvm", "-o", crate.result]
+    return words + ["--statements", "-o", crate.library]
+
+
+def link(crate):
+    """Links the program, whose file is replaced at once."""
+    archives = [KIT / "c/libos_c.a", KIT / "c/liblibc_c.a"]
+    words = [KIT / "bin/rattle-link", "--target", TARGET, "--toolchain", KIT / "toolchain", "-o", "out/linked"]
+    subprocess.run([*words, f"out/{crate.name}.o", *archives], cwd=crate.out.parent, check=True, stdout=subprocess.DEVNULL)
+    os.replace(crate.out / "linked", crate.result)
+
+
+class Build:
+    """A build: the crates that are not proved yet, and the processes that prove crates."""
+
+    def __init__(self, crates, jobs):
+        self.jobs = jobs
+        self.waiting = [crate for crate in crates.values() if not crate.is_current()]
+        self.all_lines = sum(crate.lines for crate in self.waiting)
+        self.count = len(self.waiting)
+        self.running = {}
+        self.start = time.monotonic()
+
+    def can_begin(self, crate):
+        unfinished = [*self.waiting, *(other for other, _ in self.running.values())]
+        return not any(other in unfinished for other in crate.below)
+
+    def begin_crates(self):
+        """Begins as many crates as there are free processors. A crate that is alone gets all."""
+        free = self.jobs - sum(jobs for _, jobs in self.running.values())
+        ready = sorted(filter(self.can_begin, self.waiting), key=lambda crate: -crate.above)[: max(free, 0)]
+        for place, crate in enumerate(ready):
+            jobs = free - len(ready) + 1 if place == 0 else 1
+            self.begin(crate, jobs)
+
+    def begin(self, crate, jobs):
+        shutil.rmtree(crate.library, ignore_errors=True)
+        crate.record.parent.mkdir(parents=True, exist_ok=True)
+        crate.record.unlink(missing_ok=True)
+        with open(crate.out / "build.log", "w") as log:
+            words = words_of(crate, jobs)
+            process = subprocess.Popen(words, cwd=crate.out.parent, stdin=subprocess.DEVNULL, stdout=log, stderr=log)
+        self.waiting.remove(crate)
+        self.running[process] = (crate, jobs)
+
+    def finish_crates(self):
+        """Takes the crates whose processes have ended."""
+        for process in [process for process in self.running if process.poll() is not None]:
+            crate, _ = self.running.pop(process)
+            if process.returncode != 0:
+                fail(f"{crate.name} is not proved: {crate.out / 'build.log'} has what rattle printed")
+            if crate.is_program:
+                link(crate)
+            crate.record.write_text(crate.inputs)
+
+    def stop(self):
+        for process in self.running:
+            process.terminate()
+        for process in self.running:
+            process.wait()
+
+    def line(self):
+        """How far the build is. The time that is left is that of the lines so far."""
+        seconds = time.monotonic() - self.start
+        names = ", ".join(sorted(crate.name for crate, _ in self.running.values()))
+        unproved = [*self.waiting, *(crate for crate, _ in self.running.values())]
+        share = 1 - sum(crate.lines for crate in unproved) / self.all_lines
+        left = f", about {seconds * (1 - share) / share / 60:.0f} minutes left" if share > 0.1 else ""
+        return f"{seconds:.0f} s: proving {names}; {self.count - len(unproved)} of {self.count} crates are proved{left}"
+
+    def run(self):
+        shown = self.start
+        while self.waiting or self.running:
+            self.begin_crates()
+            time.sleep(0.2)
+            self.finish_crates()
+            if self.running and time.monotonic() - shown >= SECONDS_BETWEEN_LINES:
+                shown = time.monotonic()
+                say(self.line())
+
+
+def build_with_rt(log):
+    """Has rt build the program, which goes on from the proofs that it kept."""
+    say(f"a source has changed: proving and building the program again (log: {log})")
+    with open(log, "w") as file:
+        words = ["rt", "run", "--", "--version"]
+        process = subprocess.Popen(words, cwd=log.parent.parent, stdin=subprocess.DEVNULL, stdout=file, stderr=file)
+        try:
+            if process.wait() != 0:
+                fail(f"the program cannot be built: {log} has what rt printed")
+        finally:
+            process.terminate()
+
+
+def build(wanted, jobs):
+    """Builds what is wanted, unless it is current."""
+    crates = read_crates(wanted)
+    result = crates[wanted].result
+    start = time.time()
+    if wanted == "bootimg" and (crates[wanted].out / "incremental").exists():
+        build_with_rt(crates[wanted].out / "build.log")
+    else:
+        steps = Build(crates, jobs)
+        if steps.waiting:
+            say(f"proving and building {wanted}: once, in about 20 minutes on two processors")
+        try:
+            steps.run()
+        finally:
+            steps.stop()
+    os.utime(result, (start, start))
+    return result
+
+
+def lock(out):
+    """Waits until no other build works in the checkout. The lock lasts as long as the process."""
+    try:
+        out.mkdir(parents=True, exist_ok=True)
+        descriptor = os.open(out / "lock", os.O_WRONLY | os.O_CREAT, 0o666)
+    except OSError:
+        fail(f"cannot write to {out}, where the program is built")
+    try:
+        fcntl.flock(descriptor, fcntl.LOCK_EX | fcntl.LOCK_NB)
+    except OSError:
+        say("waiting for another build")
+        fcntl.flock(descriptor, fcntl.LOCK_EX)
+
+
+def say(text):
+    print(f"bootimg: {text}", file=sys.stderr, flush=True)
+
+
+def fail(text):
+    say(text)
+    sys.exit(2)
+
+
+def end(number, _):
+    say("interrupted; the next call builds the program")
+    sys.exit(128 + number)
+
+
+def main():
+    parser = argparse.ArgumentParser(usage=__doc__)
+    parser.add_argument("--jobs", type=int, default=len(os.sched_getaffinity(0)))
+    parser.add_argument("--library", action="store_true")
+    parser.add_argument("--run", action="store_true")
+    parser.add_argument("arguments", nargs="*")
+    options = parser.parse_args()
+    if shutil.which("rt") is None:
+        fail(f"rt, the command of the Rattle kit, is not in PATH: see 'Set-up' in {ROOT}/README.md")
+    for number in (signal.SIGTERM, signal.SIGHUP, signal.SIGINT):
+        signal.signal(number, end)
+    lock(ROOT / "crates/bootimg/out")
+    result = build("bi_c" if options.library else "bootimg", max(1, options.jobs))
+    if options.run:
+        os.execv(result, [result, *options.arguments])
+
+
+main()
