@@ -75,11 +75,12 @@ impl<'a> Fit<'a> {
         self.updated_text(alloc, Changes::default(), b"", form, limits)
     }
 
-    /// Builds the document whose text is the blob of the normal text in a form, as `text` does. It
-    /// is closed, and borrows names, values and payloads of the file. What follows the blob is not
-    /// part of it.
+    /// Returns the document of the normal text in a form. It is closed, and its text is the blob of
+    /// the normal text; in the form External the payloads that follow the blob are not part of it.
+    /// The document borrows names, values and payloads of the file.
     ///
-    /// The errors are those of `text`, which also limits the payloads after the blob.
+    /// The errors are those of `text`: the limit is on the whole text, payloads after the blob
+    /// included.
     pub fn to_doc(&self, alloc: Global, form: Form, limits: Limits) -> Result<Doc<'a>, Error>
         ensures document { IfOk result (λ doc.
             HaveSameContent doc (document_of form (tree_of self.now))) }
@@ -164,8 +165,8 @@ impl<'a> Fit<'a> {
     }
 }
 
-/// Fails with TooLarge at the limit, exactly if the text of a document and `after` bytes more are
-/// longer than that.
+/// Fails with TooLarge at the limit, if and only if the text of a document and `after` bytes more
+/// are longer than that.
 fn check_length(document: &Doc<'_>, after: u32, limit: u32) -> Result<(), Fault>
     requires closed { stage_of_events document.now.events ≡ AfterRoot }
     requires within { after ≤ limit }
