@@ -105,14 +105,12 @@ edit src/closed.rt '{ MatchOption result (longest_text < length (text_of self.en
 
 boundary bi_lay closed::ClosedDoc::size bi_fit text::FitText::new returns-then-size-limit-clause-fault
 edit src/closed.rt '{ result ≡ length (text_of self.now) }' '{ result ≡ result }'
-unprove closed/ClosedDoc/size
 
 boundary bi_legacy legacy::Legacy::read bi_norm image::BootImage::read returns-then-is_no_tree-clause-read
 edit src/legacy.rt '{ IfOk result (IsReadLegacy limits file.entry.now) }' '{ result ≡ result }'
 unprove legacy/Legacy/read returns-clause-read
 
 boundary bi_fit fit::Fit::text bi_norm normal_form::emit_fit returns-clause-appended
-edit src/document.rt 'Prelude.{◌≡◌, OnOk, IfOk, IfErr}' 'Prelude.{◌≡◌, ◌≤◌, length, OnOk, IfOk, IfErr}'
 edit src/document.rt '{ IfOk result (IsTextOfTree limits form (tree_of self.now)) }' '{ IfOk result
             (λ text. record { is_text : text ≡ text; short : length text ≤ limits.file }) }'
 

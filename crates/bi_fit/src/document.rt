@@ -1,17 +1,20 @@
 //! The normal text of a flattened image tree, and its document.
 
-ghost use Rattle.std.specs.Prelude.{◌≡◌, OnOk, IfOk, IfErr};
+ghost use Rattle.std.specs.Prelude.{◌≡◌, ◌+◌, ◌<◌, ◌≤◌, length, OnOk, IfOk, IfErr};
 ghost use Rattle.std.specs.List.{AllByRecursion};
 ghost use Rattle.bi_base.specs.Errors.{IsFaultOrNoMemory};
+ghost use Rattle.bi_base.specs.Reading.{too_large};
 ghost use Rattle.bi_blob.specs.Blob.{IsReservation};
 ghost use Rattle.bi_blob.specs.Stages.{AfterRoot};
 ghost use Rattle.bi_blob.specs.Following.{stage_of_events};
-ghost use Rattle.bi_lay.specs.Contents.{HaveSameContent};
+ghost use Rattle.bi_blob.specs.Layout.{longest_text};
+ghost use Rattle.bi_lay.specs.Contents.{HaveSameContent, text_of};
 ghost use Rattle.bi_fit.specs.Content.{tree_of};
 ghost use Rattle.bi_fit.specs.Updating.{with_changes};
 ghost use Rattle.bi_fit.specs.NewDigests.{new_digests};
 ghost use Rattle.bi_fit.specs.Documents.{document_of, IsTextOfTree, IsTextFault, IsTextError};
 ghost use Rattle.bi_fit.specs.NormalNodes.{with_reservations, AreWithin};
+ghost use Rattle.bi_fit.specs.Text.{fit_text};
 
 mod hash_nodes;
 mod image_node;
@@ -37,7 +40,7 @@ use crate::image::Image;
 use crate::memory::only_memory;
 use crate::payload_area::length_after_blob;
 use crate::text::FitText;
-use bi_base::{Error, Limits};
+use bi_base::{Cause, Error, Fault, Limits, refuse};
 use bi_fdt::{Blob, NameRanks};
 use bi_lay::Doc;
 use std::alloc::{AllocError, Global};
@@ -70,6 +73,26 @@ impl<'a> Fit<'a> {
         ensures failed { IfErr result (IsTextError limits form (tree_of self.now)) }
     {
         self.updated_text(alloc, Changes::default(), b"", form, limits)
+    }
+
+    /// Returns the document of the normal text in a form. It is closed, and its text is the blob of
+    /// the normal text; in the form External the payloads that follow the blob are not part of it.
+    /// The document borrows names, values and payloads of the file.
+    ///
+    /// The errors are those of `text`: the limit is on the whole text, payloads after the blob
+    /// included.
+    pub fn to_doc(&self, alloc: Global, form: Form, limits: Limits) -> Result<Doc<'a>, Error>
+        ensures document { IfOk result (λ doc.
+            HaveSameContent doc (document_of form (tree_of self.now))) }
+        ensures closed { IfOk result (λ doc. stage_of_events doc.events ≡ AfterRoot) }
+        ensures short { OnOk result (length (fit_text form (tree_of self.now)) ≤ limits.file) }
+        ensures failed { IfErr result (IsTextError limits form (tree_of self.now)) }
+    {
+        let limit = limits.file();
+        let after = length_after_blob(self.images(), form, limit)?;
+        let document = self.build_updated_doc(alloc, Changes::default(), b"", form, limits)?;
+        check_length(&document, after, limit)?;
+        Ok(document)
     }
 
     /// Lays out the normal text in a form, as `text` does, but of the tree after an update. It may
@@ -139,6 +162,22 @@ impl<'a> Fit<'a> {
         };
         add_tree(alloc, &mut doc, root, parts)?;
         Ok(doc)
+    }
+}
+
+/// Fails with TooLarge at the limit, if and only if the text of a document and `after` bytes more
+/// are longer than that.
+fn check_length(document: &Doc<'_>, after: u32, limit: u32) -> Result<(), Fault>
+    requires closed { stage_of_events document.now.events ≡ AfterRoot }
+    requires within { after ≤ limit }
+    requires small { limit ≤ longest_text }
+    ensures ok { OnOk result (length (text_of document.now) + after ≤ limit) }
+    ensures fault { IfErr result (λ fault. (fault ≡ too_large limit)
+        × (limit < length (text_of document.now) + after)) }
+{
+    match document.size() {
+        Some(size) if size <= limit - after => Ok(()),
+        _ => refuse(Cause::TooLarge, limit),
     }
 }
 

@@ -1,19 +1,16 @@
 use Rattle.std.proofs.Common.{◌≡◌, ℕ, ◌+◌, Bool, true, false, cond, List, [], ◌∷◌, ◌++◌, length, bytes_eq, Some, None, Bor, refl, sym, ap}
 use Rattle.std.proofs.Common.{subst, ◌∙◌, arith, length-append, append-nil, true≢false}
 use Rattle.std.specs.Prelude.{◌||◌}
-use Rattle.std.specs.BTreeMap.{BTreeMap, get, Updates}
-use Rattle.std.specs.declared.cmp.Ordering.{Ordering}
-use Rattle.std.specs.declared.cmp.Ordering.TheVariants.{Equal}
-use Rattle.std.specs.Ordering.{nat_cmp, ordering_then, is_eq}
-use Rattle.std.proofs.lemmas.Cmp.{tied_itself, nat_cmp_total}
+use Rattle.std.specs.Map.{keys_of}
+use Rattle.std.proofs.lemmas.List.{map-append}
 use Rattle.std.proofs.lemmas.Slice.Eq.{bytes_eq-Decides}
 use Rattle.std.proofs.lemmas.List.Folds.{list_any-append}
 use Rattle.std.proofs.lemmas.List.Concat.{flat_map-append}
 use Rattle.std.proofs.lemmas.Option.{none-some, same_Some}
+use Rattle.indexmap.specs.IndexMap.{IndexMap, get, Updates}
+use Rattle.bi_base.specs.Slices.{bytes_of}
 use Rattle.bi_blob.specs.Layout.{offset_in, strings_of, is_among}
-use Rattle.bi_blob.specs.NamesByPrefix.{prefix_of_name, by_prefix}
-use Rattle.bi_blob.proofs.NameSets.{is_eq-before}
-use Rattle.bi_lay.specs.Names.{offset_among, saturated_usize, with_name, key_of_name}
+use Rattle.bi_lay.specs.Names.{offset_among, saturated_usize, with_name, same_name}
 
 -- A look-up finds the offset of a name exactly if the name is among the names, and a new name is at the end of the strings block.
 
@@ -95,31 +92,23 @@ offset_among-push names key name new = by (bytes_eq key name) refl
             ∙ ap (λ b. b || (bytes_eq key key || false)) new ∙ ap (λ b. b || false) ((bytes_eq-Decides key key).1 refl)
     by false is = other (is_among name names) refl is
 
--- The order of what comes before two names.
-abbrev before_bytes : List ℕ → List ℕ → Ordering
-before_bytes a b = ordering_then (nat_cmp (length a) (length b)) (nat_cmp (prefix_of_name a) (prefix_of_name b))
-
-before_itself : (name : List ℕ) → before_bytes name name ≡ Equal
-before_itself name =
-    ap (λ o. ordering_then o (nat_cmp (prefix_of_name name) (prefix_of_name name))) (tied_itself nat_cmp_total (length name))
-    ∙ tied_itself nat_cmp_total (prefix_of_name name)
-
--- Names with their lengths and first bytes are the same where the names are.
-is_eq-key_of_name : (m n : Bor (List ℕ)) →
-    is_eq (by_prefix (key_of_name m) (key_of_name n)) ≡ bytes_eq m.now n.now
-is_eq-key_of_name m n = is_eq-before before_bytes before_itself m.now n.now
-
 -- The map of offsets, when a name that it lacks comes after the others.
-pub placed-push : (old new : BTreeMap (ℕ × ℕ × Bor (List ℕ)) ℕ) (names : List (List ℕ)) (key : Bor (List ℕ))
-    → ((name : Bor (List ℕ)) → get by_prefix old (key_of_name name) ≡ offset_among names name.now)
-    → Updates by_prefix old new (key_of_name key) (Some (saturated_usize (length (strings_of names))))
+pub placed-push : {S : Type 0} (old new : IndexMap (Bor (List ℕ)) ℕ S) (names : List (List ℕ)) (key : Bor (List ℕ))
+    → ((name : Bor (List ℕ)) → get same_name old name ≡ offset_among names name.now)
+    → Updates same_name old new key (Some (saturated_usize (length (strings_of names))))
     → is_among key.now names ≡ false
-    → (name : Bor (List ℕ)) → get by_prefix new (key_of_name name) ≡ offset_among (names ++ key.now ∷ []) name.now
+    → (name : Bor (List ℕ)) → get same_name new name ≡ offset_among (names ++ key.now ∷ []) name.now
 placed-push old new names key placed updates lacks name =
-    updates.0 (key_of_name name)
-    ∙ ap (λ b. cond b (Some (saturated_usize (length (strings_of names)))) (get by_prefix old (key_of_name name))) (is_eq-key_of_name key name)
+    updates.0 name
     ∙ ap (cond (bytes_eq key.now name.now) (Some (saturated_usize (length (strings_of names))))) (placed name)
     ∙ offset_among-push names key.now name.now lacks
+
+-- The names of entries with one more entry after them.
+pub names_of_keys-push : (entries : List (Bor (List ℕ) × ℕ)) (key : Bor (List ℕ)) (offset : ℕ) →
+    bytes_of (keys_of (entries ++ (key, offset) ∷ [])) ≡ bytes_of (keys_of entries) ++ key.now ∷ []
+names_of_keys-push entries key offset =
+    ap bytes_of (map-append (λ entry. entry.0) entries ((key, offset) ∷ []))
+    ∙ map-append (λ name. name.now) (keys_of entries) (key ∷ [])
 
 -- The names after one more use, by whether the name was there.
 pub with_name-known : (names : List (List ℕ)) (name : List ℕ) → is_among name names ≡ true → with_name names name ≡ names

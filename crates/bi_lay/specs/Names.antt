@@ -1,8 +1,8 @@
-use Rattle.std.specs.Prelude.{◌≡◌, ℕ, ◌-◌, ◌^◌, min, List, [], ◌∷◌, ◌++◌, map, length}
-use Rattle.std.specs.Prelude.{Option, Some, None, if◌then◌else◌}
-use Rattle.std.specs.BTreeMap.{get}
+use Rattle.std.specs.Prelude.{◌≡◌, ℕ, ◌-◌, ◌^◌, min, Bool, List, [], ◌∷◌, ◌++◌, length}
+use Rattle.std.specs.Prelude.{Option, Some, None, if◌then◌else◌, bytes_eq}
 use Rattle.std.specs.Borrow.{Bor}
-use Rattle.bi_blob.specs.NamesByPrefix.{prefix_of_name, by_prefix}
+use Rattle.indexmap.specs.IndexMap.{get, keys}
+use Rattle.bi_base.specs.Slices.{bytes_of}
 use Rattle.bi_blob.specs.Layout.{is_among, offset_in, strings_of}
 use Rattle.bi_lay.specs.declared.names.Names.TheInside.{Inside}
 
@@ -24,15 +24,15 @@ offset_among names name =
 
 -- The names that the fields hold.
 abbrev pub names_of : Inside → List (List ℕ)
-names_of names = map (λ name. name.now) names.names.items
+names_of names = bytes_of (keys names.offsets)
 
--- A name after its length and its first bytes as a number.
-abbrev pub key_of_name : Bor (List ℕ) → ℕ × ℕ × Bor (List ℕ)
-key_of_name name = (length name.now, prefix_of_name name.now, name)
+-- Names are the same if their bytes are.
+abbrev pub same_name : Bor (List ℕ) → Bor (List ℕ) → Bool
+same_name name other = bytes_eq name.now other.now
 
 -- What is true of the fields: the map has the offset of each name, and the length is that of the
 -- strings block.
 pub record AreNames (names : Inside) : Type 0 where
-  pub placed : (name : Bor (List ℕ)) → get by_prefix names.offsets (key_of_name name)
+  pub placed : (name : Bor (List ℕ)) → get same_name names.offsets name
       ≡ offset_among (names_of names) name.now
   pub is_length : names.length ≡ saturated_usize (length (strings_of (names_of names)))

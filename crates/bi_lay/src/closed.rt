@@ -52,7 +52,7 @@ impl<'a> ClosedDoc<'a> {
         ensures size { result ≡ length (text_of self.now) }
         ensures small { result ≤ longest_text }
     {
-        self.sizes.total()
+        self.doc.total_size(self.sizes)
     }
 
     /// Appends the document's text: the header, the memory reservation block, the structure block,

@@ -1,6 +1,6 @@
 //! A document: a devicetree blob in the making.
 
-ghost use Rattle.std.specs.Prelude.{◌≡◌, ◌+◌, ◌<◌, ◌↔◌, length, IsTrue, OnOk, IfOk};
+ghost use Rattle.std.specs.Prelude.{◌≡◌, ◌+◌, ◌<◌, ◌≤◌, ◌↔◌, length, IsTrue, OnOk, IfOk};
 ghost use Rattle.std.specs.Prelude.{IfErr, MatchOption};
 ghost use Rattle.bi_base.specs.Sinks.{Wrote};
 ghost use Rattle.bi_base.specs.declared.fault.Error.TheVariants.{OutOfMemory};
@@ -22,11 +22,14 @@ const MAX_DEPTH: usize = 64;
 /// a tree, which come in the order of the structure block (Devicetree Specification, 5.4.2). Names
 /// and values are borrowed and not copied.
 ///
-/// Each call but `with_names`, `may_begin`, `property`, `property_numbered` and `close` takes time
-/// linear in the length of its name, if it has one, apart from allocations. `property` looks its
-/// name up among the n names so far, which takes log n comparisons; only names with the same
-/// length and the same first eight bytes are read. `property_numbered` does so at the first use of
-/// a number, and takes constant time at each later one.
+/// Each call but `with_names`, `may_begin`, `property_numbered` and `close` takes time linear in the
+/// length of its name, if it has one, apart from allocations. `property` looks its name up in a
+/// table of hashes. `property_numbered` does so at the first use of a number, and takes constant
+/// time at each later one.
+///
+/// The key of the hashes depends on all names that `with_names` was given. So a file cannot choose
+/// such names with equal hashes, which a look-up would compare one after the other. Names that only
+/// `property` gets are not in the key, so give names that come from a file to `with_names`.
 #[derive(Drop)]
 pub struct Doc<'a> {
     boot_cpu: u32,
@@ -72,8 +75,8 @@ impl<'a> Doc<'a> {
 
     /// Returns a document for this boot processor, without reservations, in which no node was
     /// begun. The name of a property may be given by its number, which is its index among these
-    /// names. They need be neither distinct nor in byte order. Takes time linear in their number.
-    /// The only error is `OutOfMemory`.
+    /// names. They need be neither distinct nor in byte order. Takes time linear in their number and
+    /// their lengths together. The only error is `OutOfMemory`.
     pub fn with_names(alloc: Global, boot_cpu: u32, names: Vec<&'a [u8]>) -> Result<Doc<'a>, Error>
         ensures empty { IfOk result (λ doc.
             doc ≡ empty_with_names boot_cpu (bytes_of names.entry.items)) }
@@ -221,6 +224,38 @@ impl<'a> Doc<'a> {
         self.depth == 0 && !self.items.is_empty()
     }
 
+    /// Returns the length of the document's text in bytes, or None if the text has more than
+    /// 0x7fffffff bytes. It may only be called if `is_closed` is true. It takes time linear in the
+    /// number of events; `close` measures the text once for `size` and `emit` together.
+    pub fn size(&self) -> Option<u32>
+        requires { stage_of_events self.now.events ≡ AfterRoot }
+        ensures { MatchOption result (longest_text < length (text_of self.now))
+            (λ size. size ≡ length (text_of self.now)) }
+    {
+        let sizes = self.block_sizes()?;
+        Some(self.total_size(sizes))
+    }
+
+    /// Appends the document's text: the header, the memory reservation block, the structure block,
+    /// the strings block, and zeros up to a multiple of four. It may only be called if `is_closed`
+    /// is true and `size` is not None.
+    ///
+    /// Fails only as the sink does. After an error of the sink, it is as a failed `put` of the
+    /// whole text leaves it.
+    ///
+    /// It takes time linear in the number of events and in the length of the text, and allocates
+    /// nothing itself.
+    pub fn emit<S: Sink>(&self, sink: &mut S) -> Result<(), Error>
+        requires closed { stage_of_events self.now.events ≡ AfterRoot }
+        requires small { length (text_of self.now) ≤ longest_text }
+        ensures { Wrote S.appends S.fails sink.old (text_of self.now) result sink.new }
+    {
+        let Some(sizes) = self.block_sizes() else {
+            unreachable!();
+        };
+        self.put(sizes, sink)
+    }
+
     /// Returns the sizes of the blocks of the document's text, or None if the text has more than
     /// 0x7fffffff bytes. It takes time linear in the number of events.
     pub(crate) fn block_sizes(&self) -> Option<BlockSizes>
@@ -232,6 +267,15 @@ impl<'a> Doc<'a> {
             &self.items,
             self.names.block_length(),
         )
+    }
+
+    /// Returns the length of the document's text in bytes, whose blocks have these sizes.
+    pub(crate) fn total_size(&self, sizes: BlockSizes) -> u32
+        requires { AreBlockSizes self.now sizes }
+        ensures size { result ≡ length (text_of self.now) }
+        ensures small { result ≤ longest_text }
+    {
+        sizes.total()
     }
 
     /// Appends the document's text, whose blocks have these sizes: the header, the memory

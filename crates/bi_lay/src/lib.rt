@@ -6,6 +6,7 @@ mod closed;
 mod document;
 mod items;
 pub mod laws;
+mod name_hasher_builder;
 mod names;
 mod numbered_names;
 mod siblings;

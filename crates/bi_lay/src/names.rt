@@ -3,19 +3,17 @@
 ghost use Rattle.std.specs.Prelude.{◌≡◌, [], IfOk, OnOk, IfErr, length};
 ghost use Rattle.bi_blob.specs.Layout.{offset_in, strings_of};
 
-use bi_blob::name_prefix;
+use crate::name_hasher_builder::NameHasherBuilder;
+use indexmap::IndexMap;
 use std::alloc::{AllocError, Global};
-use std::collections::BTreeMap;
 use std::marker::Model;
 
 /// The names that the strings block has, in the order of their first use (Devicetree
 /// Specification, 5.5). Contracts see the list of the names.
 #[derive(Drop)]
 pub(crate) struct Names<'a> {
-    names: Vec<&'a [u8]>,
-    /// The offset of each name. A name comes after its length and its first bytes as a number, so
-    /// that names that differ in one of these are compared without reading them.
-    offsets: BTreeMap<(usize, u64, &'a [u8]), usize>,
+    /// The offset of each name.
+    offsets: IndexMap<&'a [u8], usize, NameHasherBuilder>,
     length: usize,
 }
 
@@ -36,12 +34,11 @@ impl<'a> Names<'a> {
     ghost use Rattle.bi_base.specs.Slices.{bytes_of};
 
     /// Returns an empty list of names. It allocates nothing yet.
-    pub(crate) fn new(alloc: Global) -> Names<'a>
+    pub(crate) fn new(alloc: Global, hasher_builder: NameHasherBuilder) -> Names<'a>
         ensures { result ≡ [] }
     {
         Names {
-            names: Vec::new(alloc),
-            offsets: BTreeMap::new(alloc),
+            offsets: IndexMap::with_hasher(alloc, hasher_builder),
             length: 0,
         }
     }
@@ -58,12 +55,12 @@ impl<'a> Names<'a> {
     pub(crate) fn as_slice(&self) -> &[&'a [u8]]
         ensures { bytes_of result.now ≡ self.now }
     {
-        &self.names
+        self.offsets.keys().as_slice()
     }
 
     /// Adds a name if it is not there yet, and returns its offset in the strings block, or the
-    /// greatest `usize` if it is greater than that. It takes log n comparisons, for n names, and
-    /// only names with the same length and the same first eight bytes are read.
+    /// greatest `usize` if it is greater than that. Takes time linear in the length of the name,
+    /// unless many of the names have equal hashes.
     ///
     /// If memory runs out, the names are unchanged.
     pub(crate) fn add(&mut self, name: &'a [u8]) -> Result<usize, AllocError>
@@ -72,14 +69,11 @@ impl<'a> Names<'a> {
         ensures names { OnOk result (self.new ≡ with_name self.old name.entry.now) }
         ensures failed { IfErr result (λ _. self.new ≡ self.old) }
     {
-        let key = (name.len(), name_prefix(name), name);
-        if let Some(offset) = self.offsets.get(&key) {
+        if let Some(offset) = self.offsets.get(&name) {
             return Ok(*offset);
         }
-        self.names.reserve(1)?;
         let offset = self.length;
-        self.offsets.insert(key, offset)?;
-        self.names.push(name).unwrap();
+        self.offsets.insert(name, offset)?;
         self.length = offset.saturating_add(name.len()).saturating_add(1);
         Ok(offset)
     }

@@ -3,6 +3,7 @@
 ghost use Rattle.std.specs.Prelude.{◌≡◌, ◌<◌, [], IfOk, OnOk, IfErr, length};
 ghost use Rattle.bi_blob.specs.Layout.{offset_in, strings_of};
 
+use crate::name_hasher_builder::NameHasherBuilder;
 use crate::names::Names;
 use std::alloc::{AllocError, Global};
 use std::marker::Model;
@@ -43,11 +44,12 @@ impl<'a> NumberedNames<'a> {
         ensures numbers { IfOk result (λ names. names.by_number ≡ bytes_of by_number.entry.items) }
         ensures block { IfOk result (λ names. names.in_block ≡ []) }
     {
+        let hasher_builder = NameHasherBuilder::new(&by_number);
         let offsets = vec![in alloc; None; by_number.len()]?;
         Ok(NumberedNames {
             by_number,
             offsets,
-            in_block: Names::new(alloc),
+            in_block: Names::new(alloc, hasher_builder),
         })
     }
 
