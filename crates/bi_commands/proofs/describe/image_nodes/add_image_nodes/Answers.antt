@@ -11,17 +11,12 @@ use Rattle.bi_commands.specs.TreeEntries.{as_entry}
 use Rattle.bi_commands.proofs.EntriesOfNodes.{appended_first, images-first, images-no_nodes, images-no_payloads}
 use Rattle.bi_commands.proofs.describe.image_nodes.add_image_nodes.Goals as goal
 
--- What a list of payloads gives past its end.
-no_payload : ImagePayload
-no_payload = record { bytes = None; digest = None; is_digest = refl }
-
 -- The payloads from one on are that and those after it.
-payloads_from : (payloads : List ImagePayload) (index : ℕ) → index < length payloads →
-    bytes_of_payloads (drop index payloads)
-    ≡ bytes_of_payload (get_or payloads index no_payload) ∷ bytes_of_payloads (drop (index + 1) payloads)
-payloads_from payloads index within =
-    let cons : drop index payloads ≡ get_or payloads index no_payload ∷ drop (index + 1) payloads = rw add-one (drop-cons payloads index no_payload within) in
-    ap bytes_of_payloads cons
+payloads_from : (payloads : List ImagePayload) (index : ℕ) (payload : ImagePayload) → payload ≡ get_or payloads index payload → index < length payloads →
+    bytes_of_payloads (drop index payloads) ≡ bytes_of_payload payload ∷ bytes_of_payloads (drop (index + 1) payloads)
+payloads_from payloads index payload is within =
+    let cons : drop index payloads ≡ get_or payloads index payload ∷ drop (index + 1) payloads = rw add-one (drop-cons payloads index payload within) in
+    ap bytes_of_payloads cons ∙ ap (λ item. bytes_of_payload item ∷ bytes_of_payloads (drop (index + 1) payloads)) (sym is)
 
 pub loop-payload-init : goal.loop-payload-init
 loop-payload-init c =
@@ -43,13 +38,13 @@ pub loop-payload-preserved : goal.loop-payload-preserved
 loop-payload-preserved c =
     let s = node_of c.in-Some.child in
     let start = map as_entry c.loop-payload.entries.items in
-    let payload : Option (List ℕ) = bytes_of_payload (get_or c.args.payloads.now c.loop-payload.payload-index no_payload) in
+    let payload : Option (List ℕ) = bytes_of_payload c.payload-item.result in
     let later = bytes_of_payloads (drop (c.loop-payload.payload-index + 1) c.args.payloads.now) in
     let target = map as_entry c.args.entries.now.items ++ images_entries c.args.is_first (node_of c.args.node).children (bytes_of_payloads c.args.payloads.now) in
     let here : nodes_from (option_map node_of c.loop-payload.next) ≡ nodes_from (Some s) = ap (λ next. nodes_from (option_map node_of next)) c.in-Some.is in
     let rest : nodes_from (option_map node_of c.next_sibling-next.result) ≡ s.later = ap nodes_from c.next_sibling-next.ensures.sibling ∙ nodes_from_first s.later in
     let all : start ++ images_entries c.args.is_first (nodes_from (Some s)) (payload ∷ later) ≡ target =
-    subst (λ payloads. start ++ images_entries c.args.is_first (nodes_from (Some s)) payloads ≡ target) (payloads_from c.args.payloads.now c.loop-payload.payload-index c.loop-payload-test.true)
+    subst (λ payloads. start ++ images_entries c.args.is_first (nodes_from (Some s)) payloads ≡ target) (payloads_from c.args.payloads.now c.loop-payload.payload-index c.payload-item.result c.payload-item.is c.loop-payload-test.true)
     (subst (λ nodes. start ++ images_entries c.args.is_first nodes (bytes_of_payloads (drop c.loop-payload.payload-index c.args.payloads.now)) ≡ target) here c.loop-payload.invariant) in
     let left : start ++ (image_entries c.args.is_first s payload ++ images_entries c.args.is_first s.later later) ≡ target =
     ap (λ l. start ++ l) (sym (images-first c.args.is_first s payload later)) ∙ all in
