@@ -5,7 +5,7 @@ ghost use Rattle.std.specs.Option.{option_map};
 ghost use Rattle.bi_base.specs.declared.fault.Error.TheVariants.{OutOfMemory};
 ghost use Rattle.bi_blob.specs.Lookups.{siblings};
 ghost use Rattle.bi_fdt.specs.Views.{node_of};
-ghost use Rattle.bi_hash.specs.Regions.{IsWithin, bytes_of_region};
+ghost use Rattle.bi_hash.specs.Regions.{IsRegionOf, bytes_of_region};
 ghost use Rattle.bi_fit.specs.Content.{tree_of};
 ghost use Rattle.bi_fit.specs.Judgement.{verdicts_of};
 ghost use Rattle.bi_fit.specs.JudgementCalls.{checked_hash_of};
@@ -61,8 +61,8 @@ fn check_image<'a>(
     payload: Option<Region>,
     digests: &mut RegionDigests,
 ) -> Result<(), AllocError>
-    requires within { IfSome payload (IsWithin digests.old) }
-    ensures checked { OnOk result (map checked_hash_of checked.new.items
+    requires within { IfSome payload (IsRegionOf digests.old) }
+    ensures ok { OnOk result (map checked_hash_of checked.new.items
         ≡ map checked_hash_of checked.old.items ++ file_hashes
         (node_of image.entry).name
         (option_map (bytes_of_region digests.old) payload)
@@ -84,7 +84,7 @@ fn check_hash<'a>(
     payload: Option<Region>,
     digests: &mut RegionDigests,
 ) -> Result<Checked<'a>, AllocError>
-    requires within { IfSome payload (IsWithin digests.old) }
+    requires within { IfSome payload (IsRegionOf digests.old) }
     ensures checked { IfOk result (λ checked. checked_hash_of checked ≡ file_hash
         image.entry.now
         (option_map (bytes_of_region digests.old) payload)

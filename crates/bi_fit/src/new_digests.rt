@@ -4,7 +4,7 @@ ghost use Rattle.std.specs.Prelude.{◌≡◌, ◌++◌, IfOk, IfErr, IfSome, On
 ghost use Rattle.std.specs.Option.{option_map};
 ghost use Rattle.bi_base.specs.declared.fault.Error.TheVariants.{OutOfMemory};
 ghost use Rattle.bi_fdt.specs.Views.{node_of};
-ghost use Rattle.bi_hash.specs.Regions.{IsWithin, bytes_of_region};
+ghost use Rattle.bi_hash.specs.Regions.{IsRegionOf, bytes_of_region};
 ghost use Rattle.bi_fit.specs.Content.{tree_of};
 ghost use Rattle.bi_fit.specs.NewDigests.{hash_algorithm, digests_of_image, new_digests};
 ghost use Rattle.bi_fit.specs.NormalNodes.{nodes_by_name, properties_by_name};
@@ -48,7 +48,7 @@ fn append_digests(
     payload: Option<Region>,
     region_digests: &mut RegionDigests,
 ) -> Result<(), AllocError>
-    requires within { IfSome payload (IsWithin region_digests.old) }
+    requires within { IfSome payload (IsRegionOf region_digests.old) }
     ensures added { OnOk result (digests.new.items ≡ digests.old.items ++ digests_of_image
         (option_map (bytes_of_region region_digests.old) payload)
         (nodes_by_name (node_of image.entry).children)) }

@@ -11,7 +11,7 @@ use Rattle.bi_hash.specs.declared.region_digests.Region.{Region}
 use Rattle.bi_hash.specs.Algos.{algorithm_index}
 use Rattle.bi_hash.specs.Digests.{padded_digest}
 use Rattle.bi_hash.specs.Regions.{bytes_of_region}
-use Rattle.bi_hash.specs.KeptDigests.{Key, by_key, key_of}
+use Rattle.bi_hash.specs.KeptDigests.{DigestKey, by_digest_key, digest_key}
 
 -- If one more digest of a region is kept, all digests that are kept are those of their regions.
 
@@ -36,39 +36,40 @@ at_index Sha512 = refl
 same_index : (one other : Algo) → algorithm_index one ≡ algorithm_index other → one ≡ other
 same_index one other is = same_Some one other (sym (at_index one) ∙ ap algorithm_at is ∙ at_index other)
 
--- Keys with the same order are the same.
+-- What is equal by two orders in turn is equal by each.
 both_equal : (first second : Ordering) → ordering_then first second ≡ Equal → (first ≡ Equal) × (second ≡ Equal)
 both_equal Less second is = absurd cc
 both_equal Equal second is = (refl, is)
 both_equal Greater second is = absurd cc
 
-same_key : (one other : Key) → by_key one other ≡ Equal → (one.0 ≡ other.0) × (one.1 ≡ other.1) × (one.2 ≡ other.2)
+-- Keys that are equal by their order are the same.
+same_key : (one other : DigestKey) → by_digest_key one other ≡ Equal → (one.0 ≡ other.0) × (one.1 ≡ other.1) × (one.2 ≡ other.2)
 same_key one other is =
     let last = both_equal (ordering_then (nat_cmp one.0 other.0) (nat_cmp one.1 other.1)) (nat_cmp one.2 other.2) is in
     let first = both_equal (nat_cmp one.0 other.0) (nat_cmp one.1 other.1) last.0 in
     (exact_unsigned one.0 other.0 first.0, exact_unsigned one.1 other.1 first.1, exact_unsigned one.2 other.2 last.1)
 
 -- The digests of a file in a map are those of their regions.
-abbrev AreDigests : (file : List ℕ) → BTreeMap Key (List ℕ) → Type 0
+abbrev AreDigests : (file : List ℕ) → BTreeMap DigestKey (List ℕ) → Type 0
 AreDigests file digests =
-    (region : Region) (algo : Algo) (digest : List ℕ) → get by_key digests (key_of region algo) ≡ Some digest →
+    (region : Region) (algo : Algo) (digest : List ℕ) → get by_digest_key digests (digest_key region algo) ≡ Some digest →
     digest ≡ padded_digest algo (bytes_of_region file region)
 
 -- One more digest is kept.
-pub one_more_digest : (file : List ℕ) (old new : BTreeMap Key (List ℕ)) (region : Region) (algo : Algo) (digest : List ℕ) →
-    digest ≡ padded_digest algo (bytes_of_region file region) → Updates by_key old new (key_of region algo) (Some digest) →
+pub one_more_digest : (file : List ℕ) (old new : BTreeMap DigestKey (List ℕ)) (region : Region) (algo : Algo) (digest : List ℕ) →
+    digest ≡ padded_digest algo (bytes_of_region file region) → Updates by_digest_key old new (digest_key region algo) (Some digest) →
     AreDigests file old → AreDigests file new
 one_more_digest file old new region algo digest is updates kept other other_algo found at =
-    by_order (by_key (key_of region algo) (key_of other other_algo)) refl
-    (sym (updates.0 (key_of other other_algo)) ∙ at)
+    by_order (by_digest_key (digest_key region algo) (digest_key other other_algo)) refl
+    (sym (updates.0 (digest_key other other_algo)) ∙ at)
   where
-    by_order : (order : Ordering) → by_key (key_of region algo) (key_of other other_algo) ≡ order →
-        cond (is_eq order) (Some digest) (get by_key old (key_of other other_algo)) ≡ Some found →
+    by_order : (order : Ordering) → by_digest_key (digest_key region algo) (digest_key other other_algo) ≡ order →
+        cond (is_eq order) (Some digest) (get by_digest_key old (digest_key other other_algo)) ≡ Some found →
         found ≡ padded_digest other_algo (bytes_of_region file other)
     by_order Less differs before = kept other other_algo found before
     by_order Greater differs before = kept other other_algo found before
     by_order Equal same now =
-        let keys = same_key (key_of region algo) (key_of other other_algo) same in
+        let keys = same_key (digest_key region algo) (digest_key other other_algo) same in
         sym (same_Some digest found now) ∙ is
         ∙ ap (λ a. padded_digest a (bytes_of_region file region)) (same_index algo other_algo keys.2)
         ∙ ap (padded_digest other_algo) (ap (λ begin. bytes_of_region file (record { begin = begin; length = region.length })) keys.0)

@@ -11,21 +11,24 @@ use Rattle.bi_hash.specs.Regions.{bytes_of_region}
 
 -- The digests of regions of a file that are kept.
 
--- The key of a digest in the map.
-abbrev pub Key : Type 0
-Key = ℕ × ℕ × ℕ
+-- The key of a digest in the map: the offset and the length of the region, and the index of the
+-- algorithm.
+abbrev pub DigestKey : Type 0
+DigestKey = ℕ × ℕ × ℕ
 
 -- The order of keys.
-abbrev pub by_key : Key → Key → Ordering
-by_key one other =
-    ordering_then (ordering_then (nat_cmp one.0 other.0) (nat_cmp one.1 other.1)) (nat_cmp one.2 other.2)
+abbrev pub by_digest_key : DigestKey → DigestKey → Ordering
+by_digest_key one other =
+    ordering_then
+    (ordering_then (nat_cmp one.0 other.0) (nat_cmp one.1 other.1))
+    (nat_cmp one.2 other.2)
 
 -- The key of the digest of a region by an algorithm.
-abbrev pub key_of : Region → Algo → Key
-key_of region algo = (region.begin, region.length, algorithm_index algo)
+abbrev pub digest_key : Region → Algo → DigestKey
+digest_key region algo = (region.begin, region.length, algorithm_index algo)
 
 -- Each digest that is kept is that of its region by its algorithm.
 pub record AreKept (fields : Fields) : Type 0 where
   pub each : (region : Region) (algo : Algo) (digest : List ℕ)
-      → get by_key fields.digests (key_of region algo) ≡ Some digest
+      → get by_digest_key fields.digests (digest_key region algo) ≡ Some digest
       → digest ≡ padded_digest algo (bytes_of_region fields.file.now region)

@@ -3,7 +3,7 @@
 ghost use Rattle.std.specs.Prelude.{◌≡◌, ◌++◌, OnOk, OnErr, IfOk, IfSome};
 ghost use Rattle.std.specs.Option.{option_copied, option_map};
 ghost use Rattle.bi_hash.specs.Digests.{digest_or_nothing, padded_digest};
-ghost use Rattle.bi_hash.specs.Regions.{IsWithin, bytes_of_region};
+ghost use Rattle.bi_hash.specs.Regions.{IsRegionOf, bytes_of_region};
 ghost use Rattle.bi_hash.specs.Verdicts.{verdict_of};
 
 use crate::algo::Algo;
@@ -69,7 +69,7 @@ impl<'a> RegionDigests<'a> {
         value: Option<&[u8]>,
         payload: Option<Region>,
     ) -> Result<Verdict, AllocError>
-        requires within { IfSome payload (IsWithin self.old) }
+        requires within { IfSome payload (IsRegionOf self.old) }
         ensures verdict { IfOk result (λ verdict. verdict ≡ verdict_of
             (option_copied algo.entry)
             (option_copied value.entry)
@@ -96,7 +96,7 @@ impl<'a> RegionDigests<'a> {
         payload: Option<Region>,
         bytes: &mut Vec<u8>,
     ) -> Result<(), AllocError>
-        requires within { IfSome payload (IsWithin self.old) }
+        requires within { IfSome payload (IsRegionOf self.old) }
         ensures added { OnOk result (bytes.new.items ≡ bytes.old.items
             ++ digest_or_nothing algo (option_map (bytes_of_region self.old) payload)) }
         ensures failed { OnErr result (bytes.new.items ≡ bytes.old.items) }
@@ -112,7 +112,7 @@ impl<'a> RegionDigests<'a> {
     /// Returns the digest of a region by this algorithm, with zeros after it. Reads the region if
     /// the digest was not computed before. Fails if memory runs out.
     pub fn digest(&mut self, algo: Algo, region: Region) -> Result<[u8; 64], AllocError>
-        requires within { IsWithin self.old region }
+        requires within { IsRegionOf self.old region }
         ensures digest { IfOk result (λ digest. digest
             ≡ padded_digest algo (bytes_of_region self.old region)) }
         ensures same { self.new ≡ self.old }
