@@ -1,7 +1,8 @@
 #!/bin/sh
 # Measures what the program takes on large flattened image trees: time beside sha256sum of the same file, and memory beside the
 # length of the file. It fails if memory is more than the file and 8 MiB for a large payload, if 10,000 images take more than ten
-# times what sha256sum takes, if ten times as many take more than twenty times as long, or if describe or check of a large payload takes
+# times what sha256sum takes, if ten times as many take more than twenty times as long, if verify, check or describe of 1,100 images
+# with one region as the payload of all takes more than SHARED times what sha256sum takes, or if describe or check of a large payload takes
 # more than 1.15 times as long as verify, which computes the same digest. Each time is the least of ten rounds. How many times as long a
 # file or a command takes as another is the median of the rounds. The script needs python3 and coreutils.
 # With ten times as many images, n log n comparisons are 12.5 times as many, and the larger maps are more often outside the caches of
@@ -24,8 +25,9 @@ import statistics
 import subprocess
 import sys
 import time
+import zlib
 
-from blobs import blob_of, node
+from blobs import blob_of, cells, node
 
 PROGRAM = sys.argv[1]
 MIB = 1 << 20
@@ -43,6 +45,21 @@ def make(path, payloads, configurations=0):
     listed = [node(b"conf-%d" % index, [(b"kernel", kernel)]) for index, kernel in enumerate(kernels)]
     with open(path, "wb") as file:
         file.write(blob_of(node(b"", (), [node(b"images", (), images), node(b"configurations", (), listed)])))
+
+
+def make_shared(path, size, count):
+    """Writes an image of this size. This many image nodes have the same region as their payload, each with six hash nodes."""
+    def blob(begin, payload):
+        digests = [(b"crc32", cells(zlib.crc32(payload)))]
+        digests += [(name, hashlib.new(name.decode(), payload).digest()) for name in (b"md5", b"sha1", b"sha256", b"sha384", b"sha512")]
+        hashes = [node(b"hash-" + name, [(b"value", value), (b"algo", name + b"\0")]) for name, value in digests]
+        region = [(b"data-position", cells(begin)), (b"data-size", cells(len(payload)))]
+        return blob_of(node(b"", (), [node(b"images", (), [node(b"image-%d" % index, region, hashes) for index in range(count)])]))
+
+    begin = len(blob(0, b""))
+    payload = os.urandom(size - begin)
+    with open(path, "wb") as file:
+        file.write(blob(begin, payload) + payload)
 
 
 def run(path, command, wanted=0):
@@ -93,6 +110,9 @@ COMPARISONS = {
     "compare of images that differ": (["compare", "-", "FILE.other"], 1),
 }
 
+# How many times what sha256sum takes 1,100 images with one region may take, with six hash nodes each.
+SHARED = 10
+
 failures = 0
 
 
@@ -109,6 +129,7 @@ if sys.argv[1] == "make":
     make("many.other", [b"%d" % (index + 1) for index in range(10_000)])
     make("more.other", [b"%d" % (index + 1) for index in range(100_000)])
     make("configured", [b"%d" % index for index in range(10_000)], 10_000)
+    make_shared("shared", MIB, 1_100)
     sys.exit()
 cat = measure(["cat"], FILES)
 sha256sum = measure(["sha256sum"], FILES)
@@ -130,6 +151,10 @@ for name in measured:
     seconds, _ = least(measured[name]["more"])
     times = ratio(measured[name]["more"], measured[name]["many"])
     judge(f"{name}, ten times as many images", times <= 20, f"{seconds:.3f} s, {times:.1f} times as long")
+for name in ("verify", "check", "describe"):
+    runs, summed = zip(*([run("shared", command) for command in ([PROGRAM, *COMMANDS[name]], ["sha256sum"])] for _ in range(10)))
+    times = ratio(runs, summed)
+    judge(f"shared, {name}", times <= SHARED, f"{least(runs)[0]:.3f} s, {times:.1f} times sha256sum")
 for command in ("describe", "check"):
     runs, verified = zip(*([run("large", [PROGRAM, each]) for each in (command, "verify")] for _ in range(10)))
     times = ratio(runs, verified)
@@ -141,5 +166,5 @@ program=$root/crates/bootimg/out/bootimg
 python_with_blobs costs.py make
 python_with_blobs costs.py "$program" | tee costs
 add_counts "$(grep -c '^ok: ' costs)" "$(grep -c '^FAILED: ' costs)"
-[ "$(grep -c '^ok: \|^FAILED: ' costs)" = 34 ] || add_counts 0 1
+[ "$(grep -c '^ok: \|^FAILED: ' costs)" = 37 ] || add_counts 0 1
 finish

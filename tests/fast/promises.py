@@ -45,7 +45,7 @@ def uses_of(text):
 
 def end_of(text, start):
     """The offset after the bracket that closes the one at `start`."""
-    closing = {"(": ")", "{": "}"}[text[start]]
+    closing = {"(": ")", "[": "]", "{": "}"}[text[start]]
     depth = 0
     for index in range(start, len(text)):
         depth += (text[index] == text[start]) - (text[index] == closing)
@@ -83,6 +83,9 @@ def clauses_after(text, start):
         if match:
             index = end_of(text, match.end() - 1)
             yield match["kind"], match["label"] or "", text[match.end() : index - 1]
+        elif text[index] == "[":
+            # The result has an array, whose length follows a semicolon.
+            index = end_of(text, index)
         else:
             index += 1
 

@@ -89,9 +89,9 @@ edit src/checksum.rt '{ result ≡ crc32_of bytes.now }' '{ result ≡ result }'
 boundary bi_blob names::is_child_name bi_lay document::Doc::may_begin returns-then-is_child_name
 edit src/names.rt '{ IsTrue result ↔ IsChildName name.now }' '{ IsTrue result ↔ IsTrue result }'
 
-boundary bi_hash payload_digests::PayloadDigests::verdict bi_fit hashes::check_hash returns-clause-same
-edit src/payload_digests.rt '            self.old }
-        ensures same { self.new ≡ self.old }' '            self.old }
+boundary bi_hash region_digests::RegionDigests::verdict bi_fit hashes::check_hash returns-clause-same
+edit src/region_digests.rt '            (option_map (bytes_of_region self.old) payload)) }
+        ensures same { self.new ≡ self.old }' '            (option_map (bytes_of_region self.old) payload)) }
         ensures same { result ≡ result }'
 
 boundary bi_fdt node::NodeRef::property bi_fit hashes::check_hash returns-clause-checked

@@ -11,8 +11,10 @@ need_program
 work_in_new_directory
 
 passes python_with_blobs - "$root/crates/bootimg/out/bootimg" << 'END'
+import hashlib
 import subprocess
 import sys
+import zlib
 
 from blobs import BLOB_MAGIC, END, NOP, Strings, aligned, blob, blob_of, cells, node, tokens
 
@@ -173,6 +175,100 @@ gives("the listing of the external form", outside, b"kind fit\nboot-cpu 0\ntotal
 for size in range(244, 253):
     at = 84 if size < 249 else 128 if size < 252 else 172
     refused_by_all(f"cut to {size} bytes", outside[:size], f"OutsideFile at {at}")
+
+# Payloads that share bytes: each hash node is judged by the bytes of its own image.
+ALGORITHMS = ["crc32", "md5", "sha1", "sha256", "sha384", "sha512"]
+
+
+def digest(algorithm, payload):
+    return cells(zlib.crc32(payload)) if algorithm == "crc32" else hashlib.new(algorithm, payload).digest()
+
+
+def hashed(name, properties, stated):
+    """An image with these properties, and with a hash node for each algorithm that states the digest of these bytes."""
+    hashes = [node(b"hash-" + algorithm.encode(), [(b"algo", algorithm.encode() + b"\0"), (b"value", digest(algorithm, stated))])
+              for algorithm in ALGORITHMS]
+    return node(name, properties, hashes)
+
+
+def by(key, begin, size):
+    return [(key, cells(begin)), (b"data-size", cells(size))]
+
+
+tail = bytes(range(200)) + bytes(range(150)) + b"inside"
+
+
+def sharing(blob_length, inside_at):
+    """The names and properties of images, and where the payload of each is in the file, if it has one."""
+    at = blob_length
+    return [
+        (b"first", by(b"data-position", at, 100), (at, 100)),
+        (b"empty", by(b"data-position", at, 0), (at, 0)),
+        (b"shorter", by(b"data-position", at, 99), (at, 99)),
+        (b"later", by(b"data-position", at + 1, 100), (at + 1, 100)),
+        (b"same", by(b"data-position", at, 100), (at, 100)),
+        (b"none", [], None),
+        (b"longer", by(b"data-position", at, 101), (at, 101)),
+        (b"end", by(b"data-position", at + 1, 99), (at + 1, 99)),
+        (b"copy", by(b"data-position", at + 200, 100), (at + 200, 100)),
+        (b"offset", by(b"data-offset", 0, 100), (at, 100)),
+        (b"inside", [(b"data", b"inside")], (inside_at, 6)),
+        (b"inside again", by(b"data-position", inside_at, 6), (inside_at, 6)),
+        (b"inside copy", by(b"data-position", at + 350, 6), (at + 350, 6)),
+        (b"empty later", by(b"data-position", at + 5, 0), (at + 5, 0)),
+        (b"all", by(b"data-position", at, 356), (at, 356)),
+        (b"first again", by(b"data-position", at, 100), (at, 100)),
+    ]
+
+
+def sharing_file(stated):
+    """The file of these images, each of which states the digests of some bytes, and the payloads of the images."""
+    length = inside_at = 0
+    # The offsets are known after the lengths are, which do not depend on them.
+    for _ in range(2):
+        images_of_file = sharing(length, inside_at)
+        file = tree(images(*[hashed(name, properties, stated[index]) for index, (name, properties, _) in enumerate(images_of_file)]))
+        length, inside_at = len(file), file.index(b"inside\0\0", file.index(b"inside\0\0") + 8)
+    file += tail
+    return file, [(name, region and file[region[0]:][:region[1]]) for name, _, region in sharing(length, inside_at)]
+
+
+def sharing_report(payloads, stated):
+    """The report of `verify`, by hashlib and zlib."""
+    lines, counts = [], {"good": 0, "bad": 0, "no-payload": 0}
+    for (name, payload), bytes_ in zip(payloads, stated):
+        for algorithm in ALGORITHMS:
+            value = digest(algorithm, bytes_)
+            verdict = "no-payload" if payload is None else "good" if digest(algorithm, payload) == value else "bad"
+            counts[verdict] += 1
+            shown = name.decode().replace(" ", "%20")
+            lines.append(f"{shown} hash-{algorithm} {algorithm} {verdict} {value.hex()}\n")
+    summary = f"summary good {counts['good']} bad {counts['bad']} unknown-algorithm 0 no-payload {counts['no-payload']} malformed 0\n"
+    return "".join([*lines, summary]).encode()
+
+
+def payload_lines(payloads):
+    """The lines of `describe` about payloads, by hashlib."""
+    for name, payload in payloads:
+        path = b"/images/" + name.replace(b" ", b"%20")
+        yield b"payload %s none" % path if payload is None else \
+            b"payload %s size %d sha256 %s" % (path, len(payload), hashlib.sha256(payload).hexdigest().encode())
+
+
+_, payloads = sharing_file([b""] * 16)
+contents = [payload or b"" for _, payload in payloads]
+judge("sixteen images have eight payloads", len(contents) == 16 and len(set(contents)) == 8)
+for shift in range(16):
+    # Each image states the digests of the payload of another one. One image has no payload, so the status is 1.
+    stated = contents[shift:] + contents[:shift]
+    file, payloads = sharing_file(stated)
+    judge(f"the payloads stay where they are, {shift}", [payload or b"" for _, payload in payloads] == contents)
+    gives(f"verdicts on payloads that share bytes, {shift}", file, sharing_report(payloads, stated), "verify", status=1)
+lines = run(file, "describe").stdout.split(b"\n")
+judge("their descriptions", [line for line in lines if line.startswith(b"payload ")] == list(payload_lines(payloads)))
+updated = run(file, "update", "--hashes").stdout
+right = [bytes_ if payload is None else payload for (_, payload), bytes_ in zip(payloads, stated)]
+gives("their new digests", updated, sharing_report(payloads, right), "verify", status=1)
 
 # 64 nodes may be open: the root, `images`, an image and 61 nodes in it.
 def nested(count):

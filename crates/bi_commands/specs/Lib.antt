@@ -13,6 +13,7 @@ pub mod Extracting
 pub mod LimitedSinks
 pub mod Listing
 pub mod LongNames
+pub mod ImagePayloads
 pub mod MadeEntries
 pub mod Parts
 pub mod PayloadBounds

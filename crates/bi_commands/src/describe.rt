@@ -14,6 +14,7 @@ mod digests;
 mod entries;
 mod fit;
 mod image_nodes;
+mod image_payload;
 mod legacy;
 mod limited_sink;
 mod lines;

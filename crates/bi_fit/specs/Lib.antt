@@ -15,6 +15,7 @@ pub mod Fields
 pub mod Images
 pub mod Reading
 pub mod Documents
+pub mod PayloadRegions
 pub mod RegionPairs
 pub mod HashNodes
 pub mod JudgementCalls

@@ -8,13 +8,14 @@ ghost use Rattle.bi_fdt.specs.Content.{root_of};
 ghost use Rattle.bi_fdt.specs.Views.{node_of, table_of_node};
 ghost use Rattle.bi_fit.specs.Names.{images_name};
 ghost use Rattle.bi_fit.specs.Content.{index_of, place_or_absent, image_model};
-ghost use Rattle.bi_fit.specs.Content.{HasIndices, IsHeld, IsImagesPosition};
+ghost use Rattle.bi_fit.specs.Content.{AreAtTheirPlaces, HasIndices, IsHeld, IsImagesPosition};
 ghost use Rattle.bi_fit.specs.Reading.{IsReadFit, IsFitReadError};
 
 use crate::image::{Image, Place};
 use crate::images::read_images;
 use bi_base::{Cause, Error, Fault, Limits};
 use bi_fdt::{Blob, NodeRef};
+use bi_hash::RegionDigests;
 use std::alloc::{AllocError, Global};
 use std::collections::BTreeMap;
 use std::marker::Model;
@@ -151,6 +152,14 @@ impl<'a> Fit<'a> {
             Some(image) => image.place,
             None => Place::Absent,
         }
+    }
+
+    /// Returns the digests of the regions of the file, of which none is computed yet.
+    pub fn region_digests(&self, alloc: Global) -> RegionDigests<'a>
+        ensures file { result ≡ self.now.blob.file }
+        ensures placed { AreAtTheirPlaces result self.now.images }
+    {
+        RegionDigests::new(alloc, self.blob.file())
     }
 
     /// Does nothing. Proofs outside this module get the invariant from it.

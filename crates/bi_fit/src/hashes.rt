@@ -1,10 +1,11 @@
 //! The hash nodes of a flattened image tree, and the verdicts on them.
 
-ghost use Rattle.std.specs.Prelude.{◌≡◌, ◌++◌, map, IfOk, IfErr, OnOk};
+ghost use Rattle.std.specs.Prelude.{◌≡◌, ◌++◌, map, IfOk, IfErr, IfSome, OnOk};
 ghost use Rattle.std.specs.Option.{option_map};
 ghost use Rattle.bi_base.specs.declared.fault.Error.TheVariants.{OutOfMemory};
 ghost use Rattle.bi_blob.specs.Lookups.{siblings};
 ghost use Rattle.bi_fdt.specs.Views.{node_of};
+ghost use Rattle.bi_hash.specs.Regions.{IsRegionOf, bytes_of_region};
 ghost use Rattle.bi_fit.specs.Content.{tree_of};
 ghost use Rattle.bi_fit.specs.Judgement.{verdicts_of};
 ghost use Rattle.bi_fit.specs.JudgementCalls.{checked_hash_of};
@@ -14,7 +15,7 @@ use crate::fit::Fit;
 use crate::nodes::Siblings;
 use bi_base::{Error, text_before_nul};
 use bi_fdt::NodeRef;
-use bi_hash::{PayloadDigests, Verdict};
+use bi_hash::{Region, RegionDigests, Verdict};
 use std::alloc::{AllocError, Global};
 
 /// A hash node, and the verdict on it.
@@ -35,7 +36,8 @@ pub struct Checked<'a> {
 
 impl<'a> Fit<'a> {
     /// Returns each hash node with the verdict on it: images in their order, and the hash nodes of
-    /// an image in their order. A payload is read once for each algorithm that its hash nodes name.
+    /// an image in their order. A region of the file is read once for each algorithm by which hash
+    /// nodes name its digest, however many images have it as their payload.
     ///
     /// The only error is OutOfMemory.
     pub fn verdicts(&self, alloc: Global) -> Result<Vec<Checked<'a>>, Error>
@@ -43,9 +45,10 @@ impl<'a> Fit<'a> {
             ≡ verdicts_of (tree_of self.now)) }
         ensures failed { IfErr result (λ error. error ≡ OutOfMemory) }
     {
+        let mut digests = self.region_digests(alloc);
         let mut checked = Vec::new(alloc);
         for (node, image) in self.image_nodes().zip(self.images()) {
-            check_image(&mut checked, node, image.payload)?;
+            check_image(&mut checked, node, image.region(), &mut digests)?;
         }
         Ok(checked)
     }
@@ -55,40 +58,47 @@ impl<'a> Fit<'a> {
 fn check_image<'a>(
     checked: &mut Vec<Checked<'a>>,
     image: NodeRef<'a, '_>,
-    payload: Option<&[u8]>,
+    payload: Option<Region>,
+    digests: &mut RegionDigests,
 ) -> Result<(), AllocError>
-    ensures { OnOk result (map checked_hash_of checked.new.items
+    requires within { IfSome payload (IsRegionOf digests.old) }
+    ensures ok { OnOk result (map checked_hash_of checked.new.items
         ≡ map checked_hash_of checked.old.items ++ file_hashes
         (node_of image.entry).name
-        (option_map (λ payload. payload.now) payload.entry)
+        (option_map (bytes_of_region digests.old) payload)
         (siblings (node_of image.entry).children)) }
+    ensures same { digests.new ≡ digests.old }
 {
-    let mut digests = PayloadDigests::new(payload);
     for node in Siblings::children(image) {
         if node.name().starts_with(b"hash") {
-            checked.push(check_hash(image.name(), node, &mut digests))?;
+            checked.push(check_hash(image.name(), node, payload, digests)?)?;
         }
     }
     Ok(())
 }
 
-/// Judges a hash node of an image of this name, by the digests of its payload.
+/// Judges a hash node of an image with this name and this payload.
 fn check_hash<'a>(
     image: &'a [u8],
     node: NodeRef<'a, '_>,
-    digests: &mut PayloadDigests,
-) -> Checked<'a>
-    ensures checked { checked_hash_of result
-        ≡ file_hash image.entry.now digests.old (node_of node.entry) }
+    payload: Option<Region>,
+    digests: &mut RegionDigests,
+) -> Result<Checked<'a>, AllocError>
+    requires within { IfSome payload (IsRegionOf digests.old) }
+    ensures checked { IfOk result (λ checked. checked_hash_of checked ≡ file_hash
+        image.entry.now
+        (option_map (bytes_of_region digests.old) payload)
+        (node_of node.entry)) }
     ensures same { digests.new ≡ digests.old }
 {
     let algo = node.property(b"algo");
     let value = node.property(b"value");
-    Checked {
+    let verdict = digests.verdict(algo, value, payload)?;
+    Ok(Checked {
         image,
         node: node.name(),
         algo: algo.and_then(|algo| text_before_nul(algo)),
         value,
-        verdict: digests.verdict(algo, value),
-    }
+        verdict,
+    })
 }

@@ -1,5 +1,11 @@
 //! The images of a flattened image tree that was read.
 
+ghost use Rattle.std.specs.Prelude.{List, ℕ};
+ghost use Rattle.bi_fit.specs.Content.{image_model, IsAtItsPlace};
+ghost use Rattle.bi_fit.specs.PayloadRegions.{IsRegionOfPayload};
+
+use bi_hash::Region;
+
 /// Where the payload of an image is in its file. The number is the offset of its first byte.
 #[derive(Clone, Copy, Debug, PartialEq, Eq)]
 pub enum Place {
@@ -22,4 +28,22 @@ pub struct Image<'a> {
     pub payload: Option<&'a [u8]>,
     /// Where the payload is in the file.
     pub place: Place,
+}
+
+impl<'a> Image<'a> {
+    /// Returns the region of the file that is the payload. Returns None exactly if there is no
+    /// payload, or the image is not in a file.
+    pub fn region(&self) -> Option<Region>
+        ensures { (file : List ℕ) → IsAtItsPlace file (image_model self.now)
+            → IsRegionOfPayload file (image_model self.now).payload result }
+    {
+        let begin = match self.place {
+            Place::Data(begin) | Place::DataOffset(begin) | Place::DataPosition(begin) => begin,
+            Place::Absent => return None,
+        };
+        Some(Region {
+            begin: begin as usize,
+            length: self.payload?.len(),
+        })
+    }
 }

@@ -1,9 +1,10 @@
 //! The digests that an update writes to hash nodes.
 
-ghost use Rattle.std.specs.Prelude.{◌≡◌, ◌++◌, IfOk, IfErr, OnOk};
+ghost use Rattle.std.specs.Prelude.{◌≡◌, ◌++◌, IfOk, IfErr, IfSome, OnOk};
 ghost use Rattle.std.specs.Option.{option_map};
 ghost use Rattle.bi_base.specs.declared.fault.Error.TheVariants.{OutOfMemory};
 ghost use Rattle.bi_fdt.specs.Views.{node_of};
+ghost use Rattle.bi_hash.specs.Regions.{IsRegionOf, bytes_of_region};
 ghost use Rattle.bi_fit.specs.Content.{tree_of};
 ghost use Rattle.bi_fit.specs.NewDigests.{hash_algorithm, digests_of_image, new_digests};
 ghost use Rattle.bi_fit.specs.NormalNodes.{nodes_by_name, properties_by_name};
@@ -13,13 +14,14 @@ use crate::fit::Fit;
 use crate::nodes::Siblings;
 use bi_base::{Error, text_before_nul};
 use bi_fdt::NodeRef;
-use bi_hash::{Algo, PayloadDigests};
+use bi_hash::{Algo, Region, RegionDigests};
 use std::alloc::{AllocError, Global};
 
 impl<'a> Fit<'a> {
     /// Returns the digests that an update writes to the hash nodes, one after another: images in
     /// their order, and the hash nodes of an image in theirs. It returns none if `changes.hashes`
-    /// is not set. A payload is read once for each algorithm that its hash nodes name.
+    /// is not set. A region of the file is read once for each algorithm that hash nodes name,
+    /// however many images have it as their payload.
     ///
     /// The only error is OutOfMemory.
     pub fn new_digests(&self, alloc: Global, changes: Changes) -> Result<Vec<u8>, Error>
@@ -31,8 +33,9 @@ impl<'a> Fit<'a> {
         if !changes.hashes {
             return Ok(digests);
         }
+        let mut region_digests = self.region_digests(alloc);
         for (node, image) in self.image_nodes().zip(self.images()) {
-            append_digests(&mut digests, node, image.payload)?;
+            append_digests(&mut digests, node, image.region(), &mut region_digests)?;
         }
         Ok(digests)
     }
@@ -42,16 +45,18 @@ impl<'a> Fit<'a> {
 fn append_digests(
     digests: &mut Vec<u8>,
     image: NodeRef<'_, '_>,
-    payload: Option<&[u8]>,
+    payload: Option<Region>,
+    region_digests: &mut RegionDigests,
 ) -> Result<(), AllocError>
-    ensures { OnOk result (digests.new.items ≡ digests.old.items ++ digests_of_image
-        (option_map (λ payload. payload.now) payload.entry)
+    requires within { IfSome payload (IsRegionOf region_digests.old) }
+    ensures added { OnOk result (digests.new.items ≡ digests.old.items ++ digests_of_image
+        (option_map (bytes_of_region region_digests.old) payload)
         (nodes_by_name (node_of image.entry).children)) }
+    ensures same { region_digests.new ≡ region_digests.old }
 {
-    let mut payload_digests = PayloadDigests::new(payload);
     for node in Siblings::children(image) {
         if let Some(algo) = hash_algo(node) {
-            payload_digests.append_digest(algo, digests)?;
+            region_digests.append_digest(algo, payload, digests)?;
         }
     }
     Ok(())

@@ -1,30 +1,19 @@
-use Rattle.std.proofs.Common.{◌≡◌, ◌≤◌, ◌⊎◌, ℕ, zero, suc, List, [], ◌∷◌, ◌++◌, length, take, Option, Some, refl, sym, ap, subst, ◌∙◌, inl}
-use Rattle.std.proofs.Common.{inr, lit≤}
-use Rattle.std.proofs.Math.Seq.{take-append_seam}
-use Rattle.std.specs.List.{slice_get, slice_set}
-use Rattle.std.specs.Option.{option_copied}
+use Rattle.std.proofs.Common.{◌≡◌, ℕ, zero, suc, List, cond, Option, Some, refl, sym, ap, ◌∙◌}
 use Rattle.std.proofs.lemmas.Option.{same_Some}
+use Rattle.std.proofs.lemmas.Map.Lookups.{exact_unsigned}
+use Rattle.std.specs.declared.cmp.Ordering.{Ordering}
+use Rattle.std.specs.declared.cmp.Ordering.TheVariants.{Less, Equal, Greater}
+use Rattle.std.specs.Ordering.{nat_cmp, ordering_then, is_eq}
+use Rattle.std.specs.BTreeMap.{BTreeMap, Updates, get}
 use Rattle.bi_hash.specs.declared.algo.Algo.{Algo}
 use Rattle.bi_hash.specs.declared.algo.Algo.TheVariants.{Crc32, Md5, Sha1, Sha256, Sha384, Sha512}
-use Rattle.bi_hash.specs.declared.payload_digests.Digest.{Digest}
-use Rattle.bi_hash.specs.declared.payload_digests.PayloadDigests.TheInside.{Inside as Fields}
+use Rattle.bi_hash.specs.declared.region_digests.Region.{Region}
 use Rattle.bi_hash.specs.Algos.{algorithm_index}
-use Rattle.bi_hash.specs.Digests.{digest_of, digest_size}
-use Rattle.bi_hash.specs.KeptDigests.{IsDigestOf, AreKept}
+use Rattle.bi_hash.specs.Digests.{padded_digest}
+use Rattle.bi_hash.specs.Regions.{bytes_of_region}
+use Rattle.bi_hash.specs.KeptDigests.{DigestKey, by_digest_key, digest_key}
 
--- If one more digest of the payload is kept, all digests that are kept are those of the payload.
-
--- An element of a list in which one was set is that one, or it was there before.
-set_or_before : {A : Type 0} (xs : List A) (i j : ℕ) (new got : A) → slice_get (slice_set xs i new) j ≡ Some got →
-    ((j ≡ i) × (got ≡ new)) ⊎ (slice_get xs j ≡ Some got)
-set_or_before [] i j new got is = inr is
-set_or_before (x ∷ xs) zero zero new got is = inl (refl, sym (same_Some new got is))
-set_or_before (x ∷ xs) zero (suc j) new got is = inr is
-set_or_before (x ∷ xs) (suc i) zero new got is = inr is
-set_or_before (x ∷ xs) (suc i) (suc j) new got is = elim (set_or_before xs i j new got is) [
-  | inl at ↦ inl (ap suc at.0, at.1)
-  | inr before ↦ inr before
-]
+-- If one more digest of a region is kept, all digests that are kept are those of their regions.
 
 -- The algorithm at an index.
 abbrev algorithm_at : ℕ → Option Algo
@@ -47,35 +36,41 @@ at_index Sha512 = refl
 same_index : (one other : Algo) → algorithm_index one ≡ algorithm_index other → one ≡ other
 same_index one other is = same_Some one other (sym (at_index one) ∙ ap algorithm_at is ∙ at_index other)
 
--- No digest is longer than a buffer.
-size_small : (algo : Algo) → digest_size algo ≤ 64
-size_small Crc32 = lit≤ tt
-size_small Md5 = lit≤ tt
-size_small Sha1 = lit≤ tt
-size_small Sha256 = lit≤ tt
-size_small Sha384 = lit≤ tt
-size_small Sha512 = lit≤ tt
+-- What is equal by two orders in turn is equal by each.
+both_equal : (first second : Ordering) → ordering_then first second ≡ Equal → (first ≡ Equal) × (second ≡ Equal)
+both_equal Less second is = absurd cc
+both_equal Equal second is = (refl, is)
+both_equal Greater second is = absurd cc
 
--- A buffer that begins with a digest.
-pub begins_with_digest : (algo : Algo) (payload zeros buffer : List ℕ) (length_of : ℕ) → length_of ≡ length (digest_of algo payload) →
-    length_of ≡ digest_size algo → buffer ≡ digest_of algo payload ++ zeros →
-    IsDigestOf algo payload (record { buffer = buffer; length = length_of })
-begins_with_digest algo payload zeros buffer length_of long size is = record {
-  fits = subst (λ n. n ≤ 64) (sym size) (size_small algo);
-  bytes = ap (λ n. take n buffer) long ∙ ap (take (length (digest_of algo payload))) is ∙ take-append_seam (digest_of algo payload) zeros;
-}
+-- Keys that are equal by their order are the same.
+same_key : (one other : DigestKey) → by_digest_key one other ≡ Equal → (one.0 ≡ other.0) × (one.1 ≡ other.1) × (one.2 ≡ other.2)
+same_key one other is =
+    let last = both_equal (ordering_then (nat_cmp one.0 other.0) (nat_cmp one.1 other.1)) (nat_cmp one.2 other.2) is in
+    let first = both_equal (nat_cmp one.0 other.0) (nat_cmp one.1 other.1) last.0 in
+    (exact_unsigned one.0 other.0 first.0, exact_unsigned one.1 other.1 first.1, exact_unsigned one.2 other.2 last.1)
 
--- One more digest of the payload is kept.
-pub one_more_digest : (fields : Fields) (algo : Algo) (payload : List ℕ) (digest : Digest) → option_copied fields.payload ≡ Some payload →
-    IsDigestOf algo payload digest → AreKept fields →
-    AreKept (record fields { digests = slice_set fields.digests (algorithm_index algo) (Some digest) })
-one_more_digest fields algo payload digest there is kept = record {
-  each = λ other bytes found same at. elim (set_or_before fields.digests (algorithm_index algo) (algorithm_index other) (Some digest) (Some found) at) [
-    | inl now ↦ (
-        let same_algo : algo ≡ other = same_index algo other (sym now.0) in
-        let same_bytes : payload ≡ bytes = same_Some payload bytes (sym there ∙ same) in
-        let same_digest : digest ≡ found = sym (same_Some found digest now.1) in
-        subst (λ a. IsDigestOf a bytes found) same_algo (subst (λ b. IsDigestOf algo b found) same_bytes (subst (λ d. IsDigestOf algo payload d) same_digest is)))
-    | inr before ↦ kept.each other bytes found same before
-  ];
-}
+-- The digests of a file in a map are those of their regions.
+abbrev AreDigests : (file : List ℕ) → BTreeMap DigestKey (List ℕ) → Type 0
+AreDigests file digests =
+    (region : Region) (algo : Algo) (digest : List ℕ) → get by_digest_key digests (digest_key region algo) ≡ Some digest →
+    digest ≡ padded_digest algo (bytes_of_region file region)
+
+-- One more digest is kept.
+pub one_more_digest : (file : List ℕ) (old new : BTreeMap DigestKey (List ℕ)) (region : Region) (algo : Algo) (digest : List ℕ) →
+    digest ≡ padded_digest algo (bytes_of_region file region) → Updates by_digest_key old new (digest_key region algo) (Some digest) →
+    AreDigests file old → AreDigests file new
+one_more_digest file old new region algo digest is updates kept other other_algo found at =
+    by_order (by_digest_key (digest_key region algo) (digest_key other other_algo)) refl
+    (sym (updates.0 (digest_key other other_algo)) ∙ at)
+  where
+    by_order : (order : Ordering) → by_digest_key (digest_key region algo) (digest_key other other_algo) ≡ order →
+        cond (is_eq order) (Some digest) (get by_digest_key old (digest_key other other_algo)) ≡ Some found →
+        found ≡ padded_digest other_algo (bytes_of_region file other)
+    by_order Less differs before = kept other other_algo found before
+    by_order Greater differs before = kept other other_algo found before
+    by_order Equal same now =
+        let keys = same_key (digest_key region algo) (digest_key other other_algo) same in
+        sym (same_Some digest found now) ∙ is
+        ∙ ap (λ a. padded_digest a (bytes_of_region file region)) (same_index algo other_algo keys.2)
+        ∙ ap (padded_digest other_algo) (ap (λ begin. bytes_of_region file (record { begin = begin; length = region.length })) keys.0)
+        ∙ ap (padded_digest other_algo) (ap (λ long. bytes_of_region file (record { begin = other.begin; length = long })) keys.1)

@@ -1,4 +1,4 @@
-use Rattle.std.specs.Prelude.{◌≡◌, ℕ, List, [], Option, Some, None, length}
+use Rattle.std.specs.Prelude.{◌≡◌, ℕ, ◌-◌, List, [], ◌++◌, Option, Some, None, length, replicate}
 use Rattle.bi_base.specs.Cells.{cell, AreBytes}
 use Rattle.bi_base.specs.Crc.{crc32}
 use Rattle.md5.specs.Md5.{md5}
@@ -31,6 +31,10 @@ digest_size Sha1 = 20
 digest_size Sha256 = 32
 digest_size Sha384 = 48
 digest_size Sha512 = 64
+
+-- The digest of a payload with zeros after it: as many bytes as the longest digest has.
+abbrev pub padded_digest : Algo → List ℕ → List ℕ
+padded_digest algo payload = digest_of algo payload ++ replicate (64 - digest_size algo) 0
 
 -- The law that a digest is a list of bytes, of the length that its algorithm has.
 abbrev pub DigestsAreBytes : Type 0

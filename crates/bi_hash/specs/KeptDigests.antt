@@ -1,28 +1,34 @@
-use Rattle.std.specs.Prelude.{◌≡◌, ℕ, ◌≤◌, List, Option, Some, None, take}
-use Rattle.std.specs.Option.{option_copied}
-use Rattle.std.specs.List.{slice_get}
+use Rattle.std.specs.Prelude.{◌≡◌, ℕ, List, Some}
+use Rattle.std.specs.BTreeMap.{get}
+use Rattle.std.specs.declared.cmp.Ordering.{Ordering}
+use Rattle.std.specs.Ordering.{nat_cmp, ordering_then}
 use Rattle.bi_hash.specs.declared.algo.Algo.{Algo}
-use Rattle.bi_hash.specs.declared.payload_digests.Digest.{Digest}
-use Rattle.bi_hash.specs.declared.payload_digests.PayloadDigests.TheInside.{Inside as Fields}
+use Rattle.bi_hash.specs.declared.region_digests.Region.{Region}
+use Rattle.bi_hash.specs.declared.region_digests.RegionDigests.TheInside.{Inside as Fields}
 use Rattle.bi_hash.specs.Algos.{algorithm_index}
-use Rattle.bi_hash.specs.Digests.{digest_of}
+use Rattle.bi_hash.specs.Digests.{padded_digest}
+use Rattle.bi_hash.specs.Regions.{bytes_of_region}
 
--- The digests of a payload that are kept.
+-- The digests of regions of a file that are kept.
 
--- The first bytes of the buffer are the digest of a payload.
-pub record IsDigestOf (algo : Algo) (payload : List ℕ) (digest : Digest) : Type 0 where
-  pub fits : digest.length ≤ 64
-  pub bytes : take digest.length digest.buffer ≡ digest_of algo payload
+-- The key of a digest in the map: the offset and the length of the region, and the index of the
+-- algorithm.
+abbrev pub DigestKey : Type 0
+DigestKey = ℕ × ℕ × ℕ
 
--- The digest of a payload, if there is one.
-abbrev pub IsDigest : Algo → Option (List ℕ) → Option Digest → Type 0
-IsDigest algo None None = Unit {0}
-IsDigest algo (Some payload) (Some digest) = IsDigestOf algo payload digest
-IsDigest algo payload digest = ⊥
+-- The order of keys.
+abbrev pub by_digest_key : DigestKey → DigestKey → Ordering
+by_digest_key one other =
+    ordering_then
+    (ordering_then (nat_cmp one.0 other.0) (nat_cmp one.1 other.1))
+    (nat_cmp one.2 other.2)
 
--- Each digest that is kept is that of the payload by its algorithm.
+-- The key of the digest of a region by an algorithm.
+abbrev pub digest_key : Region → Algo → DigestKey
+digest_key region algo = (region.begin, region.length, algorithm_index algo)
+
+-- Each digest that is kept is that of its region by its algorithm.
 pub record AreKept (fields : Fields) : Type 0 where
-  pub each : (algo : Algo) (payload : List ℕ) (digest : Digest)
-      → option_copied fields.payload ≡ Some payload
-      → slice_get fields.digests (algorithm_index algo) ≡ Some (Some digest)
-      → IsDigestOf algo payload digest
+  pub each : (region : Region) (algo : Algo) (digest : List ℕ)
+      → get by_digest_key fields.digests (digest_key region algo) ≡ Some digest
+      → digest ≡ padded_digest algo (bytes_of_region fields.file.now region)

@@ -2,4 +2,5 @@ pub mod Algos
 pub mod Digests
 pub mod Verdicts
 pub mod KnownVerdicts
+pub mod Regions
 pub mod KeptDigests

@@ -5,11 +5,11 @@ mod algo;
 mod hash_node;
 pub mod known_verdicts;
 pub mod laws;
-mod payload_digests;
 mod pieces;
+mod region_digests;
 mod verdicts;
 
 pub use algo::Algo;
 pub use hash_node::verdict;
-pub use payload_digests::PayloadDigests;
+pub use region_digests::{Region, RegionDigests};
 pub use verdicts::Verdict;

@@ -2,9 +2,10 @@ use Rattle.std.proofs.Common.{◌≡◌, ◌++◌, ◌∷◌, [], false, bytes_e
 use Rattle.std.specs.Option.{option_map}
 use Rattle.bi_blob.specs.Lookups.{siblings}
 use Rattle.bi_fdt.specs.Views.{node_of}
-use Rattle.bi_fit.specs.NormalNodes.{alone, payloads_of, properties_by_name}
+use Rattle.bi_fit.specs.NormalNodes.{alone, properties_by_name}
 use Rattle.bi_fit.specs.Names.{images_name}
 use Rattle.bi_fit.proofs.NodeEvents.{nodes_from, nodes_from_first}
+use Rattle.bi_commands.specs.ImagePayloads.{bytes_of_payloads}
 use Rattle.bi_commands.specs.MadeEntries.{plain_entries, begin_entries, images_entries, root_children_entries}
 use Rattle.bi_commands.specs.TreeEntries.{NodeEnds, as_entry}
 use Rattle.bi_commands.proofs.EntriesOfNodes.{appended_first, root-images, root-other, root-none}
@@ -15,7 +16,7 @@ pub loop-next-init : goal.loop-next-init
 loop-next-init c =
     let s = node_of c.args.root in
     let all : nodes_from (option_map node_of c.first_child-next.result) ≡ s.children = ap nodes_from c.first_child-next.ensures.child ∙ nodes_from_first s.children in
-    ap (λ nodes. map as_entry c.args.entries.now.items ++ root_children_entries true nodes (payloads_of c.args.images.now)) all
+    ap (λ nodes. map as_entry c.args.entries.now.items ++ root_children_entries true nodes (bytes_of_payloads c.args.payloads.now)) all
 
 pub loop-next-smaller : goal.loop-next-smaller
 loop-next-smaller c =
@@ -30,7 +31,7 @@ pub loop-next-preserved : goal.loop-next-preserved
 loop-next-preserved c =
     let s = node_of c.in-Some.child in
     let start = map as_entry c.loop-next.entries.items in
-    let payloads = payloads_of c.args.images.now in
+    let payloads = bytes_of_payloads c.args.payloads.now in
     let target = map as_entry c.args.entries.now.items ++ root_children_entries true (node_of c.args.root).children payloads in
     let here : nodes_from (option_map node_of c.loop-next.next) ≡ nodes_from (Some s) = ap (λ next. nodes_from (option_map node_of next)) c.in-Some.is in
     let rest : nodes_from (option_map node_of c.next_sibling-next.result) ≡ s.later = ap nodes_from c.next_sibling-next.ensures.sibling ∙ nodes_from_first s.later in
@@ -53,7 +54,7 @@ loop-next-preserved c =
 pub returns : goal.returns
 returns c =
     let start = map as_entry c.loop-next.entries.items in
-    let payloads = payloads_of c.args.images.now in
+    let payloads = bytes_of_payloads c.args.payloads.now in
     let no_nodes = ap (λ next. nodes_from (option_map node_of next)) c.in_default.is in
     sym (append-nil start)
     ∙ ap (λ l. start ++ l) (sym (root-none c.loop-next.is_first payloads))

@@ -15,4 +15,4 @@ returns-clause-digests c =
       | inr images ↦ inr (ap (map image_model) (nil_from_length (iter_rest c.loop-node.node-iterator.b) images.1.0))
     ] in
     sym (after_last_image (siblings_left c.loop-node.node-iterator.a) (map image_model (iter_rest c.loop-node.node-iterator.b)) _ ended)
-    ∙ c.loop-node.invariant ∙ sym (new_digests_are c.args.self.now c.args.changes (not-false c.args.changes.hashes c.if-not-changes.false))
+    ∙ c.loop-node.invariant.so_far ∙ sym (new_digests_are c.args.self.now c.args.changes (not-false c.args.changes.hashes c.if-not-changes.false))

@@ -14,4 +14,4 @@ returns-clause-verdicts c =
       | inr images ↦ inr (ap (map image_model) (nil_from_length (iter_rest c.loop-node.node-iterator.b) images.1.0))
     ] in
     sym (after_last (siblings_left c.loop-node.node-iterator.a) (map image_model (iter_rest c.loop-node.node-iterator.b)) _ ended)
-    ∙ c.loop-node.invariant ∙ sym (verdicts_are c.args.self.now)
+    ∙ c.loop-node.invariant.so_far ∙ sym (verdicts_are c.args.self.now)

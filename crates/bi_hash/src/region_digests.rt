@@ -1,0 +1,130 @@
+//! The digests of regions of a file.
+
+ghost use Rattle.std.specs.Prelude.{◌≡◌, ◌++◌, OnOk, OnErr, IfOk, IfSome};
+ghost use Rattle.std.specs.Option.{option_copied, option_map};
+ghost use Rattle.bi_hash.specs.Digests.{digest_or_nothing, padded_digest};
+ghost use Rattle.bi_hash.specs.Regions.{IsRegionOf, bytes_of_region};
+ghost use Rattle.bi_hash.specs.Verdicts.{verdict_of};
+
+use crate::algo::Algo;
+use crate::hash_node::StatedDigest;
+use crate::verdicts::Verdict;
+use std::alloc::{AllocError, Global};
+use std::collections::BTreeMap;
+use std::marker::Model;
+
+/// A region of a file.
+#[derive(Clone, Copy, Debug, PartialEq, Eq)]
+pub struct Region {
+    /// The offset of its first byte.
+    pub begin: usize,
+    /// Its length in bytes.
+    pub length: usize,
+}
+
+/// The digests of regions of a file, each of which is computed once, if it is needed.
+///
+/// A digest is kept for its algorithm and its region, by the offset and the length of that. So each
+/// look-up takes log n comparisons, for n digests that are kept, and each digest that is kept takes
+/// 88 bytes in a map. Regions that share bytes, or that have the same bytes, have digests of their
+/// own.
+#[derive(Drop)]
+pub struct RegionDigests<'a> {
+    file: &'a [u8],
+    /// Each digest that was computed, with zeros after it, by the offset and the length of its
+    /// region and the index of its algorithm.
+    digests: BTreeMap<(usize, usize, usize), [u8; 64]>,
+}
+
+impl<'a> Model for RegionDigests<'a> {
+    ghost use Rattle.std.specs.Prelude.{List, ℕ};
+
+    ghost Value = { List ℕ };
+
+    ghost use Rattle.bi_hash.specs.KeptDigests.{AreKept};
+
+    ghost view = { λ digests. digests.file.now };
+
+    ghost invariant = { AreKept };
+}
+
+impl<'a> RegionDigests<'a> {
+    /// Returns the digests of the regions of a file. No digest is computed yet, and it allocates
+    /// nothing.
+    pub fn new(alloc: Global, file: &'a [u8]) -> RegionDigests<'a>
+        ensures { result ≡ file.entry.now }
+    {
+        RegionDigests {
+            file,
+            digests: BTreeMap::new(alloc),
+        }
+    }
+
+    /// Judges a hash node by the values of its properties `algo` and `value`, as `verdict` does.
+    /// Its payload is a region, if there is one. Reads the region if the verdict needs a digest
+    /// that was not computed before. Fails if memory runs out.
+    pub fn verdict(
+        &mut self,
+        algo: Option<&[u8]>,
+        value: Option<&[u8]>,
+        payload: Option<Region>,
+    ) -> Result<Verdict, AllocError>
+        requires within { IfSome payload (IsRegionOf self.old) }
+        ensures verdict { IfOk result (λ verdict. verdict ≡ verdict_of
+            (option_copied algo.entry)
+            (option_copied value.entry)
+            (option_map (bytes_of_region self.old) payload)) }
+        ensures same { self.new ≡ self.old }
+    {
+        let stated = match StatedDigest::read(algo, value) {
+            Ok(stated) => stated,
+            Err(verdict) => return Ok(verdict),
+        };
+        let Some(payload) = payload else {
+            return Ok(Verdict::NoPayload);
+        };
+        let digest = self.digest(stated.algo, payload)?;
+        Ok(stated.judge(&digest))
+    }
+
+    /// Adds the digest of a payload by this algorithm to the end of `bytes`, or nothing if there is
+    /// no payload. Reads the region that is the payload if the digest was not computed before.
+    /// Fails if memory runs out, and `bytes` is then unchanged.
+    pub fn append_digest(
+        &mut self,
+        algo: Algo,
+        payload: Option<Region>,
+        bytes: &mut Vec<u8>,
+    ) -> Result<(), AllocError>
+        requires within { IfSome payload (IsRegionOf self.old) }
+        ensures added { OnOk result (bytes.new.items ≡ bytes.old.items
+            ++ digest_or_nothing algo (option_map (bytes_of_region self.old) payload)) }
+        ensures failed { OnErr result (bytes.new.items ≡ bytes.old.items) }
+        ensures same { self.new ≡ self.old }
+    {
+        if let Some(payload) = payload {
+            let digest = self.digest(algo, payload)?;
+            bytes.extend_from_slice(&digest[..algo.digest_size()])?;
+        }
+        Ok(())
+    }
+
+    /// Returns the digest of a region by this algorithm, with zeros after it. Reads the region if
+    /// the digest was not computed before. Fails if memory runs out.
+    pub fn digest(&mut self, algo: Algo, region: Region) -> Result<[u8; 64], AllocError>
+        requires within { IsRegionOf self.old region }
+        ensures digest { IfOk result (λ digest. digest
+            ≡ padded_digest algo (bytes_of_region self.old region)) }
+        ensures same { self.new ≡ self.old }
+    {
+        let key = (region.begin, region.length, algo.index());
+        if let Some(digest) = self.digests.get(&key) {
+            return Ok(*digest);
+        }
+        let bytes = &self.file[region.begin..region.begin + region.length];
+        let mut digest = [0; 64];
+        algo.digest(bytes, &mut digest);
+        self.digests.insert(key, digest)?;
+        Ok(digest)
+    }
+}
