@@ -61,7 +61,7 @@ is_last() {
 
 printf '%s\n' $scripts | sort > all
 {
-    printf '%s with the proofs\n' rt $scripts
+    printf '%s with the proofs\n' rt $(printf '%s\n' $scripts | grep -v '^tests/boots/')
     echo "tests/prover/wrong_bodies.sh beside the proofs"
 } | sort > everything
 grep -v '/layers\.sh ' everything > gate
@@ -75,7 +75,7 @@ has_own_group() {
 }
 check "wrong code beside the proofs is a process group of this session" has_own_group
 check "the gate with layers.sh" starts everything --layers
-for group in fast tools calls prover costs; do
+for group in fast tools calls prover costs boots; do
     grep "^tests/$group/" all > wanted
     check "the group $group" starts wanted "$group"
 done
