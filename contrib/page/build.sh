@@ -7,28 +7,33 @@
 # examples/board.itb. The library is proved and built first if needed. The script needs the kit, python3, and wasm-opt of Debian's
 # binaryen. Its output is the path of the page. A failure is a line on standard error, and the status is then 1. PAGE is replaced as a
 # whole, or stays as it was.
-set -eu
+set -u
 
 fail() {
     echo "page: $*" >&2
     exit 1
 }
 
+# run COMMAND..: runs a command, and ends the script with the last line that it printed if it fails.
+run() {
+    "$@" > "$work/log" 2>&1 || fail "$1 failed: $(tail -n 1 "$work/log")"
+}
+
 here=$(dirname "$(readlink -f "$0")")
 root=$(cd "$here/../.." && pwd)
 page=${1:-$root/dist/bootimg.html}
-example=${2:-$root/examples/board.itb}
+example=$(readlink -f "${2:-$root/examples/board.itb}")
 crate=$root/crates/bi_c
 library=$crate/out/libbi_c.a
 module=$crate/out/module.bc
-
-command -v rt > /dev/null || fail "rt, the command of the Rattle kit, is not in PATH"
-command -v python3 > /dev/null || fail "python3 is not found"
-command -v wasm-opt > /dev/null || fail "wasm-opt is not found: install binaryen"
-[ -f "$example" ] || fail "$example is not a file"
-compilers=$(dirname "$(rt doc)")/toolchain/bin
 target=wasm64-unknown-unknown
-work=$(mktemp -d)
+
+[ -f "$example" ] || fail "$2 is not a file"
+for tool in rt python3 wasm-opt; do
+    command -v "$tool" > /dev/null || fail "$tool is not found (docs/PAGE.md has what is needed)"
+done
+compilers=$(dirname "$(rt doc)")/toolchain/bin
+work=$(mktemp -d) || fail "cannot make a directory"
 trap 'rm -rf "$work"' EXIT
 trap 'exit 1' HUP INT TERM
 
@@ -37,21 +42,19 @@ is_current() {
     [ -f "$1" ] && [ -z "$(find "$root/crates.txt" "$root"/crates/bi_*/src -type f -newer "$1" | head -n 1)" ]
 }
 
-# need_module: proves and builds the library and keeps its LLVM module, unless both are there.
-need_module() {
-    if ! is_current "$module"; then
-        echo "page: proving and building the library, which takes minutes" >&2
-        is_current "$library" || (cd "$crate" && rt lib) > "$work/log" 2>&1 || fail "the library is not built: $(tail -n 1 "$work/log")"
-        "$here/module.sh" "$library" "$module" > "$work/log" 2>&1 || fail "the library is not built: $(tail -n 1 "$work/log")"
-    fi
+# prove_library: proves the library and builds those below it.
+prove_library() {
+    (cd "$crate" && rt check)
 }
 
-# for_wasm: the module, as text on standard input, for the other target. It names the processor and the stack probes of x86-64, which
-# WebAssembly has not, and the layout of data. The layout of WebAssembly with 64 bits has the same sizes and alignments.
-for_wasm() {
+# read_module: the module as text, in module.ll, for the other target. It names the processor and the stack probes of x86-64, which
+# WebAssembly has not, and the layout of data: that of WebAssembly with 64 bits has the same sizes and alignments.
+read_module() {
     layout=e-m:e-p:64:64-p10:8:8-p20:8:8-i64:64-i128:128-n32:64-S128-ni:1:10:20
-    sed -e 's/"target-cpu"="[^"]*"//; s/"probe-stack"="[^"]*"//; s/"stack-probe-size"="[^"]*"//' \
-        -e "s/^target triple = .*/target triple = \"$target\"/" -e "s/^target datalayout = .*/target datalayout = \"$layout\"/"
+    "$compilers/clang" --target=x86_64-unknown-linux-gnu -x ir "$module" -S -emit-llvm -O0 -Xclang -disable-llvm-passes -o read.ll &&
+        sed -e 's/"target-cpu"="[^"]*"//; s/"probe-stack"="[^"]*"//; s/"stack-probe-size"="[^"]*"//' \
+            -e "s/^target triple = .*/target triple = \"$target\"/" \
+            -e "s/^target datalayout = .*/target datalayout = \"$layout\"/" read.ll > module.ll
 }
 
 # compile FLAG..: compiles for WebAssembly.
@@ -59,33 +62,37 @@ compile() {
     "$compilers/clang" --target="$target" -mcpu=lime1 -mbulk-memory -c "$@"
 }
 
-# link: links the library and the heap. What is exported are the calls of the library and those of the heap for the page.
-link() {
-    exports=$(sed -n 's/^define .*@\(bootimg_[a-z_]*\)(.*/--export=\1/p' module.ll)
-    # The stack is first in the memory, so that it ends at 0, and a call that needs more fails.
+# link_module: links the library and the heap. The calls of the library are exported, and what the page allocates by. The stack is first
+# in the memory and grows down to 0, so a call that needs more of it ends.
+link_module() {
+    exports=$(sed -n 's/^define .*@\(bootimg_[a-z0-9_]*\)(.*/--export=\1/p' module.ll)
     "$compilers/ld.lld" -flavor wasm -mwasm64 --no-entry --stack-first -z stack-size=1048576 --gc-sections --strip-all $exports \
         -o linked.wasm library.o heap.o
 }
 
-# lower: gives the module a memory of 32 bits, which every browser has.
-lower() {
-    python3 "$here/assemble.py" without-table linked.wasm untabled.wasm
-    wasm-opt --enable-memory64 --enable-bulk-memory --enable-sign-ext --enable-nontrapping-float-to-int --enable-mutable-globals \
-        --enable-multivalue --memory64-lowering -O1 untabled.wasm -o bootimg.wasm
+# lower_module: gives the module a memory of 32 bits, which every browser has.
+lower_module() {
+    python3 "$here/assemble.py" without-table linked.wasm untabled.wasm &&
+        wasm-opt --enable-memory64 --enable-bulk-memory --enable-sign-ext --enable-nontrapping-float-to-int --enable-mutable-globals \
+            --enable-multivalue --memory64-lowering -O1 untabled.wasm -o bootimg.wasm
 }
 
-make() {
-    "$compilers/clang" --target=x86_64-unknown-linux-gnu -x ir "$module" -S -emit-llvm -O0 -Xclang -disable-llvm-passes -o - |
-        for_wasm > module.ll
-    compile -x ir module.ll -O3 -ffunction-sections -o library.o
-    compile -std=c11 -ffreestanding -nostdinc -fno-builtin -Wall -Wextra -Werror -O2 "$here/heap.c" -o heap.o
-    link
-    lower
-    python3 "$here/assemble.py" page bootimg.wasm "$example" page.html
+# write_page: puts the page together beside where it will be, and gives it its name.
+write_page() {
+    mkdir -p "$(dirname "$page")" && python3 "$here/assemble.py" page bootimg.wasm "$example" "$page.$$" && mv -f "$page.$$" "$page"
 }
 
-need_module
-(cd "$work" && make) || fail "the page is not made"
-mkdir -p "$(dirname "$page")"
-cp "$work/page.html" "$page.$$" && mv -f "$page.$$" "$page"
+if ! is_current "$module"; then
+    echo "page: proving and building the library, which takes minutes" >&2
+    is_current "$library" || run prove_library
+    run "$here/module.sh" "$library" "$module"
+fi
+page=$(readlink -m "$page")
+cd "$work" || exit 1
+run read_module
+run compile -x ir module.ll -O3 -ffunction-sections -o library.o
+run compile -std=c11 -ffreestanding -nostdinc -fno-builtin -Wall -Wextra -Werror -O2 "$here/heap.c" -o heap.o
+run link_module
+run lower_module
+run write_page
 echo "$page"

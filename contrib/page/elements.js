@@ -63,7 +63,7 @@ function saveLink(text, name, bytes) {
   link.addEventListener('click', (event) => {
     try {
       URL.revokeObjectURL(saved.url);
-      saved.url = URL.createObjectURL(new Blob([bytes()]));
+      saved.url = URL.createObjectURL(new Blob([bytes()], { type: 'application/octet-stream' }));
       link.href = saved.url;
     } catch (error) {
       event.preventDefault();

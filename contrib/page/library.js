@@ -159,8 +159,8 @@ function textOf(output) {
   return new TextDecoder().decode(output);
 }
 
-/** The bytes of a name as it is printed: `%` and two digits are a byte. */
+/** The bytes of a name as it is printed: `%` and two digits are a byte, and `-` is the empty name. */
 function bytesOfName(printed) {
-  const bytes = printed.replace(/%([0-9A-F]{2})/g, (_, digits) => String.fromCharCode(parseInt(digits, 16)));
+  const bytes = printed.replace(/^-$/, '').replace(/%([0-9A-F]{2})/g, (_, digits) => String.fromCharCode(parseInt(digits, 16)));
   return Uint8Array.from(bytes, (character) => character.charCodeAt(0));
 }

@@ -71,7 +71,8 @@ function mapSection(regions, length) {
   const rows = regions.map(({ name, start, end }) => [start, end, end - start, name]);
   return section('Map of the file',
     element('figure', {}, mapOf('Map of the file. The table below has the same regions.', drawn, length),
-      element('figcaption', {}, 'By the offsets, not to scale: the smallest region can be seen. What is empty is free space and padding.',
+      element('figcaption', {},
+        'Above are the blocks of the file, below its payloads, by their offsets. The map is not to scale: small regions can be seen.',
         more > 0 ? ` ${more} more regions are not drawn.` : '')),
     element('details', {}, element('summary', {}, 'The regions as a table'), tableOf(['#Offset', '#End', '#Size', 'Region'], rows)));
 }

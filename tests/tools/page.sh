@@ -59,6 +59,21 @@ images = [node(name, [(b"data", b"abc")]) for name in (b"<i>", b"\"&amp;", b"\xe
 sys.stdout.buffer.write(blob_of(node(b"", [], [node(b"images", [], images)])))'
 }
 
+# refuses_imports: no page is made of a module that imports a function.
+refuses_imports() {
+    printf '\0asm\1\0\0\0\1\4\1\140\0\0\2\7\1\1a\1b\0\0' > imports.wasm
+    ! python3 "$assemble" page imports.wasm "$examples/board.itb" none.html 2> errors && [ ! -e none.html ] &&
+        grep -Fqx "the module has imports" errors
+}
+
+# fails TEXT ARGUMENT..: no page is made with these arguments, and the script prints one line, which begins so.
+fails() {
+    text=$1
+    shift
+    ! "$build" "$@" > output 2> errors && [ ! -s output ] && [ "$(wc -l < errors)" = 1 ] && grep -q "^$text" errors ||
+        { cat output errors; false; }
+}
+
 # has_own_elements NAME ELEMENT: the page NAME has the elements of a table, and none of this name.
 has_own_elements() {
     python3 "$dom" elements < "$1.dom" | tr ' ' '\n' > elements
@@ -89,9 +104,11 @@ need_c_library
 work_in_new_directory
 check "the page is built" "$build" "$work/page.html"
 [ "$failed" = 0 ] || finish
+check "no page is made of a module with imports" refuses_imports
+check "no page is made of an example that is not there" fails "page: none is not a file" page.html none
 case ${1-} in
 --screenshot)
-    chromium_on page.html --screenshot=picture.png --window-size=1040,1180 --hide-scrollbars
+    chromium_on page.html --screenshot=picture.png --window-size=1040,1222 --hide-scrollbars
     cd - > /dev/null && mv "$work/picture.png" "$2"
     exit
     ;;
