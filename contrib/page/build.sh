@@ -28,7 +28,7 @@ library=$crate/out/libbi_c.a
 module=$crate/out/module.bc
 target=wasm64-unknown-unknown
 
-[ -f "$example" ] || fail "$2 is not a file"
+[ -f "$example" ] || fail "${2:-$example} is not a file"
 for tool in rt python3 wasm-opt; do
     command -v "$tool" > /dev/null || fail "$tool is not found (docs/PAGE.md has what is needed)"
 done
