@@ -1,0 +1,127 @@
+#!/bin/sh
+# Tries the page that contrib/page/build.sh makes. In node, the scripts of the page make the runs of tests/conformance that are of calls
+# which the page makes: status, bytes, cause and offset have to be those of the vectors (tests/tools/page/suite.js). In Chromium, the page
+# has to show what the program prints.
+#
+#   page.sh                     what needs wasm-opt, node or Chromium is left out if that is missing, unless CI=true: then Debian's
+#                               binaryen, nodejs and chromium are installed, as root, or the script fails
+#   page.sh --again             builds the page a second time too, which has to give the same bytes
+#   page.sh --screenshot FILE   writes a picture of the page with an example, and tries nothing
+set -u
+
+root=$(cd "$(dirname "$0")/../.." && pwd)
+. "$root/tests/kit"
+build=$root/contrib/page/build.sh
+assemble=$root/contrib/page/assemble.py
+examples=$root/examples
+program=$root/crates/bootimg/out/bootimg
+dom=$root/tests/tools/page/dom.py
+
+# has PACKAGE COMMAND WHAT: whether the command is there. If it is not, says what is left out.
+has() {
+    [ "${CI-}" != true ] || need "$1" "$2"
+    command -v "$2" > /dev/null || { echo "left out: $3, since $2 is missing (Debian: $1)"; return 1; }
+}
+
+# chromium_on PAGE FLAG..: opens the page in Chromium, and there its example.
+chromium_on() {
+    opened=$1
+    shift
+    timeout 60 chromium --headless --no-sandbox --disable-gpu --disable-dev-shm-usage --user-data-dir="$work/profile" \
+        --virtual-time-budget=20000 --enable-logging=stderr "$@" "file://$work/$opened#example" 2> errors
+}
+
+# opens NAME IMAGE: makes the page NAME.html with this example, and NAME.dom of what Chromium shows. The browser reports no error.
+opens() {
+    python3 "$assemble" page module.wasm "$2" "$1.html" && chromium_on "$1.html" --dump-dom > "$1.dom" && ! grep CONSOLE errors
+}
+
+# shows NAME ID COMMAND..: the text of this element of the page NAME is what the command prints, or `(nothing)`.
+shows() {
+    shown=$1.dom
+    id=$2
+    shift 2
+    "$@" > wanted 2>&1
+    [ -s wanted ] || echo "(nothing)" > wanted
+    python3 "$dom" text "$id" < "$shown" > found && [ "$(cat found)" = "$(cat wanted)" ] || { diff wanted found; false; }
+}
+
+# refusal FILE: what the page shows of a file that the program refuses.
+refusal() {
+    "$program" list < "$1" 2>&1 | sed 's/^bootimg: /The image is refused: /'
+}
+
+# odd_names: a flattened image tree whose images have names that look like HTML, and other bytes.
+odd_names() {
+    python_with_blobs -c 'import sys
+from blobs import blob_of, node
+images = [node(name, [(b"data", b"abc")]) for name in (b"<i>", b"\"&amp;", b"\xe2\x80\xae\n")]
+sys.stdout.buffer.write(blob_of(node(b"", [], [node(b"images", [], images)])))'
+}
+
+# refuses_imports: no page is made of a module that imports a function.
+refuses_imports() {
+    printf '\0asm\1\0\0\0\1\4\1\140\0\0\2\7\1\1a\1b\0\0' > imports.wasm
+    ! python3 "$assemble" page imports.wasm "$examples/board.itb" none.html 2> errors && [ ! -e none.html ] &&
+        grep -Fqx "the module has imports" errors
+}
+
+# fails TEXT ARGUMENT..: no page is made with these arguments, and the script prints one line, which begins so.
+fails() {
+    text=$1
+    shift
+    ! "$build" "$@" > output 2> errors && [ ! -s output ] && [ "$(wc -l < errors)" = 1 ] && grep -q "^$text" errors ||
+        { cat output errors; false; }
+}
+
+# has_own_elements NAME ELEMENT: the page NAME has the elements of a table, and none of this name.
+has_own_elements() {
+    python3 "$dom" elements < "$1.dom" | tr ' ' '\n' > elements
+    grep -Fqx table elements && ! grep -Fx "$2" elements
+}
+
+try_in_chromium() {
+    python3 "$assemble" module page.html module.wasm
+    for image in board.itb kernel-padded.uimage; do
+        check "Chromium opens the page: $image" opens "$image" "$examples/$image"
+        for command in list verify check describe; do
+            check "it shows the output of $command: $image" shows "$image" "$command" "$program" "$command" "$examples/$image"
+        done
+    done
+    head -c 1000 "$examples/kernel.uimage" > short
+    check "Chromium opens the page with a file that is refused" opens refused short
+    check "it shows the line of the program" shows refused refusal refusal short
+    odd_names > names.itb
+    check "Chromium opens the page with odd names" opens names names.itb
+    check "it shows them as the program prints them" shows names list "$program" list names.itb
+    check "no name is an element of the page" has_own_elements names i
+}
+
+has binaryen wasm-opt "everything" || finish
+need python3 python3
+need_program
+need_c_library
+work_in_new_directory
+check "the page is built" "$build" "$work/page.html"
+[ "$failed" = 0 ] || finish
+check "no page is made of a module with imports" refuses_imports
+check "no page is made of an example that is not there" fails "page: none is not a file" page.html none
+case ${1-} in
+--screenshot)
+    chromium_on page.html --screenshot=picture.png --window-size=1040,1222 --hide-scrollbars
+    cd - > /dev/null && mv "$work/picture.png" "$2"
+    exit
+    ;;
+--again)
+    check "the page is built again" "$build" "$work/again.html"
+    check "it has the same bytes" cmp page.html again.html
+    ;;
+esac
+if has nodejs node "the runs of tests/conformance"; then
+    "$root/tests/conformance/run" --export runs > log
+    passes node "$root/tests/tools/page/suite.js" page.html runs "$examples"
+fi
+if has chromium chromium "what the page shows"; then
+    try_in_chromium
+fi
+finish
