@@ -45,6 +45,11 @@ int rattle_errno(void)
     return errno;
 }
 
+void rattle_set_errno(int error)
+{
+    errno = error;
+}
+
 /* The arguments of the program, which glibc passes to the functions that it calls before `main`. */
 static int argument_count;
 static char **arguments;
@@ -56,11 +61,6 @@ static void keep_arguments(int count, char **words)
 }
 
 __attribute__((section(".init_array"), used)) static void (*const before_main)(int, char **) = keep_arguments;
-
-size_t rattle_arg_count(void)
-{
-    return (size_t)argument_count;
-}
 
 /* Writes an argument to the start of the buffer and returns its length, or -1 if there is no such argument. If it is longer than the
  * buffer, fills the buffer and returns -2. */

@@ -246,17 +246,24 @@ _release_buffer.restype = None
 def _arguments_for(files: tuple[Buffer, ...]) -> Iterator[list[Any]]:
     """The arguments for C that pass these files, whose bytes stay where they are until the context
     ends. Only a view whose bytes are not one after the other is copied."""
-    with contextlib.ExitStack() as stack:
-        arguments: list[Any] = []
+    arguments: list[Any] = []
+    views: list[_PyBuffer] = []
+    try:
         for file in files:
             if isinstance(file, memoryview) and not file.c_contiguous:
                 file = bytes(file)
+            if isinstance(file, bytes):
+                arguments += [file, len(file)]
+                continue
             view = _PyBuffer()
             _get_buffer(file, view, 0)
-            stack.callback(_release_buffer, view)
+            views.append(view)
             # The address of no bytes may be null, which the library does not take.
             arguments += [view.buf or b"", view.len]
         yield arguments
+    finally:
+        for view in views:
+            _release_buffer(view)
 
 
 def _size_of(file: Buffer) -> int:

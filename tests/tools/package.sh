@@ -1,11 +1,12 @@
 #!/bin/sh
 # Tries ./package. In two directories it writes packages of the same bytes. That of Debian is installed in an empty root, used as a new
 # user would (the program, the manual page, the completions, pkg-config, C, C++, Rust and Python) and removed without a trace; lintian
-# finds no error in it. The wheel is installed by pip, without a network. The programs of the archives need nothing, run on the first
-# x86-64 and on arm64, and do what the suite of tests/conformance wants.
+# finds no error in it. The wheel is installed by pip, without a network. The program needs no library if it is linked statically, and
+# does then what the suite of tests/conformance wants.
 #
-# package.sh [--all]: The programs of the archives are compiled from proofs, as `rt run` keeps them and `rt ci` does not. Without --all
-# they are left out if there are none, since it takes ten minutes to prove the program again; and arm64 is tried with a part of the suite.
+# package.sh [--all]: With --all also the archives, whose programs are compiled for other processors, which takes a minute each, or ten
+# if the proofs of the program are not kept, as after `rt ci`. They run on the first x86-64 and, by qemu, on arm64, and do what the
+# suite wants.
 #
 # The script needs gcc, g++, binutils, dpkg, pkg-config, mandoc and python3, and installs Debian's if one is missing and it runs as root.
 # So it does with lintian, mypy, fish, zsh, qemu-user-static and gcc-aarch64-linux-gnu, and leaves out what needs one that it has not.
@@ -41,13 +42,11 @@ export PYTHONDONTWRITEBYTECODE=1
 
 # What is packed.
 kinds="deb wheel"
-if [ -n "$all" ] || [ -d "$root/crates/bootimg/out/incremental" ]; then
+if [ -n "$all" ]; then
     kinds="$kinds x86_64"
     if is_installed "gcc-aarch64-linux-gnu libc6-dev-arm64-cross" aarch64-linux-gnu-gcc; then
         kinds="$kinds aarch64"
     fi
-else
-    echo "left out: the archives, since no proofs are kept in crates/bootimg/out: give --all"
 fi
 
 # The checkout once more, with what is built of the program and of the library for C. The other crates are links.
@@ -98,7 +97,8 @@ fi
 usr=$work/installed/usr
 lib=$usr/lib/x86_64-linux-gnu
 check "the program runs" lists "$usr/bin/bootimg" list
-check "the manual page can be read" sh -c 'mandoc -Tascii "$1" | grep -q "^EXAMPLES"' sh "$usr/share/man/man1/bootimg.1.gz"
+check "the manual page can be read" sh -c 'mandoc -Tlint "$1" && mandoc -Tmarkdown "$1" | grep -q "^# EXAMPLES"' sh \
+    "$usr/share/man/man1/bootimg.1.gz"
 check "the completion for bash can be loaded" bash --norc -c '. "$0" && complete -p bootimg' \
     "$usr/share/bash-completion/completions/bootimg"
 if is_installed zsh zsh; then
@@ -106,8 +106,8 @@ if is_installed zsh zsh; then
         "$root/tests/tools" "$usr/share/zsh/vendor-completions"
 fi
 if is_installed fish fish; then
-    check "fish completes a command" sh -c 'HOME=$1 XDG_DATA_DIRS=$2 fish -c "complete -C \"bootimg ver\"" | grep -q "^verify"' sh \
-        "$work" "$usr/share"
+    check "fish completes a command" sh -c 'PATH=$1/bin:$PATH HOME=$2 XDG_DATA_DIRS=$1/share fish -c "complete -C \"bootimg ver\"" |
+        grep -q "^verify"' sh "$usr" "$work"
 fi
 # What pkg-config says of that root, with its system directories.
 export PKG_CONFIG_LIBDIR="$lib/pkgconfig" PKG_CONFIG_SYSROOT_DIR="$work/installed"
@@ -163,12 +163,27 @@ unpack() {
     program=$(echo "$work"/bootimg-*-linux-"$1"/bin/bootimg)
 }
 
+# does_all PROGRAM..: the program for x86-64 or arm64, run by these words, does what the suite wants, and writes a file with -o.
+does_all() {
+    passes "$suite" "$@"
+    check "$1: a file is written" sh -c '"$@" list -o listed < "$0" && cmp listed listing' "$image" "$@"
+}
+
+# The program as it is built for the gate, linked as those of the archives.
+check "the program is linked statically" gcc -static -o alone "$root/crates/bootimg/out/bootimg.o" "$(dirname "$heap")/libos_c.a" "$heap"
+check "it needs no library" is_alone ./alone
+does_all ./alone
+if [ "$(id -u)" = 0 ]; then
+    mkdir empty
+    cp alone empty
+    check "it runs where nothing else is" lists chroot empty /alone list
+fi
+
 case $kinds in
 *x86_64*)
     unpack x86_64
     check "the program for x86-64 needs no library" is_alone "$program"
-    check "it does without a system" lists env -i "$program" list
-    passes "$suite" "$program"
+    does_all "$program"
     if is_installed qemu-user-static qemu-x86_64-static; then
         check "it runs on the first x86-64" lists qemu-x86_64-static -cpu qemu64 "$program" list
     fi
@@ -180,8 +195,7 @@ case $kinds in
     check "the program for arm64 needs no library" is_alone "$program"
     if is_installed qemu-user-static qemu-aarch64-static; then
         check "it runs on arm64" lists qemu-aarch64-static "$program" list
-        [ -n "$all" ] && part= || part="--only real:"
-        passes "$suite" $part "$(command -v qemu-aarch64-static)" "$program"
+        does_all "$(command -v qemu-aarch64-static)" "$program"
     fi
     ;;
 esac
