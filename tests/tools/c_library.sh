@@ -2,8 +2,9 @@
 # Tries the library for C, built from crates/bi_c, and the module for Python over it. The header compiles as C and as C++ and declares
 # the functions that the library exports, with the parameters and the struct of the sources. tests/tools/c_library/calls.c makes each
 # call, as gcc and clang compile it with their sanitizers: on the examples and the vectors of tests/conformance, it and the module do what
-# the program does. The programs in docs/LIBRARY.md print what the document shows. The script needs gcc, g++, clang, nm, pkg-config and
-# python3, and installs Debian's if one is missing and it runs as root.
+# the program does. The module takes files in any buffer, without a copy (tests/tools/c_library/buffers.py), and mypy finds nothing wrong
+# in its types. The programs in docs/LIBRARY.md print what the document shows. The script needs gcc, g++, clang, nm, pkg-config and
+# python3, and installs Debian's if one is missing and it runs as root, and so it does mypy, without which it leaves out the types.
 set -u
 
 root=$(cd "$(dirname "$0")/../.." && pwd)
@@ -61,6 +62,11 @@ check "the library exports what the header declares, and nothing else" diff expo
 check "there are declarations" test -s declared
 grep -o 'BOOTIMG_VERSION "[^"]*"' "$header" | cut -d '"' -f 2 > wanted
 
+# The module. Its types are those that mypy finds strictly.
+if is_installed mypy mypy; then
+    check "the types of the module" mypy --strict --cache-dir mypy "$root/python/bootimg" "$root/python/backend.py"
+fi
+
 # The shared library.
 check "the shared library is linked" gcc -shared -o libbootimg.so -Wl,--whole-archive "$library" -Wl,--no-whole-archive "$heap"
 BOOTIMG_LIBRARY=$work/libbootimg.so
@@ -104,6 +110,9 @@ check "a file with an empty name is named by the module" names_file ""
 check "a directory is named by the module" names_file names
 for number in 1_000 +1000 0x_ff 0X3e8 " 1000 " ١٠٠٠ 1000.0 -1 "" 0x; do
     check "the module takes no number that the program refuses: '$number'" refuses_number "$number"
+done
+for image in kernel.uimage two-parts.uimage board.itb board-external.itb; do
+    passes python3 "$root/tests/tools/c_library/buffers.py" libbootimg.so "$examples/$image"
 done
 "$root/tests/conformance/run" --export runs > log || cat log
 # The module calls one shared library, so it is tried beside the calls of one compiler.

@@ -34,11 +34,17 @@ holds() {
     printf './%s\n' "$@" | sort | diff - got
 }
 
-program_directories="bin share share/man share/man/man1 share/bash-completion share/bash-completion/completions"
-program_files="bin/bootimg share/man/man1/bootimg.1 share/bash-completion/completions/bootimg"
-directories="$program_directories include lib lib/pkgconfig share/bootimg share/bootimg/python"
+program_directories="bin share share/man share/man/man1 share/bash-completion share/bash-completion/completions share/zsh
+    share/zsh/site-functions share/fish share/fish/vendor_completions.d"
+program_files="bin/bootimg share/man/man1/bootimg.1 share/bash-completion/completions/bootimg share/zsh/site-functions/_bootimg
+    share/fish/vendor_completions.d/bootimg.fish"
+# python_files DIRECTORY: the files of the module in this directory.
+python_files() {
+    printf "$1/bootimg/%s\n" __init__.py __main__.py py.typed libbootimg.so
+}
+directories="$program_directories include lib lib/pkgconfig share/bootimg share/bootimg/python share/bootimg/python/bootimg"
 files="$program_files include/bootimg.h lib/libbootimg.a lib/libbootimg.so lib/libbootimg.so.0 lib/pkgconfig/bootimg.pc
-    share/bootimg/python/bootimg.py"
+    $(python_files share/bootimg/python)"
 list=share/bootimg/made-directories
 
 # A new directory, and away again.
@@ -47,10 +53,12 @@ check "it holds the files" holds new/a/b $directories $files $list
 check "the program is that of the checkout" cmp new/a/b/bin/bootimg "$root/crates/bootimg/out/bootimg"
 check "it runs" new/a/b/bin/bootimg --version
 check "the page is that of the checkout" cmp new/a/b/share/man/man1/bootimg.1 "$root/man/bootimg.1"
-check "the completion can be loaded" bash --norc -c '. "$0" && complete -p bootimg' \
+check "the completion for bash can be loaded" bash --norc -c '. "$0" && complete -p bootimg' \
     "$work/new/a/b/share/bash-completion/completions/bootimg"
+check "that for zsh is that of the checkout" cmp new/a/b/share/zsh/site-functions/_bootimg "$root/contrib/_bootimg"
+check "and so is that for fish" cmp new/a/b/share/fish/vendor_completions.d/bootimg.fish "$root/contrib/bootimg.fish"
 check "modes" test "$(cd new/a/b && stat -c %a bin bin/bootimg share/man/man1/bootimg.1 include/bootimg.h lib/libbootimg.a \
-    lib/libbootimg.so.0 lib/pkgconfig/bootimg.pc | paste -sd ' ')" = "755 755 644 644 644 755 644"
+    lib/libbootimg.so.0 lib/pkgconfig/bootimg.pc | paste -sd ' ')" = "755 755 644 644 644 644 644"
 check "installing again" "$install" --prefix="$work/new/a/b"
 check "it holds the same files" holds new/a/b $directories $files $list
 check "removing it" "$install" --uninstall --prefix "$work/new/a/b"
@@ -84,16 +92,37 @@ check "it is replaced" cmp replaced/bin/bootimg "$root/crates/bootimg/out/bootim
 check "others can run it" test "$(stat -c %a replaced/bin/bootimg replaced/share | paste -sd ' ')" = "755 755"
 wait
 
-# --destdir, and the default prefix.
+# --destdir, and the default prefix. There is no list of directories then, and they stay.
 check "installing below a directory" "$install" --destdir "$work/stage"
-check "the prefix is /usr/local" holds stage/usr/local $directories $files $list
+check "the prefix is /usr/local" holds stage/usr/local $directories $files
 check "removing it" "$install" --destdir "$work/stage/" --uninstall
-check "nothing is left of it" test ! -e stage
-mkdir stage
-check "installing below a directory that exists" "$install" --destdir=stage --prefix=/usr
-check "the prefix is /usr" holds stage/usr $directories $files $list
-check "removing that" "$install" --destdir=stage --prefix=/usr --uninstall
-check "the directory stays, and is empty" sh -c 'test -d stage && test -z "$(ls -A stage)"'
+check "no file is left of it" test -z "$(find stage ! -type d)"
+rm -r stage
+check "installing below a directory that does not begin with /" "$install" --destdir=stage --prefix=/usr
+check "the prefix is /usr" holds stage/usr $directories $files
+rm -r stage
+
+# Other directories: those of Debian, and one outside the prefix.
+places="--libdir /usr/lib/here --mandir=/usr/man --pythondir /usr/lib/python"
+check "installing in other directories" "$install" --prefix /usr --destdir "$work/stage" $places
+other_files="bin/bootimg man/man1/bootimg.1 share/bash-completion/completions/bootimg share/zsh/site-functions/_bootimg
+    share/fish/vendor_completions.d/bootimg.fish include/bootimg.h lib/here/libbootimg.a lib/here/libbootimg.so
+    lib/here/libbootimg.so.0 lib/here/pkgconfig/bootimg.pc $(python_files lib/python)"
+(cd stage/usr && find . ! -type d | sed 's|^\./||' | sort) > got
+check "they hold the files" sh -c 'printf "%s\n" "$@" | sort | diff - got' sh $other_files
+check "the file for pkg-config names the directory" \
+    test "$(PKG_CONFIG_PATH=stage/usr/lib/here/pkgconfig pkg-config --variable=libdir bootimg)" = /usr/lib/here
+check "so does the link for Python" test "$(readlink stage/usr/lib/python/bootimg/libbootimg.so)" = ../../here/libbootimg.so.0
+check "Python finds the library there" env -u BOOTIMG_LIBRARY PYTHONPATH=stage/usr/lib/python python3 -c \
+    'import bootimg; assert bootimg.version() == bootimg.__version__'
+check "removing it from there" "$install" --prefix /usr --destdir "$work/stage" $places --uninstall
+check "nothing is left there but directories" test -z "$(find stage ! -type d)"
+rm -r stage
+check "installing with a directory outside the prefix" "$install" --prefix "$work/inside" --libdir "$work/out side/lib"
+check "the library is there" test -f "out side/lib/libbootimg.so.0"
+check "and a link to it" env -u BOOTIMG_LIBRARY PYTHONPATH=inside/share/bootimg/python python3 -c 'import bootimg'
+check "removing both" "$install" --prefix "$work/inside" --libdir "$work/out side/lib" --uninstall
+check "nothing is left of both" sh -c '[ ! -e inside ] && [ ! -e "out side" ]'
 
 # The stand-in for mkimage.
 check "installing with the stand-in" "$install" --prefix "$work/standing" --with-mkimage
@@ -150,6 +179,8 @@ nm -D --defined-only "$prefix/lib/libbootimg.so" | sed -n 's/.* T //p' | sort > 
 sed -n 's/^uint32_t \(bootimg_[a-z_]*\)(.*/\1/p' "$prefix/include/bootimg.h" | sort > declared
 check "it exports what the header declares" diff declared exported
 check "it exports nothing else" test "$(nm -D --defined-only "$prefix/lib/libbootimg.so" | wc -l)" = "$(wc -l < declared)"
+check "addresses are bound when it is loaded, and read-only then" sh -c 'readelf -Wdl "$1" > log && grep -q BIND_NOW log &&
+    grep -q GNU_RELRO log && ! grep GNU_STACK log | grep -q E' sh "$prefix/lib/libbootimg.so.0"
 check "that program runs" lists env LD_LIBRARY_PATH="$prefix/lib" ./shared
 check "a program is linked to the static library" \
     sh -c 'gcc -std=c99 lister.c -o static -static $(pkg-config --static --cflags --libs bootimg)'
@@ -158,14 +189,14 @@ check "Python finds the library" lists env -u BOOTIMG_LIBRARY PYTHONPATH="$prefi
 check "Python finds it in another directory" sh -c 'cd / &&
     env -u BOOTIMG_LIBRARY -u PYTHONDONTWRITEBYTECODE PYTHONPATH="$1/share/bootimg/python" python3 -c \
     "import bootimg; assert bootimg.version() == \"$2\""' sh "$prefix" "$version"
-check "Python keeps compiled code there" sh -c 'ls "$1"/share/bootimg/python/__pycache__/bootimg.*' sh "$prefix"
+check "Python keeps compiled code there" sh -c 'ls "$1"/share/bootimg/python/bootimg/__pycache__/__init__.*' sh "$prefix"
 check "removing the library" "$install" --prefix "$prefix" --uninstall
 check "nothing of the library is left" test ! -e with-library
 check "installing for another root" "$install" --destdir "$work/other-root" --prefix /opt/boot
 PKG_CONFIG_PATH=$work/other-root/opt/boot/lib/pkgconfig
 check "pkg-config has the prefix of that root" test "$(pkg-config --variable=prefix bootimg)" = /opt/boot
 check "removing it from there too" "$install" --destdir "$work/other-root" --prefix /opt/boot --uninstall
-check "nothing of it stays" test ! -e other-root
+check "no file of it stays" test -z "$(find other-root ! -type d)"
 cannot_link() {
     ! CC=$1 "$install" --prefix "$work/unlinked" > output 2> errors && [ ! -s output ] && [ "$(cat errors)" = "install: $2" ] &&
         [ ! -e unlinked ] || { cat output errors; false; }
@@ -181,7 +212,7 @@ check "--help prints the usage" prints_usage
 
 # Wrong arguments.
 for arguments in --bad -p help --prefix --destdir "--prefix relative" --prefix= "--uninstall --with-mkimage" --uninstall=x here \
-    "--uninstall --without-library" --without-library=x; do
+    "--uninstall --without-library" --without-library=x "--libdir lib" --mandir= "--pythondir" "--mandir man"; do
     check "wrong arguments: $arguments" fails 2 "usage: ./install " $arguments
 done
 
@@ -202,7 +233,7 @@ check "where no directory can be made" fails 1 "install: cannot make the directo
 mkdir -p stub/crates/bootimg/out stub/man stub/contrib closed/bin closed/share/man/man1
 cp "$install" stub
 cp "$root/man/bootimg.1" stub/man
-cp "$root/contrib/bootimg.bash" "$root/contrib/mkimage" stub/contrib
+cp "$root"/contrib/* stub/contrib
 printf '#!/bin/sh\necho built > "$(dirname "$0")/crates/bootimg/out/bootimg"\n' > stub/bootimg
 chmod -R a+rwX stub
 chmod a+x stub/bootimg stub/install

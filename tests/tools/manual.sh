@@ -1,7 +1,8 @@
 #!/bin/sh
-# Compares the manual page and the completion for bash with the program: each command, each option and each value of an option is in
-# both, and nothing else; each cause of a refusal and each other line of a failure is in the page. The completion has files for the
-# commands that take one. The script needs Debian's mandoc, and installs it if it is missing and it runs as root.
+# Compares the manual page and the completions for bash, zsh and fish with the program: each command, each option and each value of an
+# option is in each of them, and nothing else; each cause of a refusal and each other line of a failure is in the page. The completions
+# have files for the commands that take one. The script needs Debian's mandoc, zsh and fish, and installs those that are missing if it
+# runs as root. Without zsh or fish it leaves out their completions.
 set -u
 
 root=$(cd "$(dirname "$0")/../.." && pwd)
@@ -28,10 +29,30 @@ arguments() {
     sed -n '/^Arguments:/,/^$/p' | awk '/^  [[<]/ { print $1 }' | sed 's/[A-Z]\{1,\}/x/'
 }
 
-# complete WORD..: prints what the completion offers for the last word.
+# complete WORD..: prints what the completion for bash offers for the last word.
 complete() {
     bash --norc -c '. "$0"; COMP_WORDS=("$@"); COMP_CWORD=$(($# - 1)); _bootimg; printf "%s\n" "${COMPREPLY[@]}"' \
         "$completion" "$@"
+}
+
+# complete_by_zsh, complete_by_fish: print for each line of standard input a line `= LINE`, and then a line for each word that the
+# completion offers for the last word of the line.
+complete_by_zsh() {
+    zsh "$root/tests/tools/manual/complete.zsh" "$root/contrib"
+}
+complete_by_fish() {
+    fish --no-config -c 'source $argv[1]
+        while read --line line; echo "= $line"; complete -C $line | cut -f 1; end' "$root/contrib/bootimg.fish"
+}
+
+# offers WANTED LINE: in the file `offered`, which one of these wrote, the words for this line are those of the file WANTED.
+offers() {
+    awk -v line="= $2" '/^= / { on = $0 == line; next } on' offered > got
+    if [ "$1" = nothing ]; then
+        [ ! -s got ]
+    else
+        same "$1" got
+    fi || { cat got; false; }
 }
 
 # The page is well-formed.
@@ -66,6 +87,7 @@ options < help > wanted
 check "the completion has the options of the program" same wanted completed
 complete bootimg help "" > completed
 check "help is completed by them" same commands completed
+cp wanted program.options
 
 # Options and arguments. The synopsis has a clause for each command; the help option and short options are not repeated there.
 cp wanted all.options
@@ -82,6 +104,7 @@ while read -r command; do
     "$root/bootimg" "$command" --help > help
     options < help > wanted
     cat wanted >> all.options
+    cp wanted "options.$command"
     complete bootimg "$command" - > completed
     check "the completion has the options of $command" same wanted completed
     grep -v -e '^-.$' -e '^--help$' wanted > wanted.synopsis
@@ -170,6 +193,39 @@ check "explain prints each sentence alone" sh -c '
     while read -r cause; do "$0" explain "$cause" | sed "s/^/$cause: /"; done < causes | diff sentences -' "$root/bootimg"
 complete bootimg explain "" > completed
 check "the completion has the causes" sh -c 'grep -v "^-" completed | sort > got && sort causes | diff - got'
+
+# The completions for zsh and fish: lines that are completed, each after the file of the words that are wanted.
+: > nothing
+echo kernel.itb > image
+echo missing,unhashed > kinds
+{
+    printf '%s\tbootimg %s\n' commands "" commands "help " program.options - causes "explain " kinds "check --allow missing,un" \
+        nothing "extract --part " image "extract --part 1 kern" image "list --output kern" image "build-fit -o kern"
+    while read -r command; do
+        [ "$command" != help ] || continue
+        printf '%s\tbootimg %s\n' "options.$command" "$command -"
+        case $command in
+        build-legacy | build-fit | explain) printf 'nothing\tbootimg %s kern\n' "$command" ;;
+        *) printf 'image\tbootimg %s kern\n' "$command" ;;
+        esac
+    done < commands
+    printf '%s\tbootimg %s\n' key "extract --key " allow "check --allow "
+    for option in os arch type compression; do
+        printf '%s\tbootimg build-legacy --%s \n' "$option" "$option"
+    done
+    echo @kernel.itb > part
+    echo a:2:2:5:0:-:-:@kernel.itb > payload
+    printf '%s\tbootimg %s\n' part "build-legacy 5 @kern" payload "build-fit a:2:2:5:0:-:-:@kern"
+} > cases
+for shell in zsh fish; do
+    is_installed "$shell" "$shell" || continue
+    cut -f 2 cases | "complete_by_$shell" > offered
+    while IFS='	' read -r wanted line; do
+        check "the completion for $shell: $line" offers "$wanted" "$line"
+    done < cases
+done
+
+# Other lines of failures.
 awk '/^These lines have no offset/ { on = 1 } /^\.Sh SEE/ { on = 0 } on && /^\.It Li/' "$page" |
     sed 's/^\.It Li //; /^usage/!s/ , /\n/g' > got
 sed -n '/fn put_text/,/^    }$/p' "$root/crates/bootimg/src/failure.rt" | grep -oE '(put|put_numbered)\(b"[^"]*"(, index)?' |

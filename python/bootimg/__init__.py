@@ -1,0 +1,612 @@
+"""Boot images of U-Boot: legacy images and flattened image trees (FIT).
+
+Each function takes the bytes of a file and returns bytes or text. It calls the shared library of
+bootimg, which is proved: two accepted images of the same kind have the same normal form if and only
+if they mean the same thing. This module itself is tested and not proved. Functions may be called
+from several threads.
+
+A file is `bytes` or any other object with a contiguous buffer: a `bytearray`, a `memoryview`, an
+`mmap`. It is not copied. Its bytes must not change during a call.
+
+`limit` is the greatest number of bytes of a file, and of an image, payload or description that is
+made: 64 to LIMIT. `depth` is the greatest depth of a flattened image tree, with the root counted: 1
+to DEPTH. A call raises Refused if a file is refused: with TooLarge for a file that is longer than
+`limit`, or else with the cause of the first check of its format that fails. It raises WrongArgument
+if a number is out of its range or a key or kind is unknown, NotFound if there is nothing to
+extract, and OutOfMemory if an allocation fails.
+
+`python3 -m bootimg COMMAND ..` writes what `bootimg COMMAND ..` writes, and ends with the same
+status, for the commands that read images. It has no `-o` and no `--escaped`, and its message about
+wrong arguments is another. It also takes names that are not UTF-8.
+
+The module loads the library that the environment variable BOOTIMG_LIBRARY names, if it is set, or
+else libbootimg.so beside this file, if it is there, or else libbootimg.so.0 of the system.
+"""
+
+import argparse
+import contextlib
+import ctypes
+import mmap
+import os
+import re
+import sys
+from typing import Any, Iterable, Iterator, NamedTuple
+
+__version__ = "0.2.0"
+__all__ = [
+    "Buffer",
+    "BootimgError",
+    "CONCERNS",
+    "Comparison",
+    "DEPTH",
+    "KEYS",
+    "LIMIT",
+    "NotFound",
+    "OutOfMemory",
+    "REASONS",
+    "Refused",
+    "Report",
+    "WrongArgument",
+    "cause_name",
+    "check",
+    "compare",
+    "convert",
+    "describe",
+    "extract_config",
+    "extract_image",
+    "extract_part",
+    "kind",
+    "listing",
+    "normalise",
+    "normalise_and_count",
+    "same_meaning",
+    "update",
+    "update_and_count",
+    "verify",
+    "version",
+]
+
+# What a file may be.
+Buffer = bytes | bytearray | memoryview | mmap.mmap
+
+LIMIT = 0x7FFFFFFF
+DEPTH = 64
+CONCERNS = ("bad-hash", "unhashed", "weak-hash", "bad-list", "missing", "bad-default", "trailing")
+KEYS = ("kernel", "fdt", "ramdisk", "firmware", "loadables", "script")
+REASONS = (
+    "the selection does not fit this kind of image",
+    "no such part",
+    "no such image",
+    "no such configuration",
+    "no such key",
+    "bad list",
+    "missing image",
+    "no such entry",
+    "no payload",
+)
+
+_DONE, _REFUSED, _OUT_OF_MEMORY, _NO_ROOM, _WRONG_ARGUMENT, _NOT_FOUND = range(6)
+_MISSING = 7
+
+
+class BootimgError(Exception):
+    """Why a call failed."""
+
+
+class _Unread(BootimgError):
+    """A file cannot be read."""
+
+
+class Refused(BootimgError):
+    """A file is refused. `cause` is the name of the cause, and `number` its number, 1 to 26.
+    `offset` is its offset in the file, in bytes, and for TooLarge the limit. `file` is the index of
+    the file in the call, counted from 1."""
+
+    def __init__(self, cause: str, number: int, offset: int, file: int) -> None:
+        super().__init__(f"{cause} at {offset}")
+        self.cause = cause
+        self.number = number
+        self.offset = offset
+        self.file = file
+
+
+class OutOfMemory(BootimgError, MemoryError):
+    """An allocation failed."""
+
+
+class WrongArgument(BootimgError, ValueError):
+    """A number is out of the range of its argument, or a key or a kind is unknown."""
+
+
+class NotFound(BootimgError, LookupError):
+    """There is nothing to extract. `reason` is one of REASONS. `index` is None, or for "missing
+    image" the index of the first name that no image has, counted from 0."""
+
+    def __init__(self, reason: str, index: int | None) -> None:
+        super().__init__(reason if index is None else f"{reason} {index}")
+        self.reason = reason
+        self.index = index
+
+
+class Report(NamedTuple):
+    """The report on the checksums and digests of a file, and whether each verdict in it is good,
+    even if there is none."""
+
+    text: str
+    all_good: bool
+
+
+class Comparison(NamedTuple):
+    """Whether two files mean the same thing, and what differs."""
+
+    same: bool
+    differences: str
+
+
+class _Answer(ctypes.Structure):
+    _fields_ = [
+        ("size", ctypes.c_size_t),
+        ("value", ctypes.c_size_t),
+        ("cause", ctypes.c_uint32),
+        ("offset", ctypes.c_uint32),
+        ("file", ctypes.c_uint32),
+        ("reason", ctypes.c_uint32),
+    ]
+
+
+_FILE = [ctypes.c_void_p, ctypes.c_size_t]
+_NUMBER = [ctypes.c_uint32]
+_BUFFER = [ctypes.c_void_p, ctypes.c_size_t]
+_CALLS = {
+    "kind": _FILE,
+    "normalise": _FILE + _NUMBER * 3 + _BUFFER,
+    "update": _FILE + _NUMBER * 5 + _BUFFER,
+    "extract_part": _FILE + _NUMBER * 3,
+    "extract_image": _FILE * 2 + _NUMBER * 2,
+    "extract_config": _FILE * 2 + _NUMBER * 4,
+    "extract_default": _FILE + _NUMBER * 4,
+    "list": _FILE + _NUMBER * 2 + _BUFFER,
+    "describe": _FILE + _NUMBER * 2 + _BUFFER,
+    "verify": _FILE + _NUMBER * 2 + _BUFFER,
+    "check": _FILE + _NUMBER * 3 + _BUFFER,
+    "convert": _FILE + _NUMBER * 2 + _BUFFER,
+    "same_meaning": _FILE * 2 + _NUMBER * 2,
+    "compare": _FILE * 2 + _NUMBER * 2 + _BUFFER,
+    "cause_name": _NUMBER + _BUFFER,
+    "version": _BUFFER,
+}
+
+
+def _load() -> ctypes.CDLL:
+    beside = os.path.join(os.path.dirname(os.path.abspath(__file__)), "libbootimg.so")
+    found = beside if os.path.exists(beside) else "libbootimg.so.0"
+    library = ctypes.CDLL(os.environ.get("BOOTIMG_LIBRARY") or found)
+    for name, arguments in _CALLS.items():
+        function = getattr(library, "bootimg_" + name)
+        function.argtypes = [*arguments, ctypes.POINTER(_Answer)]
+        function.restype = ctypes.c_uint32
+    return library
+
+
+_library = _load()
+
+
+def _number(number: int) -> int:
+    """Returns a number that C can take. Any other one is out of its range."""
+    if not 0 <= number <= 0xFFFFFFFF:
+        raise WrongArgument("wrong argument")
+    return number
+
+
+def _index_of(name: str, names: tuple[str, ...]) -> int:
+    """Returns the number of a name that C passes as a number."""
+    if name not in names:
+        raise WrongArgument("wrong argument")
+    return names.index(name)
+
+
+def _raise(status: int, answer: _Answer) -> None:
+    if status == _REFUSED:
+        raise Refused(cause_name(answer.cause), answer.cause, answer.offset, answer.file)
+    if status == _OUT_OF_MEMORY:
+        raise OutOfMemory("out of memory")
+    if status == _WRONG_ARGUMENT:
+        raise WrongArgument("wrong argument")
+    if status == _NOT_FOUND:
+        index = answer.value if answer.reason == _MISSING else None
+        raise NotFound(REASONS[answer.reason - 1], index)
+
+
+class _PyBuffer(ctypes.Structure):
+    """`Py_buffer` of Python's interface for C."""
+
+    _fields_ = [
+        ("buf", ctypes.c_void_p),
+        ("obj", ctypes.c_void_p),
+        ("len", ctypes.c_ssize_t),
+        ("itemsize", ctypes.c_ssize_t),
+        ("readonly", ctypes.c_int),
+        ("ndim", ctypes.c_int),
+        ("format", ctypes.c_void_p),
+        ("shape", ctypes.c_void_p),
+        ("strides", ctypes.c_void_p),
+        ("suboffsets", ctypes.c_void_p),
+        ("internal", ctypes.c_void_p),
+    ]
+
+
+_get_buffer = ctypes.pythonapi.PyObject_GetBuffer
+_get_buffer.argtypes = [ctypes.py_object, ctypes.POINTER(_PyBuffer), ctypes.c_int]
+_release_buffer = ctypes.pythonapi.PyBuffer_Release
+_release_buffer.argtypes = [ctypes.POINTER(_PyBuffer)]
+_release_buffer.restype = None
+
+
+@contextlib.contextmanager
+def _arguments_for(files: tuple[Buffer, ...]) -> Iterator[list[Any]]:
+    """The arguments for C that pass these files, whose bytes stay where they are until the context
+    ends. Only a view whose bytes are not one after the other is copied."""
+    arguments: list[Any] = []
+    views: list[_PyBuffer] = []
+    try:
+        for file in files:
+            if isinstance(file, memoryview) and not file.c_contiguous:
+                file = bytes(file)
+            if isinstance(file, bytes):
+                arguments += [file, len(file)]
+                continue
+            view = _PyBuffer()
+            _get_buffer(file, view, 0)
+            views.append(view)
+            # The address of no bytes may be null, which the library does not take.
+            arguments += [view.buf or b"", view.len]
+        yield arguments
+    finally:
+        for view in views:
+            _release_buffer(view)
+
+
+def _size_of(file: Buffer) -> int:
+    """The number of bytes of a file."""
+    with memoryview(file) as view:
+        return view.nbytes
+
+
+def _call(name: str, files: tuple[Buffer, ...], *numbers: int) -> _Answer:
+    """Calls a function without a buffer, and returns the struct that it sets."""
+    answer = _Answer()
+    with _arguments_for(files) as arguments:
+        status = getattr(_library, "bootimg_" + name)(*arguments, *numbers, ctypes.byref(answer))
+    _raise(status, answer)
+    return answer
+
+
+def _fill(name: str, room: int, files: tuple[Buffer, ...], *numbers: int) -> tuple[bytes, int]:
+    """Calls a function with a buffer of this size, or of the size of the output if that is larger.
+    Returns the output and `value`."""
+    answer = _Answer()
+    function = getattr(_library, "bootimg_" + name)
+    with _arguments_for(files) as arguments:
+        while True:
+            buffer = ctypes.create_string_buffer(room)
+            status = function(*arguments, *numbers, buffer, room, ctypes.byref(answer))
+            if status != _NO_ROOM:
+                break
+            room = answer.size
+    _raise(status, answer)
+    return ctypes.string_at(buffer, answer.size), answer.value
+
+
+def version() -> str:
+    """Returns the version of the library."""
+    return _fill("version", 64, ())[0].decode("ascii")
+
+
+def cause_name(number: int) -> str:
+    """Returns the name of the cause of this number, from 1 to 26."""
+    return _fill("cause_name", 64, (), _number(number))[0].decode("ascii")
+
+
+def kind(file: Buffer) -> str:
+    """Returns the kind of a file by its first four bytes: "legacy" or "fit". Raises Refused with
+    Truncated for a file of fewer than four bytes, and with BadMagic for one without a magic
+    number."""
+    return ("legacy", "fit")[_call("kind", (file,)).value - 1]
+
+
+def normalise(
+    file: Buffer, external: bool = False, limit: int = LIMIT, depth: int = DEPTH
+) -> bytes:
+    """Returns the normal form of a file. With `external`, the payloads of a flattened image tree
+    are after the blob. Raises Refused with TooLarge if the normal form is longer than `limit`."""
+    return normalise_and_count(file, external, limit, depth)[0]
+
+
+def normalise_and_count(
+    file: Buffer, external: bool = False, limit: int = LIMIT, depth: int = DEPTH
+) -> tuple[bytes, int]:
+    """Returns what `normalise` returns, and the number of signature nodes, which are kept and not
+    checked."""
+    room = _size_of(file) + 4096
+    return _fill("normalise", room, (file,), int(external), _number(limit), _number(depth))
+
+
+def update(
+    file: Buffer,
+    time: int | None = None,
+    hashes: bool = False,
+    external: bool = False,
+    limit: int = LIMIT,
+    depth: int = DEPTH,
+) -> bytes:
+    """Returns the normal form of a file with this time of creation, in seconds since 1970, if it is
+    given, and with new digests, if `hashes` is set. Raises Refused with TooLarge if the output is
+    longer than `limit`, or, with `hashes`, if the payloads together are."""
+    return update_and_count(file, time, hashes, external, limit, depth)[0]
+
+
+def update_and_count(
+    file: Buffer,
+    time: int | None = None,
+    hashes: bool = False,
+    external: bool = False,
+    limit: int = LIMIT,
+    depth: int = DEPTH,
+) -> tuple[bytes, int]:
+    """Returns what `update` returns, and the number of signature nodes, which are kept and not
+    checked."""
+    changes = int(time is not None) + 2 * int(hashes)
+    numbers = (changes, _number(time or 0), int(external), _number(limit), _number(depth))
+    return _fill("update", _size_of(file) + 4096, (file,), *numbers)
+
+
+def _region(name: str, files: tuple[Buffer, ...], *numbers: int) -> memoryview:
+    """Calls a function that extracts, and returns what it selects as a view of the first file."""
+    answer = _call(name, files, *numbers)
+    return memoryview(files[0]).cast("B")[answer.value : answer.value + answer.size]
+
+
+def extract_part(
+    file: Buffer, index: int = 0, limit: int = LIMIT, depth: int = DEPTH
+) -> memoryview:
+    """Returns the part of this index, counted from 0, of a legacy image, as a view of the file."""
+    return _region("extract_part", (file,), _number(index), _number(limit), _number(depth))
+
+
+def extract_image(
+    file: Buffer, name: bytes | str, limit: int = LIMIT, depth: int = DEPTH
+) -> memoryview:
+    """Returns the payload of the image of this name in a flattened image tree, as a view of the
+    file."""
+    return _region("extract_image", (file, _name_of(name)), _number(limit), _number(depth))
+
+
+def extract_config(
+    file: Buffer,
+    name: bytes | str | None = None,
+    key: str = "kernel",
+    index: int = 0,
+    limit: int = LIMIT,
+    depth: int = DEPTH,
+) -> memoryview:
+    """Returns a payload that the configuration of this name lists under a key, one of KEYS, as a
+    view of the file. `index` is its index in the list, counted from 0. Without a name it is the
+    default configuration."""
+    numbers = (_index_of(key, KEYS), _number(index), _number(limit), _number(depth))
+    if name is None:
+        return _region("extract_default", (file,), *numbers)
+    return _region("extract_config", (file, _name_of(name)), *numbers)
+
+
+def _name_of(name: bytes | str) -> bytes:
+    return name.encode() if isinstance(name, str) else name
+
+
+def _text(name: str, files: tuple[Buffer, ...], *numbers: int) -> tuple[str, int]:
+    text, value = _fill(name, 16384, files, *numbers)
+    return text.decode("ascii"), value
+
+
+def listing(file: Buffer, limit: int = LIMIT, depth: int = DEPTH) -> str:
+    """Returns the listing of a file: what the image holds, and the size and offset of each part or
+    payload."""
+    return _text("list", (file,), _number(limit), _number(depth))[0]
+
+
+def describe(file: Buffer, limit: int = LIMIT, depth: int = DEPTH) -> str:
+    """Returns the description of what a file means. It does not depend on the layout of the file.
+    Raises Refused with TooLarge if the description, or the payloads together, are longer than
+    `limit`."""
+    return _text("describe", (file,), _number(limit), _number(depth))[0]
+
+
+def verify(file: Buffer, limit: int = LIMIT, depth: int = DEPTH) -> Report:
+    """Returns the report on the checksums and digests of a file."""
+    text, value = _text("verify", (file,), _number(limit), _number(depth))
+    return Report(text, value == 1)
+
+
+def check(
+    file: Buffer, allow: Iterable[str] = (), limit: int = LIMIT, depth: int = DEPTH
+) -> str:
+    """Returns a line for each concern about a file: each thing in it that is not protected. The
+    text is empty if there is none. The lines of the kinds in `allow`, of CONCERNS, are left out.
+    Raises Refused with TooLarge if the payloads together are longer than `limit`."""
+    kinds = sum(1 << _index_of(kind, CONCERNS) for kind in set(allow))
+    return _text("check", (file,), kinds, _number(limit), _number(depth))[0]
+
+
+def convert(file: Buffer, limit: int = LIMIT, depth: int = DEPTH) -> bytes:
+    """Returns the flattened image tree that a legacy image is converted to. Raises Refused with
+    BadMagic for a file that is not a legacy image, with NoCodeName, EmptyPart or TooManyParts for
+    an image that cannot be converted, and with TooLarge if the output is longer than `limit`."""
+    return _fill("convert", _size_of(file) + 4096, (file,), _number(limit), _number(depth))[0]
+
+
+def same_meaning(one: Buffer, other: Buffer, limit: int = LIMIT, depth: int = DEPTH) -> bool:
+    """Returns whether two files mean the same thing."""
+    answer = _call("same_meaning", (one, other), _number(limit), _number(depth))
+    return bool(answer.value == 1)
+
+
+def compare(
+    one: Buffer, other: Buffer, limit: int = LIMIT, depth: int = DEPTH
+) -> Comparison:
+    """Returns whether two files mean the same thing, and the differences between what they mean.
+    There are none if they mean the same thing. If they do not, raises Refused with TooLarge for the
+    first file whose description, or payloads together, are longer than `limit`."""
+    text, value = _text("compare", (one, other), _number(limit), _number(depth))
+    return Comparison(value == 1, text)
+
+
+def _whole_number(text: str) -> int:
+    """Returns the number of an argument, as the program reads numbers."""
+    if not re.fullmatch(r"[0-9]+|0x[0-9a-fA-F]+", text):
+        raise ValueError(text)
+    return int(text, 16 if text.startswith("0x") else 10)
+
+
+def _shown(path: str) -> str:
+    """Returns the name of a file as the program prints it."""
+    name = os.fsencode(path)
+    if name in (b"", b"-"):
+        return "%2D" if name else "-"
+    plain = set(range(0x21, 0x7F)) - {ord("%")}
+    return "".join(chr(byte) if byte in plain else f"%{byte:02X}" for byte in name)
+
+
+def _kinds(text: str) -> list[str]:
+    """Returns the kinds of the argument of --allow."""
+    return text.split(",")
+
+
+def _parser() -> argparse.ArgumentParser:
+    parser = argparse.ArgumentParser(
+        prog="python3 -m bootimg", description="Boot images of U-Boot.", allow_abbrev=False
+    )
+    commands = parser.add_subparsers(dest="command", required=True, metavar="COMMAND")
+    for name, help in (
+        ("normalise", "write the normal form"),
+        ("update", "write the normal form with a time or with digests"),
+        ("extract", "write a part or a payload"),
+        ("list", "write the listing"),
+        ("describe", "write what the image means"),
+        ("compare", "write what differs between two images"),
+        ("verify", "write the verdict on each checksum and digest"),
+        ("check", "write a line for each thing that is not protected"),
+        ("convert", "write the flattened image tree of a legacy image"),
+    ):
+        command = commands.add_parser(name, help=help, allow_abbrev=False)
+        command.add_argument("--limit", type=_whole_number, default=LIMIT, metavar="N")
+        if name in ("normalise", "update"):
+            command.add_argument("--external", action="store_true")
+        if name == "update":
+            command.add_argument("--time", type=_whole_number, metavar="SECONDS")
+            command.add_argument("--hashes", action="store_true")
+        if name == "extract":
+            selection = command.add_mutually_exclusive_group(required=True)
+            selection.add_argument("--part", type=_whole_number, metavar="N")
+            selection.add_argument("--image", metavar="NAME")
+            selection.add_argument("--config", metavar="NAME")
+            selection.add_argument("--default", action="store_true")
+            command.add_argument("--key", choices=KEYS, default=KEYS[0])
+            command.add_argument("--index", type=_whole_number, default=0, metavar="N")
+        if name == "check":
+            command.add_argument("--allow", type=_kinds, default=[], metavar="KINDS")
+        if name == "compare":
+            command.add_argument("--quiet", action="store_true")
+            command.add_argument("files", nargs=2, metavar="IMAGE")
+        else:
+            command.add_argument("files", nargs="?", default="-", metavar="IMAGE")
+    return parser
+
+
+def _read(path: str) -> bytes:
+    """Reads a file, or standard input. Raises _Unread if that fails."""
+    if path == "-":
+        try:
+            return sys.stdin.buffer.read()
+        except OSError:
+            raise _Unread("read failed") from None
+    try:
+        file = open(path, "rb")
+    except IsADirectoryError:
+        raise _Unread(f"{_shown(path)}: read failed") from None
+    except OSError:
+        raise _Unread(f"{_shown(path)}: cannot be opened") from None
+    with file:
+        try:
+            return file.read()
+        except OSError:
+            raise _Unread(f"{_shown(path)}: read failed") from None
+
+
+def _extracted(options: argparse.Namespace, file: bytes) -> memoryview:
+    if options.part is not None:
+        return extract_part(file, options.part, options.limit)
+    if options.image is not None:
+        return extract_image(file, os.fsencode(options.image), options.limit)
+    name = None if options.default else os.fsencode(options.config)
+    return extract_config(file, name, options.key, options.index, options.limit)
+
+
+def _run(options: argparse.Namespace, files: list[bytes]) -> tuple[bytes, int]:
+    """Returns the output of a command and the exit status."""
+    limit = options.limit
+    if options.command in ("normalise", "update"):
+        if options.command == "normalise":
+            image, count = normalise_and_count(files[0], options.external, limit)
+        else:
+            changes = (options.time, options.hashes, options.external)
+            image, count = update_and_count(files[0], *changes, limit)
+        if count:
+            print(f"bootimg: note: {count} signature nodes carried, not checked", file=sys.stderr)
+        return image, 0
+    if options.command == "extract":
+        return bytes(_extracted(options, files[0])), 0
+    if options.command == "compare":
+        if options.quiet:
+            return b"", int(not same_meaning(files[0], files[1], limit))
+        compared = compare(files[0], files[1], limit)
+        return compared.differences.encode("ascii"), int(not compared.same)
+    if options.command == "verify":
+        report = verify(files[0], limit)
+        return report.text.encode("ascii"), int(not report.all_good)
+    if options.command == "check":
+        concerns = check(files[0], options.allow, limit)
+        return concerns.encode("ascii"), int(concerns != "")
+    if options.command == "convert":
+        return convert(files[0], limit), 0
+    text = listing(files[0], limit) if options.command == "list" else describe(files[0], limit)
+    return text.encode("ascii"), 0
+
+
+def main(arguments: list[str] | None = None) -> int:
+    """Does what the program does with these arguments, and returns its exit status."""
+    options = _parser().parse_args(arguments)
+    if options.command == "update" and options.time is None and not options.hashes:
+        return _fail("usage: give --time or --hashes")
+    paths = options.files if isinstance(options.files, list) else [options.files]
+    if paths == ["-", "-"]:
+        return _fail("usage: bad value")
+    try:
+        output, status = _run(options, [_read(path) for path in paths])
+    except (Refused, NotFound) as reason:
+        path = paths[reason.file - 1 if isinstance(reason, Refused) else 0]
+        return _fail(f"{_shown(path) + ': ' if path != '-' else ''}{reason}")
+    except WrongArgument:
+        return _fail("usage: bad value")
+    except BootimgError as error:
+        return _fail(str(error))
+    try:
+        sys.stdout.buffer.write(output)
+        sys.stdout.buffer.flush()
+    except OSError:
+        return _fail("write failed")
+    return status
+
+
+def _fail(text: str) -> int:
+    """Prints the line of a failure, and returns the exit status."""
+    print(f"bootimg: {text}", file=sys.stderr)
+    return 2
