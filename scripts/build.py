@@ -7,7 +7,7 @@ With --run it ends as the program does with these arguments, and with --library 
 are proved; of those that can begin, the one with the longest chain of crates above it is first. As many crates as --jobs, or as
 there are processors, are proved at once, and a crate that is proved alone gets all of them. Of each library the statements are
 kept, and not the proofs: that takes less time and memory. A crate is proved again only if it, or one that it uses, has changed.
-In a checkout in which rt has proved the program, rt builds it, since rt goes on from the proofs that it kept.
+In a checkout in which rt has proved crates, rt builds, since it goes on from the proofs that it kept.
 
 The libraries go to crates/CRATE/out/built, the program to crates/bootimg/out/bootimg, and the library for C to
 crates/bi_c/out/libbi_c.a. What the compiler prints is in crates/CRATE/out/build.log. The program has the time at which its build
@@ -207,15 +207,17 @@ class Build:
                 say(self.line())
 
 
-def build_with_rt(log):
-    """Has rt build the program, which goes on from the proofs that it kept."""
-    say(f"a source has changed: proving and building the program again (log: {log})")
+def build_with_rt(crate):
+    """Has rt build the program or the library, which goes on from the proofs that it kept."""
+    log = crate.out / "build.log"
+    say(f"a source has changed: proving and building {crate.name} again (log: {log})")
+    crate.out.mkdir(exist_ok=True)
     with open(log, "w") as file:
-        words = ["rt", "run", "--", "--version"]
-        process = subprocess.Popen(words, cwd=log.parent.parent, stdin=subprocess.DEVNULL, stdout=file, stderr=file)
+        words = ["rt", "run", "--", "--version"] if crate.is_program else ["rt", "lib"]
+        process = subprocess.Popen(words, cwd=crate.out.parent, stdin=subprocess.DEVNULL, stdout=file, stderr=file)
         try:
             if process.wait() != 0:
-                fail(f"the program cannot be built: {log} has what rt printed")
+                fail(f"{crate.name} cannot be built: {log} has what rt printed")
         finally:
             process.terminate()
 
@@ -225,8 +227,8 @@ def build(wanted, jobs):
     crates = read_crates(wanted)
     result = crates[wanted].result
     start = time.time()
-    if wanted == "bootimg" and (crates[wanted].out / "incremental").exists():
-        build_with_rt(crates[wanted].out / "build.log")
+    if any((crate.out / "incremental").exists() for crate in crates.values()):
+        build_with_rt(crates[wanted])
     else:
         steps = Build(crates, jobs)
         if steps.waiting:
