@@ -232,7 +232,7 @@ def build(wanted, jobs):
     else:
         steps = Build(crates, jobs)
         if steps.waiting:
-            say(f"proving and building {wanted}: once, in about 20 minutes on two processors")
+            say(f"proving and building {wanted}: once, in about half an hour")
         try:
             steps.run()
         finally:
