@@ -63,14 +63,16 @@ lint() {
 check "mandoc finds nothing wrong in the page" lint
 mandoc -Tascii "$page" | sed 's/.\x08//g' > text
 
-# The version is that of the page, of the newest changes, of the header for C, and of its package. The logic is that of the installed kit.
+# The version is that of the page, of the newest changes, of the header for C, and of what is packed of it. The logic is that of the installed kit.
 "$root/bootimg" --version > version
 version=$(cut -d ' ' -f 2 version)
 logic=$(rt version | cut -d ' ' -f 2-)
 check "the program has the version of the page" grep -Fqx "This page is that of version $version." "$page"
 check "and of the newest changes" sh -c 'grep -m 1 "^## \[" "$0" | grep -Fq "## [$1] "' "$root/CHANGELOG.md" "$version"
 check "and of the header for C" grep -Fqx "#define BOOTIMG_VERSION \"$version\"" "$root/include/bootimg.h"
-check "and of its package" grep -Fqx "Version: $version" "$root/bootimg.pc.in"
+check "and of its file for pkg-config" grep -Fqx "Version: $version" "$root/bootimg.pc.in"
+check "and of the module for Python" grep -Fqx "__version__ = \"$version\"" "$root/python/bootimg/__init__.py"
+check "and of its wheel" grep -Fqx "version = \"$version\"" "$root/python/pyproject.toml"
 check "the program names the logic of the kit" test "$(cat version)" = "bootimg $version (Rattle $logic)"
 
 # Commands.
