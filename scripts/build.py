@@ -222,11 +222,23 @@ def build_with_rt(crate):
             process.terminate()
 
 
+def is_newer(crate, crates):
+    """Whether the result of a crate, which another build made, is newer than each source. The times of directories do not count: a
+    copy of a checkout has new ones."""
+    if crate.record.exists() or not crate.result.exists():
+        return False
+    sources = [ROOT / "crates.txt", *(path for name in crates for path in (ROOT / "crates" / name / "src").rglob("*.rt"))]
+    return max(path.stat().st_mtime for path in sources) <= crate.result.stat().st_mtime
+
+
 def build(wanted, jobs):
     """Builds what is wanted, unless it is current."""
     crates = read_crates(wanted)
     result = crates[wanted].result
     start = time.time()
+    if is_newer(crates[wanted], crates):
+        os.utime(result, (start, start))
+        return result
     if any((crate.out / "incremental").exists() for crate in crates.values()):
         build_with_rt(crates[wanted])
     else:
