@@ -169,14 +169,19 @@ does_all() {
     check "$1: a file is written" sh -c '"$@" list -o listed < "$0" && cmp listed listing' "$image" "$@"
 }
 
-# The program as it is built for the gate, linked as those of the archives.
-check "the program is linked statically" gcc -static -o alone "$root/crates/bootimg/out/bootimg.o" "$(dirname "$heap")/libos_c.a" "$heap"
-check "it needs no library" is_alone ./alone
-does_all ./alone
-if [ "$(id -u)" = 0 ]; then
-    mkdir empty
-    cp alone empty
-    check "it runs where nothing else is" lists chroot empty /alone list
+# The program as it is built here, linked as those of the archives. Its object file is not there after `rt ci`.
+object=$root/crates/bootimg/out/bootimg.o
+if [ -f "$object" ]; then
+    check "the program is linked statically" gcc -static -o alone "$object" "$(dirname "$heap")/libos_c.a" "$heap"
+    check "it needs no library" is_alone ./alone
+    does_all ./alone
+    if [ "$(id -u)" = 0 ]; then
+        mkdir empty
+        cp alone empty
+        check "it runs where nothing else is" lists chroot empty /alone list
+    fi
+else
+    echo "left out: the program that is linked statically, since $object is not there"
 fi
 
 case $kinds in
