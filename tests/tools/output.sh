@@ -68,6 +68,39 @@ check "a write that fails" sh -c 'trap "" XFSZ; ulimit -f 0; "$1" list -o out "$
     "$bootimg" "$kernel"
 check "leaves the file as it was" holds ../old out
 
+# has_mode MODE: these are the permissions of the output file, in octal.
+has_mode() {
+    [ "$(stat -c %a out)" = "$1" ]
+}
+
+rm out
+check "a new file is written again" sh -c 'umask 027; exec "$@"' sh "$bootimg" list -o out "$kernel"
+check "it has the permissions of a new file" has_mode 640
+for mode in 600 444 755; do
+    chmod "$mode" out
+    check "a file of the mode $mode is replaced" ends 0 "" list -o out "$kernel"
+    check "it keeps its permissions" has_mode "$mode"
+done
+
+# Each call on the new file fails in turn, as if the disk were full. The last one is that which stores what was written.
+need gcc gcc
+gcc -shared -fPIC -o ../failing_call.so "$root/tests/tools/output/failing_call.c" -ldl || finish
+program=$root/crates/bootimg/out/bootimg
+
+# stops_at CALL: the program fails if this call does.
+stops_at() {
+    FAILING_CALL=$1 LD_PRELOAD=../failing_call.so "$program" list -o out "$kernel" > ../output 2> ../errors
+    [ $? = 2 ] && [ ! -s ../output ] && [ "$(cat ../errors)" = "bootimg: out: write failed" ]
+}
+
+cp ../old out
+chmod 600 out
+for call in fchmod write fsync rename; do
+    check "if $call fails, so does the program" stops_at "$call"
+    check "the file is as it was if $call fails" holds ../old out
+done
+chmod 644 out
+
 # A Makefile builds, checks, compares and installs an image. Neither a refusal nor a full disk changes a file.
 need make make
 mkdir ../made ../made/boot

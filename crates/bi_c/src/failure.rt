@@ -6,7 +6,7 @@ ghost use Rattle.bi_c.specs.Answers.{failure_of_error};
 use bi_base::{Error, Fault};
 
 /// Why a call fails.
-#[derive(Clone, Copy, Debug, PartialEq, Eq)]
+#[derive(Clone, Copy)]
 pub(crate) enum Failure {
     /// An argument is out of its range.
     WrongArgument,

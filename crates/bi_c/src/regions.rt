@@ -24,7 +24,7 @@ use bi_norm::BootImage;
 use std::alloc::Global;
 
 /// Where bytes of a file are.
-#[derive(Clone, Copy, Debug, PartialEq, Eq)]
+#[derive(Clone, Copy)]
 pub(crate) struct Region {
     /// The offset of the first byte in the file.
     pub(crate) offset: usize,

@@ -4,7 +4,7 @@
 ghost use Rattle.std.specs.Prelude.{◌≡◌, length};
 
 /// The value of a property.
-#[derive(Clone, Copy, Debug)]
+#[derive(Clone, Copy)]
 pub enum Value<'a> {
     /// These bytes.
     Slice(&'a [u8]),
@@ -30,7 +30,7 @@ impl<'a> Value<'a> {
 }
 
 /// A property, with the offset of its name in the strings block.
-#[derive(Clone, Copy, Debug)]
+#[derive(Clone, Copy)]
 pub(crate) struct Property<'a> {
     pub(crate) name: &'a [u8],
     pub(crate) name_offset: usize,
@@ -38,7 +38,7 @@ pub(crate) struct Property<'a> {
 }
 
 /// One event of the tree.
-#[derive(Clone, Copy, Debug)]
+#[derive(Clone, Copy)]
 pub(crate) enum Item<'a> {
     /// A node begins, and has this name.
     Begin(&'a [u8]),

@@ -24,7 +24,7 @@ use std::alloc::Global;
 use std::io;
 
 /// A part of an image to be built, whose file was read if it has one.
-#[derive(Debug, Drop)]
+#[derive(Drop)]
 pub enum ReadPart {
     /// The next bytes of standard input: this many.
     Input(u32),

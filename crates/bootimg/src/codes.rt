@@ -8,7 +8,7 @@ use crate::numbers::parse_number;
 use bi_legacy::codes::{arch_name, compression_name, os_name, type_name};
 
 /// A field of a legacy header that holds a code.
-#[derive(Clone, Copy, Debug, PartialEq, Eq)]
+#[derive(Clone, Copy)]
 pub enum CodeField {
     /// The operating system.
     Os,

@@ -42,7 +42,7 @@ use table::program;
 use update::changes;
 
 /// A command on one image, with the options that change what it does.
-#[derive(Debug, Drop)]
+#[derive(Drop)]
 pub enum Task {
     /// Write the normal form. That of a flattened image tree has this form.
     Normalise(Form),
@@ -63,7 +63,7 @@ pub enum Task {
 }
 
 /// What the program does with its streams.
-#[derive(Debug, Drop)]
+#[derive(Drop)]
 pub enum Job<'a> {
     /// Do the task with this image.
     Run(Task, ImageSource<'a>),
@@ -76,7 +76,7 @@ pub enum Job<'a> {
 }
 
 /// What the arguments request.
-#[derive(Debug, Drop)]
+#[derive(Drop)]
 pub struct Request<'a> {
     /// What to do.
     pub job: Job<'a>,
@@ -87,7 +87,7 @@ pub struct Request<'a> {
 }
 
 /// The outcome of arguments that request no task.
-#[derive(Debug, Drop)]
+#[derive(Drop)]
 pub enum Outcome {
     /// The program prints this text: help, the version, or why clap rejects the arguments.
     Text(clap::Error),

@@ -15,7 +15,7 @@ use bi_fit::ConfigError;
 use std::alloc::AllocError;
 
 /// Why the program failed.
-#[derive(Clone, Copy, Debug, PartialEq, Eq)]
+#[derive(Clone, Copy)]
 pub enum Failure {
     /// The image is refused, memory ran out, or a read or write failed.
     Call(Error),

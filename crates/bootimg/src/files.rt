@@ -11,7 +11,7 @@ ghost use Rattle.bootimg.specs.Files.{Renamed, NotRenamed, Removed, NotRemoved};
 
 use crate::new_file::NewFile;
 use bi_base::TracedWrite;
-use std::fs::{self, File, Files};
+use std::fs::{self, File, Files, OpenFile};
 use std::io::{self, Empty, ErrorKind, Read, Write};
 
 /// What opens files, and makes them.
@@ -39,9 +39,10 @@ pub trait FileSystem {
         ensures can { IsTrue result → (promise self.now).can_replace name.now }
         ensures cannot { IsFalse result → (promise self.now).cannot_replace name.now };
 
-    /// Makes a new file of this name for writing. Fails with the kind AlreadyExists if something
-    /// has the name.
-    fn create(&mut self, name: &str) -> io::Result<Self::Created>
+    /// Makes a new file of this name for writing, which is to take the name `replaced`. If a file
+    /// has that name, the new one has its permissions. Fails with the kind AlreadyExists if
+    /// something has the name `name`.
+    fn create(&mut self, name: &str, replaced: &str) -> io::Result<Self::Created>
         ensures is_new { IfOk result (λ file. IsNewFile (Self.Created.trace file)) }
         ensures made { IfOk result (λ file. TookSteps (steps self.old) (steps self.new)
             (Made name.now (Self.Created.trace file) ∷ [])) }
@@ -50,8 +51,8 @@ pub trait FileSystem {
         ensures not_made { IfErr result (λ error. error_kind error ≢ AlreadyExists
             → TookSteps (steps self.old) (steps self.new) (NotMade name.now ∷ [])) };
 
-    /// Closes the new file of this name. After an error it is closed, too, but may not have the
-    /// bytes that were written.
+    /// Closes the new file of this name, once the storage has its bytes. After an error it is
+    /// closed, too, but may not have the bytes that were written.
     fn close(&mut self, name: &str, file: Self::Created) -> io::Result<()>
         ensures closed { OnOk result (TookSteps (steps self.old) (steps self.new)
             (Closed name.now (Self.Created.trace file) ∷ [])) }
@@ -75,7 +76,7 @@ pub trait FileSystem {
 }
 
 /// No files: none can be opened, and none can be made.
-#[derive(Clone, Copy, Debug)]
+#[derive(Clone, Copy)]
 pub struct NoFiles;
 
 impl FileSystem for NoFiles {
@@ -95,7 +96,7 @@ impl FileSystem for NoFiles {
         false
     }
 
-    fn create(&mut self, _name: &str) -> io::Result<NewFile<Vec<u8>>> {
+    fn create(&mut self, _name: &str, _replaced: &str) -> io::Result<NewFile<Vec<u8>>> {
         Err(io::Error::from(ErrorKind::Unsupported))
     }
 
@@ -139,14 +140,25 @@ impl<'a, R: Files> FileSystem for SystemFiles<'a, R> {
         }
     }
 
-    fn create(&mut self, name: &str) -> io::Result<NewFile<SystemFile<R::File>>> {
+    fn create(
+        &mut self,
+        name: &str,
+        replaced: &str,
+    ) -> io::Result<NewFile<SystemFile<R::File>>> {
         let file = File::create_new(self.runtime, name)?;
-        Ok(NewFile::new(SystemFile { file }))
+        match copy_permissions(self.runtime, replaced, &file) {
+            Ok(()) => Ok(NewFile::new(SystemFile { file })),
+            Err(error) => {
+                let _ = fs::remove_file(self.runtime, name);
+                Err(error)
+            }
+        }
     }
 
-    // The system closes a file when it is dropped, and reports no failure of that.
-    fn close(&mut self, _name: &str, _file: NewFile<SystemFile<R::File>>) -> io::Result<()> {
-        Ok(())
+    // The system closes a file when it is dropped, and reports no failure of that. A failure to
+    // store what was written, as for a full quota, is reported here at the latest.
+    fn close(&mut self, _name: &str, file: NewFile<SystemFile<R::File>>) -> io::Result<()> {
+        file.writer().file.sync_all()
     }
 
     fn rename(&mut self, name: &str, new_name: &str) -> io::Result<()> {
@@ -156,6 +168,18 @@ impl<'a, R: Files> FileSystem for SystemFiles<'a, R> {
     fn remove(&mut self, name: &str) -> io::Result<()> {
         fs::remove_file(self.runtime, name)
     }
+}
+
+/// Gives a new file the permissions of the file of this name, if there is one.
+fn copy_permissions<R: Files>(runtime: &R, name: &str, file: &R::File) -> io::Result<()> {
+    let wanted = match fs::symlink_metadata(runtime, name) {
+        Ok(metadata) => metadata.permissions(),
+        Err(_) => return Ok(()),
+    };
+    if file.metadata()?.permissions() == wanted {
+        return Ok(());
+    }
+    file.set_permissions(wanted)
 }
 
 /// A new file of the system. What it holds is not known to a proof.

@@ -37,7 +37,7 @@ const SAME: u8 = 0;
 const DIFFERENT: u8 = 1;
 
 /// Why a job failed.
-#[derive(Clone, Copy, Debug)]
+#[derive(Clone, Copy)]
 pub struct Problem<'a> {
     /// The image or the part that the failure is about, or the output file, if it is about one.
     pub source: ImageSource<'a>,

@@ -31,6 +31,13 @@ impl<W: Write> NewFile<W> {
             stopped: false,
         }
     }
+
+    /// Returns the writer.
+    pub fn writer(&self) -> &W
+        ensures { result.now ≡ self.now.writer }
+    {
+        &self.writer
+    }
 }
 
 impl<W: Write> TracedWrite for NewFile<W> {

@@ -90,8 +90,8 @@ fn fill<F: FileSystem>(
     }
 }
 
-/// Makes a new file beside the one of this name, and returns its name and the file. Fails with
-/// NotWritten if none can be made, or with OutOfMemory.
+/// Makes a new file beside the one of this name, with its permissions, and returns its name and the
+/// file. Fails with NotWritten if none can be made, or with OutOfMemory.
 fn create_beside<F: FileSystem>(
     alloc: Global,
     files: &mut F,
@@ -107,7 +107,7 @@ fn create_beside<F: FileSystem>(
         if beside.as_str() == name {
             continue;
         }
-        match files.create(beside.as_str()) {
+        match files.create(beside.as_str(), name) {
             Ok(file) => return Ok((beside, file)),
             Err(error) if error.kind() == ErrorKind::AlreadyExists => {}
             Err(_) => return Err(Failure::NotWritten),

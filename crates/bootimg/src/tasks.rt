@@ -23,7 +23,7 @@ pub const SUCCESS: u8 = 0;
 const NOT_GOOD: u8 = 1;
 
 /// How a task ended that did not fail.
-#[derive(Clone, Copy, Debug, PartialEq, Eq)]
+#[derive(Clone, Copy)]
 pub struct Done {
     /// The exit status.
     pub status: u8,

@@ -7,7 +7,7 @@ ghost use Rattle.bi_commands.specs.LimitedSinks.{no_room_after, no_room_before};
 use bi_base::{Cause, Error, Sink, refuse};
 
 /// A sink that keeps no bytes, and has room for as many as its limit.
-#[derive(Clone, Copy, Debug, PartialEq, Eq)]
+#[derive(Clone, Copy)]
 pub(super) struct LimitedSink {
     limit: u32,
     room: usize,

@@ -5,7 +5,7 @@ ghost use Rattle.std.specs.List.{AllByRecursion};
 ghost use Rattle.bi_fit.specs.RegionPairs.{AreInFiles, HasSameBytes, BeginsWithin};
 
 /// A region of a file, and a region of the same length of another file.
-#[derive(Clone, Copy, Debug, PartialEq, Eq, PartialOrd, Ord)]
+#[derive(Clone, Copy, PartialEq, Eq, PartialOrd, Ord)]
 pub(super) struct RegionPair {
     /// The offset of the other region and the length of the file, less the offset of the region.
     pub(super) distance: usize,

@@ -19,7 +19,7 @@ use clap::ArgMatches;
 use std::alloc::Global;
 
 /// What `build-legacy` builds.
-#[derive(Debug, Drop)]
+#[derive(Drop)]
 pub struct LegacyPlan<'a> {
     /// The fields of the header.
     pub fields: Fields<'a>,
@@ -28,7 +28,7 @@ pub struct LegacyPlan<'a> {
 }
 
 /// What `build-fit` builds.
-#[derive(Debug, Drop)]
+#[derive(Drop)]
 pub struct FitPlan<'a> {
     /// The description and the time.
     pub head: Head<'a>,
@@ -41,7 +41,7 @@ pub struct FitPlan<'a> {
 }
 
 /// What a command builds.
-#[derive(Debug, Drop)]
+#[derive(Drop)]
 pub enum BuildPlan<'a> {
     /// A legacy image.
     Legacy(LegacyPlan<'a>),

@@ -21,7 +21,7 @@ use clap::ArgMatches;
 use std::alloc::Global;
 
 /// What is to be extracted: a `Select` that owns its name.
-#[derive(Debug, Drop)]
+#[derive(Drop)]
 pub enum Selected {
     /// The part of this index, counted from 0, of a legacy image.
     Part(u32),

@@ -6,7 +6,7 @@ ghost use Rattle.bootimg.specs.CommandLine.{IsPartSource, NoneIs};
 use crate::numbers::parse_number;
 
 /// Where a part of an image to be built comes from.
-#[derive(Clone, Copy, Debug, PartialEq, Eq)]
+#[derive(Clone, Copy)]
 pub enum PartSource<'a> {
     /// The next bytes of standard input: this many.
     Input(u32),

@@ -8,7 +8,7 @@ use crate::failure::Failure;
 use clap::ArgMatches;
 
 /// Where an image is read from.
-#[derive(Clone, Copy, Debug, PartialEq, Eq)]
+#[derive(Clone, Copy)]
 pub enum ImageSource<'a> {
     /// Standard input.
     Standard,
@@ -17,7 +17,7 @@ pub enum ImageSource<'a> {
 }
 
 /// What `compare` compares.
-#[derive(Clone, Copy, Debug)]
+#[derive(Clone, Copy)]
 pub struct ComparePlan<'a> {
     /// The first image.
     pub one: ImageSource<'a>,

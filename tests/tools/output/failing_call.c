@@ -1,0 +1,35 @@
+/* Loaded before the C library: the call that the environment variable FAILING_CALL names fails, as on a file system that is full. */
+#define _GNU_SOURCE
+#include <dlfcn.h>
+#include <errno.h>
+#include <fcntl.h>
+#include <stdlib.h>
+#include <string.h>
+#include <sys/stat.h>
+#include <sys/types.h>
+#include <unistd.h>
+
+static int fails(const char *name)
+{
+    const char *failing = getenv("FAILING_CALL");
+    if (failing == NULL || strcmp(failing, name) != 0) {
+        return 0;
+    }
+    errno = ENOSPC;
+    return 1;
+}
+
+/* A call that has these parameters, and these arguments. */
+#define CALL(result, name, parameters, arguments) \
+    result name parameters \
+    { \
+        result (*next) parameters = (result(*) parameters)dlsym(RTLD_NEXT, #name); \
+        return fails(#name) ? -1 : next arguments; \
+    }
+
+CALL(ssize_t, write, (int file, const void *bytes, size_t size), (file, bytes, size))
+CALL(int, fsync, (int file), (file))
+CALL(int, fchmod, (int file, mode_t mode), (file, mode))
+CALL(int, rename, (const char *name, const char *new_name), (name, new_name))
+CALL(int, renameat, (int from, const char *name, int to, const char *new_name), (from, name, to, new_name))
+CALL(int, unlink, (const char *name), (name))
