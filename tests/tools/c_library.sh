@@ -1,10 +1,11 @@
 #!/bin/sh
 # Tries the library for C, built from crates/bi_c, and the module for Python over it. The header compiles as C and as C++ and declares
-# the functions that the library exports, with the parameters and the struct of the sources. tests/tools/c_library/calls.c makes each
-# call, as gcc and clang compile it with their sanitizers: on the examples and the vectors of tests/conformance, it and the module do what
-# the program does. The module takes files in any buffer, without a copy (tests/tools/c_library/buffers.py), and mypy finds nothing wrong
-# in its types. The programs in docs/LIBRARY.md print what the document shows. The script needs gcc, g++, clang, nm, pkg-config and
-# python3, and installs Debian's if one is missing and it runs as root, and so it does mypy, without which it leaves out the types.
+# the functions that the library exports, with the parameters, the struct and the constants of the sources. The module has the same
+# numbers. tests/tools/c_library/calls.c makes each call, as gcc and clang compile it with their sanitizers: on the examples and the
+# vectors of tests/conformance, it and the module do what the program does. The module takes files in any buffer, without a copy
+# (tests/tools/c_library/buffers.py), and mypy finds nothing wrong in its types. The programs in docs/LIBRARY.md print what the document
+# shows. The script needs gcc, g++, clang, nm, pkg-config and python3, and installs Debian's if one is missing and it runs as root, and so
+# it does mypy, without which it leaves out the types.
 set -u
 
 root=$(cd "$(dirname "$0")/../.." && pwd)
@@ -37,24 +38,40 @@ for compiler in "gcc -std=c99" "clang -std=c99" "g++ -x c++ -std=c++98 -Wno-long
 done
 # The header against the sources: names, parameters and their types, the layout of the struct, and the numbers of the statuses.
 check "the functions of the header are those of the sources" \
-    sh -c 'python3 "$1/tests/tools/c_library/declarations.py" "$1/crates/bi_c/src" "$1/include/bootimg.h" > declarations.c' sh "$root"
+    sh -c 'python3 "$1/tests/tools/c_library/declarations.py" "$1/crates/bi_c/src" "$1/include/bootimg.h" "$1/python/bootimg/__init__.py" \
+        > declarations.c' sh "$root"
 for compiler in "gcc -std=c99" "clang -std=c99"; do
     check "so are their types, the struct and the numbers: $compiler" \
         $compiler -Wall -Wextra -pedantic -Werror -I"$root/include" -fsyntax-only declarations.c
 done
-# is_found OLD NEW: with this change of the header, a difference is found.
+# is_found OLD NEW: with this change of the header or of the module, a difference is found.
 is_found() {
     mkdir -p changed
     sed "s/$1/$2/" "$header" > changed/bootimg.h
-    ! cmp -s "$header" changed/bootimg.h || { echo "nothing changed"; return 1; }
-    ! { python3 "$root/tests/tools/c_library/declarations.py" "$root/crates/bi_c/src" changed/bootimg.h > changed/declarations.c 2> log &&
-        gcc -std=c99 -Ichanged -fsyntax-only changed/declarations.c 2> log; }
+    sed "s/$1/$2/" "$root/python/bootimg/__init__.py" > changed/module.py
+    ! { cmp -s "$header" changed/bootimg.h && cmp -s "$root/python/bootimg/__init__.py" changed/module.py; } ||
+        { echo "nothing changed"; return 1; }
+    ! { python3 "$root/tests/tools/c_library/declarations.py" "$root/crates/bi_c/src" changed/bootimg.h changed/module.py \
+        > changed/declarations.c 2> log && gcc -std=c99 -Ichanged -fsyntax-only changed/declarations.c 2> log; }
 }
 check "a field of another size is found" is_found "size_t value;" "uint32_t value;"
 check "exchanged fields are found" is_found "uint32_t cause;" "uint32_t later, cause;"
 check "a parameter of another type is found" is_found "bootimg_version(uint8_t \*buffer" "bootimg_version(const uint8_t *buffer"
 check "exchanged parameters are found" is_found "uint32_t key, uint32_t index" "uint32_t index, uint32_t key"
 check "another number of a status is found" is_found "BOOTIMG_NO_ROOM 3u" "BOOTIMG_NO_ROOM 4u"
+check "another number of a kind is found" is_found "BOOTIMG_FIT 2u" "BOOTIMG_FIT 1u"
+check "another number of a form is found" is_found "BOOTIMG_EXTERNAL 1u" "BOOTIMG_EXTERNAL 2u"
+check "another number of a key is found" is_found "BOOTIMG_FDT 1u" "BOOTIMG_FDT 2u"
+check "another number of a change is found" is_found "BOOTIMG_CHANGE_HASHES 2u" "BOOTIMG_CHANGE_HASHES 4u"
+check "another number of a reason is found" is_found "BOOTIMG_NO_INDEX 8u" "BOOTIMG_NO_INDEX 9u"
+check "another bit of a concern is found" is_found "ALLOW_WEAK_HASH 4u" "ALLOW_WEAK_HASH 2u"
+check "another limit is found" is_found "BOOTIMG_LIMIT 0x7fffffffu" "BOOTIMG_LIMIT 0xffffffffu"
+check "a constant that the library has not is found" is_found "#define BOOTIMG_FDT 1u" "&\\n#define BOOTIMG_TEE 6u"
+check "another version is found" is_found 'BOOTIMG_VERSION "0' 'BOOTIMG_VERSION "9'
+check "exchanged keys of the module are found" is_found '"kernel", "fdt"' '"fdt", "kernel"'
+check "exchanged concerns of the module are found" is_found '"unhashed", "weak-hash"' '"weak-hash", "unhashed"'
+check "exchanged statuses of the module are found" is_found "_DONE, _REFUSED" "_REFUSED, _DONE"
+check "another depth of the module is found" is_found "DEPTH = 64" "DEPTH = 63"
 check "a missing function is found" is_found "^uint32_t bootimg_kind" "int32_t bootimg_kind"
 nm -g --defined-only "$library" 2> /dev/null | sed -n 's/.* T //p' | sort > exported
 sed -n 's/^uint32_t \(bootimg_[a-z_]*\)(.*/\1/p' "$header" | sort > declared

@@ -1,10 +1,12 @@
 """Writes a C program that compiles only if a header agrees with the library's sources.
 
-declarations.py SOURCES HEADER: for each export of SOURCES/*.rt the program declares the function again, with the parameters of the source,
-after it includes <bootimg.h>; for the struct it asserts the size, and the offset and the size of each field; and it asserts the value of
-each status. The script itself fails if the header has other functions than the sources, or other names of parameters.
+declarations.py SOURCES HEADER MODULE: for each export of SOURCES/*.rt the program declares the function again, with the parameters of the
+source, after it includes <bootimg.h>; for the struct it asserts the size, and the offset and the size of each field; and it asserts the
+value of each constant, as the code of the library has it. The script itself fails if the header has other functions or constants than the
+sources, or other names of parameters, or if the module for Python has other numbers.
 """
 
+import ast
 import re
 import sys
 from pathlib import Path
@@ -59,10 +61,55 @@ for field, kind in re.findall(r"pub (\w+): (\w+),", fields):
     largest.append(size)
 assert_that(f"sizeof(bootimg_answer) == (({offset}) + sizeof(size_t) - 1) / sizeof(size_t) * sizeof(size_t)")
 
-for name, value in re.findall(r"const ([A-Z_]+): u32 = (\d+);", sources["answer.rt"]):
-    assert_that(f"BOOTIMG_{name} == {value}u")
-
+# The numbers of the code, by their names in the header. A pattern finds the name and the number, or in some files the number first.
+FOUND = [
+    ("", "answer.rt", r"const (?P<name>[A-Z_]+): u32 = (?P<number>\d+);"),
+    ("", "kind.rt", r"Ok\(Kind::(?P<name>\w+)\) => succeed\(0, (?P<number>\d+), answer\)"),
+    ("", "arguments.rt", r"(?P<number>\d+) => Some\((?:Form|Key)::(?P<name>\w+)\)"),
+    ("", "extract.rt", r"Error::(?:Config\(ConfigError::)?(?P<name>\w+)[()a-z]* => Failure::NotFound\((?P<number>\d+), "),
+    ("CHANGE_", "update.rt", r"let new_(?P<name>time) = if has_bit\((?P<number>\d+), changes\)"),
+    ("CHANGE_", "update.rt", r"(?P<name>hashes): has_bit\((?P<number>\d+), changes\)"),
+    ("ALLOW_", "check.rt", r"(?P<name>\w+): has_bit\((?P<number>\d+), kinds\)"),
+]
+numbers = {}
+for prefix, file, pattern in FOUND:
+    for found in re.finditer(pattern, sources[file]):
+        in_header = re.sub(r"(?<=[a-z])(?=[A-Z])", "_", found["name"]).upper()
+        numbers[f"BOOTIMG_{prefix}{in_header}"] = int(found["number"])
+most = re.search(r"\(64\.\.=(\w+)\).*\(1\.\.=(\d+)\)", (Path(sys.argv[1]) / "../../bi_base/src/limits.rt").read_text(encoding="utf-8"))
+numbers |= {"BOOTIMG_LIMIT": int(most[1].replace("_", ""), 0), "BOOTIMG_DEPTH": int(most[2])}
+for name, number in numbers.items():
+    assert_that(f"{name} == {number}u")
 print("\n".join(lines))
+
 for name in sorted({*declared, *exported}):
     if declared.get(name) != exported.get(name):
         sys.exit(f"{name}: the header has {declared.get(name)}, and the source {exported.get(name)}")
+constants = {*re.findall(r"^#define (BOOTIMG_\w+) ", header, re.M)} - {"BOOTIMG_VERSION"}
+if constants != {*numbers}:
+    sys.exit(f"the header and the source differ in {constants ^ {*numbers}}")
+version = re.search(r'VERSION: &str = "(.*)"', sources["causes.rt"])[1]
+if f'#define BOOTIMG_VERSION "{version}"' not in header:
+    sys.exit(f"the version of the library is {version}")
+
+# The module: its constants by their values, and its words by their places.
+module = {}
+for statement in ast.parse(Path(sys.argv[3]).read_text(encoding="utf-8")).body:
+    if isinstance(statement, ast.Assign) and isinstance(statement.targets[0], ast.Tuple):
+        module["statuses"] = [name.id.lstrip("_") for name in statement.targets[0].elts]
+    elif isinstance(statement, ast.Assign) and isinstance(statement.targets[0], ast.Name):
+        if isinstance(statement.value, (ast.Constant, ast.Tuple)):
+            module[statement.targets[0].id] = ast.literal_eval(statement.value)
+
+
+def placed(words, prefix, number_of_place):
+    """The number that each word has by its place, by its name in the header."""
+    return {f"BOOTIMG_{prefix}{word.replace('-', '_').upper()}": number_of_place(place) for place, word in enumerate(words)}
+
+
+in_module = placed(module["CONCERNS"], "ALLOW_", lambda place: 1 << place)
+in_module |= placed(module["KEYS"], "", lambda place: place) | placed(module["statuses"], "", lambda place: place)
+in_module |= {"BOOTIMG_LIMIT": module["LIMIT"], "BOOTIMG_DEPTH": module["DEPTH"], "BOOTIMG_MISSING": module["_MISSING"]}
+for name, number in in_module.items():
+    if numbers.get(name) != number:
+        sys.exit(f"{name}: the module has {number}, and the source {numbers.get(name)}")
