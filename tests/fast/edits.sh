@@ -11,13 +11,14 @@ need python3 python3
 work_in_new_directory
 copy_here 'crates/*/src' 'crates/*/must-fail' tests/prover/wrong_bodies
 
-# can_be_made CRATE EDITS: each edit in this directory can be made in this crate of the copy.
+# can_be_made CRATE EDITS: each edit in this file or directory can be made in this crate of the copy.
 can_be_made() {
     python3 -B "$root/tests/prover/wrong_bodies.py" "copy/crates/$1" "$2"
 }
 
 for edits in copy/tests/prover/wrong_bodies/*; do
-    check "each wrong body of ${edits##*/} can be made" can_be_made "${edits##*/}" "$edits"
+    crate=$(basename "$edits" .edits)
+    check "each wrong body of $crate can be made" can_be_made "$crate" "$edits"
 done
 for edits in copy/crates/*/must-fail; do
     crate=${edits#copy/crates/}
@@ -30,7 +31,7 @@ is_found() {
     file=copy/crates/$1/$2
     cp "$file" original
     sed -i "$3" "$file"
-    can_be_made "$1" "copy/tests/prover/wrong_bodies/$1" > found
+    can_be_made "$1" "copy/tests/prover/wrong_bodies/$1.edits" > found
     status=$?
     cp original "$file"
     [ "$status" = 1 ] && grep -q "^FAILED: $1/$4: " found && [ "$(wc -l < found)" = 1 ] || { cat found; false; }

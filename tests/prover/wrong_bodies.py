@@ -1,11 +1,11 @@
-"""Tries the wrong bodies of a crate, which are in tests/prover/wrong_bodies/CRATE, and prints a line for each.
+"""Tries the wrong bodies of a crate, which are in tests/prover/wrong_bodies/CRATE.edits, and prints a line for each.
 
-wrong_bodies.py [--unchanged] CRATE_DIRECTORY EDITS_DIRECTORY [CHECK..]: CHECK is a command that runs `rattle check` on the crate in the
+wrong_bodies.py [--unchanged] CRATE_DIRECTORY EDITS [CHECK..]: CHECK is a command that runs `rattle check` on the crate in the
 current directory. The script adds the flags --incremental, --allow-holes and --only. Without CHECK nothing is tried, and only the edits
 that cannot be made are printed. With --unchanged the edits change nothing, and a function has to be proved but for the holes of others.
 
-An edit has a line `refused: FUNCTION`, and then the lines of an edit for `rt must-fail`, which change what this function does. It is
-refused if a goal of the function stays open, or if an answer to one of its goals is wrong.
+EDITS is a file with a heading for each edit, `## NAME`, or a directory of edits for `rt must-fail`. Below its heading an edit has a line
+`refused: FUNCTION`, and then the lines of an edit for `rt must-fail`, which change what this function does. It is refused if a goal of the function stays open, or if an answer to one of its goals is wrong.
 
 A function is proved from its own code and the contracts of the functions that it calls, and `rt ci` proves those. So in a check the
 functions without an edit have no code but `unreachable!()`, and a hole for their proof: rattle takes them by their contracts.
@@ -52,9 +52,17 @@ class Copy(NamedTuple):
     original: Function
 
 
-def parse_edit(path):
+def read_edits(path):
+    """Returns the edits of a file, or those of the files of a directory."""
+    if path.is_dir():
+        return [parse_edit(file.stem, file.read_text(encoding="utf-8")) for file in sorted(path.glob("*.edit"))]
+    pieces = re.split(r"^## (.*)\n", path.read_text(encoding="utf-8"), flags=re.M)
+    return [parse_edit(name, text) for name, text in zip(pieces[1::2], pieces[2::2])]
+
+
+def parse_edit(name, text):
     function, file, old, changes = None, None, None, []
-    for line in path.read_text(encoding="utf-8").split("\n"):
+    for line in text.split("\n"):
         key, _, text = line.partition(":")
         text = text.removeprefix(" ")
         if key == "refused":
@@ -65,7 +73,7 @@ def parse_edit(path):
             old = text
         elif key == "new":
             changes.append((file, old, text))
-    return Edit(path.stem, function, tuple(changes))
+    return Edit(name, function, tuple(changes))
 
 
 def apply(edit, texts):
@@ -336,7 +344,7 @@ def main():
     crate = Path(crate)
     # An edit for `rt must-fail` names no function.
     is_for_rt = Path(edits).name == "must-fail"
-    edits = [parse_edit(path) for path in sorted(Path(edits).glob("*.edit"))]
+    edits = read_edits(Path(edits))
     texts = {str(file.relative_to(crate)): file.read_text(encoding="utf-8") for file in sorted(crate.glob("src/**/*.rt"))}
     functions = functions_of(texts)
     names = {None} if is_for_rt else functions

@@ -68,7 +68,7 @@ wait_for_proof() {
 # Tries the wrong bodies of the crate $2. What they give is in the file $2.log.
 try='
     here=$1/tests/prover
-    python3 "$here/wrong_bodies.py" $unchanged "$1/crates/$2" "$here/wrong_bodies/$2" "$here/wrong_bodies.sh" check "$2" > "$2.log" 2>&1'
+    python3 "$here/wrong_bodies.py" $unchanged "$1/crates/$2" "$here/wrong_bodies/$2.edits" "$here/wrong_bodies.sh" check "$2" > "$2.log" 2>&1'
 if [ -n "$log_of_ci" ]; then
     for crate; do
         wait_for_proof "$crate" || break
@@ -78,7 +78,7 @@ if [ -n "$log_of_ci" ]; then
 elif [ $# = 0 ]; then
     # The crates that take longest are the first.
     export longest=bootimg
-    printf '%s\n' $longest bi_commands bi_norm bi_fit bi_legacy bi_base $(ls "$here/wrong_bodies") | awk '!seen[$0]++' |
+    printf '%s\n' $longest bi_commands bi_norm bi_fit bi_legacy bi_base $(basename -s .edits "$here"/wrong_bodies/*) | awk '!seen[$0]++' |
         grep -vxFf "${tried_before:-/dev/null}" | xargs -n 1 -P "$(nproc)" sh -c "$try" sh "$root"
 else
     printf '%s\n' "$@" | xargs -n 1 -P "$(nproc)" sh -c "$try" sh "$root"
@@ -86,9 +86,8 @@ fi
 for log in *.log; do
     [ -e "$log" ] || continue
     crate=${log%.log}
-    for edit in "$here/wrong_bodies/$crate"/*.edit; do
-        name=$crate/$(basename "$edit" .edit)
-        check "$name is $wanted" grep -F "$wanted: $name: " "$log"
+    for name in $(sed -n 's/^## //p' "$here/wrong_bodies/$crate.edits"); do
+        check "$crate/$name is $wanted" grep -F "$wanted: $crate/$name: " "$log"
     done
     grep -v "^$wanted: " "$log"
 done
