@@ -1,3 +1,5 @@
+/* SPDX-License-Identifier: MIT */
+/* Copyright (c) 2026 the bootimg authors */
 /*
  * Boot images of U-Boot: legacy images and flattened image trees (FIT).
  *

@@ -48,6 +48,7 @@ def contents(library: bytes | None) -> tuple[str, dict[str, bytes]]:
             f"Name: {project['name']}",
             f"Version: {project['version']}",
             f"Summary: {project['description']}",
+            f"License: {project['license']}",
             f"Requires-Python: {project['requires-python']}",
         ],
         "WHEEL": [
@@ -59,7 +60,7 @@ def contents(library: bytes | None) -> tuple[str, dict[str, bytes]]:
     }
     for file, lines in information.items():
         files[f"{name}.dist-info/{file}"] = "".join(f"{line}\n" for line in lines).encode()
-    if (HERE.parent / "LICENSE").exists():
+    if (HERE.parent / "LICENSE").exists():  # It is not there in an archive of this directory alone.
         files[f"{name}.dist-info/LICENSE"] = (HERE.parent / "LICENSE").read_bytes()
     files[f"{name}.dist-info/RECORD"] = record(files, f"{name}.dist-info/RECORD")
     return f"{name}-{tag}.whl", files

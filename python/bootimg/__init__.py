@@ -1,3 +1,5 @@
+# SPDX-License-Identifier: MIT
+# Copyright (c) 2026 the bootimg authors
 """Boot images of U-Boot: legacy images and flattened image trees (FIT).
 
 Each function takes the bytes of a file and returns bytes or text. It calls the shared library of

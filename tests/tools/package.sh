@@ -128,9 +128,7 @@ else
     echo "left out: a program in Rust, without rustc"
 fi
 if is_installed lintian lintian; then
-    # Without a licence there is no file about it.
-    [ -f "$root/LICENSE" ] && without= || without="--suppress-tags no-copyright-file"
-    check "lintian finds no error" lintian --allow-root --fail-on error $without dist/bootimg_*.deb
+    check "lintian finds no error" lintian --allow-root --fail-on error dist/bootimg_*.deb
 fi
 if [ "$(id -u)" = 0 ]; then
     check "dpkg removes the package" dpkg --root="$work/installed" --purge bootimg
