@@ -16,6 +16,7 @@ pub mod NodeEntries
 pub mod NodeViews
 pub mod NumberedTables
 pub mod NameParts
+pub mod PartNumbers
 pub mod NameTails
 pub mod NumberedNames
 pub mod MovedIndices

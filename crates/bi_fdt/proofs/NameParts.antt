@@ -1,19 +1,12 @@
 use Rattle.std.proofs.Common.{◌≡◌, ◌⊎◌, ℕ, zero, suc, inl, inr, Bool, true, false, cond, List, [], ◌∷◌, ◌++◌, length, Option, Some, None}
 use Rattle.std.proofs.Common.{slice_get, refl, sym, ap, subst, ◌∙◌}
-use Rattle.std.specs.declared.cmp.Ordering.{Ordering}
-use Rattle.std.specs.declared.cmp.Ordering.TheVariants.{Less, Equal, Greater}
-use Rattle.std.specs.Ordering.{nat_cmp, ordering_then, is_eq}
-use Rattle.std.specs.Cmp.Lexicographic.{slice_cmp, lists_total}
-use Rattle.std.specs.BTreeMap.{BTreeMap, get, Updates}
 use denote.Ref.{Bor}
-use Rattle.std.proofs.lemmas.Bool.{true≢false}
-use Rattle.std.proofs.lemmas.Cmp.{tied_itself, nat_cmp_total}
 use Rattle.std.proofs.lemmas.List.{append_assoc, append-nil}
-use Rattle.std.proofs.lemmas.Map.Lookups.{exact_pairs, exact_unsigned, exact_bytes}
 use Rattle.std.proofs.lemmas.Option.{none-some, same_Some}
-use Rattle.bi_blob.specs.NamesByPrefix.{prefix_of_name, by_prefix}
-use Rattle.bi_fdt.specs.NameParts.{NamePart, AreOnce, IsNewPart, IsPlaced, AreMoreParts, key_of_part}
+use Rattle.bi_fdt.specs.NameParts.{NamePart, AreOnce, IsNewPart, IsPlaced, AreMoreParts}
 use Rattle.bi_fdt.specs.Numbers.{BeginsWith}
+use Rattle.bi_fdt.specs.PartNumbers.{is_same_key}
+use Rattle.bi_fdt.proofs.PartNumbers.{part_of, same_part, equal_part}
 
 -- Parts of names keep their numbers, and a map has the numbers of exactly these parts.
 
@@ -44,83 +37,43 @@ pub slice_get-begin : {Item : Type 0} (all front : List Item) → BeginsWith all
     slice_get all index ≡ Some x
 slice_get-begin all front begins index x is = ap (λ l. slice_get l index) begins.1 ∙ slice_get-longer front begins.0 index x is
 
--- A part of borrowed bytes.
-abbrev part_of : ℕ × Bor (List ℕ) → NamePart
-part_of part = (part.0, part.1.now)
+-- The numbers with one more part are those of no others.
+pub found_more : (old new : ℕ × Bor (List ℕ) → Option ℕ) (parts : List NamePart) (added : ℕ × Bor (List ℕ))
+    → ((part : ℕ × Bor (List ℕ)) (number : ℕ) → old part ≡ Some number → slice_get parts number ≡ Some (part_of part))
+    → ((part : ℕ × Bor (List ℕ)) → new part ≡ cond (is_same_key added part) (Some (length parts)) (old part)) → (part : ℕ × Bor (List ℕ)) (number : ℕ)
+    → new part ≡ Some number → slice_get (parts ++ part_of added ∷ []) number ≡ Some (part_of part)
+found_more old new parts added found updates part number is = by (is_same_key added part) refl where
+  now : cond (is_same_key added part) (Some (length parts)) (old part) ≡ Some number
+  now = sym (updates part) ∙ is
 
--- The number in the map for a part, if there is one.
-abbrev number_in : BTreeMap (ℕ × ℕ × Bor (List ℕ)) ℕ → ℕ × Bor (List ℕ) → Option ℕ
-number_in numbers part = get by_prefix numbers (key_of_part part)
-
--- Whether the keys of two parts are equal in the order of the map.
-abbrev one_key : ℕ × Bor (List ℕ) → ℕ × Bor (List ℕ) → Bool
-one_key a b = is_eq (by_prefix (key_of_part a) (key_of_part b))
-
--- Keys are equal in the order of the map exactly if the parts are.
-same_part : (a b : ℕ × Bor (List ℕ)) → one_key a b ≡ true → part_of a ≡ part_of b
-same_part a b is =
-    ap (λ (key : (ℕ × ℕ) × List ℕ). (key.0.0, key.1))
-    (exact_pairs (λ x y. ordering_then (nat_cmp x.0 y.0) (nat_cmp x.1 y.1)) (slice_cmp nat_cmp)
-    (exact_pairs nat_cmp nat_cmp exact_unsigned exact_unsigned) exact_bytes
-    ((a.0, prefix_of_name a.1.now), a.1.now) ((b.0, prefix_of_name b.1.now), b.1.now) (equal (by_prefix (key_of_part a) (key_of_part b)) is)) where
-      equal : (o : Ordering) → is_eq o ≡ true → o ≡ Equal
-      equal Less is = absurd (true≢false (sym is))
-      equal Equal is = refl
-      equal Greater is = absurd (true≢false (sym is))
-
-equal_part : (a b : ℕ × Bor (List ℕ)) → part_of a ≡ part_of b → one_key a b ≡ true
-equal_part a b same =
-    ap (λ (part : NamePart). is_eq (to part)) (sym same)
-    ∙ ap (λ o. is_eq (ordering_then (ordering_then o (nat_cmp (prefix_of_name a.1.now) (prefix_of_name a.1.now))) (slice_cmp nat_cmp a.1.now a.1.now)))
-    (tied_itself nat_cmp_total a.0)
-    ∙ ap (λ o. is_eq (ordering_then o (slice_cmp nat_cmp a.1.now a.1.now))) (tied_itself nat_cmp_total (prefix_of_name a.1.now))
-    ∙ ap is_eq (tied_itself (lists_total nat_cmp_total) a.1.now) where
-      to : NamePart → Ordering
-      to part =
-          ordering_then (ordering_then (nat_cmp a.0 part.0) (nat_cmp (prefix_of_name a.1.now) (prefix_of_name part.1))) (slice_cmp nat_cmp a.1.now part.1)
-
--- The map with one more part has the numbers of no others.
-pub found_more : (old new : BTreeMap (ℕ × ℕ × Bor (List ℕ)) ℕ) (parts : List NamePart) (added : ℕ × Bor (List ℕ))
-    → ((part : ℕ × Bor (List ℕ)) (number : ℕ) → get by_prefix old (key_of_part part) ≡ Some number →
-    slice_get parts number ≡ Some (part.0, part.1.now))
-    → Updates by_prefix old new (key_of_part added) (Some (length parts)) → (part : ℕ × Bor (List ℕ)) (number : ℕ)
-    → get by_prefix new (key_of_part part) ≡ Some number
-    → slice_get (parts ++ (added.0, added.1.now) ∷ []) number ≡ Some (part.0, part.1.now)
-found_more old new parts added found updates part number is = by (one_key added part) refl where
-  now : cond (one_key added part) (Some (length parts)) (number_in old part) ≡ Some number
-  now = sym (updates.0 (key_of_part part)) ∙ is
-
-  by : (test : Bool) → one_key added part ≡ test → slice_get (parts ++ part_of added ∷ []) number ≡ Some (part_of part)
+  by : (test : Bool) → is_same_key added part ≡ test → slice_get (parts ++ part_of added ∷ []) number ≡ Some (part_of part)
   by true same =
-      let last : length parts ≡ number = same_Some _ _ (ap (λ b. cond b (Some (length parts)) (number_in old part)) (sym same) ∙ now) in
+      let last : length parts ≡ number = same_Some _ _ (ap (λ b. cond b (Some (length parts)) (old part)) (sym same) ∙ now) in
       ap (slice_get (parts ++ part_of added ∷ [])) (sym last) ∙ slice_get-last parts (part_of added) ∙ ap Some (same_part added part same)
   by false other =
       slice_get-longer parts (part_of added ∷ []) number (part_of part)
-      (found part number (ap (λ b. cond b (Some (length parts)) (number_in old part)) (sym other) ∙ now))
+      (found part number (ap (λ b. cond b (Some (length parts)) (old part)) (sym other) ∙ now))
 
--- The map with one more part, which it lacked, has the numbers of all.
-pub listed_more : (old new : BTreeMap (ℕ × ℕ × Bor (List ℕ)) ℕ) (parts : List NamePart) (added : ℕ × Bor (List ℕ))
-    → ((part : ℕ × Bor (List ℕ)) (number : ℕ) → slice_get parts number ≡ Some (part.0, part.1.now) →
-    get by_prefix old (key_of_part part) ≡ Some number)
-    → Updates by_prefix old new (key_of_part added) (Some (length parts)) → get by_prefix old (key_of_part added) ≡ None
-    → (part : ℕ × Bor (List ℕ)) (number : ℕ) → slice_get (parts ++ (added.0, added.1.now) ∷ []) number ≡ Some (part.0, part.1.now)
-    → get by_prefix new (key_of_part part) ≡ Some number
+-- The numbers with one more part, which had none, are those of all.
+pub listed_more : (old new : ℕ × Bor (List ℕ) → Option ℕ) (parts : List NamePart) (added : ℕ × Bor (List ℕ))
+    → ((part : ℕ × Bor (List ℕ)) (number : ℕ) → slice_get parts number ≡ Some (part_of part) → old part ≡ Some number)
+    → ((part : ℕ × Bor (List ℕ)) → new part ≡ cond (is_same_key added part) (Some (length parts)) (old part)) → old added ≡ None
+    → (part : ℕ × Bor (List ℕ)) (number : ℕ) → slice_get (parts ++ part_of added ∷ []) number ≡ Some (part_of part) → new part ≡ Some number
 listed_more old new parts added listed updates lacks part number is =
-    updates.0 (key_of_part part) ∙ elim (slice_get-pushed parts (part_of added) number (part_of part) is) [
-      | inl there ↦ other there (one_key added part) refl
-      | inr last ↦ ap (λ b. cond b (Some (length parts)) (number_in old part)) (equal_part added part last.1) ∙ ap Some (sym last.0)
+    updates part ∙ elim (slice_get-pushed parts (part_of added) number (part_of part) is) [
+      | inl there ↦ other there (is_same_key added part) refl
+      | inr last ↦ ap (λ b. cond b (Some (length parts)) (old part)) (equal_part added part last.1) ∙ ap Some (sym last.0)
     ] where
-      other : slice_get parts number ≡ Some (part_of part) → (test : Bool) → one_key added part ≡ test
-          → cond (one_key added part) (Some (length parts)) (number_in old part) ≡ Some number
+      other : slice_get parts number ≡ Some (part_of part) → (test : Bool) → is_same_key added part ≡ test
+          → cond (is_same_key added part) (Some (length parts)) (old part) ≡ Some number
       other there true same =
           absurd (none-some number (sym lacks ∙ listed added number (there ∙ ap Some (sym (same_part added part same)))))
-      other there false differs = ap (λ b. cond b (Some (length parts)) (number_in old part)) differs ∙ listed part number there
+      other there false differs = ap (λ b. cond b (Some (length parts)) (old part)) differs ∙ listed part number there
 
--- A part that the map lacks is new.
-pub lacks_part : (numbers : BTreeMap (ℕ × ℕ × Bor (List ℕ)) ℕ) (parts : List NamePart) (part : ℕ × Bor (List ℕ))
-    → ((part : ℕ × Bor (List ℕ)) (number : ℕ) → slice_get parts number ≡ Some (part.0, part.1.now) →
-    get by_prefix numbers (key_of_part part) ≡ Some number)
-    → get by_prefix numbers (key_of_part part) ≡ None → IsNewPart (part.0, part.1.now) parts
+-- A part that has no number is new.
+pub lacks_part : (numbers : ℕ × Bor (List ℕ) → Option ℕ) (parts : List NamePart) (part : ℕ × Bor (List ℕ))
+    → ((part : ℕ × Bor (List ℕ)) (number : ℕ) → slice_get parts number ≡ Some (part_of part) → numbers part ≡ Some number)
+    → numbers part ≡ None → IsNewPart (part_of part) parts
 lacks_part numbers parts part listed lacks index there = none-some index (sym lacks ∙ listed part index there)
 
 -- The same parts.

@@ -15,6 +15,7 @@ pub mod Strings
 pub mod PropertySets
 pub mod Numbers
 pub mod NameParts
+pub mod PartNumbers
 pub mod NameTails
 pub mod KeyOrder
 pub mod NameTables

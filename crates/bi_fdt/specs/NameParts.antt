@@ -1,8 +1,7 @@
-use Rattle.std.specs.Prelude.{◌≡◌, ◌⊎◌, ℕ, List, [], ◌∷◌, ◌++◌, length, map, Some, slice_get}
-use Rattle.std.specs.BTreeMap.{get}
+use Rattle.std.specs.Prelude.{◌≡◌, ◌⊎◌, ◌<◌, ℕ, List, [], ◌∷◌, ◌++◌, length, map, Some, slice_get}
 use Rattle.std.specs.Borrow.{Bor}
-use Rattle.bi_blob.specs.NamesByPrefix.{prefix_of_name, by_prefix}
 use Rattle.bi_fdt.specs.Numbers.{BeginsWith}
+use Rattle.bi_fdt.specs.PartNumbers.{bucket_count, number_in}
 use Rattle.bi_fdt.specs.declared.name_parts.NameParts.TheInside.{Inside}
 
 -- Parts of names, each with a number: its index in the order of their first use.
@@ -34,16 +33,11 @@ pub record AreMoreParts (old new : List NamePart) : Type 0 where
 abbrev pub name_parts_of : Inside → List NamePart
 name_parts_of inside = map (λ part. (part.0, part.1.now)) inside.parts.items
 
--- The key of a part in the map: the number of the blocks after it, its first bytes as a number, and
--- its bytes.
-abbrev pub key_of_part : ℕ × Bor (List ℕ) → ℕ × ℕ × Bor (List ℕ)
-key_of_part part = (part.0, prefix_of_name part.1.now, part.1)
-
--- What is true of the fields: the map has exactly the numbers of the parts.
+-- What is true of the fields: there are maps, and they have the number of each part and no other.
 pub record AreNameParts (inside : Inside) : Type 0 where
-  pub found : (part : ℕ × Bor (List ℕ)) (number : ℕ)
-      → get by_prefix inside.numbers (key_of_part part) ≡ Some number
+  pub maps : 0 < bucket_count inside.numbers
+  pub found : (part : ℕ × Bor (List ℕ)) (number : ℕ) → number_in inside.numbers part ≡ Some number
       → slice_get (name_parts_of inside) number ≡ Some (part.0, part.1.now)
   pub listed : (part : ℕ × Bor (List ℕ)) (number : ℕ)
       → slice_get (name_parts_of inside) number ≡ Some (part.0, part.1.now)
-      → get by_prefix inside.numbers (key_of_part part) ≡ Some number
+      → number_in inside.numbers part ≡ Some number

@@ -15,6 +15,7 @@ mod node;
 mod numbers;
 mod properties;
 mod property_names;
+mod part_numbers;
 mod ranks;
 mod reservations;
 mod strings;

@@ -2,21 +2,16 @@
 
 ghost use Rattle.std.specs.Prelude.{◌≡◌, ◌<◌, ◌^◌, [], IfOk, IfErr, length};
 
-use bi_blob::name_prefix;
+use crate::part_numbers::PartNumbers;
 use std::alloc::{AllocError, Global};
-use std::collections::BTreeMap;
 use std::marker::Model;
 
-/// Parts of names, each once. The number of a part is its index in the order of their first use. A
-/// part is found by its first eight bytes, as a number, before all of its bytes, so that most
-/// comparisons are of numbers.
+/// Parts of names, each once. The number of a part is its index in the order of their first use.
 #[derive(Drop)]
 pub(crate) struct NameParts<'a> {
     /// The number of the blocks after each part, and the bytes of the part.
     parts: Vec<(usize, &'a [u8])>,
-    /// The number of each part, by the number of its tail, its first bytes as a number, and all of
-    /// its bytes, which are compared only if both numbers are the same.
-    numbers: BTreeMap<(usize, u64, &'a [u8]), usize>,
+    numbers: PartNumbers<'a>,
 }
 
 impl<'a> Model for NameParts<'a> {
@@ -33,14 +28,14 @@ impl<'a> Model for NameParts<'a> {
 impl<'a> NameParts<'a> {
     ghost use Rattle.bi_fdt.specs.NameParts.{IsPlaced};
 
-    /// Returns an empty list of parts. It allocates nothing yet.
-    pub(crate) fn new(alloc: Global) -> NameParts<'a>
-        ensures { result ≡ [] }
+    /// Returns an empty list of parts, which serves `parts` parts well. Fails if memory runs out.
+    pub(crate) fn new(alloc: Global, parts: usize) -> Result<NameParts<'a>, AllocError>
+        ensures { IfOk result (λ made. made ≡ []) }
     {
-        NameParts {
+        Ok(NameParts {
             parts: Vec::new(alloc),
-            numbers: BTreeMap::new(alloc),
-        }
+            numbers: PartNumbers::new(alloc, parts)?,
+        })
     }
 
     /// Adds a part if it is not there yet, and returns its number. The part has these bytes, and
@@ -52,13 +47,12 @@ impl<'a> NameParts<'a> {
         ensures small { length self.new < 2 ^ 63 }
         ensures failed { IfErr result (λ _. self.new ≡ self.old) }
     {
-        let key = (tail, name_prefix(bytes), bytes);
-        if let Some(number) = self.numbers.get(&key) {
-            return Ok(*number);
+        if let Some(number) = self.numbers.get(tail, bytes) {
+            return Ok(number);
         }
         self.parts.reserve(1)?;
         let number = self.parts.len();
-        self.numbers.insert(key, number)?;
+        self.numbers.insert(tail, bytes, number)?;
         self.parts.push((tail, bytes)).unwrap();
         Ok(number)
     }

@@ -34,15 +34,15 @@ pub(crate) struct NameTable<'a> {
 
 impl<'a> NameTable<'a> {
     /// Returns a table without names. It allocates nothing yet.
-    pub(crate) fn new(alloc: Global) -> NameTable<'a>
-        ensures names { names_in_table result ≡ [] }
-        ensures is_table { IsNameTable result }
+    pub(crate) fn new(alloc: Global) -> Result<NameTable<'a>, AllocError>
+        ensures names { IfOk result (λ table. names_in_table table ≡ []) }
+        ensures is_table { IfOk result IsNameTable }
     {
-        NameTable {
-            tails: NameParts::new(alloc),
-            heads: NameParts::new(alloc),
+        Ok(NameTable {
+            tails: NameParts::new(alloc, 0)?,
+            heads: NameParts::new(alloc, 0)?,
             names: Vec::new(alloc),
-        }
+        })
     }
 
     /// Returns the number of a name, whose tail has the number `tail`. Fails if memory runs out.

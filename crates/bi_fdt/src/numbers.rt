@@ -31,12 +31,12 @@ impl<'a> Model for NameNumbers<'a> {
 
 impl<'a> NameNumbers<'a> {
     /// Returns an empty list of names. It allocates nothing yet.
-    pub fn new(alloc: Global) -> NameNumbers<'a>
-        ensures { result ≡ [] }
+    pub fn new(alloc: Global) -> Result<NameNumbers<'a>, AllocError>
+        ensures { IfOk result (λ made. made ≡ []) }
     {
-        NameNumbers {
-            table: NameTable::new(alloc),
-        }
+        Ok(NameNumbers {
+            table: NameTable::new(alloc)?,
+        })
     }
 
     /// Returns the number of the name of each property of a blob, and any number for each node, in
