@@ -19,6 +19,10 @@ pub mod NameParts
 pub mod NameTails
 pub mod NumberedNames
 pub mod MovedIndices
+pub mod DistinctKeys
+pub mod NameOrders
+pub mod PropertyOrders
+pub mod DistinctNumbers
+pub mod KeyedProperties
+pub mod ByName
 pub mod NameTables
-pub mod SortedNames
-pub mod NumberedRanks

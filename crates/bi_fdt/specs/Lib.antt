@@ -1,6 +1,5 @@
 pub mod Header
 pub mod Blocks
-pub mod PrefixedNames
 pub mod Properties
 pub mod Table
 pub mod Growth
@@ -17,4 +16,6 @@ pub mod Numbers
 pub mod NameParts
 pub mod NameTails
 pub mod KeyOrder
+pub mod Ranks
+pub mod Order
 pub mod NameTables
