@@ -3,6 +3,10 @@ pub mod Blocks
 pub mod PrefixedNames
 pub mod Properties
 pub mod Table
+pub mod Numbers
+pub mod TableNames
+pub mod UsedNames
+pub mod PropertyMarks
 pub mod Growth
 pub mod Reading
 pub mod Content
@@ -10,10 +14,7 @@ pub mod TreeNames
 pub mod Fields
 pub mod ReadBlobs
 pub mod Views
-pub mod Digests
 pub mod Strings
-pub mod PropertySets
-pub mod Numbers
 pub mod NameParts
 pub mod NameTails
 pub mod KeyOrder

@@ -25,17 +25,19 @@ use crate::reservations::{PAIR_SIZE, count_reservations};
 use crate::strings::Strings;
 use crate::structure::read_tree;
 use crate::table::Entry;
+use crate::used_names::UsedNames;
 use bi_base::{Error, Fault, Limits, two_cells_at};
 use std::alloc::Global;
 use std::marker::Model;
 
 /// A devicetree blob that was read (Devicetree Specification, chapter 5). It holds slices of its
-/// file, and one table of the nodes and properties of its tree.
+/// file, one table of the nodes and properties of its tree, and the names of the properties.
 #[derive(Drop)]
 pub struct Blob<'a> {
     file: &'a [u8],
     reservation_count: usize,
     entries: Vec<Entry>,
+    names: UsedNames<'a>,
 }
 
 impl<'a> Model for Blob<'a> {
@@ -45,6 +47,7 @@ impl<'a> Model for Blob<'a> {
     ghost use Rattle.bi_fdt.specs.Table.{item_in};
     ghost use Rattle.bi_fdt.specs.Content.{Blob};
     ghost use Rattle.bi_fdt.specs.Fields.{IsBlobHeld};
+    ghost use Rattle.bi_fdt.specs.TableNames.{AreTableNames};
 
     ghost Value = { Blob };
 
@@ -58,7 +61,8 @@ impl<'a> Model for Blob<'a> {
     } };
 
     ghost invariant = { λ blob.
-        IsBlobHeld blob.file.now blob.reservation_count blob.entries.items };
+        IsBlobHeld blob.file.now blob.reservation_count blob.entries.items
+        × AreTableNames blob.file.now blob.entries.items blob.names.used };
 }
 
 impl<'a> Blob<'a> {
@@ -88,11 +92,12 @@ impl<'a> Blob<'a> {
         let reservation_count = check_before_tree(file, limits)?;
         let strings = Strings::new(alloc, strings_block(file))?;
         let blocks = tree_blocks(file, &strings);
-        let entries = read_tree(alloc, blocks, usize::from(limits.depth()))?;
+        let (entries, names) = read_tree(alloc, blocks, usize::from(limits.depth()))?;
         Ok(Blob {
             file,
             reservation_count,
             entries,
+            names,
         })
     }
 

@@ -45,6 +45,8 @@ pub(crate) struct PropertyEntry {
     pub(crate) name_length: u32,
     /// The length of the value.
     pub(crate) value_length: u32,
+    /// The number of the name among the names of the properties of the blob.
+    pub(crate) number: u32,
 }
 
 impl PropertyEntry {
