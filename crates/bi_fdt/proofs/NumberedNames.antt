@@ -122,7 +122,7 @@ known_name tails heads names part name number are is found =
     there.1 ∙ ap Some (same_name_of_head tails part there.0 name there.2 is)
 
 -- A name whose head is new is new.
-new_name : (tails heads : List NamePart) (names : List (List ℕ)) (part : NamePart) (name : List ℕ) → AreOnce tails →
+pub new_name : (tails heads : List NamePart) (names : List (List ℕ)) (part : NamePart) (name : List ℕ) → AreOnce tails →
     AllZip (IsHead tails) heads names →
     IsHead tails part name → IsNewPart part heads → IsNew name names
 new_name tails [] [] part name once all is new = tt

@@ -102,3 +102,10 @@ table_names-set file entries later used index n m at same are =
       numbered = subst (λ items. AreNumbered used items (map number_of (set entries index (entry.Node m)))) (sym items)
           (subst (AreNumbered used (map (item_in file) entries)) (sym (numbers-set entries later index n m at)) are.numbered);
     }
+
+-- The numbers of the entries of a table.
+pub numbers_of_table : (file : List ℕ) (entries : List Entry) (used : List (List ℕ)) (numbers : List ℕ) → AreTableNames file entries used →
+    numbers ≡ map number_of entries → AreNumbered (names_of_table (map (item_in file) entries)) (map (item_in file) entries) numbers
+numbers_of_table file entries used numbers are is =
+    subst (AreNumbered (names_of_table (map (item_in file) entries)) (map (item_in file) entries)) (sym is)
+    (subst (λ names. AreNumbered names (map (item_in file) entries) (map number_of entries)) are.names are.numbered)

@@ -1,6 +1,6 @@
 //! A table of the names of properties.
 
-ghost use Rattle.std.specs.Prelude.{◌≡◌, ◌+◌, ◌/◌, [], IfOk, OnErr, Some, length, map, slice_get};
+ghost use Rattle.std.specs.Prelude.{◌≡◌, ◌+◌, ◌/◌, ◌<◌, [], IfOk, OnErr, Some, length, map, slice_get};
 ghost use Rattle.std.specs.Prelude.{take};
 ghost use Rattle.bi_blob.specs.Blob.{tree_blocks};
 ghost use Rattle.bi_fdt.specs.Content.{root_of};
@@ -9,14 +9,14 @@ ghost use Rattle.bi_fdt.specs.NameTables.{names_in_table, IsNameTable, HasMoreNa
 ghost use Rattle.bi_fdt.specs.KeyOrder.{IsKeyOrder};
 ghost use Rattle.bi_fdt.specs.NameTables.{HasAtMostMore, HasAtMostNameOf, prefix_of_item};
 ghost use Rattle.bi_fdt.specs.NameTails.{IsTail, AreBlockNumbers, head_length};
-ghost use Rattle.bi_fdt.specs.Numbers.{IsNumbered, AreNumbered};
+ghost use Rattle.bi_fdt.specs.Numbers.{IsNumbered, AreNumbered, FindsNumber};
 ghost use Rattle.bi_fdt.specs.Strings.{AreEnds};
 ghost use Rattle.bi_fdt.specs.Table.{item_in};
 ghost use Rattle.bi_fdt.specs.TreeNames.{HasMoreNamesOf};
 
 use crate::blob::Blob;
 use crate::name_parts::NameParts;
-use crate::name_tails::{block_numbers, tail_at};
+use crate::name_tails::{NO_BLOCKS, block_numbers, tail_at};
 use crate::strings::{STRIDE, ends_of_names};
 use crate::table::Entry;
 use bi_base::cell_at;
@@ -83,6 +83,15 @@ impl<'a> NameTable<'a> {
             self.names.push(name).unwrap();
         }
         Ok(number)
+    }
+
+    /// Returns the number of a name of less than 128 bytes, if it is there.
+    pub(crate) fn find(&self, name: &'a [u8]) -> Option<usize>
+        requires table { IsNameTable self.now }
+        requires short { length name.now < 128 }
+        ensures { FindsNumber (names_in_table self.now) name.now result }
+    {
+        self.heads.find(NO_BLOCKS, name)
     }
 
     /// Returns the number of the name of a property, and any number for a node. `blocks` are the

@@ -1,11 +1,11 @@
 //! The names of the properties of a blob, each with its number.
 
-ghost use Rattle.std.specs.Prelude.{◌≡◌, [], length, IfOk, OnOk, OnErr};
+ghost use Rattle.std.specs.Prelude.{◌≡◌, ◌<◌, [], length, IfOk, OnOk, OnErr};
 ghost use Rattle.bi_base.specs.Slices.{bytes_of};
 ghost use Rattle.bi_blob.specs.Tokens.{name_from};
 ghost use Rattle.bi_blob.specs.Tree.{AreDistinct};
 ghost use Rattle.bi_blob.specs.BlobFaults.{HasName};
-ghost use Rattle.bi_fdt.specs.Numbers.{IsNumberOf, with_name};
+ghost use Rattle.bi_fdt.specs.Numbers.{IsNumberOf, FindsNumber, with_name};
 
 use crate::name_table::NameTable;
 use crate::name_tails::tail_at;
@@ -67,6 +67,14 @@ impl<'a> UsedNames<'a> {
     {
         let tail = tail_at(&self.blocks, at, at + name.len());
         self.table.add(name, tail)
+    }
+
+    /// Returns the number of a name of less than 128 bytes, if it was used.
+    pub(crate) fn find(&self, name: &'a [u8]) -> Option<usize>
+        requires { length name.now < 128 }
+        ensures { FindsNumber self.now.used name.now result }
+    {
+        self.table.find(name)
     }
 
     /// Returns the names. The number of each is its index.
