@@ -1,10 +1,14 @@
 pub mod FirstZero
 pub mod NameEnds
-pub mod NameDigests
-pub mod PropertySets
 pub mod Items
 pub mod Links
 pub mod OpenEntries
+pub mod NameParts
+pub mod NameTails
+pub mod NumberedNames
+pub mod UsedNames
+pub mod PropertyMarks
+pub mod TableNames
 pub mod GrowingTables
 pub mod TokenSteps
 pub mod RootSteps
@@ -15,9 +19,6 @@ pub mod BlobViews
 pub mod NodeEntries
 pub mod NodeViews
 pub mod NumberedTables
-pub mod NameParts
-pub mod NameTails
-pub mod NumberedNames
 pub mod MovedIndices
 pub mod DistinctKeys
 pub mod NameOrders

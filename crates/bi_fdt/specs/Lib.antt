@@ -2,6 +2,10 @@ pub mod Header
 pub mod Blocks
 pub mod Properties
 pub mod Table
+pub mod Numbers
+pub mod TableNames
+pub mod UsedNames
+pub mod PropertyMarks
 pub mod Growth
 pub mod Reading
 pub mod Content
@@ -9,10 +13,7 @@ pub mod TreeNames
 pub mod Fields
 pub mod ReadBlobs
 pub mod Views
-pub mod Digests
 pub mod Strings
-pub mod PropertySets
-pub mod Numbers
 pub mod NameParts
 pub mod NameTails
 pub mod KeyOrder

@@ -3,10 +3,10 @@
 
 mod blob;
 mod blocks;
-mod digests;
 mod fields;
 mod growing;
 mod header;
+mod marked_names;
 mod name_parts;
 mod name_table;
 mod name_tails;
@@ -15,13 +15,13 @@ mod node;
 mod numbers;
 mod order;
 mod properties;
-mod property_names;
 mod ranks;
 mod reservations;
 mod strings;
 mod structure;
 mod table;
 mod tokens;
+mod used_names;
 
 pub use blob::Blob;
 pub use node::NodeRef;
