@@ -26,7 +26,7 @@ impl<'a> Model for NameParts<'a> {
 }
 
 impl<'a> NameParts<'a> {
-    ghost use Rattle.bi_fdt.specs.NameParts.{IsPlaced};
+    ghost use Rattle.bi_fdt.specs.NameParts.{IsPlaced, FindsPart};
 
     /// Returns an empty list of parts, which serves `parts` parts well. Fails if memory runs out.
     pub(crate) fn new(alloc: Global, parts: usize) -> Result<NameParts<'a>, AllocError>
@@ -55,5 +55,12 @@ impl<'a> NameParts<'a> {
         self.numbers.insert(tail, bytes, number)?;
         self.parts.push((tail, bytes)).unwrap();
         Ok(number)
+    }
+
+    /// Returns the number of a part, if it is there. It takes log n comparisons, for n parts.
+    pub(crate) fn find(&self, tail: usize, bytes: &'a [u8]) -> Option<usize>
+        ensures { FindsPart self.now (tail, bytes.now) result }
+    {
+        self.numbers.get(tail, bytes)
     }
 }
