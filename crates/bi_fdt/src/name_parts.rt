@@ -67,7 +67,8 @@ impl<'a> NameParts<'a> {
     pub(crate) fn find(&self, tail: usize, bytes: &'a [u8]) -> Option<usize>
         ensures { FindsPart self.now (tail, bytes.now) result }
     {
-        let key = (tail, name_prefix(bytes), bytes);
-        self.numbers.get(&key).copied()
+        self.numbers
+            .get(&(tail, name_prefix(bytes), bytes))
+            .copied()
     }
 }
