@@ -23,3 +23,4 @@ pub mod MovedIndices
 pub mod NameTables
 pub mod SortedNames
 pub mod NumberedRanks
+pub mod OtherNames

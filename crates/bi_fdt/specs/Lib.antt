@@ -19,3 +19,5 @@ pub mod NameParts
 pub mod NameTails
 pub mod KeyOrder
 pub mod NameTables
+pub mod OtherNames
+pub mod Laws
