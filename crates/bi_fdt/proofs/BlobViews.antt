@@ -19,12 +19,11 @@ use Rattle.bi_fdt.specs.declared.table.Entry.{Entry}
 use Rattle.bi_fdt.specs.Table.{item_in}
 use Rattle.bi_fdt.specs.Reading.{IsTable, HasTable}
 use Rattle.bi_fdt.specs.Content.{root_in}
-use Rattle.bi_fdt.specs.Fields.{IsBlobHeld, HaveNameOffsets}
+use Rattle.bi_fdt.specs.Fields.{IsBlobHeld}
 use Rattle.bi_fdt.specs.ReadBlobs.{IsOnlyBlobFault, IsReadBlob, IsBlobReadError}
 use Rattle.bi_blob.proofs.Blobs.OneBlob.{one_blob}
 use Rattle.bi_blob.proofs.Blobs.Faults.{blob_has_no_fault}
 use Rattle.bi_fdt.proofs.TableTrees.{root_in-table}
-use Rattle.bi_fdt.proofs.NameOffsetsOfTables.{names_in_tree}
 
 -- A blob that was read from a file without faults has the reservations and the tree of the file, and the fault of a file is its only one.
 
@@ -78,7 +77,6 @@ is_held limits file count entries used fine has table =
       strings = strings_within file header;
       reservations = has;
       is_table = subst (IsTable file entries) (sym (table_root file entries table.root table.is_table)) table.is_table;
-      named = subst (HaveNameOffsets file) (sym table.is_table.items) (names_in_tree file table.root table.holds);
     }
 
 pub is_blob : (limits : Limits) (file : List ℕ) (count : ℕ) (entries : List Entry) (used : List (List ℕ)) → AreBytes file → HasNoHeaderFault limits file →

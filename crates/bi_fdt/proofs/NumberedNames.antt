@@ -1,7 +1,5 @@
-use Rattle.std.proofs.Common.{◌≡◌, ℕ, zero, suc, ◌<◌, List, [], ◌∷◌, ◌++◌, length, get_or, Some, slice_get, inl, inr, refl, sym, ap, subst, ◌∙◌, arith, get_or-set_same, get_or-set_other}
+use Rattle.std.proofs.Common.{◌≡◌, ℕ, zero, suc, ◌<◌, List, [], ◌∷◌, ◌++◌, length, get_or, Some, slice_get, inl, inr, refl, ap, subst, ◌∙◌, arith}
 use Rattle.std.specs.List.{AllZip}
-use Rattle.std.proofs.Math.ListN.{set}
-use Rattle.std.proofs.lemmas.Bool.{cases_eq}
 use Rattle.std.proofs.lemmas.Option.{none-some, same_Some, slice_get_within}
 use Rattle.bi_blob.specs.Tree.{IsNew}
 use Rattle.bi_blob.proofs.Blobs.OpenNodes.{AreDistinct-push}
@@ -44,24 +42,6 @@ AreNumbered-more all front begins table numbers are =
 -- The item at an index of a table has the number at that index.
 abbrev pub IsNumberedAt : List (List ℕ) → List TableItem → List ℕ → ℕ → Type 0
 IsNumberedAt names table numbers index = (d : TableItem) → IsNumbered names (get_or table index d) (get_or numbers index 0)
-
--- A number is where it was written.
-pub number_written : (names : List (List ℕ)) (table : List TableItem) (numbers : List ℕ) (index number : ℕ) → index < length numbers →
-    ((d : TableItem) → IsNumbered names (get_or table index d) number) → IsNumberedAt names table (set numbers index number) index
-number_written names table numbers index number within is d =
-    subst (IsNumbered names (get_or table index d)) (sym (get_or-set_same numbers index number 0 within)) (is d)
-
--- The numbers at other indices are those of the items there, also when names are added.
-pub numbers_kept : (all front : List (List ℕ)) → BeginsWith all front →
-    (table : List TableItem) (numbers : List ℕ) (index number : ℕ) → index < length numbers →
-    ((d : TableItem) → IsNumbered all (get_or table index d) number) →
-    (other : ℕ) → IsNumberedAt front table numbers other → IsNumberedAt all table (set numbers index number) other
-numbers_kept all front begins table numbers index number within is other was d = elim (cases_eq other index) [
-  | inl same ↦ subst (λ at. IsNumbered all (get_or table at d) (get_or (set numbers index number) at 0)) (sym same)
-      (number_written all table numbers index number within is d)
-  | inr apart ↦ subst (IsNumbered all (get_or table other d)) (sym (get_or-set_other numbers index other number 0 apart))
-      (IsNumbered-more all front begins (get_or table other d) (get_or numbers other 0) (was d))
-]
 
 -- The items of a table have numbers if that at each index does.
 pub AreNumbered-each : (names : List (List ℕ)) (table : List TableItem) (numbers : List ℕ) → length numbers ≡ length table →

@@ -1,15 +1,12 @@
-use Rattle.std.proofs.Common.{◌≡◌, ◌⊎◌, ℕ, ◌+◌, ◌-◌, ◌<◌, List, [], ◌∷◌, ◌++◌, length, map, get_or, Contains, Bool, true, false, inl, inr, refl, sym, ap, subst, ◌∙◌, arith, append-nil}
-use Rattle.std.proofs.lemmas.List.{get_or-map, length-map, append_assoc}
+use Rattle.std.proofs.Common.{◌≡◌, ◌⊎◌, ℕ, ◌+◌, ◌-◌, List, [], ◌∷◌, ◌++◌, Contains, Bool, true, false, inl, inr, refl, subst}
 use Rattle.bi_base.proofs.ListMembers.{Contains-none, Contains-cases, Contains-first, Contains-others}
 use Rattle.bi_blob.specs.Tree.{Root, FileNode, FileProperty}
 use Rattle.bi_blob.specs.Events.{FileEvent, FileNodeStart, FileNodeProperty, FileNodeEnd, file_events_of}
 use Rattle.bi_blob.proofs.Blobs.OpenNodes.{All-push}
-use Rattle.bi_fdt.specs.declared.table.Entry.{Entry}
 use Rattle.bi_fdt.proofs.Items.{table_of}
-use Rattle.bi_fdt.specs.NameTables.{HasAtMostNameOf}
-use Rattle.bi_fdt.specs.Table.{TableItem, NodeItem, PropertyItem, item_in, items_of}
+use Rattle.bi_fdt.specs.Table.{TableItem, NodeItem, PropertyItem, items_of}
 use Rattle.bi_fdt.specs.Numbers.{with_name, names_after, names_of_table}
-use Rattle.bi_fdt.specs.TreeNames.{IsNameIn, AreNamesIn, HasMoreNamesOf}
+use Rattle.bi_fdt.specs.TreeNames.{IsNameIn, AreNamesIn}
 use Rattle.bi_blob.specs.Layout.{is_among}
 use Rattle.std.specs.Prelude.{if◌then◌else◌}
 
@@ -72,29 +69,3 @@ names_after-in root (PropertyItem first ∷ table) used each are =
 pub names_in_tree : (root : Root FileNode) (table : List TableItem) → table ≡ table_of root → AreNamesIn (names_of_table table) root
 names_in_tree root table is =
     names_after-in root table [] (λ property has. name_in_table root property (subst (λ table. Contains table (PropertyItem property)) is has)) tt
-
--- No names more.
-pub HasMoreNamesOf-none : (names : List (List ℕ)) (root : Root FileNode) → HasMoreNamesOf names names root
-HasMoreNamesOf-none names root = ([], sym (append-nil names), tt)
-
--- More names of the tree, with at most that of an item of its table.
-HasMoreNamesOf-item : (root : Root FileNode) (item : TableItem) → Contains (table_of root) item → (start old new : List (List ℕ)) →
-    HasAtMostNameOf old new item → HasMoreNamesOf start old root → HasMoreNamesOf start new root
-HasMoreNamesOf-item root (NodeItem depth place name) has start old new same (more, is, are) = (more, same ∙ is, are)
-HasMoreNamesOf-item root (PropertyItem property) has start old new (inl same) (more, is, are) = (more, same ∙ is, are)
-HasMoreNamesOf-item root (PropertyItem property) has start old new (inr added) (more, is, are) = (
-  more ++ property.name ∷ [],
-  added ∙ ap (λ l. l ++ property.name ∷ []) is ∙ append_assoc start more (property.name ∷ []),
-  All-push (λ name. IsNameIn name root) more property.name are (name_in_table root property has),
-)
-
--- The same with that of an entry, where a table has the items of the entries.
-pub HasMoreNamesOf-entry : (file other : List ℕ) → other ≡ file → (entries : List Entry) (root : Root FileNode) →
-    map (item_in file) entries ≡ table_of root → (index : ℕ) (d : Entry) → index < length entries → (start old new : List (List ℕ)) →
-    HasAtMostNameOf old new (item_in other (get_or entries index d)) → HasMoreNamesOf start old root → HasMoreNamesOf start new root
-HasMoreNamesOf-entry file other same entries root items index d within start old new more are =
-    let e = get_or entries index d in
-    let among : Contains (map (item_in file) entries) (item_in file e) =
-    (index, omega (arith, length-map entries (item_in file)), get_or-map (item_in file) entries index d (item_in file e) within) in
-    HasMoreNamesOf-item root (item_in file e) (subst (λ table. Contains table (item_in file e)) items among) start old new
-    (subst (λ (here : List ℕ). HasAtMostNameOf old new (item_in here e)) same more) are

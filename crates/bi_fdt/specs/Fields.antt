@@ -1,33 +1,15 @@
-use Rattle.std.specs.Prelude.{◌≡◌, ⊤, ℕ, ◌+◌, ◌≤◌, List, ◌∷◌, length, map, drop}
-use Rattle.std.specs.List.{AllByRecursion}
-use Rattle.bi_base.specs.Cells.{u32_at}
-use Rattle.bi_blob.specs.Blob.{totalsize, off_mem_rsvmap, strings_end, tree_blocks}
+use Rattle.std.specs.Prelude.{◌≡◌, ℕ, ◌+◌, ◌≤◌, List, ◌∷◌, length, map, drop}
+use Rattle.bi_blob.specs.Blob.{totalsize, off_mem_rsvmap, strings_end}
 use Rattle.bi_blob.specs.BlobFaults.{HasReservations}
-use Rattle.bi_blob.specs.Tokens.{IsNameAt}
-use Rattle.bi_blob.specs.Tree.{FileProperty}
 use Rattle.bi_blob.specs.Events.{FileEvent}
 use Rattle.bi_fdt.specs.declared.table.Entry.{Entry}
 use Rattle.bi_fdt.specs.declared.table.NodeEntry.{NodeEntry}
-use Rattle.bi_fdt.specs.Table.{TableItem, NodeItem, PropertyItem, node_name_in, item_in, items_of}
+use Rattle.bi_fdt.specs.Table.{TableItem, NodeItem, node_name_in, item_in, items_of}
 use Rattle.bi_fdt.specs.Table.{IsLinked}
 use Rattle.bi_fdt.specs.Reading.{IsTable}
 use Rattle.bi_fdt.specs.Content.{root_in}
 
 -- What is true of the fields of a blob, and of the entry of a node.
-
--- The token of a property is in a file, and has the offset of the name in the strings block.
-pub record IsNamedAt (file : List ℕ) (property : FileProperty) : Type 0 where
-  pub within : property.place + 12 ≤ length file
-  pub name : IsNameAt (tree_blocks file).strings (u32_at file (property.place + 8)) property.name
-
--- If an item of a table is a property, its token has the offset of its name.
-abbrev pub HasNameOffset : List ℕ → TableItem → Type 0
-HasNameOffset file (NodeItem depth place name) = ⊤
-HasNameOffset file (PropertyItem property) = IsNamedAt file property
-
--- The tokens of the properties of a table have the offsets of their names.
-abbrev pub HaveNameOffsets : List ℕ → List TableItem → Type 0
-HaveNameOffsets file table = AllByRecursion (HasNameOffset file) table
 
 -- The file has its header, its strings block and its reservations, and the table is that of its
 -- tree.
@@ -37,7 +19,6 @@ pub record IsBlobHeld (file : List ℕ) (reservation_count : ℕ) (entries : Lis
   pub strings : strings_end file ≤ length file
   pub reservations : HasReservations file (off_mem_rsvmap file) (totalsize file) reservation_count
   pub is_table : IsTable file entries (root_in (map (item_in file) entries))
-  pub named : HaveNameOffsets file (map (item_in file) entries)
 
 -- The entry of the node at this index of the table of a file, and the items after it.
 pub record IsNodeOf (file : List ℕ) (table : List TableItem) (index : ℕ) (node_entry : NodeEntry)

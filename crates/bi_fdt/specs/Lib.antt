@@ -17,7 +17,6 @@ pub mod Strings
 pub mod NameParts
 pub mod PartNumbers
 pub mod NameTails
-pub mod KeyOrder
 pub mod Ranks
 pub mod Order
 pub mod NameTables

@@ -1,9 +1,7 @@
 use Rattle.std.specs.Prelude.{◌≡◌, ◌⊎◌, ℕ, List, [], ◌∷◌, ◌++◌, map}
-use Rattle.bi_blob.specs.NamesByPrefix.{prefix_of_name}
 use Rattle.bi_fdt.specs.declared.name_table.NameTable.{NameTable}
 use Rattle.bi_fdt.specs.NameTails.{AreHeads}
 use Rattle.bi_fdt.specs.Numbers.{BeginsWith}
-use Rattle.bi_fdt.specs.Table.{TableItem, NodeItem, PropertyItem}
 
 -- Tables of names, each once, by their heads and the numbers of their tails.
 
@@ -24,13 +22,3 @@ pub record HasMoreNames (old new : NameTable) : Type 0 where
 -- The same names, or these with one more at the end.
 abbrev pub HasAtMostMore : List (List ℕ) → List (List ℕ) → List ℕ → Type 0
 HasAtMostMore old new name = (new ≡ old) ⊎ (new ≡ old ++ name ∷ [])
-
--- The same names, or, if an item of a table is a property, these with its name at the end.
-abbrev pub HasAtMostNameOf : List (List ℕ) → List (List ℕ) → TableItem → Type 0
-HasAtMostNameOf old new (NodeItem depth place name) = new ≡ old
-HasAtMostNameOf old new (PropertyItem property) = HasAtMostMore old new property.name
-
--- The first eight bytes of the name of a property as a number, and 0 for a node.
-abbrev pub prefix_of_item : TableItem → ℕ
-prefix_of_item (NodeItem depth place name) = 0
-prefix_of_item (PropertyItem property) = prefix_of_name property.name

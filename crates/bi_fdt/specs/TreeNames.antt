@@ -1,4 +1,4 @@
-use Rattle.std.specs.Prelude.{◌≡◌, ℕ, List, ◌++◌, Contains}
+use Rattle.std.specs.Prelude.{◌≡◌, ℕ, List, Contains}
 use Rattle.std.specs.List.{AllByRecursion}
 use Rattle.bi_blob.specs.Tree.{Root, FileNode, FileProperty}
 use Rattle.bi_blob.specs.Events.{FileNodeProperty, file_events_of}
@@ -14,8 +14,3 @@ IsNameIn name root =
 -- Each of these is the name of a property of the tree.
 abbrev pub AreNamesIn : List (List ℕ) → Root FileNode → Type 0
 AreNamesIn names root = AllByRecursion (λ name. IsNameIn name root) names
-
--- The same names, with more at the end, each of which is the name of a property of the tree.
-abbrev pub HasMoreNamesOf : (old new : List (List ℕ)) → Root FileNode → Type 0
-HasMoreNamesOf old new root =
-    (more : List (List ℕ)) × (new ≡ old ++ more) × AreNamesIn more root

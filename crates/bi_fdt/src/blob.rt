@@ -15,7 +15,6 @@ ghost use Rattle.bi_blob.specs.Lookups.{root_node};
 ghost use Rattle.bi_fdt.specs.Table.{item_in};
 ghost use Rattle.bi_fdt.specs.Reading.{IsTable};
 ghost use Rattle.bi_fdt.specs.Content.{root_of};
-ghost use Rattle.bi_fdt.specs.Fields.{HaveNameOffsets};
 ghost use Rattle.bi_fdt.specs.Numbers.{AreNumbered, FindsNumber, names_of_table};
 ghost use Rattle.bi_fdt.specs.TreeNames.{AreNamesIn};
 ghost use Rattle.bi_fdt.specs.ReadBlobs.{IsReadBlob, IsBlobReadError};
@@ -210,14 +209,6 @@ impl<'a> Blob<'a> {
             (names_of_table self.now.table) numbers.items) }
     {
         self.names.in_terms_of(alloc, &other.names)
-    }
-
-    /// Returns the bytes of the strings block (Devicetree Specification, 5.5).
-    pub(crate) fn strings(&self) -> &'a [u8]
-        ensures strings { result.now ≡ (tree_blocks_of self.now.file).strings }
-        ensures names { HaveNameOffsets self.now.file self.now.table }
-    {
-        strings_block(self.file)
     }
 
     /// Returns the table of the tree.

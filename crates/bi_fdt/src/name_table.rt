@@ -3,25 +3,15 @@
 ghost use Rattle.std.specs.Prelude.{◌≡◌, ◌+◌, ◌/◌, ◌<◌, [], IfOk, OnErr, Some, length, map, slice_get};
 ghost use Rattle.std.specs.Prelude.{take};
 ghost use Rattle.std.specs.List.{AllZip};
-ghost use Rattle.bi_blob.specs.Blob.{tree_blocks};
-ghost use Rattle.bi_fdt.specs.Content.{root_of};
-ghost use Rattle.bi_fdt.specs.Fields.{HasNameOffset};
 ghost use Rattle.bi_fdt.specs.NameTables.{names_in_table, IsNameTable, HasMoreNames};
-ghost use Rattle.bi_fdt.specs.KeyOrder.{IsKeyOrder};
-ghost use Rattle.bi_fdt.specs.NameTables.{HasAtMostMore, HasAtMostNameOf, prefix_of_item};
+ghost use Rattle.bi_fdt.specs.NameTables.{HasAtMostMore};
 ghost use Rattle.bi_fdt.specs.NameTails.{IsTail, AreBlockNumbers, head_length};
-ghost use Rattle.bi_fdt.specs.Numbers.{IsNumbered, AreNumbered, FindsNumber};
+ghost use Rattle.bi_fdt.specs.Numbers.{FindsNumber};
 ghost use Rattle.bi_fdt.specs.Strings.{AreEnds};
-ghost use Rattle.bi_fdt.specs.Table.{item_in};
-ghost use Rattle.bi_fdt.specs.TreeNames.{HasMoreNamesOf};
 
-use crate::blob::Blob;
 use crate::name_parts::NameParts;
-use crate::name_tails::{NO_BLOCKS, block_numbers, tail_at};
-use crate::strings::{STRIDE, ends_of_names};
-use crate::table::Entry;
-use bi_base::cell_at;
-use bi_blob::name_prefix;
+use crate::name_tails::{NO_BLOCKS, block_numbers};
+use crate::strings::STRIDE;
 use std::alloc::{AllocError, Global};
 
 /// The number of bytes in a strings block for which one name is expected.
