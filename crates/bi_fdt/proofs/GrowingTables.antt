@@ -261,7 +261,8 @@ growing_ended file growing grown o (up ∷ outer) parent is entries outers same 
 pub growing_finished : (file : List ℕ) (growing finished : Growing) (o : OpenFileNode) (outer : List OpenFileNode) →
     IsGrowing file growing o outer
     → ((n : NodeEntry) → slice_get growing.entries.items growing.innermost.entry ≡ Some (entry.Node n)
-    → finished.entries.items ≡ set growing.entries.items growing.innermost.entry (entry.Node (record n { after = length growing.entries.items })))
+    → finished.entries.items ≡ set growing.entries.items growing.innermost.entry
+    (entry.Node (record n { after = length growing.entries.items })))
     → growing.outer.items ≡ [] → finished.names ≡ growing.names
     → (outer ≡ []) × IsFinished file finished o
 growing_finished file growing finished o (up ∷ outer) is written none named =

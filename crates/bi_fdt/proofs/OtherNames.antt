@@ -54,7 +54,8 @@ part_other parts others once index later block tail found there after finds (suc
 pub others_more : (parts others : List NamePart) (numbers more : List (Option ℕ)) (index later : ℕ) (block : List ℕ) (tail found : Option ℕ) →
     AreOnce others → AreInOrder parts → slice_get parts index ≡ Some (later, block) → length numbers ≡ index + 1 →
     ((number : ℕ) (found : Option ℕ) → slice_get numbers number ≡ Some found → HasOtherNumber parts others number found) →
-    ((value : Option ℕ) → slice_get numbers later ≡ Some value → tail ≡ value) → FindsTail others tail block found → more ≡ numbers ++ found ∷ [] →
+    ((value : Option ℕ) → slice_get numbers later ≡ Some value → tail ≡ value) → FindsTail others tail block found →
+    more ≡ numbers ++ found ∷ [] →
     (number : ℕ) (other : Option ℕ) → slice_get more number ≡ Some other → HasOtherNumber parts others number other
 others_more parts others numbers more index later block tail found once order there long each value finds pushed number other at =
     elim (slice_get-pushed numbers found number other (ap (λ l. slice_get l number) (sym pushed) ∙ at)) [

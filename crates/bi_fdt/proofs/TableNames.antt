@@ -10,7 +10,7 @@ use Rattle.bi_fdt.specs.declared.table.NodeEntry.{NodeEntry}
 use Rattle.bi_fdt.specs.declared.table.PropertyEntry.{PropertyEntry}
 use Rattle.bi_fdt.specs.Numbers.{IsNumberOf, IsNumbered, AreNumbered, BeginsWith, with_used_name, names_after, names_of_table}
 use Rattle.bi_fdt.specs.Table.{TableItem, NodeItem, PropertyItem, item_in, property_in}
-use Rattle.bi_fdt.specs.TableNames.{entry_number, AreTableNames}
+use Rattle.bi_fdt.specs.TableNames.{name_number_of, AreTableNames}
 use Rattle.bi_fdt.proofs.Links.{items-set}
 use Rattle.bi_fdt.proofs.NumberedNames.{AllZip-append, AreNumbered-more}
 
@@ -66,9 +66,9 @@ pub table_names-node : (file : List ℕ) (entries : List Entry) (used : List (Li
 table_names-node file entries used n are = record {
   names = are.names ∙ sym (names-item [] (map (item_in file) entries) (item_in file (entry.Node n)))
       ∙ ap names_of_table (sym (map-append (item_in file) entries (entry.Node n ∷ [])));
-  numbered = subst (λ items. AreNumbered used items (map entry_number (entries ++ entry.Node n ∷ []))) (sym (map-append (item_in file) entries (entry.Node n ∷ [])))
-      (subst (AreNumbered used (map (item_in file) entries ++ item_in file (entry.Node n) ∷ [])) (sym (map-append entry_number entries (entry.Node n ∷ [])))
-      (AllZip-append (IsNumbered used) (map (item_in file) entries) (map entry_number entries) _ _ are.numbered (tt, tt)));
+  numbered = subst (λ items. AreNumbered used items (map name_number_of (entries ++ entry.Node n ∷ []))) (sym (map-append (item_in file) entries (entry.Node n ∷ [])))
+      (subst (AreNumbered used (map (item_in file) entries ++ item_in file (entry.Node n) ∷ [])) (sym (map-append name_number_of entries (entry.Node n ∷ [])))
+      (AllZip-append (IsNumbered used) (map (item_in file) entries) (map name_number_of entries) _ _ are.numbered (tt, tt)));
 }
 
 -- One more property.
@@ -80,36 +80,37 @@ table_names-property file entries used more p are is has = record {
   names = is ∙ ap (λ l. with_used_name l (property_in file p).name) are.names
       ∙ sym (names-item [] (map (item_in file) entries) (item_in file (entry.Property p)))
       ∙ ap names_of_table (sym (map-append (item_in file) entries (entry.Property p ∷ [])));
-  numbered = subst (λ items. AreNumbered more items (map entry_number (entries ++ entry.Property p ∷ []))) (sym (map-append (item_in file) entries (entry.Property p ∷ [])))
-      (subst (AreNumbered more (map (item_in file) entries ++ item_in file (entry.Property p) ∷ [])) (sym (map-append entry_number entries (entry.Property p ∷ [])))
-      (AllZip-append (IsNumbered more) (map (item_in file) entries) (map entry_number entries) _ _
-      (AreNumbered-more more used (subst (λ l. BeginsWith l used) (sym is) (with_used_name-begins used (property_in file p).name)) (map (item_in file) entries) (map entry_number entries) are.numbered)
+  numbered = subst (λ items. AreNumbered more items (map name_number_of (entries ++ entry.Property p ∷ []))) (sym (map-append (item_in file) entries (entry.Property p ∷ [])))
+      (subst (AreNumbered more (map (item_in file) entries ++ item_in file (entry.Property p) ∷ [])) (sym (map-append name_number_of entries (entry.Property p ∷ [])))
+      (AllZip-append (IsNumbered more) (map (item_in file) entries) (map name_number_of entries) _ _
+      (AreNumbered-more more used (subst (λ l. BeginsWith l used) (sym is) (with_used_name-begins used (property_in file p).name)) (map (item_in file) entries) (map name_number_of entries) are.numbered)
       (has, tt)));
 }
 
 -- Other numbers in the entry of a node.
 numbers-set : (entries later : List Entry) (index : ℕ) (n m : NodeEntry) → drop index entries ≡ entry.Node n ∷ later →
-    map entry_number (set entries index (entry.Node m)) ≡ map entry_number entries
+    map name_number_of (set entries index (entry.Node m)) ≡ map name_number_of entries
 numbers-set [] later zero n m at = absurd cc
 numbers-set [] later (suc index) n m at = absurd cc
-numbers-set (e ∷ entries) later zero n m at = let is : e ≡ entry.Node n = cc in ap (λ l. l ∷ map entry_number entries) (sym (ap entry_number is))
-numbers-set (e ∷ entries) later (suc index) n m at = ap (λ l. entry_number e ∷ l) (numbers-set entries later index n m at)
+numbers-set (e ∷ entries) later zero n m at = let is : e ≡ entry.Node n = cc in ap (λ l. l ∷ map name_number_of entries) (sym (ap name_number_of is))
+numbers-set (e ∷ entries) later (suc index) n m at = ap (λ l. name_number_of e ∷ l) (numbers-set entries later index n m at)
 
 pub table_names-set : (file : List ℕ) (entries later : List Entry) (used : List (List ℕ)) (index : ℕ) (n m : NodeEntry) →
-    drop index entries ≡ entry.Node n ∷ later → item_in file (entry.Node m) ≡ item_in file (entry.Node n) → AreTableNames file entries used →
+    drop index entries ≡ entry.Node n ∷ later → item_in file (entry.Node m) ≡ item_in file (entry.Node n) →
+    AreTableNames file entries used →
     AreTableNames file (set entries index (entry.Node m)) used
 table_names-set file entries later used index n m at same are =
     let items : map (item_in file) (set entries index (entry.Node m)) ≡ map (item_in file) entries = items-set file entries later index n m at same in
     record {
       names = are.names ∙ ap names_of_table (sym items);
-      numbered = subst (λ items. AreNumbered used items (map entry_number (set entries index (entry.Node m)))) (sym items)
+      numbered = subst (λ items. AreNumbered used items (map name_number_of (set entries index (entry.Node m)))) (sym items)
           (subst (AreNumbered used (map (item_in file) entries)) (sym (numbers-set entries later index n m at)) are.numbered);
     }
 
 -- The numbers of the entries of a table.
 pub numbers_of_table : (file : List ℕ) (entries : List Entry) (used : List (List ℕ)) (numbers : List ℕ) →
     AreTableNames file entries used →
-    numbers ≡ map entry_number entries → AreNumbered (names_of_table (map (item_in file) entries)) (map (item_in file) entries) numbers
+    numbers ≡ map name_number_of entries → AreNumbered (names_of_table (map (item_in file) entries)) (map (item_in file) entries) numbers
 numbers_of_table file entries used numbers are is =
     subst (AreNumbered (names_of_table (map (item_in file) entries)) (map (item_in file) entries)) (sym is)
-    (subst (λ names. AreNumbered names (map (item_in file) entries) (map entry_number entries)) are.names are.numbered)
+    (subst (λ names. AreNumbered names (map (item_in file) entries) (map name_number_of entries)) are.names are.numbered)
