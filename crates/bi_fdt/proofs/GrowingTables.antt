@@ -2,7 +2,7 @@ use Rattle.std.proofs.Common.{◌≡◌, ℕ, zero, suc, ◌+◌, ◌-◌, ◌<�
 use Rattle.std.proofs.Common.{ap, subst, ◌∙◌, arith}
 use Rattle.std.proofs.Math.ListN.{set}
 use Rattle.std.proofs.Math.Seq.{drop-append_seam}
-use Rattle.std.proofs.lemmas.List.{length-append, length-set, length-map, map-append, drop-map, append-nil, reverse-append, map_push}
+use Rattle.std.proofs.lemmas.List.{length-append, length-set, length-map, map-append, drop-map, append-nil, reverse-append, length-reverse, map_push}
 use Rattle.bi_blob.specs.Tree.{FileProperty, names}
 use Rattle.bi_blob.specs.Events.{FileNodeProperty, FileNodeEnd}
 use Rattle.bi_blob.specs.NameSets.{HoldsNames}
@@ -23,6 +23,7 @@ use Rattle.bi_fdt.specs.TableNames.{AreTableNames}
 use Rattle.bi_fdt.proofs.Items.{items_of-append, open_items, node_items, items_of-open_nodes, items_of-open, inside-open, childless_items}
 use Rattle.bi_fdt.proofs.Links.{AreLinked-node, AreLinked-property, AreLinked-end, items-set, drop-push, properties_alone}
 use Rattle.bi_fdt.proofs.Links.{AreOnlyProperties}
+use Rattle.bi_fdt.proofs.OpenEntries.{AreOpen-length}
 use Rattle.bi_fdt.proofs.PropertyMarks.{begins_without_names, bound_more}
 use Rattle.bi_fdt.proofs.TableNames.{table_names-node, table_names-property, table_names-set}
 
@@ -102,6 +103,14 @@ open_nodes_within file growing o outer is =
     let most : length outer + 1 ≤ length (items_of 0 (events_of_open_nodes o outer)) = open_nodes_few o outer in
     let long : length growing.entries.items ≡ length (items_of 0 (events_of_open_nodes o outer)) = sym (simp length-map) ∙ ap length is.items in
     omega arith
+
+-- As many outer nodes are kept as there are.
+pub outer_count : (file : List ℕ) (growing : Growing) (innermost : OpenFileNode) (outer : List OpenFileNode) → IsGrowing file growing innermost outer →
+    length growing.outer.items ≡ length outer
+outer_count file growing innermost outer is =
+    let long : suc (length (reverse growing.outer.items)) ≡ length outer + 1 =
+    AreOpen-length (growing.innermost ∷ reverse growing.outer.items) (names innermost.children) innermost.name outer is.opened in
+    omega (arith, long, length-reverse growing.outer.items)
 
 -- What is at an index where a list goes on after it.
 pub get_at : {X : Type 0} (xs later : List X) (index : ℕ) (x : X) → drop index xs ≡ x ∷ later → slice_get xs index ≡ Some x

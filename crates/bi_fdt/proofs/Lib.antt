@@ -27,3 +27,4 @@ pub mod DistinctNumbers
 pub mod KeyedProperties
 pub mod ByName
 pub mod NameTables
+pub mod OtherNames

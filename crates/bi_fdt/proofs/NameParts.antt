@@ -1,5 +1,5 @@
 use Rattle.std.proofs.Common.{◌≡◌, ◌⊎◌, ℕ, zero, suc, inl, inr, Bool, true, false, cond, List, [], ◌∷◌, ◌++◌, length, Option, Some, None}
-use Rattle.std.proofs.Common.{slice_get, refl, sym, ap, subst, ◌∙◌}
+use Rattle.std.proofs.Common.{slice_get, ◌≤◌, refl, sym, ap, subst, ◌∙◌, arith}
 use Rattle.std.specs.declared.cmp.Ordering.{Ordering}
 use Rattle.std.specs.declared.cmp.Ordering.TheVariants.{Less, Equal, Greater}
 use Rattle.std.specs.Ordering.{nat_cmp, ordering_then, is_eq}
@@ -12,7 +12,7 @@ use Rattle.std.proofs.lemmas.List.{append_assoc, append-nil}
 use Rattle.std.proofs.lemmas.Map.Lookups.{exact_pairs, exact_unsigned, exact_bytes}
 use Rattle.std.proofs.lemmas.Option.{none-some, same_Some}
 use Rattle.bi_blob.specs.NamesByPrefix.{prefix_of_name, by_prefix}
-use Rattle.bi_fdt.specs.NameParts.{NamePart, AreOnce, IsNewPart, IsPlaced, AreMoreParts, key_of_part}
+use Rattle.bi_fdt.specs.NameParts.{NamePart, AreOnce, AreInOrder, IsNewPart, IsPlaced, AreMoreParts, key_of_part}
 use Rattle.bi_fdt.specs.Numbers.{BeginsWith}
 
 -- Parts of names keep their numbers, and a map has the numbers of exactly these parts.
@@ -128,10 +128,11 @@ pub AreMoreParts-same : (old new : List NamePart) → new ≡ old → AreMorePar
 AreMoreParts-same old new same = record {
   begin = ([], same ∙ sym (append-nil old));
   once = λ once. subst AreOnce (sym same) once;
+  order = λ order. subst AreInOrder (sym same) order;
 }
 
 -- One more part.
-once_more : (parts : List NamePart) (part : NamePart) → IsNewPart part parts → AreOnce parts → AreOnce (parts ++ part ∷ [])
+pub once_more : (parts : List NamePart) (part : NamePart) → IsNewPart part parts → AreOnce parts → AreOnce (parts ++ part ∷ [])
 once_more parts part new once other m n at_m at_n =
     elim (slice_get-pushed parts part m other at_m) [
       | inl m_there ↦ elim (slice_get-pushed parts part n other at_n) [
@@ -144,14 +145,22 @@ once_more parts part new once other m n at_m at_n =
       ]
     ]
 
+-- It is in order if the blocks after it are.
+order_more : (parts : List NamePart) (part : NamePart) → part.0 ≤ length parts → AreInOrder parts → AreInOrder (parts ++ part ∷ [])
+order_more parts part fits order index other at = elim (slice_get-pushed parts part index other at) [
+  | inl there ↦ order index other there
+  | inr last ↦ subst (λ (other : NamePart). other.0 ≤ index) last.1 (omega (arith, fits, last.0))
+]
+
 -- What adding a part does.
-pub placed_more : (old : List NamePart) (part : NamePart) (index : ℕ) (new : List NamePart) → IsPlaced old part index new →
-    AreMoreParts old new
-placed_more old part index new placed = elim placed [
+pub placed_more : (old : List NamePart) (part : NamePart) (index : ℕ) (new : List NamePart) → part.0 ≤ length old →
+    IsPlaced old part index new → AreMoreParts old new
+placed_more old part index new fits placed = elim placed [
   | inl there ↦ AreMoreParts-same old new there.1
   | inr added ↦ record {
     begin = (part ∷ [], added.2);
     once = λ once. subst AreOnce (sym added.2) (once_more old part added.0 once);
+    order = λ order. subst AreInOrder (sym added.2) (order_more old part fits order);
   }
 ]
 
@@ -167,4 +176,5 @@ pub AreMoreParts-again : (a b c : List NamePart) → AreMoreParts a b → AreMor
 AreMoreParts-again a b c first second = record {
   begin = (first.begin.0 ++ second.begin.0, second.begin.1 ∙ ap (λ l. l ++ second.begin.0) first.begin.1 ∙ append_assoc a first.begin.0 second.begin.0);
   once = λ once. second.once (first.once once);
+  order = λ order. second.order (first.order order);
 }

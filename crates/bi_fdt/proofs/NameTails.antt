@@ -3,7 +3,7 @@ use Rattle.std.proofs.Common.{slice_index_or, inl, inr}
 use Rattle.std.proofs.Math.Nat.{eq-or-lt_of_le}
 use Rattle.std.proofs.Common.{refl, sym, ap, subst, ◌∙◌, arith}
 use Rattle.std.proofs.lemmas.List.{length-drop, take-append-drop, drop_all, get_or_append_left, get_or-append_right}
-use Rattle.std.proofs.lemmas.Option.{some_pair_parts}
+use Rattle.std.proofs.lemmas.Option.{some_pair_parts, slice_get_within}
 use Rattle.bi_blob.specs.Tokens.{name_from}
 use Rattle.bi_fdt.specs.NameParts.{NamePart, AreOnce}
 use Rattle.bi_fdt.specs.Numbers.{BeginsWith}
@@ -52,8 +52,15 @@ AreBlocksNumbered-later tails (suc count) skipped number name within is = (
   AreBlocksNumbered-later tails count skipped is.0 name (omega arith) is.3,
 )
 
+-- The number of last blocks is none of a later part.
+pub number_within : (tails : List NamePart) (count number : ℕ) (name : List ℕ) → AreBlocksNumbered tails count number name →
+    number ≤ length tails
+number_within tails zero number name is = omega (arith, is)
+number_within tails (suc count) number name is =
+    omega (arith, is.1, slice_get_within tails (number - 1) (is.0, take 64 (drop (length name - 64 * (count + 1)) name)) is.2)
+
 -- Some last blocks have one number.
-one_number : (tails : List NamePart) → AreOnce tails → (count m n : ℕ) (name : List ℕ) → AreBlocksNumbered tails count m name →
+pub one_number : (tails : List NamePart) → AreOnce tails → (count m n : ℕ) (name : List ℕ) → AreBlocksNumbered tails count m name →
     AreBlocksNumbered tails count n name → m ≡ n
 one_number tails once zero m n name is other = is ∙ sym other
 one_number tails once (suc count) m n name is other =

@@ -9,7 +9,7 @@ use Rattle.bi_fdt.specs.NameParts.{NamePart, AreOnce, IsNewPart, IsPlaced, AreMo
 use Rattle.bi_fdt.specs.NameTails.{IsHead, AreHeads, AreBlockNumbers}
 use Rattle.bi_fdt.specs.Numbers.{BeginsWith, IsNumbered, AreNumbered}
 use Rattle.bi_fdt.specs.Table.{TableItem, NodeItem, PropertyItem}
-use Rattle.bi_fdt.proofs.NameParts.{slice_get-begin, placed_more}
+use Rattle.bi_fdt.proofs.NameParts.{slice_get-begin, once_more}
 use Rattle.bi_fdt.proofs.NameTails.{IsTail-kept, AreAllBlocks-kept, same_name_of_head, one_head}
 
 -- Names keep their numbers when more are added.
@@ -83,6 +83,7 @@ pub AreHeads-tails : (old new heads : List NamePart) (names : List (List ℕ)) �
     AreHeads new heads names
 AreHeads-tails old new heads names more are = record {
   tails_once = more.once are.tails_once;
+  tails_order = more.order are.tails_order;
   heads_once = are.heads_once;
   each = heads_kept old new more.begin heads names are.each;
   distinct = are.distinct;
@@ -138,7 +139,8 @@ pub AreHeads-push : (tails heads : List NamePart) (names : List (List ℕ)) (par
     IsHead tails part name → IsNewPart part heads → AreHeads tails (heads ++ part ∷ []) (names ++ name ∷ [])
 AreHeads-push tails heads names part name are is new = record {
   tails_once = are.tails_once;
-  heads_once = (placed_more heads part (length heads) (heads ++ part ∷ []) (inr (new, refl, refl))).once are.heads_once;
+  tails_order = are.tails_order;
+  heads_once = once_more heads part new are.heads_once;
   each = AllZip-append (IsHead tails) heads names (part ∷ []) (name ∷ []) are.each (is, tt);
   distinct = AreDistinct-push names name are.distinct (new_name tails heads names part name are.tails_once are.each is new);
 }

@@ -1,14 +1,16 @@
-use Rattle.std.proofs.Common.{◌≡◌, ◌↔◌, ℕ, zero, suc, inl, inr, Bool, true, false, List, [], ◌∷◌, ◌++◌, slice_get}
+use Rattle.std.proofs.Common.{◌≡◌, ◌↔◌, ℕ, zero, suc, inl, inr, Bool, true, false, List, Some, [], ◌∷◌, ◌++◌, slice_get}
 use Rattle.std.proofs.Common.{refl, sym, ap, subst, ◌∙◌}
 use Rattle.std.specs.Prelude.{if◌then◌else◌, IfOk, OnOk, Ok, Err}
 use Rattle.std.specs.declared.result.Result.{Result}
 use Rattle.std.specs.List.{AllByRecursion}
 use Rattle.std.proofs.lemmas.Option.{none-some, same_Some}
 use Rattle.bi_blob.specs.Layout.{is_among}
-use Rattle.bi_blob.specs.Tree.{AreDistinct, IsNew}
+use Rattle.bi_blob.specs.Tree.{AreDistinct, IsNew, FileProperty}
+use Rattle.bi_blob.proofs.Blobs.OpenNodes.{AreDistinct-push}
 use Rattle.bi_blob.proofs.NameSets.{new_by_test, held_by_test}
 use Rattle.bi_fdt.specs.NameTables.{HasAtMostMore}
-use Rattle.bi_fdt.specs.Numbers.{IsNumberOf, with_name}
+use Rattle.bi_fdt.specs.Numbers.{IsNumberOf, IsNumbered, AreNumbered, with_name, names_after}
+use Rattle.bi_fdt.specs.Table.{TableItem, NodeItem, PropertyItem}
 
 -- Names that were used are there once, at their numbers.
 
@@ -63,3 +65,27 @@ one_number_each names distinct a b m n is_a is_b = (
 pub on_ok : {V E : Type 0} (r : Result V E) (P : V → Type 0) (Q : Type 0) → IfOk r P → ((v : V) → P v → Q) → OnOk r Q
 on_ok (Ok v) P Q has follows = follows v has
 on_ok (Err e) P Q has follows = tt
+
+-- The names after one more use are there once.
+with_name-distinct : (used : List (List ℕ)) (name : List ℕ) → AreDistinct used → AreDistinct (with_name used name)
+with_name-distinct used name distinct = by (is_among name used) refl
+  where
+    by : (b : Bool) → is_among name used ≡ b → AreDistinct (with_name used name)
+    by true old = subst AreDistinct (sym (ap (λ b. if b then used else used ++ name ∷ []) old)) distinct
+    by false new = subst AreDistinct (sym (ap (λ b. if b then used else used ++ name ∷ []) new)) (AreDistinct-push used name distinct (new_by_test name used new))
+
+pub names_after-distinct : (used : List (List ℕ)) (table : List TableItem) → AreDistinct used → AreDistinct (names_after used table)
+names_after-distinct used [] distinct = distinct
+names_after-distinct used (NodeItem depth place name ∷ table) distinct = names_after-distinct used table distinct
+names_after-distinct used (PropertyItem property ∷ table) distinct =
+    names_after-distinct (with_name used property.name) table (with_name-distinct used property.name distinct)
+
+-- A property of a table has the name of its number.
+pub number_there : (names : List (List ℕ)) (table : List TableItem) (numbers : List ℕ) (at number : ℕ) (property : FileProperty) →
+    AreNumbered names table numbers → slice_get table at ≡ Some (PropertyItem property) → slice_get numbers at ≡ Some number →
+    IsNumberOf names property.name number
+number_there names [] numbers at number property are is has = absurd (none-some (PropertyItem property) is)
+number_there names (item ∷ table) [] at number property are is has = absurd are
+number_there names (item ∷ table) (first ∷ numbers) zero number property are is has =
+    subst (IsNumberOf names property.name) (same_Some first number has) (subst (λ item. IsNumbered names item first) (same_Some item (PropertyItem property) is) are.0)
+number_there names (item ∷ table) (first ∷ numbers) (suc at) number property are is has = number_there names table numbers at number property are.1 is has

@@ -20,3 +20,5 @@ pub mod KeyOrder
 pub mod Ranks
 pub mod Order
 pub mod NameTables
+pub mod OtherNames
+pub mod Laws

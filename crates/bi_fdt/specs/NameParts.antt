@@ -1,4 +1,4 @@
-use Rattle.std.specs.Prelude.{◌≡◌, ◌⊎◌, ℕ, List, [], ◌∷◌, ◌++◌, length, map, Some, slice_get}
+use Rattle.std.specs.Prelude.{◌≡◌, ◌⊎◌, ℕ, ◌≤◌, List, [], ◌∷◌, ◌++◌, length, map, Some, slice_get}
 use Rattle.std.specs.Prelude.{Option, MatchOption}
 use Rattle.std.specs.BTreeMap.{get}
 use Rattle.std.specs.Borrow.{Bor}
@@ -17,6 +17,10 @@ abbrev pub AreOnce : List NamePart → Type 0
 AreOnce parts = (part : NamePart) (m n : ℕ) → slice_get parts m ≡ Some part
     → slice_get parts n ≡ Some part → m ≡ n
 
+-- The blocks after each part have the number of a part before it, or are none.
+abbrev pub AreInOrder : List NamePart → Type 0
+AreInOrder parts = (index : ℕ) (part : NamePart) → slice_get parts index ≡ Some part → part.0 ≤ index
+
 -- A part is not in a list.
 abbrev pub IsNewPart : NamePart → List NamePart → Type 0
 IsNewPart part parts = (index : ℕ) → ¬ (slice_get parts index ≡ Some part)
@@ -31,10 +35,12 @@ abbrev pub IsPlaced : List NamePart → NamePart → ℕ → List NamePart → T
 IsPlaced old part index new = ((slice_get old index ≡ Some part) × (new ≡ old))
     ⊎ (IsNewPart part old × (index ≡ length old) × (new ≡ old ++ part ∷ []))
 
--- The same parts and maybe more: each part keeps its number, and still none is there twice.
+-- The same parts and maybe more: each part keeps its number, still none is there twice, and they
+-- are still in order.
 pub record AreMoreParts (old new : List NamePart) : Type 0 where
   pub begin : BeginsWith new old
   pub once : AreOnce old → AreOnce new
+  pub order : AreInOrder old → AreInOrder new
 
 -- The parts that the fields hold.
 abbrev pub name_parts_of : Inside → List NamePart

@@ -8,6 +8,7 @@ ghost use Rattle.bi_blob.specs.Blob.{tree_blocks as tree_blocks_of, Header};
 ghost use Rattle.bi_blob.specs.BlobFaults.{HasNoHeaderFault, HasReservations};
 ghost use Rattle.bi_blob.specs.BlobFaults.{IsFaultBeforeTree};
 ghost use Rattle.bi_fdt.specs.Blocks.{blocks_of};
+ghost use Rattle.std.specs.List.{AllZip};
 ghost use Rattle.bi_base.specs.Slices.{bytes_of};
 ghost use Rattle.bi_blob.specs.Tree.{AreDistinct};
 ghost use Rattle.bi_blob.specs.Lookups.{root_node};
@@ -194,6 +195,21 @@ impl<'a> Blob<'a> {
         ensures { FindsNumber (names_of_table self.now.table) name.now result }
     {
         self.names.find(name)
+    }
+
+    /// Returns for each name, in the order of `names`, the number that the same name has in another
+    /// blob, or None if no property of that blob has the name. The time is n log n in the lengths
+    /// of the strings blocks and the number of the names, however long the names are and however
+    /// many of them share bytes. Fails if memory runs out.
+    pub fn names_in_terms_of(
+        &self,
+        alloc: Global,
+        other: &Blob<'a>,
+    ) -> Result<Vec<Option<usize>>, AllocError>
+        ensures { IfOk result (λ numbers. AllZip (FindsNumber (names_of_table other.now.table))
+            (names_of_table self.now.table) numbers.items) }
+    {
+        self.names.in_terms_of(alloc, &other.names)
     }
 
     /// Returns the bytes of the strings block (Devicetree Specification, 5.5).

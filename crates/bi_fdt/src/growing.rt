@@ -14,10 +14,15 @@ use crate::marked_names::MarkedNames;
 use crate::strings::Strings;
 use crate::table::{Entry, NodeEntry, PropertyEntry, set_after, set_property_count};
 use crate::used_names::UsedNames;
+use arrayvec::ArrayVec;
 use bi_base::{Cause, Error, refuse};
 use std::alloc::{AllocError, Global};
 use std::collections::BTreeSet;
+use std::default::MadeWith;
 use std::mem;
+
+/// The most nodes that contain another node. Limits allow at most 64 open nodes.
+const MOST_OUTER_NODES: usize = 63;
 
 /// A node that has started and has not ended.
 #[derive(Drop)]
@@ -26,6 +31,15 @@ pub(crate) struct OpenNode<'a> {
     entry: usize,
     /// The names of its children so far.
     children: BTreeSet<&'a [u8]>,
+}
+
+impl<'a> MadeWith<Global> for OpenNode<'a> {
+    fn made_with(alloc: Global) -> OpenNode<'a> {
+        OpenNode {
+            entry: 0,
+            children: BTreeSet::new(alloc),
+        }
+    }
 }
 
 /// The table of a tree whose root has started.
@@ -37,7 +51,7 @@ pub(crate) struct Growing<'a> {
     names: MarkedNames<'a>,
     innermost: OpenNode<'a>,
     /// The nodes that contain the innermost open node, the root first.
-    outer: Vec<OpenNode<'a>>,
+    outer: ArrayVec<OpenNode<'a>, MOST_OUTER_NODES, Global>,
 }
 
 impl<'a> Growing<'a> {
@@ -66,7 +80,7 @@ impl<'a> Growing<'a> {
                 entry: 0,
                 children: BTreeSet::new(alloc),
             },
-            outer: Vec::new(alloc),
+            outer: ArrayVec::new_in(alloc),
         })
     }
 
@@ -87,8 +101,9 @@ impl<'a> Growing<'a> {
         self.innermost.children.is_empty()
     }
 
-    /// Begins a child of the innermost open node, at `place`. Fails with DuplicateNode if a child
-    /// has the name already. After an error the tree is of no use.
+    /// Begins a child of the innermost open node, at `place`. Requires that fewer than 64 nodes are
+    /// open. Fails with DuplicateNode if a child has the name already. After an error the tree is of
+    /// no use.
     pub(crate) fn begin_node(
         &mut self,
         alloc: Global,
@@ -98,6 +113,7 @@ impl<'a> Growing<'a> {
         requires grown { IsGrown self.old }
         requires few { length self.old.entries.items ≤ place }
         requires name { length name.now < 2 ^ 32 }
+        requires room { length self.old.outer.items < 63 }
         ensures ok { OnOk result (BeginsChild self.old name.entry.now place self.new) }
         ensures failed { IfErr result (IsFaultOrNoMemory
             (IsChildTaken self.old name.entry.now place)) }
@@ -116,7 +132,7 @@ impl<'a> Growing<'a> {
             property_count: 0,
             after: 0,
         }))?;
-        self.outer.push(mem::replace(&mut self.innermost, child))?;
+        self.outer.push(mem::replace(&mut self.innermost, child));
         Ok(())
     }
 

@@ -6,6 +6,7 @@ mod blocks;
 mod fields;
 mod growing;
 mod header;
+pub mod laws;
 mod marked_names;
 mod name_parts;
 mod name_table;

@@ -2,6 +2,7 @@
 
 ghost use Rattle.std.specs.Prelude.{◌≡◌, ◌+◌, ◌/◌, ◌<◌, [], IfOk, OnErr, Some, length, map, slice_get};
 ghost use Rattle.std.specs.Prelude.{take};
+ghost use Rattle.std.specs.List.{AllZip};
 ghost use Rattle.bi_blob.specs.Blob.{tree_blocks};
 ghost use Rattle.bi_fdt.specs.Content.{root_of};
 ghost use Rattle.bi_fdt.specs.Fields.{HasNameOffset};
@@ -92,6 +93,22 @@ impl<'a> NameTable<'a> {
         ensures { FindsNumber (names_in_table self.now) name.now result }
     {
         self.heads.find(NO_BLOCKS, name)
+    }
+
+    /// Returns for each name the number that it has in another table, if it is there. Each block
+    /// and each head is looked up once. Fails if memory runs out.
+    pub(crate) fn in_terms_of(
+        &self,
+        alloc: Global,
+        other: &NameTable<'a>,
+    ) -> Result<Vec<Option<usize>>, AllocError>
+        requires table { IsNameTable self.now }
+        requires other { IsNameTable other.now }
+        ensures { IfOk result (λ numbers. AllZip (FindsNumber (names_in_table other.now))
+            (names_in_table self.now) numbers.items) }
+    {
+        let tails = self.tails.tails_in(alloc, &other.tails)?;
+        self.heads.numbers_in(alloc, &other.heads, &tails)
     }
 
     /// Returns the number of the name of a property, and any number for a node. `blocks` are the

@@ -28,7 +28,8 @@ pub(crate) fn read_tree<'a>(
 ) -> Result<(Vec<Entry>, UsedNames<'a>), Error>
     requires blocks { AreBlocks blocks }
     requires ordered { blocks.begin ≤ blocks.end }
-    requires depth { 1 ≤ depth_limit }
+    requires least { 1 ≤ depth_limit }
+    requires most { depth_limit ≤ 64 }
     ensures ok { IfOk result (λ table. HasTable
         (blocks_of blocks.entry) depth_limit table.0.items table.1.used) }
     ensures failed { IfErr result (IsFaultOrNoMemory
@@ -96,6 +97,7 @@ fn read_root<'a>(
     reading: &mut Reading<'a>,
 ) -> Result<(), Error>
     requires blocks { AreBlocks blocks }
+    requires depth { depth_limit ≤ 64 }
     requires reading { IsReading (blocks_of blocks) depth_limit reading.old }
     ensures ok { OnOk result (IsAfter (blocks_of blocks.entry) depth_limit reading.new) }
     ensures failed { IfErr result (IsFaultOrNoMemory

@@ -1,6 +1,6 @@
 //! The tokens of the structure block, one at a time (Devicetree Specification, 5.4.1).
 
-ghost use Rattle.std.specs.Prelude.{IfOk, IfErr, OnOk, false};
+ghost use Rattle.std.specs.Prelude.{◌≤◌, IfOk, IfErr, OnOk, false};
 ghost use Rattle.bi_base.specs.Errors.{IsFaultOrNoMemory};
 ghost use Rattle.bi_blob.specs.BlobFaults.{IsStructureFault};
 ghost use Rattle.bi_blob.specs.Tokens.{begin_node_number, prop_number};
@@ -29,6 +29,7 @@ pub(crate) fn step<'a>(
     reading: &mut Reading<'a>,
 ) -> Result<bool, Error>
     requires blocks { AreBlocks blocks }
+    requires depth { depth_limit ≤ 64 }
     requires reading { IsReading (blocks_of blocks) depth_limit reading.old }
     ensures ok { IfOk result (λ has_ended.
         IsAhead (blocks_of blocks.entry) depth_limit reading.old.place has_ended reading.new) }
@@ -64,6 +65,7 @@ fn begin_node<'a>(
     reading: &mut Reading<'a>,
 ) -> Result<(), Error>
     requires blocks { AreBlocks blocks }
+    requires depth { depth_limit ≤ 64 }
     requires reading { IsReading (blocks_of blocks) depth_limit reading.old }
     requires number { IsNumberAt (blocks_of blocks) reading.old.place begin_node_number }
     ensures ok { OnOk result

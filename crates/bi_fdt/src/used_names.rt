@@ -1,6 +1,7 @@
 //! The names of the properties of a blob, each with its number.
 
 ghost use Rattle.std.specs.Prelude.{◌≡◌, ◌<◌, [], length, IfOk, OnOk, OnErr};
+ghost use Rattle.std.specs.List.{AllZip};
 ghost use Rattle.bi_base.specs.Slices.{bytes_of};
 ghost use Rattle.bi_blob.specs.Tokens.{name_from};
 ghost use Rattle.bi_blob.specs.Tree.{AreDistinct};
@@ -75,6 +76,19 @@ impl<'a> UsedNames<'a> {
         ensures { FindsNumber self.now.used name.now result }
     {
         self.table.find(name)
+    }
+
+    /// Returns for each name the number that it has among others, if it is there. Fails if memory
+    /// runs out.
+    pub(crate) fn in_terms_of(
+        &self,
+        alloc: Global,
+        other: &UsedNames<'a>,
+    ) -> Result<Vec<Option<usize>>, AllocError>
+        ensures { IfOk result (λ numbers.
+            AllZip (FindsNumber other.now.used) self.now.used numbers.items) }
+    {
+        self.table.in_terms_of(alloc, &other.table)
     }
 
     /// Returns the names. The number of each is its index.

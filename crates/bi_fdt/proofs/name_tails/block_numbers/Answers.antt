@@ -16,3 +16,11 @@ loop-turn-preserved c =
       later = λ some. subst (λ at. AreAllBlocks c.blocks_before.new.tails c.in_ok-later.later (name_from c.args.strings.now at)) place c.in_ok-later.ensures.blocks;
       more = AreMoreParts-again c.args.tails.now c.loop-turn.tails c.blocks_before.new.tails c.loop-turn.invariant.more c.blocks_before.ensures.more;
     }
+
+pub returns-in_err-later-clause-more : goal.returns-in_err-later-clause-more
+returns-in_err-later-clause-more c =
+    AreMoreParts-again c.args.tails.now c.loop-turn.tails c.blocks_before.new.tails c.loop-turn.invariant.more c.blocks_before.ensures.more
+
+pub returns-in_err-push-clause-more : goal.returns-in_err-push-clause-more
+returns-in_err-push-clause-more c =
+    AreMoreParts-again c.args.tails.now c.loop-turn.tails c.blocks_before.new.tails c.loop-turn.invariant.more c.blocks_before.ensures.more

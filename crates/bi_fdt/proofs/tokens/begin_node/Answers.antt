@@ -4,10 +4,19 @@ use Rattle.bi_base.proofs.Refusals.{refused_by, refusal_passed_on}
 use Rattle.bi_blob.specs.Tokens.{name_from}
 use Rattle.bi_blob.specs.OpenNodes.{IsOpenAt, OpenTree, open_node_of, outer_nodes_of, new_node}
 use Rattle.bi_fdt.specs.Blocks.{blocks_of}
+use Rattle.bi_fdt.proofs.GrowingTables.{outer_count}
 use Rattle.bi_fdt.proofs.NameEnds.{name_there}
 use Rattle.bi_fdt.proofs.TokenSteps.{up4-within, begin_fault, duplicate_node, after_begin}
 use Rattle.bi_blob.proofs.Blobs.ReaderSteps.{length-outer_nodes_of}
 use Rattle.bi_fdt.proofs.tokens.begin_node.Goals as goal
+
+pub begin_node-requires-clause-room : goal.begin_node-requires-clause-room
+begin_node-requires-clause-room c =
+    let r = c.requires.reading in
+    let deep : length (outer_nodes_of r.innermost.name r.outer) ≡ length r.outer = length-outer_nodes_of r.innermost.name r.outer in
+    let depth : c.depth.result ≡ length r.outer + 1 = c.depth.ensures c.args.blocks.file.now r.innermost r.outer r.growing in
+    let passes = c.in_ok-name.ensures.ok (open_node_of r.innermost) (outer_nodes_of r.innermost.name r.outer) (omega arith) in
+    omega (arith, passes.0, deep, c.requires.depth, outer_count c.args.blocks.file.now c.args.reading.now.growing r.innermost r.outer r.growing)
 
 pub returns-in_err-name-clause-failed : goal.returns-in_err-name-clause-failed
 returns-in_err-name-clause-failed c =

@@ -1,6 +1,6 @@
-use Rattle.std.proofs.Common.{◌≡◌, ℕ, List, suc, ◌+◌, ◌≤◌, ◌∷◌, [], ◌++◌, length, reverse, refl, sym, ◌∙◌, ap, subst, arith, rules}
+use Rattle.std.proofs.Common.{◌≡◌, ℕ, List, ◌+◌, ◌≤◌, ◌∷◌, [], ◌++◌, length, refl, sym, ◌∙◌, ap, subst, arith, rules}
 use Rattle.std.proofs.lemmas.Bool.{not-true, not-false}
-use Rattle.std.proofs.lemmas.List.{length-append, length-reverse}
+use Rattle.std.proofs.lemmas.List.{length-append}
 use Rattle.bi_blob.specs.Tree.{names}
 use Rattle.bi_blob.specs.NameSets.{HoldsNames}
 use Rattle.bi_blob.specs.BlobFaults.{token_fault, IsNewNode}
@@ -10,8 +10,8 @@ use Rattle.bi_fdt.specs.declared.growing.Growing.{Growing}
 use Rattle.bi_fdt.specs.declared.growing.OpenNode.{OpenNode}
 use Rattle.bi_fdt.specs.Table.{NodeItem}
 use Rattle.bi_fdt.specs.Growth.{IsGrowing, IsChildTaken}
-use Rattle.bi_fdt.proofs.OpenEntries.{AreOpen-held, AreOpen-length}
-use Rattle.bi_fdt.proofs.GrowingTables.{growing_begun, open_nodes_within}
+use Rattle.bi_fdt.proofs.OpenEntries.{AreOpen-held}
+use Rattle.bi_fdt.proofs.GrowingTables.{growing_begun, open_nodes_within, outer_count}
 use Rattle.bi_fdt.proofs.growing.Growing.begin_node.Goals as goal
 
 -- The innermost open node has the names of its children.
@@ -20,13 +20,6 @@ held : (file : List ℕ) (growing : Growing) (innermost : OpenFileNode) (outer :
 held file growing innermost outer is = AreOpen-held _ _ (names innermost.children) innermost.name outer is.opened
 
 -- The outer nodes and the innermost have entries.
-outer_count : (file : List ℕ) (growing : Growing) (innermost : OpenFileNode) (outer : List OpenFileNode) → IsGrowing file growing innermost outer →
-    length growing.outer.items ≡ length outer
-outer_count file growing innermost outer is =
-    let long : suc (length (reverse growing.outer.items)) ≡ length outer + 1 =
-    AreOpen-length (growing.innermost ∷ reverse growing.outer.items) (names innermost.children) innermost.name outer is.opened in
-    omega (arith, long, length-reverse growing.outer.items)
-
 outer_few : (file : List ℕ) (growing : Growing) (innermost : OpenFileNode) (outer : List OpenFileNode) → IsGrowing file growing innermost outer →
     length growing.outer.items + 1 ≤ length growing.entries.items
 outer_few file growing innermost outer is =
@@ -68,7 +61,7 @@ returns-clause-ok c =
           (record { place = c.args.place; name_length = length c.args.name.now; depth = c.len-2.result + 1; property_count = 0; after = 0 }) c.replace.result
           growing c.in_ok-push.ensures.items (λ i. NodeItem (depth i) c.args.place (named i)) depth refl (ap (λ a. a.entry) c.replace.ensures.after ∙ counted)
           (subst (λ (a : OpenNode). HoldsNames a.children []) (sym c.replace.ensures.after) (HoldsNames-none c.new.result c.new.ensures.empty))
-          c.in_ok-push-2.ensures.items (ap (λ a. a.entry) c.replace.ensures.value)
+          c.push-2.ensures.items (ap (λ a. a.entry) c.replace.ensures.value)
           (subst (λ (a : OpenNode). HoldsNames a.children (names innermost.children ++ c.args.name.now ∷ [])) (sym c.replace.ensures.value)
           (HoldsNames-insert old.innermost.children c.insert.new.self c.args.name (names innermost.children) (held file old innermost outer growing) c.in_ok-insert.ensures.updates))
           refl;

@@ -1,8 +1,8 @@
-use Rattle.std.proofs.Common.{◌≡◌, ℕ, slice_get, ◌<◌, length, refl, ap, ◌∙◌, arith, rules}
+use Rattle.std.proofs.Common.{◌≡◌, ℕ, zero, suc, true, false, slice_get, ◌<◌, length, refl, ap, ◌∙◌, arith, rules}
 use Rattle.std.specs.Vec.{with_items}
 use Rattle.std.proofs.Math.ListN.{set}
 use Rattle.std.proofs.lemmas.List.{with_items_is, nil_from_length}
-use Rattle.std.proofs.lemmas.Grind.{common_steps}
+use Rattle.std.proofs.lemmas.Bool.{false≢true}
 use Rattle.bi_fdt.specs.declared.table.Entry.TheVariants as entry
 use Rattle.bi_fdt.proofs.GrowingTables.{growing_ended, growing_finished, innermost_within}
 use Rattle.bi_fdt.proofs.growing.Growing.end_node.Goals as goal
@@ -35,13 +35,18 @@ returns-in-Some c =
           c.in-Some.ensures.items refl refl;
     }
 
+-- A list that has no last item is empty.
+none_left : (n : ℕ) → (0 < n → false ≡ true) → n ≡ 0
+none_left zero some = refl
+none_left (suc n) some = absurd (false≢true (some (omega arith)))
+
 pub returns-in-None : goal.returns-in-None
 returns-in-None c =
     let old = c.args.self.now in
     let index : ℕ = old.innermost.entry in
     let long : c.len-after.result ≡ length old.entries.items = search rules in
     let now = c.deref_mut.ensures.value in
-    let none : length old.outer.items ≡ 0 = grind (arith, common_steps, c.in-None.ensures.cases) in
+    let none : length old.outer.items ≡ 0 = none_left (length old.outer.items) c.in-None.ensures.variant.1 in
     record {
       finished = λ file innermost outer growing.
           growing_finished file old _ innermost outer growing

@@ -1,0 +1,122 @@
+use Rattle.std.proofs.Common.{◌≡◌, ℕ, zero, suc, ◌+◌, ◌-◌, ◌*◌, ◌/◌, ◌<◌, ◌≤◌, List, [], ◌∷◌, ◌++◌, length, take, drop, Option, Some, None, slice_get, inl, inr}
+use Rattle.std.proofs.Common.{refl, sym, ap, subst, ◌∙◌, arith}
+use Rattle.std.specs.List.{AllZip}
+use Rattle.std.proofs.lemmas.Option.{none-some, same_Some, some_pair_parts}
+use Rattle.bi_blob.specs.Tree.{IsNew}
+use Rattle.bi_fdt.specs.NameParts.{NamePart, AreOnce, AreInOrder}
+use Rattle.bi_fdt.specs.NameTails.{AreBlocksNumbered, IsTail, IsHead, AreHeads, head_length}
+use Rattle.bi_fdt.specs.Numbers.{FindsNumber}
+use Rattle.bi_fdt.specs.OtherNames.{FindsBlocks, HasOtherNumber, AreOtherNumbers, FindsAfter, FindsTail, AreFoundAmong}
+use Rattle.bi_fdt.proofs.NameParts.{slice_get-pushed}
+use Rattle.bi_fdt.proofs.NameTails.{one_number, number_within}
+use Rattle.bi_fdt.proofs.NumberedNames.{known_name, new_name, heads_length}
+
+-- Names are found among others by their parts, the last blocks first.
+
+-- There is a value at each index within a list.
+value_there : {A : Type 0} (values : List A) (index : ℕ) → index < length values → (value : A) × (slice_get values index ≡ Some value)
+value_there [] index within = absurd (omega (arith, within))
+value_there (value ∷ values) zero within = (value, refl)
+value_there (value ∷ values) (suc index) within = value_there values index (omega (arith, within))
+
+-- No blocks have the number 0 everywhere.
+no_blocks_other : (parts others : List NamePart) → HasOtherNumber parts others 0 (Some 0)
+no_blocks_other parts others zero name is = refl
+no_blocks_other parts others (suc count) name is = absurd (omega (arith, is.1))
+
+-- The number of the blocks from a part on.
+part_other : (parts others : List NamePart) → AreOnce others → (index later : ℕ) (block : List ℕ) (tail found : Option ℕ) →
+    slice_get parts index ≡ Some (later, block) → HasOtherNumber parts others later tail → FindsTail others tail block found →
+    HasOtherNumber parts others (index + 1) found
+part_other parts others once index later block tail found there after finds zero name is = absurd (omega (arith, is))
+part_other parts others once index later block tail found there after finds (suc count) name is =
+    by tail found finds (after count name (subst (λ number. AreBlocksNumbered parts count number name) (sym both.0) is.3))
+  where
+    first : List ℕ
+    first = take 64 (drop (length name - 64 * (count + 1)) name)
+
+    here : index ≡ index + 1 - 1
+    here = omega arith
+
+    both : (later ≡ is.0) × (block ≡ first)
+    both = some_pair_parts later is.0 block first (sym there ∙ ap (slice_get parts) here ∙ is.2)
+
+    by : (tail found : Option ℕ) → FindsTail others tail block found → FindsBlocks others count name tail → FindsBlocks others (suc count) name found
+    by None None finds none = λ number other. none other.0 other.3
+    by None (Some number) finds none = absurd (none-some (number - 1) (sym finds.1))
+    by (Some tail) None finds some = λ number other.
+        let same : other.0 ≡ tail = one_number others once count other.0 tail name other.3 some in
+        finds (number - 1) (other.2 ∙ (λ i. Some (same i, sym both.1 i)))
+    by (Some tail) (Some number) finds some = (tail, finds.0, finds.1 ∙ ap (λ block. Some (tail, block)) both.1, some)
+
+-- One more number.
+pub others_more : (parts others : List NamePart) (numbers more : List (Option ℕ)) (index later : ℕ) (block : List ℕ) (tail found : Option ℕ) →
+    AreOnce others → AreInOrder parts → slice_get parts index ≡ Some (later, block) → length numbers ≡ index + 1 →
+    ((number : ℕ) (found : Option ℕ) → slice_get numbers number ≡ Some found → HasOtherNumber parts others number found) →
+    ((value : Option ℕ) → slice_get numbers later ≡ Some value → tail ≡ value) → FindsTail others tail block found → more ≡ numbers ++ found ∷ [] →
+    (number : ℕ) (other : Option ℕ) → slice_get more number ≡ Some other → HasOtherNumber parts others number other
+others_more parts others numbers more index later block tail found once order there long each value finds pushed number other at =
+    elim (slice_get-pushed numbers found number other (ap (λ l. slice_get l number) (sym pushed) ∙ at)) [
+      | inl before ↦ each number other before
+      | inr last ↦ subst (HasOtherNumber parts others number) last.1
+          (subst (λ number. HasOtherNumber parts others number found) (sym (last.0 ∙ long))
+          (part_other parts others once index later block tail found there
+          (subst (HasOtherNumber parts others later) (sym (value kept.0 kept.1)) (each later kept.0 kept.1)) finds))
+    ]
+  where
+    kept : (value : Option ℕ) × (slice_get numbers later ≡ Some value)
+    kept = value_there numbers later (omega (arith, order index (later, block) there, long))
+
+-- A name whose last blocks have no number is new.
+new_by_blocks : (tails heads : List NamePart) (names : List (List ℕ)) (name : List ℕ) → AllZip (IsHead tails) heads names →
+    ((number : ℕ) → ¬ (IsTail tails number name)) → IsNew name names
+new_by_blocks tails [] [] name all none = tt
+new_by_blocks tails [] (other ∷ names) name all none = absurd all
+new_by_blocks tails (head ∷ heads) [] name all none = absurd all
+new_by_blocks tails (head ∷ heads) (other ∷ names) name all none =
+    ((λ same. none head.0 (subst (IsTail tails head.0) same all.0.tail)), new_by_blocks tails heads names name all.1 none)
+
+-- A name is found by its head, if its last blocks are.
+name_found : (tails heads : List NamePart) (names : List (List ℕ)) (head name : List ℕ) (tail found : Option ℕ) → AreHeads tails heads names →
+    head ≡ take (head_length name) name → FindsBlocks tails (length name / 64 - 1) name tail → FindsAfter heads tail head found →
+    FindsNumber names name found
+name_found tails heads names head name None found are is none finds =
+    subst (FindsNumber names name) (sym finds) (new_by_blocks tails heads names name are.each none)
+name_found tails heads names head name (Some tail) None are is some finds =
+    new_name tails heads names (tail, head) name are.tails_once are.each (record { head = is; tail = some }) finds
+name_found tails heads names head name (Some tail) (Some number) are is some finds =
+    known_name tails heads names (tail, head) name number are (record { head = is; tail = some }) finds
+
+-- The head of the name at an index.
+head_there : (tails heads : List NamePart) (names : List (List ℕ)) → AllZip (IsHead tails) heads names → (index : ℕ) (name : List ℕ) →
+    slice_get names index ≡ Some name → (part : NamePart) × (slice_get heads index ≡ Some part) × IsHead tails part name
+head_there tails [] [] all index name is = absurd (none-some name is)
+head_there tails [] (other ∷ names) all index name is = absurd all
+head_there tails (head ∷ heads) [] all index name is = absurd all
+head_there tails (head ∷ heads) (other ∷ names) all zero name is = (head, refl, subst (IsHead tails head) (same_Some other name is) all.0)
+head_there tails (head ∷ heads) (other ∷ names) all (suc index) name is = head_there tails heads names all.1 index name is
+
+-- What holds at each index of two lists of one length.
+each_place : {A B : Type 0} (R : A → B → Type 0) (xs : List A) (ys : List B) → length ys ≡ length xs →
+    ((index : ℕ) (x : A) (y : B) → slice_get xs index ≡ Some x → slice_get ys index ≡ Some y → R x y) → AllZip R xs ys
+each_place R [] [] long each = tt
+each_place R [] (y ∷ ys) long each = absurd (omega (arith, long))
+each_place R (x ∷ xs) [] long each = absurd (omega (arith, long))
+each_place R (x ∷ xs) (y ∷ ys) long each =
+    (each 0 x y refl refl, each_place R xs ys (omega (arith, long)) (λ index. each (suc index)))
+
+-- Each name is found among others.
+pub names_found : (tails heads : List NamePart) (names : List (List ℕ)) (other_tails other_heads : List NamePart) (others : List (List ℕ))
+    (numbers found : List (Option ℕ)) → AreHeads tails heads names → AreHeads other_tails other_heads others →
+    AreOtherNumbers tails other_tails numbers → AreFoundAmong heads other_heads numbers found → AllZip (FindsNumber others) names found
+names_found tails heads names other_tails other_heads others numbers found are other_are kept among =
+    each_place (FindsNumber others) names found (among.count ∙ heads_length tails heads names are) each
+  where
+    each : (index : ℕ) (name : List ℕ) (number : Option ℕ) → slice_get names index ≡ Some name → slice_get found index ≡ Some number →
+        FindsNumber others name number
+    each index name number at_name at_number =
+        let there = head_there tails heads names are.each index name at_name in
+        let within : there.0.0 ≤ length tails = number_within tails (length name / 64 - 1) there.0.0 name there.2.tail in
+        let tail = value_there numbers there.0.0 (omega (arith, within, kept.count)) in
+        name_found other_tails other_heads others there.0.1 name tail.0 number other_are there.2.head
+        (kept.each there.0.0 tail.0 tail.1 (length name / 64 - 1) name there.2.tail) (among.each index there.0 tail.0 number there.1 tail.1 at_number)
