@@ -4,9 +4,10 @@ use Rattle.std.specs.List.{AllByRecursion, AllZip}
 use Rattle.std.proofs.Math.ListN.{drop_of_length-le}
 use Rattle.std.proofs.Math.Seq.{drop-cons}
 use Rattle.std.proofs.lemmas.List.{append-nil, length-append}
-use Rattle.bi_blob.specs.Tree.{IsNew, AreDistinct}
+use Rattle.bi_blob.specs.Tree.{FileProperty, IsNew, AreDistinct}
 use Rattle.bi_blob.proofs.Blobs.OpenNodes.{AreDistinct-push, All-push}
-use Rattle.bi_fdt.specs.Numbers.{IsNumberOf, FindsNumber}
+use Rattle.bi_fdt.specs.Numbers.{HasNumber, IsNumberOf, FindsNumber}
+use Rattle.bi_fdt.specs.Order.{KeyedProperty, AreByNumber}
 use Rattle.bi_fit.specs.CommonNumbers.{HaveNumbersAfter}
 
 -- Names that are not among others get the numbers after theirs.
@@ -22,6 +23,20 @@ number_stays : (names more : List (List ℕ)) (number : ℕ) (name : List ℕ) �
 number_stays [] more number name is = absurd cc
 number_stays (first ∷ later) more zero name is = is
 number_stays (first ∷ later) more (suc number) name is = number_stays later more number name is
+
+all_stay : (names more : List (List ℕ)) (keyed : List KeyedProperty) → AllByRecursion (λ one. HasNumber names one.1 one.0) keyed →
+    AllByRecursion (λ one. HasNumber (names ++ more) one.1 one.0) keyed
+all_stay names more [] all = tt
+all_stay names more (one ∷ keyed) all = (number_stays names more one.0 one.1.name all.0, all_stay names more keyed all.1)
+
+-- So properties in the order of their numbers are in that order by the longer list too.
+pub order_stays : (names more : List (List ℕ)) (properties : List FileProperty) (keyed : List KeyedProperty) →
+    AreByNumber names properties keyed → AreByNumber (names ++ more) properties keyed
+order_stays names more properties keyed are = record {
+  permutation = are.permutation;
+  numbered = all_stay names more keyed are.numbered;
+  ascending = are.ascending;
+}
 
 -- The name after others has their count as its number.
 number_after : (names more : List (List ℕ)) (name : List ℕ) → IsNumberOf (names ++ name ∷ more) name (length names)
@@ -67,10 +82,14 @@ module _ (names : List (List ℕ)) where
       let rest = numbers_after (more ++ name ∷ []) others found (next + 1) still others_distinct.1
       (new_pushed others more name new.1 others_distinct.0) are.1 count in
       let whole : (names ++ (more ++ name ∷ [])) ++ rest.0 ≡ (names ++ more) ++ name ∷ rest.0 =
-      ap (λ l. l ++ rest.0) (sym pushed) ∙ append_assoc (names ++ more) (name ∷ []) rest.0 in
-      (name ∷ rest.0, subst AreDistinct whole rest.1,
-      (subst (λ n. IsNumberOf ((names ++ more) ++ name ∷ rest.0) name n) (sym counts) (number_after (names ++ more) rest.0 name),
-      subst (λ l. AllZip (IsNumberOf l) others (numbers_from (next + 1) found)) whole rest.2))
+      ap (λ l. l ++ rest.0) (sym pushed) ∙ append_assoc (names ++ more) (name ∷ []) rest.0 in (
+        name ∷ rest.0,
+        subst AreDistinct whole rest.1,
+        (
+          subst (λ n. IsNumberOf ((names ++ more) ++ name ∷ rest.0) name n) (sym counts) (number_after (names ++ more) rest.0 name),
+          subst (λ l. AllZip (IsNumberOf l) others (numbers_from (next + 1) found)) whole rest.2,
+        ),
+      )
 
 -- The numbers by a list that begins with the names.
 pub numbers_by_both : (names others : List (List ℕ)) (found : List (Option ℕ)) (numbers : List ℕ) → AreDistinct names → AreDistinct others →

@@ -15,12 +15,13 @@ use Rattle.std.proofs.lemmas.Map.Keys.{sorted_head, sorted_tail}
 use Rattle.std.proofs.lemmas.Map.Text.{is_eq-slice_cmp}
 use Rattle.std.proofs.lemmas.Option.{same_Some}
 use Rattle.std.proofs.lemmas.Slice.Eq.{bytes_eq-Decides}
-use Rattle.bi_blob.specs.Tree.{FileNode, IsNew, AreDistinct, property_of}
+use Rattle.bi_blob.specs.Tree.{FileNode, AreDistinct, property_of}
 use Rattle.bi_blob.proofs.Texts.NormalEvents.{both_hold}
 use Rattle.bi_fdt.specs.Numbers.{HasNumber}
 use Rattle.bi_fdt.specs.Order.{KeyedProperty, AreByNumber}
 use Rattle.bi_fdt.proofs.ByName.{found_by_name}
 use Rattle.bi_fdt.proofs.DistinctKeys.{same_name}
+use Rattle.bi_fdt.proofs.DistinctNumbers.{one_number}
 use Rattle.bi_fit.specs.declared.comparing.role.Role.{Role}
 use Rattle.bi_fit.specs.declared.comparing.role.Role.TheVariants.{RootNode, RootChild, ImageNode, OtherNode}
 use Rattle.bi_fit.specs.NormalNodes.{HasDistinctNames, properties_by_name}
@@ -30,24 +31,6 @@ use Rattle.bi_fit.proofs.PayloadProperties.{same, get-without}
 -- Properties of two nodes are the same by name if and only if they have the same values in the order of the numbers of their names.
 
 -- ---- names and numbers
-
--- A new name is at no index.
-not_among : (name : List ℕ) (names : List (List ℕ)) (number : ℕ) → IsNew name names → slice_get names number ≡ Some name → ⊥
-not_among name [] number new is = absurd cc
-not_among name (first ∷ later) zero new is = new.0 (same_Some first name is)
-not_among name (first ∷ later) (suc number) new is = not_among name later number new.1 is
-
--- A name of distinct names has one number.
-one_number : (names : List (List ℕ)) → AreDistinct names → (number other : ℕ) (name : List ℕ) → slice_get names number ≡ Some name →
-    slice_get names other ≡ Some name → number ≡ other
-one_number [] distinct number other name is other_is = absurd cc
-one_number (first ∷ later) distinct zero zero name is other_is = refl
-one_number (first ∷ later) distinct zero (suc other) name is other_is =
-    absurd (not_among first later other distinct.0 (other_is ∙ sym is))
-one_number (first ∷ later) distinct (suc number) zero name is other_is =
-    absurd (not_among first later number distinct.0 (is ∙ sym other_is))
-one_number (first ∷ later) distinct (suc number) (suc other) name is other_is =
-    ap suc (one_number later distinct.1 number other name is other_is)
 
 -- Each name has a number or none.
 number_or_none : (name : List ℕ) (names : List (List ℕ)) →

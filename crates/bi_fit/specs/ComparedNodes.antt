@@ -1,4 +1,5 @@
-use Rattle.std.specs.Prelude.{◌≡◌, ℕ, Bool, true, not, List, [], ◌∷◌, bytes_eq, if◌then◌else◌}
+use Rattle.std.specs.Prelude.{◌≡◌, ℕ, Bool, true, not, List, [], ◌∷◌, ◌++◌, bytes_eq}
+use Rattle.std.specs.Prelude.{if◌then◌else◌}
 use Rattle.bi_blob.specs.Tree.{Nodes, none, node, PropertyMap, FileNode, AreDistinct}
 use Rattle.bi_blob.specs.Lookups.{root_node}
 use Rattle.bi_fdt.specs.declared.node.NodeRef.{NodeRef}
@@ -56,12 +57,14 @@ pub record AreSameBlobs (own other : Blob) : Type 0 where
   pub same_tree : compared_tree own ≡ compared_tree other
 
 -- The properties of the nodes of two blobs are in the order of the numbers of their names by one
--- list of names. These are the blobs that the two nodes are of.
+-- list: the names of the first blob, and those that the second one has besides. These are the blobs
+-- that the two nodes are of.
 pub record HaveOneOrder (own other : NodeRef) (orders : Orders) : Type 0 where
   pub names : List (List ℕ)
-  pub distinct : AreDistinct names
+  pub more : List (List ℕ)
+  pub distinct : AreDistinct (names ++ more)
   pub own_order : IsNumberOrder names (table_of_node own) orders.own
-  pub other_order : IsNumberOrder names (table_of_node other) orders.other
+  pub other_order : IsNumberOrder (names ++ more) (table_of_node other) orders.other
 
 -- The values of these properties that are compared in a node of this role, each after its key.
 abbrev pub compared_values : Role → List KeyedProperty → List (ℕ × List ℕ)

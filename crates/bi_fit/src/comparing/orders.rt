@@ -37,6 +37,8 @@ impl Orders {
             → HaveOneOrder node other_node orders) }
     {
         let found = other.names_in_terms_of(alloc, own)?;
+        // The call gives the proof that these names are distinct too.
+        let _ = other.names();
         let numbers = common_numbers(alloc, own.names(), &found)?;
         let keys = own.name_numbers(alloc)?;
         let other_keys = keys_at(alloc, &numbers, &other.name_numbers(alloc)?)?;

@@ -1,9 +1,10 @@
-use Rattle.std.proofs.Common.{◌≡◌, ◌↔◌, ℕ, Bool, true, false, not, List, [], ◌∷◌, Option, Some, None, is_some, Bor, refl, sym, ap, ◌∙◌}
+use Rattle.std.proofs.Common.{◌≡◌, ◌↔◌, ℕ, Bool, true, false, not, List, [], ◌∷◌, ◌++◌, Option, Some, None, is_some, Bor, refl, sym, ap, ◌∙◌}
 use Rattle.std.specs.Prelude.{IsTrue, MatchOption}
 use Rattle.std.proofs.lemmas.Bool.{false≢true}
 use Rattle.std.proofs.lemmas.Slice.Eq.{bytes_eq-Decides}
 use Rattle.bi_fdt.specs.Views.{node_of}
 use Rattle.bi_fit.specs.ComparedNodes.{compared_properties, compared_values}
+use Rattle.bi_fit.proofs.CommonNumbers.{order_stays}
 use Rattle.bi_fit.proofs.ComparedValues.{same_by_name, same_by_number}
 use Rattle.bi_fit.proofs.comparing.properties.have_same_properties.Goals as goal
 use Rattle.bi_fit.proofs.comparing.properties.have_same_properties.Goals.{After-properties_in-others, then-key-other_key-via-then-key-other_key, then-key-other_key-via-else-key-other_key+then-ne}
@@ -16,12 +17,14 @@ same_values c =
     let orders = c.requires.orders in
     let own = (node_of c.args.own).own in
     let other = (node_of c.args.other).own in
-    let are = c.properties_in-properties.ensures.by_number orders.names orders.own_order c.requires.distinct in
-    let other_are = c.properties_in-others.ensures.by_number orders.names orders.other_order c.requires.other_distinct in (
-      same_by_name orders.names orders.distinct c.args.role own other c.properties_in-properties.result c.properties_in-others.result
-      c.requires.distinct c.requires.other_distinct are other_are,
-      same_by_number orders.names orders.distinct c.args.role own other c.properties_in-properties.result c.properties_in-others.result
-      c.requires.distinct c.requires.other_distinct are other_are,
+    let names = orders.names ++ orders.more in
+    let are = order_stays orders.names orders.more own.properties c.properties_in-properties.result
+    (c.properties_in-properties.ensures.by_number orders.names orders.own_order c.requires.distinct) in
+    let other_are = c.properties_in-others.ensures.by_number names orders.other_order c.requires.other_distinct in (
+      same_by_name names orders.distinct c.args.role own other c.properties_in-properties.result c.properties_in-others.result
+          c.requires.distinct c.requires.other_distinct are other_are,
+      same_by_number names orders.distinct c.args.role own other c.properties_in-properties.result c.properties_in-others.result
+          c.requires.distinct c.requires.other_distinct are other_are,
     )
 
 -- A list that begins with an element is not empty.
@@ -34,9 +37,10 @@ same_first equal = cc
 
 pub returns-in_default-next_value : goal.returns-in_default-next_value
 returns-in_default-next_value c =
-    let same = same_values (goal.at.returns-in_default-next_value c).After-properties_in-others in
-    ((λ is. absurd (false≢true is)),
-    (λ equal. no_cons (sym c.in-Some.ensures.value ∙ c.loop-key.invariant.1 (same.1 equal) ∙ c.in_default-next_value.ensures.value)))
+    let same = same_values (goal.at.returns-in_default-next_value c).After-properties_in-others in (
+      (λ is. absurd (false≢true is)),
+      (λ equal. no_cons (sym c.in-Some.ensures.value ∙ c.loop-key.invariant.1 (same.1 equal) ∙ c.in_default-next_value.ensures.value)),
+    )
 
 pub returns-then-key-other_key : goal.returns-then-key-other_key
 returns-then-key-other_key c =
@@ -49,12 +53,13 @@ returns-then-key-other_key c =
     elim c.then-key-other_key.branch [
       | then-key-other_key-via-then-key-other_key w ↦
           ((λ is. absurd (false≢true is)), (λ equal. absurd (w.if-key-other_key.true (ap (λ value. value.0) (one equal)))))
-      | then-key-other_key-via-else-key-other_key+then-ne w ↦
-          ((λ is. absurd (false≢true is)),
-          (λ equal.
-          absurd (false≢true (sym (w.ne.ensures
-          ∙ ap not ((bytes_eq-Decides c.in-Some.value.now c.in-Some-next_value.other_value.now).1 (ap (λ value. value.1) (one equal))))
-          ∙ w.if-ne.true))))
+      | then-key-other_key-via-else-key-other_key+then-ne w ↦ (
+        (λ is. absurd (false≢true is)),
+        (λ equal.
+            absurd (false≢true (sym (w.ne.ensures
+            ∙ ap not ((bytes_eq-Decides c.in-Some.value.now c.in-Some-next_value.other_value.now).1 (ap (λ value. value.1) (one equal))))
+            ∙ w.if-ne.true))),
+      )
     ]
 
 -- No value is left if and only if there was none.
