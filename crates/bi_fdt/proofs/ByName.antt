@@ -2,7 +2,7 @@ use Rattle.std.proofs.Common.{◌≡◌, ℕ, zero, suc, ◌<◌, T, cond, List,
 use Rattle.std.proofs.Common.{Option, Some, None, slice_get, IsPermutation, refl, sym, ap, subst, ◌∙◌, nat_cmp, arith}
 use Rattle.std.specs.Cmp.{eq_by_cmp_equiv}
 use Rattle.std.specs.Cmp.Lexicographic.{slice_cmp}
-use Rattle.std.specs.FinMap.{from_sorted, from_entries, entries, is_sorted, find, same_map, get-from_sorted, get-from_entries, entries-from_sorted}
+use Rattle.std.specs.FinMap.{get, from_sorted, from_entries, entries, is_sorted, find, same_map, get-from_sorted, get-from_entries, entries-from_sorted}
 use Rattle.std.specs.FinMap.Entries.{below_all}
 use Rattle.std.specs.List.{AllByRecursion, IsDistinct}
 use Rattle.std.specs.List.Sorted.{IsStrictlySortedBy}
@@ -118,16 +118,34 @@ sorted_by_name properties moved distinct is_moved sorted =
 
 -- ---- both together
 
+-- The properties without their keys, as those of a file without their places.
+named_twice : (keyed : List KeyedProperty) → map property_of (map (λ one. one.1) keyed) ≡ named keyed
+named_twice [] = refl
+named_twice (one ∷ keyed) = ap (λ l. property_of one.1 ∷ l) (named_twice keyed)
+
+-- They are those of a node in another order.
+named_moved : (properties : List FileProperty) (keyed : List KeyedProperty) → IsPermutation properties (map (λ one. one.1) keyed) →
+    IsPermutation (map property_of properties) (named keyed)
+named_moved properties keyed moved =
+    subst (IsPermutation (map property_of properties)) (named_twice keyed)
+    (IsPermutation-map property_of properties (map (λ one. one.1) keyed) moved)
+
+-- What a node has by a name is found by it in any order.
+pub found_by_name : (properties : List FileProperty) (keyed : List KeyedProperty) → IsPermutation properties (map (λ one. one.1) keyed) →
+    AreDistinct (map (λ property. property.0) (map property_of properties)) → (name : List ℕ) →
+    get (from_entries {R = slice_cmp nat_cmp} (map property_of properties)) name
+    ≡ lookup (same_name name) (map (λ one. property_of one.1) keyed)
+found_by_name properties keyed moved distinct name =
+    get-from_entries nat_list_cmp_total (map property_of properties) name
+    ∙ find_is name (map property_of properties)
+    ∙ sym (lookup_moved (map property_of properties) (named keyed) (named_moved properties keyed moved)
+    (distinct_names (map (λ (property : Property). property.0) (map property_of properties)) distinct) name)
+
 -- The properties of a node by the ranks of their names are in byte order.
 pub by_rank_by_name : (names : List (List ℕ)) (properties : List FileProperty) (keyed : List KeyedProperty) →
     IsStrictlySortedBy (slice_cmp nat_cmp) names → AreDistinct (map (λ property. property.0) (map property_of properties)) →
     AreByNumber names properties keyed → named keyed ≡ sorted_properties (map property_of properties)
 by_rank_by_name names properties keyed ascend distinct are =
     sorted_by_name (map property_of properties) (named keyed) distinct
-    (subst (IsPermutation (map property_of properties)) (twice keyed)
-    (IsPermutation-map property_of properties (map (λ one. one.1) keyed) are.permutation))
+    (named_moved properties keyed are.permutation)
     (ascending_properties names ascend keyed are.numbered are.ascending)
-  where
-    twice : (keyed : List KeyedProperty) → map property_of (map (λ one. one.1) keyed) ≡ named keyed
-    twice [] = refl
-    twice (one ∷ keyed) = ap (λ l. property_of one.1 ∷ l) (twice keyed)

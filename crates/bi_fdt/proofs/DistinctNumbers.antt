@@ -1,4 +1,4 @@
-use Rattle.std.proofs.Common.{◌≡◌, ℕ, false, List, [], ◌∷◌, map, Some, sym, ap, ◌∙◌}
+use Rattle.std.proofs.Common.{◌≡◌, ℕ, zero, suc, false, List, [], ◌∷◌, map, Some, refl, sym, ap, ◌∙◌}
 use Rattle.std.specs.Prelude.{nat_eq}
 use Rattle.std.specs.List.{slice_get, AllByRecursion, AllZip, IsDistinct}
 use Rattle.std.proofs.lemmas.Bool.{ne_eqb}
@@ -7,7 +7,25 @@ use Rattle.std.proofs.lemmas.Option.{same_Some}
 use Rattle.bi_blob.specs.Tree.{FileProperty, IsNew, AreDistinct, property_of}
 use Rattle.bi_fdt.specs.Numbers.{HasNumber}
 
--- The numbers of the names of properties are distinct where the names are.
+-- Distinct names have one number each, and the numbers of the names of properties are distinct where the names are.
+
+-- A new name has no number.
+not_among : (name : List ℕ) (names : List (List ℕ)) (number : ℕ) → IsNew name names → slice_get names number ≡ Some name → ⊥
+not_among name [] number new is = absurd cc
+not_among name (first ∷ later) zero new is = new.0 (same_Some first name is)
+not_among name (first ∷ later) (suc number) new is = not_among name later number new.1 is
+
+-- A name of distinct names has one number.
+pub one_number : (names : List (List ℕ)) → AreDistinct names → (number other : ℕ) (name : List ℕ) → slice_get names number ≡ Some name →
+    slice_get names other ≡ Some name → number ≡ other
+one_number [] distinct number other name is other_is = absurd cc
+one_number (first ∷ later) distinct zero zero name is other_is = refl
+one_number (first ∷ later) distinct zero (suc other) name is other_is =
+    absurd (not_among first later other distinct.0 (other_is ∙ sym is))
+one_number (first ∷ later) distinct (suc number) zero name is other_is =
+    absurd (not_among first later number distinct.0 (is ∙ sym other_is))
+one_number (first ∷ later) distinct (suc number) (suc other) name is other_is =
+    ap suc (one_number later distinct.1 number other name is other_is)
 
 -- The number of a name is not that of another name.
 numbers_differ : (names : List (List ℕ)) (name : List ℕ) (number : ℕ) → slice_get names number ≡ Some name →

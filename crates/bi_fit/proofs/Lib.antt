@@ -35,6 +35,8 @@ pub mod AddedEvents
 pub mod PropertyMaps
 pub mod DistinctNumbers
 pub mod MovedPairs
+pub mod ComparedValues
+pub mod CommonNumbers
 pub mod Rankings
 pub mod AddedProperties
 pub mod NodeEvents
@@ -51,8 +53,6 @@ pub mod ImagesPositions
 pub mod NormalDocuments
 pub mod PlacedImages
 pub mod PairedPayloads
-pub mod ValuePairs
-pub mod NumberedValues
 pub mod ComparedTrees
 pub mod UpdatedVerdicts
 pub mod UpdateChanges

@@ -1,15 +1,12 @@
-use Rattle.std.specs.Prelude.{◌≡◌, ℕ, ◌==◌, ◌&&◌, Bool, true, not, List, [], ◌∷◌, ◌++◌, Option}
-use Rattle.std.specs.Prelude.{Some, None, option_map, bytes_eq, nat_eq, if◌then◌else◌}
-use Rattle.std.specs.Borrow.{Bor}
-use Rattle.std.specs.List.Sorted.{IsStrictlySortedBy}
-use Rattle.std.specs.Map.{keys_of, lookup}
-use Rattle.std.specs.Ordering.{nat_cmp}
-use Rattle.bi_blob.specs.Tree.{Nodes, none, node, PropertyMap, FileProperty, FileNode, AreDistinct}
+use Rattle.std.specs.Prelude.{◌≡◌, ℕ, Bool, true, not, List, [], ◌∷◌, ◌++◌, bytes_eq}
+use Rattle.std.specs.Prelude.{if◌then◌else◌}
+use Rattle.bi_blob.specs.Tree.{Nodes, none, node, PropertyMap, FileNode, AreDistinct}
 use Rattle.bi_blob.specs.Lookups.{root_node}
 use Rattle.bi_fdt.specs.declared.node.NodeRef.{NodeRef}
 use Rattle.bi_fdt.specs.Content.{Blob, root_of}
 use Rattle.bi_fdt.specs.Views.{table_of_node}
-use Rattle.bi_fdt.specs.Numbers.{AreNumbered}
+use Rattle.bi_fdt.specs.Order.{KeyedProperty, IsNumberOrder}
+use Rattle.bi_fit.specs.declared.comparing.orders.Orders.{Orders}
 use Rattle.bi_fit.specs.declared.comparing.role.Role.{Role}
 use Rattle.bi_fit.specs.declared.comparing.role.Role.TheVariants.{RootNode, RootChild, ImageNode}
 use Rattle.bi_fit.specs.declared.comparing.role.Role.TheVariants.{OtherNode}
@@ -59,37 +56,19 @@ pub record AreSameBlobs (own other : Blob) : Type 0 where
   pub same_reservations : own.reservations ≡ other.reservations
   pub same_tree : compared_tree own ≡ compared_tree other
 
--- The names of the properties of two blobs have numbers by one list of names: the names of the
--- first blob, and those that the second one has besides. These are the blobs that the two nodes are
--- of.
-pub record HaveOneNumbering (own other : NodeRef) (numbers other_numbers : List ℕ)
-    : Type 0 where
+-- The properties of the nodes of two blobs are in the order of the numbers of their names by one
+-- list: the names of the first blob, and those that the second one has besides. These are the blobs
+-- that the two nodes are of.
+pub record HaveOneOrder (own other : NodeRef) (orders : Orders) : Type 0 where
   pub names : List (List ℕ)
   pub more : List (List ℕ)
   pub distinct : AreDistinct (names ++ more)
-  pub are : AreNumbered names (table_of_node own) numbers
-  pub other_are : AreNumbered (names ++ more) (table_of_node other) other_numbers
+  pub own_order : IsNumberOrder names (table_of_node own) orders.own
+  pub other_order : IsNumberOrder (names ++ more) (table_of_node other) orders.other
 
--- The value of the last of these properties that has a number and is compared in a node of this
--- role. The names of the properties have these numbers. If there is no such property, it is the
--- value that is given.
-abbrev pub value_numbered : Role → Option (List ℕ) → List FileProperty → (numbers : List ℕ)
-    → (wanted : ℕ) → Option (List ℕ)
-value_numbered role value [] numbers wanted = value
-value_numbered role value (property ∷ later) [] wanted = value
-value_numbered role value (property ∷ later) (number ∷ numbers) wanted =
-    value_numbered role
-    (if (number == wanted) && is_compared role property.name then Some property.value else value)
-    later numbers wanted
-
--- The value that is paired with a number, if there is one.
-abbrev pub paired_value : (wanted : ℕ) → List (ℕ × Bor (List ℕ)) → Option (List ℕ)
-paired_value wanted values = option_map (λ value. value.now) (lookup (nat_eq wanted) values)
-
--- The values of these properties that are compared in a node of this role, each paired with the
--- number of its name. The numbers ascend.
-pub record HaveNumberedValues (role : Role) (properties : List FileProperty) (numbers : List ℕ)
-    (values : List (ℕ × Bor (List ℕ))) : Type 0 where
-  pub ordered : IsStrictlySortedBy nat_cmp (keys_of values)
-  pub each : (wanted : ℕ) → paired_value wanted values
-      ≡ value_numbered role None properties numbers wanted
+-- The values of these properties that are compared in a node of this role, each after its key.
+abbrev pub compared_values : Role → List KeyedProperty → List (ℕ × List ℕ)
+compared_values role [] = []
+compared_values role (keyed ∷ later) =
+    if is_compared role keyed.1.name then (keyed.0, keyed.1.value) ∷ compared_values role later
+    else compared_values role later

@@ -22,6 +22,7 @@ pub mod JudgementCalls
 pub mod Siblings
 pub mod TakenDigests
 pub mod NormalNodes
+pub mod CommonNumbers
 pub mod ComparedNodes
 pub mod LongNames
 pub mod BuiltNodes

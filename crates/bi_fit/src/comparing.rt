@@ -10,7 +10,7 @@ ghost use Rattle.bi_fit.specs.NormalNodes.{HasDistinctNames, alone};
 ghost use Rattle.bi_fit.specs.ComparedNodes.{compared_tree, AreSameBlobs};
 
 mod nodes;
-mod numbers;
+mod orders;
 mod payloads;
 mod properties;
 mod region_pairs;
@@ -18,13 +18,13 @@ mod reservations;
 mod role;
 
 use crate::comparing::nodes::are_same_nodes;
-use crate::comparing::numbers::Numbers;
+use crate::comparing::orders::Orders;
 use crate::comparing::payloads::have_same_payloads;
 use crate::comparing::reservations::have_same_reservations;
 use crate::comparing::role::Role;
 use crate::fit::Fit;
 use bi_base::Error;
-use bi_fdt::{Blob, NameNumbers};
+use bi_fdt::Blob;
 use std::alloc::{AllocError, Global};
 
 impl<'a> Fit<'a> {
@@ -32,12 +32,12 @@ impl<'a> Fit<'a> {
     /// reservations and the same nodes, each in the same order, and nodes have the same properties
     /// by name. The payloads of images are compared, and not where the files have them.
     ///
-    /// No normal text is made, so no limit applies. Names of properties are numbered first, and
-    /// compared by their numbers. Bytes that the payloads of several images share are compared
+    /// No normal text is made, so no limit applies. Properties are put in the order of the numbers
+    /// of their names first, and names are compared by their numbers. Bytes that the payloads of several images share are compared
     /// once, if the two payloads that are compared are as far apart in the two files each time.
     ///
     /// The only error is OutOfMemory.
-    pub fn has_same_meaning(&self, alloc: Global, other: &Fit<'_>) -> Result<bool, Error>
+    pub fn has_same_meaning(&self, alloc: Global, other: &Fit<'a>) -> Result<bool, Error>
         ensures compared { IfOk result (λ same. IsTrue same
             ↔ (tree_of self.now ≡ tree_of other.now)) }
         ensures failed { IfErr result (λ error. error ≡ OutOfMemory) }
@@ -73,12 +73,6 @@ fn have_same_trees<'a>(alloc: Global, own: &Blob<'a>, other: &Blob<'a>) -> Resul
     ensures { IfOk result (λ same. IsTrue same
         ↔ (compared_tree own.now ≡ compared_tree other.now)) }
 {
-    let mut names = NameNumbers::new(alloc);
-    let own_numbers = names.number(alloc, own)?;
-    let other_numbers = names.number(alloc, other)?;
-    let numbers = Numbers {
-        own: &own_numbers,
-        other: &other_numbers,
-    };
-    are_same_nodes(alloc, own.root(), other.root(), Role::RootNode, numbers)
+    let orders = Orders::new(alloc, own, other)?;
+    Ok(are_same_nodes(own.root(), other.root(), Role::RootNode, &orders))
 }

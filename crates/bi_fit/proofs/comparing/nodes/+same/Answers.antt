@@ -50,7 +50,7 @@ have_same_children-loop-next-preserved t c =
     subst (λ next. IfSome next (λ child. table_of_node child ≡ table_of_node c.args.own)) c.in-Some.is c.loop-next.invariant.table in
     let other_table : table_of_node c.in-Some-other_next.other_child ≡ table_of_node c.args.other =
     subst (λ next. IfSome next (λ child. table_of_node child ≡ table_of_node c.args.other)) c.in-Some-other_next.is c.loop-next.invariant.other_table in
-    let step = same_later c.args.role s other (c.in_ok-are_same_nodes.ensures.0 c.if-not-branch.false) in
+    let step = same_later c.args.role s other (c.are_same_nodes.ensures.0 c.if-not-are_same_nodes.false) in
     rw (rest, other_rest) (record {
       same = (
         (λ later. c.loop-next.invariant.same.0 (ap (compared_nodes c.args.role) here ∙ step.0 later ∙ sym (ap (compared_nodes c.args.role) other_here))),

@@ -1,61 +1,79 @@
-use Rattle.std.proofs.Common.{◌++◌, sym, ◌∙◌}
-use Rattle.std.specs.List.{AllZip}
-use Rattle.std.proofs.lemmas.Slice.Zip.{AllZip-long}
-use Rattle.bi_fdt.specs.Views.{node_of, table_of_node}
-use Rattle.bi_fdt.specs.Numbers.{HasNumber, IsNumbered}
-use Rattle.bi_fit.specs.ComparedNodes.{HaveNumberedValues}
-use Rattle.bi_fit.proofs.ValuePairs.{same_values}
-use Rattle.bi_fit.proofs.DistinctNumbers.{distinct_numbers}
-use Rattle.bi_fit.proofs.NumberedValues.{numbers_stay, same_by_name, same_by_number}
+use Rattle.std.proofs.Common.{◌≡◌, ◌↔◌, ℕ, Bool, true, false, not, List, [], ◌∷◌, ◌++◌, Option, Some, None, is_some, Bor, refl, sym, ap, ◌∙◌}
+use Rattle.std.specs.Prelude.{IsTrue, MatchOption}
+use Rattle.std.proofs.lemmas.Bool.{false≢true}
+use Rattle.std.proofs.lemmas.Slice.Eq.{bytes_eq-Decides}
+use Rattle.bi_fdt.specs.Views.{node_of}
+use Rattle.bi_fit.specs.ComparedNodes.{compared_properties, compared_values}
+use Rattle.bi_fit.proofs.CommonNumbers.{order_stays}
+use Rattle.bi_fit.proofs.ComparedValues.{same_by_name, same_by_number}
 use Rattle.bi_fit.proofs.comparing.properties.have_same_properties.Goals as goal
+use Rattle.bi_fit.proofs.comparing.properties.have_same_properties.Goals.{After-properties_in-others, then-key-other_key-via-then-key-other_key, then-key-other_key-via-else-key-other_key+then-ne}
 
-pub name_numbers-requires : goal.name_numbers-requires
-name_numbers-requires c =
-    AllZip-long (IsNumbered c.requires.numbered.names) (table_of_node c.args.own) c.args.numbers.own.now c.requires.numbered.are
+-- The properties are the same by name if and only if their values are the same in the order of the numbers of their names.
+same_values : (c : After-properties_in-others) →
+    (compared_values c.args.role c.properties_in-properties.result ≡ compared_values c.args.role c.properties_in-others.result)
+    ↔ (compared_properties c.args.role (node_of c.args.own).own ≡ compared_properties c.args.role (node_of c.args.other).own)
+same_values c =
+    let orders = c.requires.orders in
+    let own = (node_of c.args.own).own in
+    let other = (node_of c.args.other).own in
+    let names = orders.names ++ orders.more in
+    let are = order_stays orders.names orders.more own.properties c.properties_in-properties.result
+    (c.properties_in-properties.ensures.by_number orders.names orders.own_order c.requires.distinct) in
+    let other_are = c.properties_in-others.ensures.by_number names orders.other_order c.requires.other_distinct in (
+      same_by_name names orders.distinct c.args.role own other c.properties_in-properties.result c.properties_in-others.result
+          c.requires.distinct c.requires.other_distinct are other_are,
+      same_by_number names orders.distinct c.args.role own other c.properties_in-properties.result c.properties_in-others.result
+          c.requires.distinct c.requires.other_distinct are other_are,
+    )
 
-pub values_by_number-requires-clause-count : goal.values_by_number-requires-clause-count
-values_by_number-requires-clause-count c =
-    AllZip-long (HasNumber c.requires.numbered.names) (node_of c.args.own).own.properties c.name_numbers.result.now (c.name_numbers.ensures c.requires.numbered.names c.requires.numbered.are)
+-- A list that begins with an element is not empty.
+no_cons : {X Y : Type 0} {x : X} {xs : List X} → x ∷ xs ≡ [] → Y
+no_cons equal = absurd cc
 
-pub values_by_number-requires-clause-distinct : goal.values_by_number-requires-clause-distinct
-values_by_number-requires-clause-distinct c =
-    distinct_numbers c.requires.numbered.names (node_of c.args.own).own.properties c.name_numbers.result.now c.requires.distinct
-    (c.name_numbers.ensures c.requires.numbered.names c.requires.numbered.are)
+-- The first elements of one list are the same.
+same_first : {X : Type 0} {x y : X} {xs ys : List X} → x ∷ xs ≡ y ∷ ys → x ≡ y
+same_first equal = cc
 
-pub name_numbers-requires-2 : goal.name_numbers-requires-2
-name_numbers-requires-2 c =
-    AllZip-long (IsNumbered (c.requires.numbered.names ++ c.requires.numbered.more)) (table_of_node c.args.other) c.args.numbers.other.now c.requires.numbered.other_are
+pub returns-in_default-next_value : goal.returns-in_default-next_value
+returns-in_default-next_value c =
+    let same = same_values (goal.at.returns-in_default-next_value c).After-properties_in-others in (
+      (λ is. absurd (false≢true is)),
+      (λ equal. no_cons (sym c.in-Some.ensures.value ∙ c.loop-key.invariant.1 (same.1 equal) ∙ c.in_default-next_value.ensures.value)),
+    )
 
-pub values_by_number-requires-2-clause-count : goal.values_by_number-requires-2-clause-count
-values_by_number-requires-2-clause-count c =
-    let names = c.requires.numbered.names ++ c.requires.numbered.more in
-    AllZip-long (HasNumber names) (node_of c.args.other).own.properties c.name_numbers-2.result.now (c.name_numbers-2.ensures names c.requires.numbered.other_are)
+pub returns-then-key-other_key : goal.returns-then-key-other_key
+returns-then-key-other_key c =
+    let same = same_values (goal.at.returns-then-key-other_key c).After-properties_in-others in
+    let own = (node_of c.args.own).own in
+    let other = (node_of c.args.other).own in
+    let one : compared_properties c.args.role own ≡ compared_properties c.args.role other
+    → (c.in-Some.key, c.in-Some.value.now) ≡ (c.in-Some-next_value.other_key, c.in-Some-next_value.other_value.now) =
+    λ equal. same_first (sym c.in-Some.ensures.value ∙ c.loop-key.invariant.1 (same.1 equal) ∙ c.in-Some-next_value.ensures.value) in
+    elim c.then-key-other_key.branch [
+      | then-key-other_key-via-then-key-other_key w ↦
+          ((λ is. absurd (false≢true is)), (λ equal. absurd (w.if-key-other_key.true (ap (λ value. value.0) (one equal)))))
+      | then-key-other_key-via-else-key-other_key+then-ne w ↦ (
+        (λ is. absurd (false≢true is)),
+        (λ equal.
+            absurd (false≢true (sym (w.ne.ensures
+            ∙ ap not ((bytes_eq-Decides c.in-Some.value.now c.in-Some-next_value.other_value.now).1 (ap (λ value. value.1) (one equal))))
+            ∙ w.if-ne.true))),
+      )
+    ]
 
-pub values_by_number-requires-2-clause-distinct : goal.values_by_number-requires-2-clause-distinct
-values_by_number-requires-2-clause-distinct c =
-    let names = c.requires.numbered.names ++ c.requires.numbered.more in
-    distinct_numbers names (node_of c.args.other).own.properties c.name_numbers-2.result.now c.requires.other_distinct
-    (c.name_numbers-2.ensures names c.requires.numbered.other_are)
+-- No value is left if and only if there was none.
+none_left : (values rest : List (ℕ × List ℕ)) (found : Option (ℕ × Bor (List ℕ))) (none : Bool) → is_some found ≡ not none →
+    MatchOption found (values ≡ []) (λ value. values ≡ (value.0, value.1.now) ∷ rest) → IsTrue none ↔ (values ≡ [])
+none_left values rest None true is given = ((λ is. given), (λ equal. refl))
+none_left values rest None false is given = absurd (false≢true is)
+none_left values rest (Some value) true is given = absurd (false≢true (sym is))
+none_left values rest (Some value) false is given = ((λ is. absurd (false≢true is)), (λ equal. no_cons (sym given ∙ equal)))
 
 pub returns : goal.returns
 returns c =
-    let numbered = c.requires.numbered in
-    let own = (node_of c.args.own).own in
-    let other = (node_of c.args.other).own in
-    let names = numbered.names ++ numbered.more in
-    let are : AllZip (HasNumber names) own.properties c.name_numbers.result.now =
-    numbers_stay numbered.names numbered.more own.properties c.name_numbers.result.now (c.name_numbers.ensures numbered.names numbered.are) in
-    let other_are : AllZip (HasNumber names) other.properties c.name_numbers-2.result.now = c.name_numbers-2.ensures names numbered.other_are in
-    let have : HaveNumberedValues c.args.role own.properties c.name_numbers.result.now c.in_ok-values.values.items = c.in_ok-values.ensures in
-    let other_have : HaveNumberedValues c.args.role other.properties c.name_numbers-2.result.now c.in_ok-other_values.other_values.items = c.in_ok-other_values.ensures in
-    let tells = same_values c.in_ok-values.values.items c.in_ok-other_values.other_values.items c.eq.result have.ordered other_have.ordered c.eq.ensures in (
-      (λ true.
-          same_by_name names numbered.distinct c.args.role own other c.name_numbers.result.now c.name_numbers-2.result.now c.requires.distinct c.requires.other_distinct are other_are
-          (λ wanted. sym (have.each wanted) ∙ tells.0 true wanted ∙ other_have.each wanted)),
-      (λ equal.
-          tells.1
-          (λ key.
-          have.each key
-          ∙ same_by_number names numbered.distinct c.args.role own other c.name_numbers.result.now c.name_numbers-2.result.now c.requires.distinct c.requires.other_distinct are other_are equal key
-          ∙ sym (other_have.each key))),
+    let same = same_values (goal.at.returns c).After-properties_in-others in
+    let none = none_left (compared_values c.args.role c.loop-key.others) _ c.next_value-2.result c.is_none.result c.is_none.ensures c.next_value-2.ensures.value in (
+      (λ is. same.0 (c.loop-key.invariant.0 (c.in_default.ensures.value ∙ sym (none.0 is)))),
+      (λ equal. none.1 (sym (c.loop-key.invariant.1 (same.1 equal)) ∙ c.in_default.ensures.value)),
     )
