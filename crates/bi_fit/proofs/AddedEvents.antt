@@ -5,11 +5,14 @@ use Rattle.bi_blob.specs.Events.{Event, NodeEnd}
 use Rattle.bi_blob.specs.Stages.{Stage, BeforeRoot, next_stage}
 use Rattle.bi_blob.specs.Following.{AllFollow, MayFollowInText, stage_of_events, MayEnd}
 use Rattle.bi_lay.specs.Contents.{Doc, with_event}
-use Rattle.bi_fit.specs.declared.document.ranked_node.RankedNode.{RankedNode}
-use Rattle.bi_fit.specs.RankedNodes.{HasRanks}
+use Rattle.bi_fdt.specs.Table.{TableItem}
+use Rattle.bi_fdt.specs.Views.{table_of_node}
+use Rattle.bi_fdt.specs.declared.node.NodeRef.{NodeRef}
+use Rattle.bi_fit.specs.declared.name_order.NameOrder.{NameOrder}
+use Rattle.bi_fit.specs.NameOrders.{HasOrder}
 use Rattle.bi_fit.specs.NormalNodes.{with_events, MayAdd, begin_events}
 
--- Events that are added to a document in turn are added together, may be added in two parts, and keep its names and their ranks.
+-- Events that are added to a document in turn are added together, may be added in two parts, and keep its names and an order by these.
 
 -- None change it.
 pub with_events-none : (document : Doc) → with_events document [] ≡ document
@@ -24,18 +27,14 @@ with_events-append document events later = ap (λ l. record document { events = 
 pub same_names : (document more : Doc) (events : List Event) → more ≡ with_events document events → more.names ≡ document.names
 same_names document more events is = ap (λ document. document.names) is
 
--- so that ranks by these stay ranks by these.
-pub still_ranked : (ranked : RankedNode) (document more : Doc) (events : List Event) → more ≡ with_events document events →
-    HasRanks document.names ranked → HasRanks more.names ranked
-still_ranked ranked document more events is has = subst (λ names. HasRanks names ranked) (sym (same_names document more events is)) has
+-- so that an order by these stays one by these.
+pub still_ordered : (order : NameOrder) (node : NodeRef) (document more : Doc) (events : List Event) → more ≡ with_events document events →
+    HasOrder document.names order node → HasOrder more.names order node
+still_ordered order node document more events is has = subst (λ names. HasOrder names order node) (sym (same_names document more events is)) has
 
--- The next node has ranks if there is one.
-abbrev pub HasNextRanks : List (List ℕ) → Option RankedNode → Type 0
-HasNextRanks names next = IfSome next (HasRanks names)
-
-pub still_ranked_next : (next : Option RankedNode) (document more : Doc) (events : List Event) → more ≡ with_events document events →
-    HasNextRanks document.names next → HasNextRanks more.names next
-still_ranked_next next document more events is has = subst (λ names. HasNextRanks names next) (sym (same_names document more events is)) has
+-- The next node is of the table of which the order is, if there is one.
+abbrev pub IsNextOf : List TableItem → Option NodeRef → Type 0
+IsNextOf table next = IfSome next (λ node. table_of_node node ≡ table)
 
 -- Of events that may follow one another, the first of them may,
 follow-front : (stage : Stage) (events later : List Event) → AllFollow MayFollowInText stage (events ++ later) →

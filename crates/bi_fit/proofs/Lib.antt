@@ -35,7 +35,7 @@ pub mod AddedEvents
 pub mod PropertyMaps
 pub mod DistinctNumbers
 pub mod MovedPairs
-pub mod Rankings
+pub mod RankedProperties
 pub mod AddedProperties
 pub mod NodeEvents
 pub mod PayloadEnds
