@@ -7,7 +7,7 @@ use Rattle.bi_fit.specs.declared.building.names.PropertyName.TheVariants.{DataSi
 use Rattle.bi_fit.specs.declared.building.names.PropertyName.TheVariants.{Description, Entry, Fdt}
 use Rattle.bi_fit.specs.declared.building.names.PropertyName.TheVariants.{Firmware, Kernel, Load}
 use Rattle.bi_fit.specs.declared.building.names.PropertyName.TheVariants.{Loadables, Os, Ramdisk}
-use Rattle.bi_fit.specs.declared.building.names.PropertyName.TheVariants.{Script, Timestamp, Type}
+use Rattle.bi_fit.specs.declared.building.names.PropertyName.TheVariants.{Script, Timestamp, ImageType}
 use Rattle.bi_fit.specs.declared.building.names.PropertyName.TheVariants.{Value}
 use Rattle.bi_fit.specs.Names.{data_name, data_offset_name, data_position_name, data_size_name}
 use Rattle.bi_fit.specs.Names.{algo_name, value_name, timestamp_name, default_name}
@@ -36,7 +36,7 @@ built_name Os = codes "os"
 built_name Ramdisk = codes "ramdisk"
 built_name Script = codes "script"
 built_name Timestamp = timestamp_name
-built_name Type = codes "type"
+built_name ImageType = codes "type"
 built_name Value = value_name
 
 -- All names, in byte order.
@@ -45,4 +45,4 @@ built_names =
     map built_name
     (AddressCells ∷ Algo ∷ Arch ∷ Compression ∷ Data ∷ DataOffset ∷ DataPosition ∷ DataSize
     ∷ Default ∷ Description ∷ Entry ∷ Fdt ∷ Firmware ∷ Kernel ∷ Load ∷ Loadables ∷ Os ∷ Ramdisk
-    ∷ Script ∷ Timestamp ∷ Type ∷ Value ∷ [])
+    ∷ Script ∷ Timestamp ∷ ImageType ∷ Value ∷ [])

@@ -61,7 +61,8 @@ pub(super) fn build_doc<'a>(
 {
     let names = built_names(alloc)?;
     let properties = root_properties(alloc, &names, parts.head)?;
-    let mut doc = only_memory(Doc::with_names(alloc, 0, names.to_vec(alloc)?))?;
+    let by_rank = names.to_vec(alloc)?;
+    let mut doc = only_memory(Doc::with_names(alloc, 0, by_rank))?;
     begin_with(&mut doc, b"", &properties)?;
     add_built_images(alloc, &mut doc, &names, parts, form)?;
     add_configurations(alloc, &mut doc, &names, parts)?;

@@ -31,7 +31,7 @@ pub(super) enum PropertyName {
     Ramdisk,
     Script,
     Timestamp,
-    Type,
+    ImageType,
     Value,
 }
 

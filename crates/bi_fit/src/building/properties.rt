@@ -61,7 +61,7 @@ pub(super) fn image_properties<'a, 'b>(
     let mut properties = PropertyMap::new(alloc, names);
     insert_cell(&mut properties, PropertyName::Entry, image.entry)?;
     insert_cell(&mut properties, PropertyName::Load, image.load)?;
-    insert(&mut properties, PropertyName::Type, Value::Text(image.key.type_name().as_bytes()))?;
+    insert(&mut properties, PropertyName::ImageType, Value::Text(image.key.type_name().as_bytes()))?;
     insert(&mut properties, PropertyName::Os, Value::Text(image.os.as_bytes()))?;
     insert(&mut properties, PropertyName::Description, Value::Text(head.description))?;
     insert(&mut properties, PropertyName::Compression, Value::Text(image.compression.as_bytes()))?;
