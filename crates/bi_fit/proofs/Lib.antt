@@ -63,4 +63,5 @@ pub mod ListedNames
 pub mod PassedResults
 pub mod BuiltPayloads
 pub mod BuiltProperties
+pub mod BuiltNames
 pub mod BuiltDocuments

@@ -1,6 +1,7 @@
 //! The names of the properties of a tree to be built.
 
 ghost use Rattle.std.specs.Prelude.{◌≡◌, IfOk};
+ghost use Rattle.bi_fdt.specs.Numbers.{IsNumberOf};
 ghost use Rattle.bi_fit.specs.BuiltNames.{built_name, built_names as built_names_of};
 ghost use Rattle.bi_fit.specs.Names.{key_name};
 
@@ -48,6 +49,13 @@ impl PropertyName {
             Key::Loadables => PropertyName::Loadables,
             Key::Script => PropertyName::Script,
         }
+    }
+
+    /// Returns the rank among the names of a tree to be built.
+    pub(super) fn rank(self) -> usize
+        ensures { IsNumberOf built_names_of (built_name self) result }
+    {
+        self as usize
     }
 }
 

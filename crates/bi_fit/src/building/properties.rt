@@ -133,7 +133,7 @@ fn insert<'a>(
     ensures { OnOk result (properties.new
         ≡ with_property_value (built_name name) (value_bytes value.entry) properties.old) }
 {
-    properties.insert(name as usize, value)
+    properties.insert(name.rank(), value)
 }
 
 /// Adds a property of one cell, if there is a number.
@@ -159,7 +159,8 @@ fn insert_list<'a>(
     list: &'a [u8],
 ) -> Result<(), AllocError>
     requires { properties.old.names ≡ built_names }
-    ensures { (names : List (List ℕ)) (rest : List Property)
+    ensures same_names { OnOk result (properties.new.names ≡ properties.old.names) }
+    ensures inserted { (names : List (List ℕ)) (rest : List Property)
         → list.entry.now ≡ strings_of names
         → properties.old ≡ among built_names (from_entries rest) →
         OnOk result
