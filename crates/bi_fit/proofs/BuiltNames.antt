@@ -4,7 +4,7 @@ use Rattle.std.specs.Cmp.Lexicographic.{slice_cmp}
 use Rattle.std.specs.List.{AllByRecursion, list_all}
 use Rattle.std.specs.List.Sorted.{IsStrictlySortedBy}
 use Rattle.std.proofs.lemmas.Bool.{and_parts}
-use Rattle.bi_fit.specs.declared.property_names.ChangedRanks.{ChangedRanks}
+use Rattle.bi_fit.specs.declared.property_names.ChangedNumbers.{ChangedNumbers}
 use Rattle.bi_fit.specs.ChangedNames.{AreRankedNames}
 use Rattle.bi_fit.specs.BuiltNames.{built_names}
 
@@ -42,10 +42,5 @@ in_order (name ∷ names) are =
 pub built_ranked : AreRankedNames built_names (record { payload = 4; offset = 5; position = 6; size = 7; time = 19; digest = 21 })
 built_ranked = record {
   in_order = in_order built_names refl;
-  payload = refl;
-  offset = refl;
-  position = refl;
-  size = refl;
-  time = refl;
-  digest = refl;
+  numbers = record { payload = refl; offset = refl; position = refl; size = refl; time = refl; digest = refl };
 }

@@ -36,6 +36,7 @@ pub mod PropertyMaps
 pub mod DistinctNumbers
 pub mod MovedPairs
 pub mod RankedProperties
+pub mod KeyedEntries
 pub mod AddedProperties
 pub mod NodeEvents
 pub mod PayloadEnds

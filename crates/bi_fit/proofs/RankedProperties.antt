@@ -22,7 +22,7 @@ use Rattle.bi_lay.specs.Contents.{name_numbered}
 use Rattle.bi_lay.specs.declared.items.Value.{Value}
 use Rattle.bi_lay.specs.Values.{value_bytes}
 use Rattle.bi_fdt.specs.Numbers.{IsNumberOf}
-use Rattle.bi_fit.specs.declared.property_names.ChangedRanks.{ChangedRanks}
+use Rattle.bi_fit.specs.declared.property_names.ChangedNumbers.{ChangedNumbers}
 use Rattle.bi_fit.specs.Names.{is_payload_name}
 use Rattle.bi_fit.specs.ChangedNames.{AreRankedNames, is_payload_rank}
 use Rattle.bi_fit.specs.PropertyMapModels.{among, with_property_value}
@@ -155,14 +155,14 @@ module _ (names : List (List ℕ)) (ordered : IsStrictlySortedBy (slice_cmp nat_
         ∙ ap (among names) (from_sorted-put (named names entries) (name_numbered names rank) (value_bytes value) (named_in_order entries are ascending))
         ∙ ap (λ n. among names (insert (from_sorted (named names entries)) n (value_bytes value))) (get_or_from_slice_get names rank name [] is_name)
 
-  module _ (ranks : ChangedRanks) (ranked : AreRankedNames names ranks) where
+  module _ (ranks : ChangedNumbers) (ranked : AreRankedNames names ranks) where
     -- A rank is that of a property that holds a payload or names its region if the name is.
     payload_rank : (rank : ℕ) → rank < length names → is_payload_rank ranks rank ≡ is_payload_name (name_numbered names rank)
     payload_rank rank within =
-        ap₂ ◌||◌ (same_rank rank ranks.payload _ within ranked.payload)
-        (ap₂ ◌||◌ (same_rank rank ranks.offset _ within ranked.offset)
-        (ap₂ ◌||◌ (same_rank rank ranks.position _ within ranked.position)
-        (same_rank rank ranks.size _ within ranked.size ∙ sym (or-false _))))
+        ap₂ ◌||◌ (same_rank rank ranks.payload _ within ranked.numbers.payload)
+        (ap₂ ◌||◌ (same_rank rank ranks.offset _ within ranked.numbers.offset)
+        (ap₂ ◌||◌ (same_rank rank ranks.position _ within ranked.numbers.position)
+        (same_rank rank ranks.size _ within ranked.numbers.size ∙ sym (or-false _))))
 
     -- Whether an entry is none of them.
     abbrev pub keeps_value : ℕ × Value → Bool

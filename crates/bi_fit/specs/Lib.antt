@@ -31,7 +31,6 @@ pub mod PropertyMapModels
 pub mod PropertyMaps
 pub mod ChangedNames
 pub mod NameOrders
-pub mod OrderStub
 pub mod TextNodes
 pub mod AddedImages
 pub mod Laws

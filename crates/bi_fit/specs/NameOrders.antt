@@ -2,7 +2,7 @@ use Rattle.std.specs.Prelude.{◌≡◌, ℕ, List}
 use Rattle.bi_fdt.specs.declared.node.NodeRef.{NodeRef}
 use Rattle.bi_fdt.specs.Table.{TableItem}
 use Rattle.bi_fdt.specs.Views.{table_of_node}
-use Rattle.bi_fit.specs.OrderStub.{IsNumberOrder}
+use Rattle.bi_fdt.specs.Order.{IsNumberOrder}
 use Rattle.bi_fit.specs.declared.name_order.NameOrder.{NameOrder}
 
 -- The order of the names of a file's properties.

@@ -1,4 +1,4 @@
-use Rattle.std.specs.Prelude.{ℕ, ◌<◌, nat_le, suc, List, [], ◌∷◌, map, length, T}
+use Rattle.std.specs.Prelude.{◌≡◌, ℕ, ◌<◌, nat_le, suc, List, [], ◌∷◌, map, length, T}
 use Rattle.std.specs.Prelude.{◌==◌, Bool, false, Option, None, Some, if◌then◌else◌}
 use Rattle.std.specs.Cmp.Lexicographic.{slice_cmp}
 use Rattle.std.specs.FinMap.{from_sorted, is_sorted}
@@ -6,6 +6,7 @@ use Rattle.std.specs.List.{AllByRecursion}
 use Rattle.std.specs.List.Sorted.{IsStrictlySortedBy}
 use Rattle.std.specs.Ordering.{nat_cmp}
 use Rattle.bi_blob.specs.Tree.{Property}
+use Rattle.bi_fdt.specs.Order.{KeyedProperty}
 use Rattle.bi_lay.specs.Contents.{name_numbered}
 use Rattle.bi_lay.specs.declared.items.Value.{Value}
 use Rattle.bi_lay.specs.Values.{value_bytes}
@@ -21,6 +22,10 @@ named names entries = map (λ entry. (name_numbered names entry.0, value_bytes e
 -- The ranks are those of names.
 abbrev pub AreRanksWithin : List (List ℕ) → List (ℕ × Value) → Type 0
 AreRanksWithin names entries = AllByRecursion (λ entry. entry.0 < length names) entries
+
+-- The entry has the rank and the value of this property, whose key is the rank.
+abbrev pub IsEntryOf : KeyedProperty → ℕ × Value → Type 0
+IsEntryOf keyed entry = (keyed.0 ≡ entry.0) × (keyed.1.value ≡ value_bytes entry.1)
 
 -- What the fields show.
 abbrev pub property_map_model : Fields → PropertyMapModel

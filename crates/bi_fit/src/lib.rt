@@ -21,7 +21,6 @@ mod memory;
 mod name_order;
 mod new_digests;
 mod nodes;
-mod order_stub;
 mod payload_area;
 mod property_names;
 mod signatures;

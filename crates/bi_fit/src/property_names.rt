@@ -12,23 +12,24 @@ use std::marker::Model;
 #[derive(Drop)]
 pub struct PropertyNames<'a> {
     names: Vec<&'a [u8]>,
-    ranks: ChangedRanks,
+    ranks: ChangedNumbers,
 }
 
-/// The ranks of the names of the properties that a text adds, changes or leaves out.
+/// A number for the name of each property that a text adds, changes or leaves out: its index in a
+/// list of names. In a list in byte order it is the rank.
 #[derive(Clone, Copy)]
-pub(crate) struct ChangedRanks {
-    /// The rank of `data`.
+pub(crate) struct ChangedNumbers {
+    /// That of `data`.
     pub(crate) payload: usize,
-    /// The rank of `data-offset`.
+    /// That of `data-offset`.
     pub(crate) offset: usize,
-    /// The rank of `data-position`.
+    /// That of `data-position`.
     pub(crate) position: usize,
-    /// The rank of `data-size`.
+    /// That of `data-size`.
     pub(crate) size: usize,
-    /// The rank of `timestamp`.
+    /// That of `timestamp`.
     pub(crate) time: usize,
-    /// The rank of `value`.
+    /// That of `value`.
     pub(crate) digest: usize,
 }
 
@@ -48,7 +49,7 @@ impl<'a> PropertyNames<'a> {
     ghost use Rattle.bi_fit.specs.ChangedNames.{AreRankedNames};
 
     /// Returns these names, which are in byte order, each once. The ranks are their indices.
-    pub(crate) fn new(names: Vec<&'a [u8]>, ranks: ChangedRanks) -> PropertyNames<'a>
+    pub(crate) fn new(names: Vec<&'a [u8]>, ranks: ChangedNumbers) -> PropertyNames<'a>
         requires { AreRankedNames (bytes_of names.items) ranks }
         ensures { result ≡ bytes_of names.entry.items }
     {
@@ -72,14 +73,14 @@ impl<'a> PropertyNames<'a> {
     }
 
     /// Returns the ranks of the names of the properties that a text adds, changes or leaves out.
-    pub(crate) fn ranks(&self) -> ChangedRanks
+    pub(crate) fn ranks(&self) -> ChangedNumbers
         ensures { AreRankedNames self.now result }
     {
         self.ranks
     }
 }
 
-impl ChangedRanks {
+impl ChangedNumbers {
     /// Returns whether a property of this rank holds a payload or names its region.
     pub(crate) fn is_payload(self, rank: usize) -> bool
         ensures { result ≡ is_payload_rank self rank }

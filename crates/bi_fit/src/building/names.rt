@@ -6,7 +6,7 @@ ghost use Rattle.bi_fit.specs.BuiltNames.{built_name, built_names as built_names
 ghost use Rattle.bi_fit.specs.Names.{key_name};
 
 use crate::key::Key;
-use crate::property_names::{ChangedRanks, PropertyNames};
+use crate::property_names::{ChangedNumbers, PropertyNames};
 use std::alloc::{AllocError, Global};
 
 /// A name of a property of a tree to be built. The variants are in byte order of the names.
@@ -88,7 +88,7 @@ pub(super) fn built_names<'a>(alloc: Global) -> Result<PropertyNames<'a>, AllocE
         b"type",
         b"value",
     ];
-    let ranks = ChangedRanks {
+    let ranks = ChangedNumbers {
         payload: PropertyName::Data as usize,
         offset: PropertyName::DataOffset as usize,
         position: PropertyName::DataPosition as usize,

@@ -2,6 +2,7 @@
 
 ghost use Rattle.std.specs.Prelude.{◌≡◌, ◌≤◌, ◌+◌, ℕ, List, map, slice_get, OnOk, IfOk};
 ghost use Rattle.std.specs.FinMap.{empty, entries};
+ghost use Rattle.std.specs.List.{AllZip};
 ghost use Rattle.std.specs.Option.{option_map};
 ghost use Rattle.bi_blob.specs.Events.{NodeProperty};
 ghost use Rattle.bi_blob.specs.Following.{stage_of_events, MayHaveNextProperty};
@@ -18,13 +19,13 @@ ghost use Rattle.bi_fit.specs.NormalNodes.{MayAdd, with_events, HasDistinctNames
 ghost use Rattle.bi_fit.specs.NormalNodes.{properties_by_name};
 ghost use Rattle.bi_fit.specs.NameOrders.{IsNameOrder};
 ghost use Rattle.bi_fit.specs.PropertyMapModels.{among, with_property_value};
-ghost use Rattle.bi_fit.specs.PropertyMaps.{index_of_rank, is_entry_ranked};
+ghost use Rattle.bi_fit.specs.PropertyMaps.{IsEntryOf, index_of_rank, is_entry_ranked};
 
 use crate::form::Form;
 use crate::memory::only_memory;
 use crate::name_order::NameOrder;
 use crate::property_names::PropertyNames;
-use bi_fdt::NodeRef;
+use bi_fdt::{NodeRef, OrderedProperties};
 use bi_hash::Algo;
 use bi_lay::{Doc, Value};
 use std::alloc::{AllocError, Global};
@@ -80,7 +81,12 @@ impl<'a, 'b> PropertyMap<'a, 'b> {
     {
         // The call gives the proof that the names are in byte order.
         let _ = order.names.ranks();
-        unreachable!()
+        let properties = node.properties_in(&order.properties);
+        let entries = entries_of(alloc, node.property_count(), properties)?;
+        Ok(PropertyMap {
+            names: &order.names,
+            entries,
+        })
     }
 
     /// Adds a property, or gives the property of this name another value. The name is given by its
@@ -201,6 +207,22 @@ impl<'a, 'b> PropertyMap<'a, 'b> {
         }
         Ok(())
     }
+}
+
+/// Returns these properties, each by the rank that is its key. `count` is their number. It fails if
+/// memory runs out.
+fn entries_of<'a>(
+    alloc: Global,
+    count: usize,
+    properties: OrderedProperties<'a, '_, '_>,
+) -> Result<Vec<(usize, Value<'a>)>, AllocError>
+    ensures { IfOk result (λ entries. AllZip IsEntryOf properties.entry entries.items) }
+{
+    let mut entries = Vec::with_capacity(alloc, count)?;
+    for (rank, property) in properties {
+        entries.push((rank, Value::Slice(property.value)))?;
+    }
+    Ok(entries)
 }
 
 /// Adds a property to the innermost open node. The name is given by its rank. It fails if memory

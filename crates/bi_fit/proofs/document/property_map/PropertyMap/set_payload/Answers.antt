@@ -19,7 +19,7 @@ returns-in-Embedded-clause-set c =
     ap (λ m. m.by_name) is
     ∙ ap (λ m. insert m.by_name data_name c.in-Some.payload.now) c.remove_payload.ensures
     ∙ shown)
-    (c.insert.ensures.inserted data_name (subst (λ m. IsNumberOf m.names data_name ranks.payload) c.self.view_is c.ranks-ranks.ensures.payload))
+    (c.insert.ensures.inserted data_name (subst (λ m. IsNumberOf m.names data_name ranks.payload) c.self.view_is c.ranks-ranks.ensures.numbers.payload))
 
 pub returns-in_ok-insert-in-External-clause-set : goal.returns-in_ok-insert-in-External-clause-set
 returns-in_ok-insert-in-External-clause-set c =
@@ -29,11 +29,11 @@ returns-in_ok-insert-in-External-clause-set c =
     ≡ with_payload c.args.form c.args.begin (option_map (λ (payload : Bor (List ℕ)). payload.now) c.args.payload) (without_payload c.args.self.now.by_name) =
     rw (c.in-External.is, c.in-Some.is) refl in
     let first = c.in_ok-insert-in-External.ensures.inserted data_offset_name
-    (subst (λ m. IsNumberOf m.names data_offset_name ranks.offset) c.self.view_is c.ranks-ranks.ensures.offset) in
+    (subst (λ m. IsNumberOf m.names data_offset_name ranks.offset) c.self.view_is c.ranks-ranks.ensures.numbers.offset) in
     on_ok_weaker c.insert-in-External-2.result (λ is.
     ap (λ m. m.by_name) is
     ∙ ap (λ m. insert m.by_name data_size_name size) first
     ∙ ap (λ m. insert (insert m.by_name data_offset_name (cell c.args.begin)) data_size_name size) c.remove_payload.ensures
     ∙ shown)
     (c.insert-in-External-2.ensures.inserted data_size_name (subst (λ names. IsNumberOf names data_size_name ranks.size) (sym c.in_ok-insert-in-External.ensures.same_names)
-    (subst (λ m. IsNumberOf m.names data_size_name ranks.size) c.self.view_is c.ranks-ranks.ensures.size)))
+    (subst (λ m. IsNumberOf m.names data_size_name ranks.size) c.self.view_is c.ranks-ranks.ensures.numbers.size)))
