@@ -37,7 +37,9 @@ pub mod DistinctNumbers
 pub mod MovedPairs
 pub mod ComparedValues
 pub mod CommonNumbers
-pub mod Rankings
+pub mod RankedProperties
+pub mod KeyedEntries
+pub mod ChangedNames
 pub mod AddedProperties
 pub mod NodeEvents
 pub mod PayloadEnds
@@ -63,4 +65,5 @@ pub mod ListedNames
 pub mod PassedResults
 pub mod BuiltPayloads
 pub mod BuiltProperties
+pub mod BuiltNames
 pub mod BuiltDocuments
