@@ -81,7 +81,8 @@ is_held limits file count entries used fine has table =
       named = subst (HaveNameOffsets file) (sym table.is_table.items) (names_in_tree file table.root table.holds);
     }
 
-pub is_blob : (limits : Limits) (file : List ℕ) (count : ℕ) (entries : List Entry) (used : List (List ℕ)) → AreBytes file → HasNoHeaderFault limits file →
+pub is_blob : (limits : Limits) (file : List ℕ) (count : ℕ) (entries : List Entry) (used : List (List ℕ)) → AreBytes file →
+    HasNoHeaderFault limits file →
     HasReservations file (off_mem_rsvmap file) (totalsize file) count → HasTable (tree_blocks file) limits.depth entries used →
     IsBlob file (boot_cpuid_phys file) (reservations_at file (off_mem_rsvmap file) count) (root_in (map (item_in file) entries))
 is_blob limits file count entries used bytes fine has table =
@@ -94,14 +95,16 @@ is_blob limits file count entries used bytes fine has table =
       holds = table.holds;
     })
 
-pub is_blob_within : (limits : Limits) (file : List ℕ) (count : ℕ) (entries : List Entry) (used : List (List ℕ)) → AreBytes file → HasNoHeaderFault limits file →
+pub is_blob_within : (limits : Limits) (file : List ℕ) (count : ℕ) (entries : List Entry) (used : List (List ℕ)) → AreBytes file →
+    HasNoHeaderFault limits file →
     HasReservations file (off_mem_rsvmap file) (totalsize file) count → HasTable (tree_blocks file) limits.depth entries used →
     IsBlobWithin limits file
 is_blob_within limits file count entries used bytes fine has table =
     blob_of_parts limits file count bytes fine has (record { root = table.root; holds = table.holds; shallow = table.shallow })
 
 -- The blob of these was read from the file.
-pub is_read_blob : (limits : Limits) (file : List ℕ) (count : ℕ) (entries : List Entry) (used : List (List ℕ)) → AreBytes file → HasNoHeaderFault limits file →
+pub is_read_blob : (limits : Limits) (file : List ℕ) (count : ℕ) (entries : List Entry) (used : List (List ℕ)) → AreBytes file →
+    HasNoHeaderFault limits file →
     HasReservations file (off_mem_rsvmap file) (totalsize file) count → HasTable (tree_blocks file) limits.depth entries used →
     IsReadBlob limits file (record {
       file = file;

@@ -17,7 +17,7 @@ use Rattle.bi_fdt.specs.declared.table.NodeEntry.{NodeEntry}
 use Rattle.bi_fdt.specs.declared.table.PropertyEntry.{PropertyEntry}
 use Rattle.bi_fdt.specs.Table.{TableItem, NodeItem, PropertyItem, count_inside, property_in, item_in, items_of, AreLinked}
 use Rattle.bi_fdt.specs.Growth.{AreOpen, IsGrowing, IsFinished, EndsInside}
-use Rattle.bi_fdt.specs.Numbers.{IsNumberOf, with_name}
+use Rattle.bi_fdt.specs.Numbers.{IsNumberOf, with_used_name}
 use Rattle.bi_fdt.specs.PropertyMarks.{HasMarked, AreMarksBelow}
 use Rattle.bi_fdt.specs.TableNames.{AreTableNames}
 use Rattle.bi_fdt.proofs.Items.{items_of-append, open_items, node_items, items_of-open_nodes, items_of-open, inside-open, childless_items}
@@ -73,14 +73,16 @@ abbrev pub open_rest : OpenFileNode → List OpenFileNode → List TableItem
 open_rest o outer = map PropertyItem o.properties ++ node_items (length outer + 1) o.children
 
 -- The entry of the innermost open node.
-pub innermost_entry : (file : List ℕ) (growing : Growing) (o : OpenFileNode) (outer : List OpenFileNode) → IsGrowing file growing o outer →
+pub innermost_entry : (file : List ℕ) (growing : Growing) (o : OpenFileNode) (outer : List OpenFileNode) →
+    IsGrowing file growing o outer →
     IsNodeEntry file growing.entries.items growing.innermost.entry (NodeItem (length outer) o.place o.name) (open_rest o outer)
 innermost_entry file growing o outer is =
     node_entry file growing.entries.items growing.innermost.entry (length outer) o.place o.name (open_rest o outer)
     (ap (drop growing.innermost.entry) is.items ∙ open_entry growing.innermost (reverse growing.outer.items) (names o.children) o outer is.opened)
 
 -- It is within the table.
-pub innermost_within : (file : List ℕ) (growing : Growing) (o : OpenFileNode) (outer : List OpenFileNode) → IsGrowing file growing o outer →
+pub innermost_within : (file : List ℕ) (growing : Growing) (o : OpenFileNode) (outer : List OpenFileNode) →
+    IsGrowing file growing o outer →
     growing.innermost.entry < length growing.entries.items
 innermost_within file growing o outer is =
     let e : IsNodeEntry file growing.entries.items growing.innermost.entry (NodeItem (length outer) o.place o.name) (open_rest o outer) = innermost_entry file growing o outer is in
@@ -105,7 +107,8 @@ open_nodes_within file growing o outer is =
     omega arith
 
 -- As many outer nodes are kept as there are.
-pub outer_count : (file : List ℕ) (growing : Growing) (innermost : OpenFileNode) (outer : List OpenFileNode) → IsGrowing file growing innermost outer →
+pub outer_count : (file : List ℕ) (growing : Growing) (innermost : OpenFileNode) (outer : List OpenFileNode) →
+    IsGrowing file growing innermost outer →
     length growing.outer.items ≡ length outer
 outer_count file growing innermost outer is =
     let long : suc (length (reverse growing.outer.items)) ≡ length outer + 1 =
@@ -167,7 +170,7 @@ pub growing_property : (file : List ℕ) (growing grown : Growing) (o : OpenFile
     → grown.entries.items ≡ set (growing.entries.items ++ entry.Property p ∷ []) growing.innermost.entry
     (entry.Node (record n { property_count = length (growing.entries.items ++ entry.Property p ∷ []) - growing.innermost.entry - 1 })))
     → grown.innermost ≡ growing.innermost → grown.outer ≡ growing.outer
-    → grown.names.used ≡ with_name growing.names.used (property_in file p).name
+    → grown.names.used ≡ with_used_name growing.names.used (property_in file p).name
     → IsNumberOf grown.names.used (property_in file p).name p.number
     → AreMarksBelow (length grown.entries.items) grown.names
     → HasMarked grown.names growing.innermost.entry (map (λ (q : FileProperty). q.name) o.properties ++ (property_in file p).name ∷ [])
@@ -258,7 +261,8 @@ growing_ended file growing grown o (up ∷ outer) parent is entries outers same 
 pub growing_finished : (file : List ℕ) (growing finished : Growing) (o : OpenFileNode) (outer : List OpenFileNode) →
     IsGrowing file growing o outer
     → ((n : NodeEntry) → slice_get growing.entries.items growing.innermost.entry ≡ Some (entry.Node n)
-    → finished.entries.items ≡ set growing.entries.items growing.innermost.entry (entry.Node (record n { after = length growing.entries.items })))
+    → finished.entries.items ≡ set growing.entries.items growing.innermost.entry
+    (entry.Node (record n { after = length growing.entries.items })))
     → growing.outer.items ≡ [] → finished.names ≡ growing.names
     → (outer ≡ []) × IsFinished file finished o
 growing_finished file growing finished o (up ∷ outer) is written none named =

@@ -102,7 +102,8 @@ before_zero-later (suc n) (byte ∷ rest) within =
       by_test false later short = later (omega arith)
 
 -- A later end of a name is the name there.
-pub name_from-later : (bytes : List ℕ) (at n : ℕ) → n ≤ length (name_from bytes at) → name_from bytes (at + n) ≡ drop n (name_from bytes at)
+pub name_from-later : (bytes : List ℕ) (at n : ℕ) → n ≤ length (name_from bytes at) →
+    name_from bytes (at + n) ≡ drop n (name_from bytes at)
 name_from-later bytes at n within = sym (ap before_zero (drop_again at n bytes)) ∙ before_zero-later n (drop at bytes) within
 
 -- A name is within the bytes.

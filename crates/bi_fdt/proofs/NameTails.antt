@@ -53,10 +53,10 @@ AreBlocksNumbered-later tails (suc count) skipped number name within is = (
 )
 
 -- The number of last blocks is none of a later part.
-pub number_within : (tails : List NamePart) (count number : ℕ) (name : List ℕ) → AreBlocksNumbered tails count number name →
+pub blocks_number_within : (tails : List NamePart) (count number : ℕ) (name : List ℕ) → AreBlocksNumbered tails count number name →
     number ≤ length tails
-number_within tails zero number name is = omega (arith, is)
-number_within tails (suc count) number name is =
+blocks_number_within tails zero number name is = omega (arith, is)
+blocks_number_within tails (suc count) number name is =
     omega (arith, is.1, slice_get_within tails (number - 1) (is.0, take 64 (drop (length name - 64 * (count + 1)) name)) is.2)
 
 -- Some last blocks have one number.

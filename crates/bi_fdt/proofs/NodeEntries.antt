@@ -102,7 +102,8 @@ inside-past_properties depth (PropertyItem p ∷ items) = let e : count_inside d
 inside-past_properties depth (NodeItem own place name ∷ items) = omega arith
 
 -- What is inside makes no difference to the nodes at a depth.
-pub nodes-past_inside : (depth : ℕ) (items : List TableItem) → nodes_of depth items ≡ nodes_of depth (drop (count_inside depth items) items)
+pub nodes-past_inside : (depth : ℕ) (items : List TableItem) →
+    nodes_of depth items ≡ nodes_of depth (drop (count_inside depth items) items)
 nodes-past_inside depth [] = refl
 nodes-past_inside depth (PropertyItem p ∷ items) = nodes-past_inside depth items ∙ ap (λ n. nodes_of depth (drop n (PropertyItem p ∷ items))) (one_more (count_inside depth items)) where
   one_more : (n : ℕ) → suc n ≡ n + 1

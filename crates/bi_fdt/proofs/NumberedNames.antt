@@ -89,7 +89,8 @@ AreHeads-tails old new heads names more are = record {
   distinct = are.distinct;
 }
 
-pub AreBlockNumbers-more : (old new : List NamePart) (strings numbers : List ℕ) → BeginsWith new old → AreBlockNumbers old strings numbers →
+pub AreBlockNumbers-more : (old new : List NamePart) (strings numbers : List ℕ) → BeginsWith new old →
+    AreBlockNumbers old strings numbers →
     AreBlockNumbers new strings numbers
 AreBlockNumbers-more old new strings numbers begins are = record {
   count = are.count;

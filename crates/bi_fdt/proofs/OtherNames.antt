@@ -8,7 +8,7 @@ use Rattle.bi_fdt.specs.NameTails.{AreBlocksNumbered, IsTail, IsHead, AreHeads, 
 use Rattle.bi_fdt.specs.Numbers.{FindsNumber}
 use Rattle.bi_fdt.specs.OtherNames.{FindsBlocks, HasOtherNumber, AreOtherNumbers, FindsAfter, FindsTail, AreFoundAmong}
 use Rattle.bi_fdt.proofs.NameParts.{slice_get-pushed}
-use Rattle.bi_fdt.proofs.NameTails.{one_number, number_within}
+use Rattle.bi_fdt.proofs.NameTails.{one_number, blocks_number_within}
 use Rattle.bi_fdt.proofs.NumberedNames.{known_name, new_name, heads_length}
 
 -- Names are found among others by their parts, the last blocks first.
@@ -41,7 +41,8 @@ part_other parts others once index later block tail found there after finds (suc
     both : (later ≡ is.0) × (block ≡ first)
     both = some_pair_parts later is.0 block first (sym there ∙ ap (slice_get parts) here ∙ is.2)
 
-    by : (tail found : Option ℕ) → FindsTail others tail block found → FindsBlocks others count name tail → FindsBlocks others (suc count) name found
+    by : (tail found : Option ℕ) → FindsTail others tail block found → FindsBlocks others count name tail →
+        FindsBlocks others (suc count) name found
     by None None finds none = λ number other. none other.0 other.3
     by None (Some number) finds none = absurd (none-some (number - 1) (sym finds.1))
     by (Some tail) None finds some = λ number other.
@@ -50,10 +51,12 @@ part_other parts others once index later block tail found there after finds (suc
     by (Some tail) (Some number) finds some = (tail, finds.0, finds.1 ∙ ap (λ block. Some (tail, block)) both.1, some)
 
 -- One more number.
-pub others_more : (parts others : List NamePart) (numbers more : List (Option ℕ)) (index later : ℕ) (block : List ℕ) (tail found : Option ℕ) →
+pub others_more : (parts others : List NamePart) (numbers more : List (Option ℕ)) (index later : ℕ) (block : List ℕ)
+    (tail found : Option ℕ) →
     AreOnce others → AreInOrder parts → slice_get parts index ≡ Some (later, block) → length numbers ≡ index + 1 →
     ((number : ℕ) (found : Option ℕ) → slice_get numbers number ≡ Some found → HasOtherNumber parts others number found) →
-    ((value : Option ℕ) → slice_get numbers later ≡ Some value → tail ≡ value) → FindsTail others tail block found → more ≡ numbers ++ found ∷ [] →
+    ((value : Option ℕ) → slice_get numbers later ≡ Some value → tail ≡ value) → FindsTail others tail block found →
+    more ≡ numbers ++ found ∷ [] →
     (number : ℕ) (other : Option ℕ) → slice_get more number ≡ Some other → HasOtherNumber parts others number other
 others_more parts others numbers more index later block tail found once order there long each value finds pushed number other at =
     elim (slice_get-pushed numbers found number other (ap (λ l. slice_get l number) (sym pushed) ∙ at)) [
@@ -77,7 +80,8 @@ new_by_blocks tails (head ∷ heads) (other ∷ names) name all none =
     ((λ same. none head.0 (subst (IsTail tails head.0) same all.0.tail)), new_by_blocks tails heads names name all.1 none)
 
 -- A name is found by its head, if its last blocks are.
-name_found : (tails heads : List NamePart) (names : List (List ℕ)) (head name : List ℕ) (tail found : Option ℕ) → AreHeads tails heads names →
+name_found : (tails heads : List NamePart) (names : List (List ℕ)) (head name : List ℕ) (tail found : Option ℕ) →
+    AreHeads tails heads names →
     head ≡ take (head_length name) name → FindsBlocks tails (length name / 64 - 1) name tail → FindsAfter heads tail head found →
     FindsNumber names name found
 name_found tails heads names head name None found are is none finds =
@@ -116,7 +120,7 @@ names_found tails heads names other_tails other_heads others numbers found are o
         FindsNumber others name number
     each index name number at_name at_number =
         let there = head_there tails heads names are.each index name at_name in
-        let within : there.0.0 ≤ length tails = number_within tails (length name / 64 - 1) there.0.0 name there.2.tail in
+        let within : there.0.0 ≤ length tails = blocks_number_within tails (length name / 64 - 1) there.0.0 name there.2.tail in
         let tail = value_there numbers there.0.0 (omega (arith, within, kept.count)) in
         name_found other_tails other_heads others there.0.1 name tail.0 number other_are there.2.head
         (kept.each there.0.0 tail.0 tail.1 (length name / 64 - 1) name there.2.tail) (among.each index there.0 tail.0 number there.1 tail.1 at_number)

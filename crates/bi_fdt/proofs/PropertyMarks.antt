@@ -3,13 +3,14 @@ use Rattle.std.proofs.Common.{refl, sym, ap, subst, ◌∙◌, arith}
 use Rattle.std.specs.Prelude.{◌||◌, ◌==◌, if◌then◌else◌, bytes_eq, slice_index_or, slice_set}
 use Rattle.std.specs.List.{AllByRecursion}
 use Rattle.std.specs.Cmp.{unsigned_Decides}
+use Rattle.std.proofs.Math.Bool.{or-false}
 use Rattle.std.proofs.lemmas.Option.{none-some, same_Some, slice_get_within}
 use Rattle.std.proofs.lemmas.Slice.Eq.{bytes_eq-Decides}
 use Rattle.std.proofs.lemmas.List.Folds.{list_any-append}
 use Rattle.bi_blob.specs.Layout.{is_among}
 use Rattle.bi_blob.specs.Tree.{AreDistinct, IsNew}
 use Rattle.bi_blob.proofs.NameSets.{new_by_test, held_by_test}
-use Rattle.bi_fdt.specs.Numbers.{IsNumberOf, with_name}
+use Rattle.bi_fdt.specs.Numbers.{IsNumberOf, with_used_name}
 use Rattle.bi_fdt.specs.PropertyMarks.{MarkedNames, has_mark, HasMarked, AreMarksBelow}
 use Rattle.bi_fdt.proofs.NameParts.{slice_get-pushed}
 use Rattle.bi_fdt.proofs.UsedNames.{numbered_old}
@@ -19,10 +20,6 @@ use Rattle.bi_fdt.proofs.UsedNames.{numbered_old}
 or_true : (b : Bool) → (b || true) ≡ true
 or_true true = refl
 or_true false = refl
-
-or_false : (b : Bool) → (b || false) ≡ b
-or_false true = refl
-or_false false = refl
 
 -- Two names that differ.
 differ : (a b : List ℕ) → ¬ (a ≡ b) → bytes_eq a b ≡ false
@@ -48,7 +45,8 @@ no_greater_mark [] marks mark name less = refl
 no_greater_mark (first ∷ later) [] mark name less = refl
 no_greater_mark (first ∷ later) (own ∷ marks) mark name less = by (bytes_eq first name) refl (no_greater_mark later marks mark name less.1)
   where
-    by : (e : Bool) → bytes_eq first name ≡ e → has_mark later marks mark name ≡ false → has_mark (first ∷ later) (own ∷ marks) mark name ≡ false
+    by : (e : Bool) → bytes_eq first name ≡ e → has_mark later marks mark name ≡ false →
+        has_mark (first ∷ later) (own ∷ marks) mark name ≡ false
     by false is behind = rw is behind
     by true is behind = rw is (by_mark (own == mark) refl)
       where
@@ -83,7 +81,7 @@ mark_set (first ∷ later) (own ∷ marks) mark name other zero distinct long is
     by true one =
         rw (one, sym same ∙ one) ((unsigned_Decides mark mark).1 refl ∙ sym (or_true (own == mark)))
     by false apart =
-        rw (apart, sym same ∙ apart) (sym (or_false (has_mark later marks mark other)))
+        rw (apart, sym same ∙ apart) (sym (or-false (has_mark later marks mark other)))
 mark_set (first ∷ later) (own ∷ marks) mark name other (suc number) distinct long is =
     by (bytes_eq first other) refl (mark_set later marks mark name other number distinct.1 (omega (arith, long)) is)
   where
@@ -96,7 +94,7 @@ mark_set (first ∷ later) (own ∷ marks) mark name other (suc number) distinct
         ≡ (has_mark (first ∷ later) (own ∷ marks) mark other || bytes_eq name other)
     by true one behind =
         let no = differ name other (λ same. apart ((bytes_eq-Decides first other).0 one ∙ sym same)) in
-        rw (one, no) (sym (or_false (own == mark)))
+        rw (one, no) (sym (or-false (own == mark)))
     by false two behind = rw two behind
 
 -- The marks with that of a new name.
@@ -118,16 +116,17 @@ mark_push (first ∷ later) (own ∷ marks) mark name other long new =
         ≡ (has_mark (first ∷ later) (own ∷ marks) mark other || bytes_eq name other)
     by true one behind =
         let no = differ name other (λ same. new.0 ((bytes_eq-Decides first other).0 one ∙ sym same)) in
-        rw (one, no) (sym (or_false (own == mark)))
+        rw (one, no) (sym (or-false (own == mark)))
     by false two behind = rw two behind
 
 -- A name is among names with one more if it was among them or is that.
-among_push : (held : List (List ℕ)) (name other : List ℕ) → is_among other (held ++ name ∷ []) ≡ (is_among other held || bytes_eq name other)
+among_push : (held : List (List ℕ)) (name other : List ℕ) →
+    is_among other (held ++ name ∷ []) ≡ (is_among other held || bytes_eq name other)
 among_push held name other =
-    list_any-append (λ one. bytes_eq one other) held (name ∷ []) ∙ ap (λ b. is_among other held || b) (or_false (bytes_eq name other))
+    list_any-append (λ one. bytes_eq one other) held (name ∷ []) ∙ ap (λ b. is_among other held || b) (or-false (bytes_eq name other))
 
 -- A name that comes next was not used before, and any other was.
-pub next_is_new : (used : List (List ℕ)) (name : List ℕ) (number : ℕ) → IsNumberOf (with_name used name) name number →
+pub next_is_new : (used : List (List ℕ)) (name : List ℕ) (number : ℕ) → IsNumberOf (with_used_name used name) name number →
     number ≡ length used → is_among name used ≡ false
 next_is_new used name number is last = by (is_among name used) refl
   where
@@ -138,11 +137,11 @@ next_is_new used name number is last = by (is_among name used) refl
         let within : number < length used = slice_get_within used number name kept in
         absurd (omega (arith, within, last))
 
-pub other_is_old : (used : List (List ℕ)) (name : List ℕ) (number : ℕ) → IsNumberOf (with_name used name) name number →
-    ¬ (number ≡ length used) → with_name used name ≡ used
+pub other_is_old : (used : List (List ℕ)) (name : List ℕ) (number : ℕ) → IsNumberOf (with_used_name used name) name number →
+    ¬ (number ≡ length used) → with_used_name used name ≡ used
 other_is_old used name number is elsewhere = by (is_among name used) refl
   where
-    by : (b : Bool) → is_among name used ≡ b → with_name used name ≡ used
+    by : (b : Bool) → is_among name used ≡ b → with_used_name used name ≡ used
     by true old = ap (λ b. if b then used else used ++ name ∷ []) old
     by false new =
         elim (slice_get-pushed used name number name (subst (λ l. IsNumberOf l name number) (ap (λ b. if b then used else used ++ name ∷ []) new) is)) [
@@ -190,8 +189,8 @@ bound_more bound more (other ∷ marks) most all = (omega (arith, all.0, most), 
 
 -- What the mark of a name tells, where `old` are the names before, which have as many marks.
 module _ (old : MarkedNames) (used : List (List ℕ)) (mark number : ℕ) (name : List ℕ) (long : length old.marks ≡ length old.used)
-    (same : used ≡ with_name old.used name) (is : IsNumberOf used name number) where
-  with_is : IsNumberOf (with_name old.used name) name number
+    (same : used ≡ with_used_name old.used name) (is : IsNumberOf used name number) where
+  with_is : IsNumberOf (with_used_name old.used name) name number
   with_is = subst (λ l. IsNumberOf l name number) same is
 
   module _ (last : number ≡ length old.marks) where
@@ -236,7 +235,8 @@ module _ (old : MarkedNames) (used : List (List ℕ)) (mark number : ℕ) (name 
           by true one = absurd (apart ((unsigned_Decides _ mark).0 one))
           by false two = two
 
-      pub known_marked : (other : List ℕ) → is_among other (held ++ name ∷ []) ≡ has_mark used (slice_set old.marks number mark) mark other
+      pub known_marked : (other : List ℕ) →
+          is_among other (held ++ name ∷ []) ≡ has_mark used (slice_set old.marks number mark) mark other
       known_marked other =
           among_push held name other ∙ ap (λ b. b || bytes_eq name other) (has other)
           ∙ sym (mark_set old.used old.marks mark name other number (subst AreDistinct known_used distinct) long known_is)

@@ -67,7 +67,8 @@ past_end blocks depth_limit place root position number =
     })
 
 -- A token that is not expected.
-pub bad_token : (blocks : TreeBlocks) (depth_limit place : ℕ) (so_far : TreeSoFar) (number : ℕ) → IsOpenAt blocks depth_limit place so_far →
+pub bad_token : (blocks : TreeBlocks) (depth_limit place : ℕ) (so_far : TreeSoFar) (number : ℕ) →
+    IsOpenAt blocks depth_limit place so_far →
     IsNumberAt blocks place number → is_expected (stage_of so_far) number ≡ false →
     IsStructureFault blocks depth_limit (token_fault place IsExpected)
 bad_token blocks depth_limit place so_far number position is_number unexpected =

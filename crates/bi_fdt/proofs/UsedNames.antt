@@ -9,7 +9,7 @@ use Rattle.bi_blob.specs.Tree.{AreDistinct, IsNew, FileProperty}
 use Rattle.bi_blob.proofs.Blobs.OpenNodes.{AreDistinct-push}
 use Rattle.bi_blob.proofs.NameSets.{new_by_test, held_by_test}
 use Rattle.bi_fdt.specs.NameTables.{HasAtMostMore}
-use Rattle.bi_fdt.specs.Numbers.{IsNumberOf, IsNumbered, AreNumbered, with_name, names_after}
+use Rattle.bi_fdt.specs.Numbers.{IsNumberOf, IsNumbered, AreNumbered, with_used_name, names_after}
 use Rattle.bi_fdt.specs.Table.{TableItem, NodeItem, PropertyItem}
 
 -- Names that were used are there once, at their numbers.
@@ -35,10 +35,10 @@ last_is_new (first ∷ later) name distinct = (
 
 -- The names after one more use of one of them.
 pub used_once_more : (old new : List (List ℕ)) (name : List ℕ) (number : ℕ) → HasAtMostMore old new name → AreDistinct new →
-    IsNumberOf new name number → new ≡ with_name old name
+    IsNumberOf new name number → new ≡ with_used_name old name
 used_once_more old new name number at_most distinct is = by (is_among name old) refl at_most
   where
-    by : (b : Bool) → is_among name old ≡ b → HasAtMostMore old new name → new ≡ with_name old name
+    by : (b : Bool) → is_among name old ≡ b → HasAtMostMore old new name → new ≡ with_used_name old name
     by true among (inl same) = same ∙ ap (λ b. if b then old else old ++ name ∷ []) (sym among)
     by true among (inr more) = absurd (held_by_test name old among (last_is_new old name (subst AreDistinct more distinct)))
     by false among (inl same) =
@@ -46,13 +46,15 @@ used_once_more old new name number at_most distinct is = by (is_among name old) 
     by false among (inr more) = more ∙ ap (λ b. if b then old else old ++ name ∷ []) (sym among)
 
 -- Two names are equal exactly if their numbers are.
-pub one_number_each : (names : List (List ℕ)) → AreDistinct names → (a b : List ℕ) (m n : ℕ) → IsNumberOf names a m → IsNumberOf names b n →
+pub one_number_each : (names : List (List ℕ)) → AreDistinct names → (a b : List ℕ) (m n : ℕ) → IsNumberOf names a m →
+    IsNumberOf names b n →
     (m ≡ n) ↔ (a ≡ b)
 one_number_each names distinct a b m n is_a is_b = (
   (λ same. same_Some _ _ (sym is_a ∙ ap (slice_get names) same ∙ is_b)),
   (λ same. once names distinct m n b (subst (λ l. IsNumberOf names l m) same is_a) is_b),
 ) where
-  once : (names : List (List ℕ)) → AreDistinct names → (m n : ℕ) (name : List ℕ) → IsNumberOf names name m → IsNumberOf names name n → m ≡ n
+  once : (names : List (List ℕ)) → AreDistinct names → (m n : ℕ) (name : List ℕ) → IsNumberOf names name m →
+      IsNumberOf names name n → m ≡ n
   once [] distinct m n name at_m at_n = absurd (none-some name at_m)
   once (first ∷ later) distinct zero zero name at_m at_n = refl
   once (first ∷ later) distinct zero (suc n) name at_m at_n =
@@ -67,10 +69,10 @@ on_ok (Ok v) P Q has follows = follows v has
 on_ok (Err e) P Q has follows = tt
 
 -- The names after one more use are there once.
-with_name-distinct : (used : List (List ℕ)) (name : List ℕ) → AreDistinct used → AreDistinct (with_name used name)
-with_name-distinct used name distinct = by (is_among name used) refl
+with_used_name-distinct : (used : List (List ℕ)) (name : List ℕ) → AreDistinct used → AreDistinct (with_used_name used name)
+with_used_name-distinct used name distinct = by (is_among name used) refl
   where
-    by : (b : Bool) → is_among name used ≡ b → AreDistinct (with_name used name)
+    by : (b : Bool) → is_among name used ≡ b → AreDistinct (with_used_name used name)
     by true old = subst AreDistinct (sym (ap (λ b. if b then used else used ++ name ∷ []) old)) distinct
     by false new = subst AreDistinct (sym (ap (λ b. if b then used else used ++ name ∷ []) new)) (AreDistinct-push used name distinct (new_by_test name used new))
 
@@ -78,14 +80,14 @@ pub names_after-distinct : (used : List (List ℕ)) (table : List TableItem) →
 names_after-distinct used [] distinct = distinct
 names_after-distinct used (NodeItem depth place name ∷ table) distinct = names_after-distinct used table distinct
 names_after-distinct used (PropertyItem property ∷ table) distinct =
-    names_after-distinct (with_name used property.name) table (with_name-distinct used property.name distinct)
+    names_after-distinct (with_used_name used property.name) table (with_used_name-distinct used property.name distinct)
 
 -- A property of a table has the name of its number.
-pub number_there : (names : List (List ℕ)) (table : List TableItem) (numbers : List ℕ) (at number : ℕ) (property : FileProperty) →
+pub numbered_property : (names : List (List ℕ)) (table : List TableItem) (numbers : List ℕ) (at number : ℕ) (property : FileProperty) →
     AreNumbered names table numbers → slice_get table at ≡ Some (PropertyItem property) → slice_get numbers at ≡ Some number →
     IsNumberOf names property.name number
-number_there names [] numbers at number property are is has = absurd (none-some (PropertyItem property) is)
-number_there names (item ∷ table) [] at number property are is has = absurd are
-number_there names (item ∷ table) (first ∷ numbers) zero number property are is has =
+numbered_property names [] numbers at number property are is has = absurd (none-some (PropertyItem property) is)
+numbered_property names (item ∷ table) [] at number property are is has = absurd are
+numbered_property names (item ∷ table) (first ∷ numbers) zero number property are is has =
     subst (IsNumberOf names property.name) (same_Some first number has) (subst (λ item. IsNumbered names item first) (same_Some item (PropertyItem property) is) are.0)
-number_there names (item ∷ table) (first ∷ numbers) (suc at) number property are is has = number_there names table numbers at number property are.1 is has
+numbered_property names (item ∷ table) (first ∷ numbers) (suc at) number property are is has = numbered_property names table numbers at number property are.1 is has

@@ -12,14 +12,14 @@ use Rattle.bi_fdt.specs.Table.{TableItem, NodeItem, PropertyItem}
 -- number of a name is its index in a list that has each name once.
 
 -- The names after one more use: a name that was not used before comes last.
-abbrev pub with_name : List (List ℕ) → List ℕ → List (List ℕ)
-with_name used name = if is_among name used then used else used ++ name ∷ []
+abbrev pub with_used_name : List (List ℕ) → List ℕ → List (List ℕ)
+with_used_name used name = if is_among name used then used else used ++ name ∷ []
 
 -- The names after their use by the properties of a table.
 abbrev pub names_after : List (List ℕ) → List TableItem → List (List ℕ)
 names_after used [] = used
 names_after used (NodeItem depth place name ∷ later) = names_after used later
-names_after used (PropertyItem property ∷ later) = names_after (with_name used property.name) later
+names_after used (PropertyItem property ∷ later) = names_after (with_used_name used property.name) later
 
 -- The names of the properties of a table, each once, in the order of their first use.
 abbrev pub names_of_table : List TableItem → List (List ℕ)

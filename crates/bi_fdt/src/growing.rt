@@ -149,7 +149,7 @@ impl<'a> Growing<'a> {
         requires few { length self.old.entries.items ≤ property.place }
         requires there { HasName self.old.names.strings at (length self.old.names.strings) }
         requires name { name.now ≡ name_from self.old.names.strings at }
-        ensures ok { OnOk result (AddsProperty self.old name.entry.now property self.new) }
+        ensures added { OnOk result (AddsProperty self.old name.entry.now property self.new) }
         ensures failed { IfErr result (IsFaultOrNoMemory
             (IsPropertyTaken self.old name.entry.now property.place)) }
     {

@@ -5,7 +5,7 @@ ghost use Rattle.std.specs.Prelude.{IsSome, IfSome, IfOk, OnOk};
 ghost use Rattle.bi_blob.specs.Tokens.{name_from};
 ghost use Rattle.bi_blob.specs.Tree.{IsNew};
 ghost use Rattle.bi_blob.specs.BlobFaults.{HasName};
-ghost use Rattle.bi_fdt.specs.Numbers.{IsNumberOf, with_name};
+ghost use Rattle.bi_fdt.specs.Numbers.{IsNumberOf, with_used_name};
 ghost use Rattle.bi_fdt.specs.PropertyMarks.{HasMarked, AreMarksBelow};
 
 use crate::strings::Strings;
@@ -63,7 +63,7 @@ impl<'a> MarkedNames<'a> {
         requires name { name.now ≡ name_from self.old.strings at }
         ensures number { IfOk result (λ number.
             IfSome number (IsNumberOf self.new.used name.entry.now)) }
-        ensures used { OnOk result (self.new.used ≡ with_name self.old.used name.entry.now) }
+        ensures used { OnOk result (self.new.used ≡ with_used_name self.old.used name.entry.now) }
         ensures new { IfOk result (λ number. (held : List (List ℕ))
             → HasMarked self.old mark held → (IsSome number ↔ IsNew name.entry.now held)) }
         ensures added { IfOk result (λ number. IsSome number → (held : List (List ℕ))

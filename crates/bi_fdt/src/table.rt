@@ -7,7 +7,7 @@ ghost use Rattle.bi_fdt.specs.declared.table.NodeEntry.{NodeEntry};
 ghost use Rattle.bi_fdt.specs.declared.table.Entry.TheVariants as entry;
 ghost use Rattle.bi_fdt.specs.Properties.{file_property_of};
 ghost use Rattle.bi_fdt.specs.Table.{node_name_in, property_in};
-ghost use Rattle.bi_fdt.specs.TableNames.{number_of};
+ghost use Rattle.bi_fdt.specs.TableNames.{name_number_of};
 
 use std::alloc::{AllocError, Global};
 
@@ -93,7 +93,7 @@ pub(crate) enum Entry {
 impl Entry {
     /// Returns the number of the name of a property, and 0 for a node.
     pub(crate) fn name_number(self) -> usize
-        ensures { result ≡ number_of self }
+        ensures { result ≡ name_number_of self }
     {
         match self {
             Entry::Property(property) => property.number as usize,
@@ -104,7 +104,7 @@ impl Entry {
 
 /// Returns the numbers of the names of these entries. Fails if memory runs out.
 pub(crate) fn name_numbers(alloc: Global, entries: &[Entry]) -> Result<Vec<usize>, AllocError>
-    ensures { IfOk result (λ numbers. numbers.items ≡ map number_of entries.now) }
+    ensures { IfOk result (λ numbers. numbers.items ≡ map name_number_of entries.now) }
 {
     entries
         .iter()

@@ -91,7 +91,7 @@ fn add_property<'a>(
     requires blocks { AreBlocks blocks }
     requires reading { IsReading (blocks_of blocks) depth_limit reading.old }
     requires number { IsNumberAt (blocks_of blocks) reading.old.place prop_number }
-    ensures ok { OnOk result
+    ensures added { OnOk result
         (IsAhead (blocks_of blocks.entry) depth_limit reading.old.place false reading.new) }
     ensures failed { IfErr result (IsFaultOrNoMemory
         (IsStructureFault (blocks_of blocks.entry) depth_limit)) }

@@ -6,7 +6,7 @@ ghost use Rattle.bi_base.specs.Slices.{bytes_of};
 ghost use Rattle.bi_blob.specs.Tokens.{name_from};
 ghost use Rattle.bi_blob.specs.Tree.{AreDistinct};
 ghost use Rattle.bi_blob.specs.BlobFaults.{HasName};
-ghost use Rattle.bi_fdt.specs.Numbers.{IsNumberOf, FindsNumber, with_name};
+ghost use Rattle.bi_fdt.specs.Numbers.{IsNumberOf, FindsNumber, with_used_name};
 
 use crate::name_table::NameTable;
 use crate::name_tails::tail_at;
@@ -61,7 +61,7 @@ impl<'a> UsedNames<'a> {
         requires there { HasName self.old.strings at (length self.old.strings) }
         requires name { name.now ≡ name_from self.old.strings at }
         ensures number { IfOk result (IsNumberOf self.new.used name.entry.now) }
-        ensures used { OnOk result (self.new.used ≡ with_name self.old.used name.entry.now) }
+        ensures used { OnOk result (self.new.used ≡ with_used_name self.old.used name.entry.now) }
         ensures failed { OnErr result (self.new.used ≡ self.old.used) }
         ensures distinct { AreDistinct self.new.used }
         ensures strings { self.new.strings ≡ self.old.strings }

@@ -4,7 +4,7 @@ use Rattle.bi_fdt.specs.NameParts.{AreMoreParts}
 use Rattle.bi_fdt.specs.NameTails.{AreAllBlocks}
 use Rattle.bi_fdt.proofs.NameEnds.{name_before_end, name_from-later, name_within}
 use Rattle.bi_fdt.proofs.NameParts.{AreMoreParts-same, placed_more, placed_at}
-use Rattle.bi_fdt.proofs.NameTails.{AreAllBlocks-none, AreAllBlocks-more, number_within}
+use Rattle.bi_fdt.proofs.NameTails.{AreAllBlocks-none, AreAllBlocks-more, blocks_number_within}
 use Rattle.bi_fdt.proofs.name_tails.blocks_before.Goals as goal
 
 pub returns-then-name-lt-STRIDE-clause-blocks : goal.returns-then-name-lt-STRIDE-clause-blocks
@@ -22,7 +22,7 @@ more_parts c =
     let long : length (take (c.args.end - c.args.at) (drop c.args.at c.args.strings.now)) ≡ length (name_from c.args.strings.now c.args.at) =
     ap length (name_before_end c.args.strings.now c.args.at c.args.end c.requires.end) in
     placed_more c.args.tails.now _ c.in_ok-index.index c.add.new.self
-    (number_within c.args.tails.now (length (name_from c.args.strings.now (c.args.at + 64)) / 64) c.args.later (name_from c.args.strings.now (c.args.at + 64)) (c.requires.later (omega arith)))
+    (blocks_number_within c.args.tails.now (length (name_from c.args.strings.now (c.args.at + 64)) / 64) c.args.later (name_from c.args.strings.now (c.args.at + 64)) (c.requires.later (omega arith)))
     c.in_ok-index.ensures.added
 
 pub returns-clause-blocks : goal.returns-clause-blocks

@@ -6,7 +6,8 @@ use Rattle.bi_fdt.proofs.structure.check_after_root.Given as goal
 
 abbrev pub invariant-loop-number : goal.invariant-loop-number
 invariant-loop-number l = record {
-  position : (depth_limit : ℕ) (root : Root FileNode) → IsOpenAt (blocks_of l.blocks) depth_limit l.fn.place (WholeTree root) → IsOpenAt (blocks_of l.blocks) depth_limit l.place (WholeTree root);
+  position : (depth_limit : ℕ) (root : Root FileNode) → IsOpenAt (blocks_of l.blocks) depth_limit l.fn.place (WholeTree root) →
+      IsOpenAt (blocks_of l.blocks) depth_limit l.place (WholeTree root);
   within : l.place ≤ l.blocks.end + 3;
 }
 

@@ -40,12 +40,12 @@ returns-in_err-add_property-clause-failed c =
     duplicate_property (blocks_of c.args.blocks) c.args.depth_limit c.args.reading.now.place r.innermost r.outer r.position c.name_in-name.result.now fault c.requires.number (c.name_in-name.ensures ∙ c.in_ok-property.ensures.name)
     passes (is.is_fault ∙ ap (λ p. token_fault p IsNewProperty) c.in_ok-property.ensures.place) (is.taken c.args.blocks.file.now r.innermost r.outer r.growing passes.0))
 
-pub returns-clause-ok : goal.returns-clause-ok
-returns-clause-ok c =
+pub returns-clause-added : goal.returns-clause-added
+returns-clause-added c =
     let r = c.requires.reading in
     let place : ℕ = c.args.reading.now.place in
     let file = c.args.blocks.file.now in
-    let added = c.in_ok-add_property.ensures.ok in
+    let added = c.in_ok-add_property.ensures.added in
     let p : FileProperty = property_in file c.in_ok-property.property in
     let passes = c.in_ok-property.ensures.ok (open_node_of r.innermost) (outer_nodes_of r.innermost.name r.outer) (c.is_childless.ensures c.args.blocks.file.now r.innermost r.outer r.growing) in
     let ends : place + 12 + u32_at file (place + 4) ≤ c.args.blocks.end = passes.1.0 in

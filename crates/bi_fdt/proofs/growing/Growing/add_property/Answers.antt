@@ -7,7 +7,7 @@ use Rattle.bi_blob.specs.Tree.{FileProperty}
 use Rattle.bi_fdt.specs.declared.table.Entry.{Entry}
 use Rattle.bi_fdt.specs.declared.table.Entry.TheVariants as entry
 use Rattle.bi_fdt.specs.declared.table.PropertyEntry.{PropertyEntry}
-use Rattle.bi_fdt.specs.Numbers.{IsNumberOf, with_name}
+use Rattle.bi_fdt.specs.Numbers.{IsNumberOf, with_used_name}
 use Rattle.bi_fdt.specs.PropertyMarks.{HasMarked}
 use Rattle.bi_fdt.proofs.PropertyMarks.{bound_more}
 use Rattle.bi_fdt.proofs.TableNames.{number_few}
@@ -50,8 +50,8 @@ set_property_count-requires c =
       ap length c.deref_mut.ensures.value,
     )
 
-pub returns-clause-ok : goal.returns-clause-ok
-returns-clause-ok c =
+pub returns-clause-added : goal.returns-clause-added
+returns-clause-added c =
     let old = c.args.self.now in
     let index : ℕ = old.innermost.entry in
     let p : PropertyEntry = record c.args.property { number = c.in-Some.number } in
@@ -79,7 +79,7 @@ returns-clause-ok c =
           ∙ ap (λ l. set l index (entry.Node (record n { property_count = c.len.result - index - 1 }))) now
           ∙ ap (λ k. set pushed index (entry.Node (record n { property_count = k - index - 1 }))) long)
           refl refl
-          (c.in_ok-number.ensures.used ∙ ap (with_name old.names.used) (sym named))
+          (c.in_ok-number.ensures.used ∙ ap (with_used_name old.names.used) (sym named))
           (subst (λ name. IsNumberOf c.insert.new.self.used name c.in-Some.number) (sym named) number)
           (c.in_ok-number.ensures.marks _ (omega (arith, longer, innermost_within file old innermost outer growing))
           (bound_more (length old.entries.items) _ old.names.marks (omega (arith, longer)) growing.marks))

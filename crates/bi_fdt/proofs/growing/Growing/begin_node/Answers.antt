@@ -15,12 +15,14 @@ use Rattle.bi_fdt.proofs.GrowingTables.{growing_begun, open_nodes_within, outer_
 use Rattle.bi_fdt.proofs.growing.Growing.begin_node.Goals as goal
 
 -- The innermost open node has the names of its children.
-held : (file : List ℕ) (growing : Growing) (innermost : OpenFileNode) (outer : List OpenFileNode) → IsGrowing file growing innermost outer →
+held : (file : List ℕ) (growing : Growing) (innermost : OpenFileNode) (outer : List OpenFileNode) →
+    IsGrowing file growing innermost outer →
     HoldsNames growing.innermost.children (names innermost.children)
 held file growing innermost outer is = AreOpen-held _ _ (names innermost.children) innermost.name outer is.opened
 
 -- The outer nodes and the innermost have entries.
-outer_few : (file : List ℕ) (growing : Growing) (innermost : OpenFileNode) (outer : List OpenFileNode) → IsGrowing file growing innermost outer →
+outer_few : (file : List ℕ) (growing : Growing) (innermost : OpenFileNode) (outer : List OpenFileNode) →
+    IsGrowing file growing innermost outer →
     length growing.outer.items + 1 ≤ length growing.entries.items
 outer_few file growing innermost outer is =
     omega (arith, outer_count file growing innermost outer is, open_nodes_within file growing innermost outer is)

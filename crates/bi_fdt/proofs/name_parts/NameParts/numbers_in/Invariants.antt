@@ -7,6 +7,7 @@ use Rattle.bi_fdt.proofs.name_parts.NameParts.numbers_in.Given as goal
 abbrev pub invariant-loop-tail : goal.invariant-loop-tail
 invariant-loop-tail l = record {
   count : vec_len l.numbers ≡ l.tail-index;
-  each : (index : ℕ) (part : NamePart) (tail number : Option ℕ) → slice_get l.self index ≡ Some part → slice_get l.tails part.0 ≡ Some tail
+  each : (index : ℕ) (part : NamePart) (tail number : Option ℕ) → slice_get l.self index ≡ Some part →
+      slice_get l.tails part.0 ≡ Some tail
       → slice_get l.numbers.items index ≡ Some number → FindsAfter l.others tail part.1 number;
 }

@@ -1,7 +1,7 @@
 use Rattle.std.proofs.Common.{◌≡◌, subst}
 use Rattle.std.specs.Prelude.{OnOk}
 use Rattle.bi_fdt.specs.NameTables.{names_in_table}
-use Rattle.bi_fdt.specs.Numbers.{with_name}
+use Rattle.bi_fdt.specs.Numbers.{with_used_name}
 use Rattle.bi_fdt.specs.UsedNames.{UsedNames}
 use Rattle.bi_fdt.proofs.NumberedNames.{AreBlockNumbers-more}
 use Rattle.bi_fdt.proofs.UsedNames.{on_ok, used_once_more}
@@ -16,7 +16,7 @@ invariant_of-self c = (
 
 pub returns-clause-used : goal.returns-clause-used
 returns-clause-used c =
-    subst (λ (used : UsedNames). OnOk c.add.result (names_in_table c.add.new.self ≡ with_name used.used c.args.name.now)) c.self.view_is
+    subst (λ (used : UsedNames). OnOk c.add.result (names_in_table c.add.new.self ≡ with_used_name used.used c.args.name.now)) c.self.view_is
     (on_ok c.add.result _ _ c.add.ensures.added
     (λ number is. used_once_more (names_in_table c.self.inside.table) (names_in_table c.add.new.self) c.args.name.now number
     c.add.ensures.only c.add.ensures.more.is_table.distinct is))
