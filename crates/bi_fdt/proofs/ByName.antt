@@ -2,7 +2,8 @@ use Rattle.std.proofs.Common.{◌≡◌, ℕ, zero, suc, ◌<◌, T, cond, List,
 use Rattle.std.proofs.Common.{Option, Some, None, slice_get, IsPermutation, refl, sym, ap, subst, ◌∙◌, nat_cmp, arith}
 use Rattle.std.specs.Cmp.{eq_by_cmp_equiv}
 use Rattle.std.specs.Cmp.Lexicographic.{slice_cmp}
-use Rattle.std.specs.FinMap.{get, from_sorted, from_entries, entries, is_sorted, find, same_map, get-from_sorted, get-from_entries, entries-from_sorted}
+use Rattle.std.specs.FinMap.{get, from_sorted, from_entries, entries, is_sorted, find, same_map, get-from_sorted, get-from_entries}
+use Rattle.std.specs.FinMap.{entries-from_sorted}
 use Rattle.std.specs.FinMap.Entries.{below_all}
 use Rattle.std.specs.List.{AllByRecursion, IsDistinct}
 use Rattle.std.specs.List.Sorted.{IsStrictlySortedBy}
@@ -32,7 +33,8 @@ first_before : (first : List ℕ) (names : List (List ℕ)) → IsStrictlySorted
     (index : ℕ) (name : List ℕ) → slice_get names index ≡ Some name → slice_cmp nat_cmp first name ≡ Less
 first_before first names ordered index name there =
     subst (λ n. slice_cmp nat_cmp first n ≡ Less) (get_or_from_slice_get names index name name there)
-    (each-contains (λ n. slice_cmp nat_cmp first n ≡ Less) names (get_or names index name) (sorted_head (slice_cmp nat_cmp) first names ordered)
+    (each-contains (λ n. slice_cmp nat_cmp first n ≡ Less) names (get_or names index name) (sorted_head
+    (slice_cmp nat_cmp) first names ordered)
     (Contains-get_or names index name (slice_get_within names index name there)))
 
 -- A name of less rank is before another.
@@ -60,7 +62,8 @@ below_properties : (names : List (List ℕ)) → IsStrictlySortedBy (slice_cmp n
 below_properties names ascend rank name there [] numbered below = tt
 below_properties names ascend rank name there (one ∷ keyed) numbered below =
     both_hold (is_lt (slice_cmp nat_cmp name one.1.name)) (below_all (slice_cmp nat_cmp) name (named keyed))
-    (subst (λ o. T (is_lt o)) (sym (rank_before names ascend rank one.0 name one.1.name there numbered.0 (ranked rank one.0 Less (sym below.0)))) tt)
+    (subst (λ o. T (is_lt o)) (sym (rank_before names ascend rank one.0 name one.1.name there numbered.0 (ranked rank one.0 Less
+    (sym below.0)))) tt)
     (below_properties names ascend rank name there keyed numbered.1 below.1)
 
 -- Properties whose ranks ascend are in byte order of their names.

@@ -1,4 +1,5 @@
-use Rattle.std.proofs.Common.{◌≡◌, ℕ, zero, suc, ◌+◌, ◌<◌, true, false, List, [], ◌∷◌, length, get_or, Ordering, Less, Equal, Greater, is_lt}
+use Rattle.std.proofs.Common.{◌≡◌, ℕ, zero, suc, ◌+◌, ◌<◌, true, false, List, [], ◌∷◌, length, get_or, Ordering, Less, Equal, Greater}
+use Rattle.std.proofs.Common.{is_lt}
 use Rattle.std.proofs.Common.{refl, sym, ap, subst, ◌∙◌, add-one, arith, bytes_eq, Bool, true≢false}
 use Rattle.std.specs.Cmp.{IsTotalOrder}
 use Rattle.std.specs.Cmp.Lexicographic.{slice_cmp}
@@ -32,7 +33,8 @@ module _ {K : Type 0} {R : K → K → Ordering} (o : IsTotalOrder R) where
   distinct_ascend [] ascending distinct = tt
   distinct_ascend (key ∷ keys) ascending distinct =
       sorted_from_all_adjacent o (key ∷ keys) key (λ k within.
-      is_before (get_or (key ∷ keys) k key) (get_or (key ∷ keys) (k + 1) key) (R (get_or (key ∷ keys) k key) (get_or (key ∷ keys) (k + 1) key)) refl
+      is_before (get_or (key ∷ keys) k key) (get_or (key ∷ keys) (k + 1) key) (R (get_or (key ∷ keys) k key) (get_or (key ∷ keys)
+      (k + 1) key)) refl
       (ascending k key (omega arith) within)
       (subst (λ n. eq_by_cmp R (get_or (key ∷ keys) k key) (get_or (key ∷ keys) n key) ≡ false) (sym (add-one k))
       (neighbours_differ (key ∷ keys) k key (omega arith) distinct)))

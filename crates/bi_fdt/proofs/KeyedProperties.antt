@@ -38,7 +38,8 @@ Pairs = List (ℕ × ℕ)
 
 -- ---- the pairs of a node
 
-drop-indices : (count index : ℕ) (keys : List ℕ) → drop count (with_indices_from index keys) ≡ with_indices_from (index + count) (drop count keys)
+drop-indices : (count index : ℕ) (keys : List ℕ) → drop count (with_indices_from index keys) ≡ with_indices_from (index + count)
+    (drop count keys)
 drop-indices zero index keys = ap (λ n. with_indices_from n keys) (omega arith)
 drop-indices (suc count) index [] = refl
 drop-indices (suc count) index (key ∷ keys) =
@@ -68,7 +69,8 @@ pairs_match table (PropertyItem property ∷ items) index [] here long = absurd 
 pairs_match table (PropertyItem property ∷ items) index (key ∷ keys) here long =
     let next : index + 1 ≡ index + 1 + 0 = omega arith in (
       first_dropped table index (PropertyItem property) items here,
-      pairs_match table items (index + 1) keys (ap (λ n. drop n table) next ∙ drop-next table items index 0 (PropertyItem property) here) (omega arith),
+      pairs_match table items (index + 1) keys (ap (λ n. drop n table) next ∙ drop-next table items index 0 (PropertyItem property) here)
+          (omega arith),
     )
 
 -- ---- properties at indices
@@ -159,7 +161,13 @@ keys_in_order [] rising i j d least within = absurd (omega arith)
 keys_in_order (pair ∷ pairs) rising i j d least within =
     let all = pair ∷ pairs in
     let short : j < length all = omega (arith, length-map all (λ (pair : ℕ × ℕ). pair.0)) in
-    omega (arith, get_or-map (λ (pair : ℕ × ℕ). pair.0) all i pair d (omega arith), get_or-map (λ (pair : ℕ × ℕ). pair.0) all j pair d short, rising i j pair least short)
+    omega (
+      arith,
+      get_or-map (λ (pair : ℕ × ℕ). pair.0) all i pair d (omega arith),
+      get_or-map (λ
+          (pair : ℕ × ℕ). pair.0) all j pair d short,
+      rising i j pair least short,
+    )
 
 -- The properties of a node are by the numbers of their names.
 pub node_by_number : (file : List ℕ) (table : List TableItem) (index : ℕ) (n : NodeEntry) → IsNodeOf file table index n →
@@ -176,7 +184,8 @@ node_by_number file table index n there is_node names order is distinct = record
   ascending = subst (λ l. IsStrictlySortedBy nat_cmp l) (sym (ap keys_of all ∙ keys-keyed table now))
       (sorted_from_strictly_increasing (keys_of now)
       (IsStrictlyIncreasing-from_distinct (keys_of now) (keys_in_order now sorted.in_order)
-      (IsDistinct-IsPermutation nat_eq nat_eq_equiv.symm (keys_of given) (keys_of now) (IsPermutation-map (λ (pair : ℕ × ℕ). pair.0) given now moved)
+      (IsDistinct-IsPermutation nat_eq nat_eq_equiv.symm (keys_of given) (keys_of now) (IsPermutation-map (λ
+      (pair : ℕ × ℕ). pair.0) given now moved)
       (subst (IsDistinct nat_eq) (sym (keys_of-indices (index + 1) keys)) (distinct_numbers names properties keys distinct numbered)))));
 } where
   properties : List FileProperty
@@ -239,12 +248,14 @@ item_there file entries index e d within is =
     slice_get-map (item_in file) entries index
     ∙ ap (option_map (item_in file)) (slice_get-get_or entries index d within ∙ ap (λ e. Some e) is)
 
-module _ (file : List ℕ) (entries : List Entry) (pairs : Pairs) (place : ℕ) (pair d : ℕ × ℕ) (within : place < length pairs) (is : get_or pairs place d ≡ pair) where
+module _ (file : List ℕ) (entries : List Entry) (pairs : Pairs) (place : ℕ) (pair d : ℕ × ℕ) (within : place < length pairs)
+    (is : get_or pairs place d ≡ pair) where
   -- Without an entry there is none.
   pub none_past : length entries ≤ pair.1 → keyed_properties (map (item_in file) entries) (drop place pairs) ≡ []
   none_past past =
       keyed_here (map (item_in file) entries) pairs place d within
-      ∙ ap (λ p. with_property p.0 (slice_get (map (item_in file) entries) p.1) (keyed_properties (map (item_in file) entries) (drop (place + 1) pairs))) is
+      ∙ ap (λ p. with_property p.0 (slice_get (map (item_in file) entries) p.1) (keyed_properties (map (item_in file) entries) (drop
+      (place + 1) pairs))) is
       ∙ ap (λ found. with_property pair.0 found (keyed_properties (map (item_in file) entries) (drop (place + 1) pairs)))
       (slice_get_past (map (item_in file) entries) pair.1 (omega (arith, past, length-map entries (item_in file))))
 
@@ -254,6 +265,7 @@ module _ (file : List ℕ) (entries : List Entry) (pairs : Pairs) (place : ℕ) 
       ≡ with_property pair.0 (Some (item_in file e)) (keyed_properties (map (item_in file) entries) (drop (place + 1) pairs))
   keyed_item e f inside entry_is =
       keyed_here (map (item_in file) entries) pairs place d within
-      ∙ ap (λ p. with_property p.0 (slice_get (map (item_in file) entries) p.1) (keyed_properties (map (item_in file) entries) (drop (place + 1) pairs))) is
+      ∙ ap (λ p. with_property p.0 (slice_get (map (item_in file) entries) p.1) (keyed_properties (map (item_in file) entries) (drop
+      (place + 1) pairs))) is
       ∙ ap (λ found. with_property pair.0 found (keyed_properties (map (item_in file) entries) (drop (place + 1) pairs)))
       (item_there file entries pair.1 e f inside entry_is)

@@ -33,7 +33,8 @@ Slice = Bor (List ℕ)
 
 -- Names with their numbers, and then one more.
 numbers-push : (number : ℕ) (names : List Slice) (name : Slice) →
-    with_numbers_from number (names ++ name ∷ []) ≡ with_numbers_from number names ++ (prefix_of_name name.now, name, number + length names) ∷ []
+    with_numbers_from number (names ++ name ∷ []) ≡ with_numbers_from number names ++
+    (prefix_of_name name.now, name, number + length names) ∷ []
 numbers-push number [] name = ap (λ n. (prefix_of_name name.now, name, n) ∷ []) (omega arith)
 numbers-push number (first ∷ names) name =
     ap (λ l. (prefix_of_name first.now, first, number) ∷ l)
@@ -74,7 +75,8 @@ order_more names k d prefix order more within are prefixes is bytes pushed =
 
 -- After a sort by prefix, name and number the names are in byte order.
 sorted_names : (order : List NumberedName) → All HasItsPrefix order →
-    IsSortedBy (λ a b. is_lt (ordering_then (ordering_then (nat_cmp a.0 b.0) (slice_cmp nat_cmp a.1.now b.1.now)) (nat_cmp a.2 b.2))) order →
+    IsSortedBy (λ a b. is_lt (ordering_then (ordering_then (nat_cmp a.0 b.0) (slice_cmp nat_cmp a.1.now b.1.now))
+    (nat_cmp a.2 b.2))) order →
     IsSorted (slice_cmp nat_cmp) (names_in order)
 sorted_names [] prefixes ascending k d least within = absurd (omega arith)
 sorted_names (one ∷ order) prefixes ascending k d least within =
@@ -84,7 +86,8 @@ sorted_names (one ∷ order) prefixes ascending k d least within =
     let sooner = get_or all k one in
     let later_has = prefixes (k + 1) one long in
     let sooner_has = prefixes k one (omega arith) in
-    let same : ordering_then (nat_cmp later.0 sooner.0) (slice_cmp nat_cmp later.1.now sooner.1.now) ≡ slice_cmp nat_cmp later.1.now sooner.1.now =
+    let same : ordering_then (nat_cmp later.0 sooner.0)
+    (slice_cmp nat_cmp later.1.now sooner.1.now) ≡ slice_cmp nat_cmp later.1.now sooner.1.now =
     ap (λ n. ordering_then (nat_cmp n sooner.0) (slice_cmp nat_cmp later.1.now sooner.1.now)) later_has.0
     ∙ ap (λ n. ordering_then (nat_cmp (prefix_of_name later.1.now) n) (slice_cmp nat_cmp later.1.now sooner.1.now)) sooner_has.0
     ∙ prefixes_keep_order later.1.now sooner.1.now later_has.1 sooner_has.1 in
@@ -103,7 +106,8 @@ same_names names order moved =
 -- Distinct names with their numbers are in byte order after the sort.
 pub order_sorted : (names : List Slice) (order sorted : List NumberedName) → AreDistinct (bytes_of names) →
     order ≡ with_numbers_from 0 names → All HasItsPrefix order → IsPermutation order sorted →
-    IsSortedBy (λ a b. is_lt (ordering_then (ordering_then (nat_cmp a.0 b.0) (slice_cmp nat_cmp a.1.now b.1.now)) (nat_cmp a.2 b.2))) sorted →
+    IsSortedBy (λ a b. is_lt (ordering_then (ordering_then (nat_cmp a.0 b.0) (slice_cmp nat_cmp a.1.now b.1.now))
+    (nat_cmp a.2 b.2))) sorted →
     IsNameOrder names sorted
 order_sorted names order sorted distinct are prefixes moved ascending =
     let from_names : IsPermutation (with_numbers_from 0 names) sorted = subst (λ l. IsPermutation l sorted) are moved in
@@ -123,7 +127,8 @@ length_order names order moved = length_permutation (with_numbers_from 0 names) 
 -- ---- the rank of each number
 
 -- Where a list goes on with an element, the element is there.
-pub first_dropped : {X : Type 0} (xs : List X) (index : ℕ) (x : X) (later : List X) → drop index xs ≡ x ∷ later → slice_get xs index ≡ Some x
+pub first_dropped : {X : Type 0} (xs : List X) (index : ℕ) (x : X) (later : List X) → drop index xs ≡ x ∷ later →
+    slice_get xs index ≡ Some x
 first_dropped [] zero x later at = absurd cc
 first_dropped [] (suc index) x later at = absurd cc
 first_dropped (y ∷ xs) zero x later at = let same : y ≡ x = cc in ap (λ z. Some z) same
@@ -185,7 +190,8 @@ rank_more names order ranks k e moved long within are j d before = elim (cases_e
 
   earlier : ((get_or order j d).2 ≡ number → ⊥) → j < k
   earlier apart = elim (cases_eq j k) [
-    | inl same ↦ absurd (apart (ap (λ i. (get_or order i d).2) same ∙ ap (λ (one : NumberedName). one.2) (get_or_default order k d e within)))
+    | inl same ↦ absurd (apart (ap (λ i. (get_or order i d).2) same
+        ∙ ap (λ (one : NumberedName). one.2) (get_or_default order k d e within)))
     | inr other ↦ omega arith
   ]
 
@@ -203,13 +209,15 @@ ranked_from sorted ranks number (name ∷ names) long all =
           (All-tail (HasRank sorted ranks) (prefix_of_name name.now, name, number) (with_numbers_from (number + 1) names) all)),
     )
 
-pub all_ranked : (names : List Slice) (order : List NumberedName) (ranks : List ℕ) (k : ℕ) → IsPermutation (with_numbers_from 0 names) order →
+pub all_ranked : (names : List Slice) (order : List NumberedName) (ranks : List ℕ) (k : ℕ) →
+    IsPermutation (with_numbers_from 0 names) order →
     length ranks ≡ length order → k ≡ length order →
     ((j : ℕ) (d : NumberedName) → j < k → HasRank (names_in order) ranks (get_or order j d)) →
     AllZip (IsNumberOf (names_in order)) (bytes_of names) ranks
 all_ranked names order ranks k moved long last are =
     ranked_from (names_in order) ranks 0 names (omega (arith, length_order names order moved))
-    (All-permutation (HasRank (names_in order) ranks) order (with_numbers_from 0 names) (IsPermutation-sym (with_numbers_from 0 names) order moved)
+    (All-permutation (HasRank (names_in order) ranks) order (with_numbers_from 0 names) (IsPermutation-sym
+    (with_numbers_from 0 names) order moved)
     (λ j d within. are j d (omega arith)))
 
 -- ---- both together
@@ -219,7 +227,8 @@ bytes_of-slices [] = refl
 bytes_of-slices (one ∷ order) = ap (λ l. one.1.now ∷ l) (bytes_of-slices order)
 
 -- The names in this order, and their ranks by it.
-pub ranks_are : (names : List Slice) (order here there : List NumberedName) (sorted : List Slice) (ranks : List ℕ) → IsNameOrder names order →
+pub ranks_are : (names : List Slice) (order here there : List NumberedName) (sorted : List Slice) (ranks : List ℕ) →
+    IsNameOrder names order →
     here ≡ order → sorted ≡ slices_in here → there ≡ order → AllZip (IsNumberOf (names_in there)) (bytes_of names) ranks →
     AreRanksOf (bytes_of names) (bytes_of sorted) ranks
 ranks_are names order here there sorted ranks is same are other ranked =

@@ -51,7 +51,8 @@ part_other parts others once index later block tail found there after finds (suc
     by (Some tail) (Some number) finds some = (tail, finds.0, finds.1 ∙ ap (λ block. Some (tail, block)) both.1, some)
 
 -- One more number.
-pub others_more : (parts others : List NamePart) (numbers more : List (Option ℕ)) (index later : ℕ) (block : List ℕ) (tail found : Option ℕ) →
+pub others_more : (parts others : List NamePart) (numbers more : List (Option ℕ)) (index later : ℕ) (block : List ℕ)
+    (tail found : Option ℕ) →
     AreOnce others → AreInOrder parts → slice_get parts index ≡ Some (later, block) → length numbers ≡ index + 1 →
     ((number : ℕ) (found : Option ℕ) → slice_get numbers number ≡ Some found → HasOtherNumber parts others number found) →
     ((value : Option ℕ) → slice_get numbers later ≡ Some value → tail ≡ value) → FindsTail others tail block found →

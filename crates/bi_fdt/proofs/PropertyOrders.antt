@@ -109,7 +109,8 @@ part_there begin count pairs part long within =
 -- The pairs of the nodes before an index are in order, and those of the others are as they were.
 pub record AreInOrderBefore (table : List TableItem) (end : ℕ) (pairs now : Pairs) : Type 0 where
   pub count : length now ≡ length pairs
-  pub done : (index : ℕ) → HasNodeAt table index → index < end → AreInOrder (pairs_of_node table index pairs) (pairs_of_node table index now)
+  pub done : (index : ℕ) → HasNodeAt table index → index < end →
+      AreInOrder (pairs_of_node table index pairs) (pairs_of_node table index now)
   pub left : (index : ℕ) → HasNodeAt table index → end ≤ index → pairs_of_node table index now ≡ pairs_of_node table index pairs
 
 pub none_before : (table : List TableItem) (pairs : Pairs) → AreInOrderBefore table 0 pairs pairs
@@ -120,7 +121,8 @@ none_before table pairs = record {
 }
 
 -- An item that is no node changes nothing.
-pub no_node_more : (table : List TableItem) (end : ℕ) (pairs now : Pairs) → (HasNodeAt table end → ⊥) → AreInOrderBefore table end pairs now →
+pub no_node_more : (table : List TableItem) (end : ℕ) (pairs now : Pairs) → (HasNodeAt table end → ⊥) →
+    AreInOrderBefore table end pairs now →
     AreInOrderBefore table (end + 1) pairs now
 no_node_more table end pairs now is_none are = record {
   count = are.count;
@@ -140,7 +142,8 @@ pub node_more : (table : List TableItem) (end begin count : ℕ) (pairs now part
 node_more table end begin count pairs now part is begins counts within are moved ascending = record {
   count = length_permutation now (put_mid begin count now part) (IsPermutation-put_mid begin count now part moved) ∙ are.count;
   done = λ index index_is before. elim (cases_eq index end) [
-    | inl same ↦ subst (λ k. AreInOrder (pairs_of_node table k pairs) (pairs_of_node table k (put_mid begin count now part))) (sym same) here
+    | inl same ↦ subst (λ k. AreInOrder (pairs_of_node table k pairs) (pairs_of_node table k (put_mid begin count now part)))
+        (sym same) here
     | inr other ↦ subst (λ l. AreInOrder (pairs_of_node table index pairs) l) (sym (kept_before index index_is (omega arith)))
         (are.done index index_is (omega arith))
   ];
@@ -164,7 +167,8 @@ node_more table end begin count pairs now part is begins counts within are moved
       ∙ ap (λ n. take n (drop (end + 1) (put_mid begin count now part))) counts)
       (record {
         permutation = subst (λ l. IsPermutation l part) own moved;
-        in_order = IsNonDecreasingBy-from_sort (λ keyed. keyed.0) part (λ k d least before. first_not_less _ _ (ascending k d least before));
+        in_order = IsNonDecreasingBy-from_sort (λ keyed. keyed.0) part (λ k d least before. first_not_less _ _
+            (ascending k d least before));
       })
 
   kept_before : (index : ℕ) → HasNodeAt table index → index < end →
@@ -183,7 +187,8 @@ node_more table end begin count pairs now part is begins counts within are moved
 
 module _ (file : List ℕ) (entries : List Entry) (table : List TableItem) (same : map (item_in file) entries ≡ table) where
   -- An entry of a node is one of a node of the table.
-  pub node_entry_at : (root : Root FileNode) → IsTable file entries root → (index : ℕ) (n : NodeEntry) (d : Entry) → index < length entries →
+  pub node_entry_at : (root : Root FileNode) → IsTable file entries root → (index : ℕ) (n : NodeEntry) (d : Entry) →
+      index < length entries →
       get_or entries index d ≡ entry.Node n → HasNodeAt table index × IsNodeOf file table index n
   node_entry_at root is_table index n d within is =
       let is_node : HasNodeAt table index =

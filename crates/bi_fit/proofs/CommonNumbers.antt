@@ -19,7 +19,8 @@ numbers_from next (Some number ∷ found) = number ∷ numbers_from next found
 numbers_from next (None ∷ found) = next ∷ numbers_from (next + 1) found
 
 -- A name keeps its number if others are added at the end.
-number_stays : (names more : List (List ℕ)) (number : ℕ) (name : List ℕ) → IsNumberOf names name number → IsNumberOf (names ++ more) name number
+number_stays : (names more : List (List ℕ)) (number : ℕ) (name : List ℕ) → IsNumberOf names name number →
+    IsNumberOf (names ++ more) name number
 number_stays [] more number name is = absurd cc
 number_stays (first ∷ later) more zero name is = is
 number_stays (first ∷ later) more (suc number) name is = number_stays later more number name is
@@ -66,8 +67,14 @@ module _ (names : List (List ℕ)) where
   -- Names have these numbers after others were added, and those that come next.
   numbers_after : (more others : List (List ℕ)) (found : List (Option ℕ)) (next : ℕ) → AreDistinct (names ++ more) → AreDistinct others →
       AreNew others more → AllZip (FindsNumber names) others found → next ≡ length (names ++ more) →
-      (added : List (List ℕ)) × AreDistinct ((names ++ more) ++ added) × AllZip (IsNumberOf ((names ++ more) ++ added)) others (numbers_from next found)
-  numbers_after more [] [] next distinct others_distinct new are counts = ([], subst AreDistinct (sym (append-nil (names ++ more))) distinct, tt)
+      (added : List (List ℕ)) × AreDistinct ((names ++ more) ++ added) × AllZip (IsNumberOf ((names ++ more) ++ added)) others
+      (numbers_from next found)
+  numbers_after more [] [] next distinct others_distinct new are counts = (
+    [],
+    subst AreDistinct (sym (append-nil
+        (names ++ more))) distinct,
+    tt,
+  )
   numbers_after more [] (number ∷ found) next distinct others_distinct new are counts = absurd are
   numbers_after more (name ∷ others) [] next distinct others_distinct new are counts = absurd are
   numbers_after more (name ∷ others) (Some number ∷ found) next distinct others_distinct new are counts =
@@ -96,7 +103,8 @@ pub numbers_by_both : (names others : List (List ℕ)) (found : List (Option ℕ
     AllZip (FindsNumber names) others found → numbers ≡ numbers_from (length names) found → HaveNumbersAfter names others numbers
 numbers_by_both names others found numbers distinct others_distinct are is =
     let plain = append-nil names in
-    let all = numbers_after names [] others found (length names) (subst AreDistinct (sym plain) distinct) others_distinct (none_new others) are
+    let all = numbers_after names [] others found (length names) (subst AreDistinct (sym plain) distinct) others_distinct
+    (none_new others) are
     (ap length (sym plain)) in
     let both : (names ++ []) ++ all.0 ≡ names ++ all.0 = ap (λ l. l ++ all.0) plain in
     record {

@@ -1,8 +1,7 @@
-use Rattle.std.proofs.Common.{◌≡◌, ℕ, zero, suc, Bool, true, false, cond, ◌==◌, ◌⊎◌, inl, inr, true≢false, T, List, [], ◌∷◌, map, Option, Some, None}
+use Rattle.std.proofs.Common.{◌≡◌, ℕ, zero, suc, Bool, true, false, cond, ◌==◌, ◌⊎◌, inl, inr, true≢false, T, List, [], ◌∷◌, map, Option}
+use Rattle.std.proofs.Common.{Some, None}
 use Rattle.std.proofs.Common.{slice_get, bytes_eq, IsPermutation, Less, refl, sym, ap, subst, ◌∙◌, nat_cmp, is_lt}
-use Rattle.std.specs.Prelude.{nat_eq}
 use Rattle.std.specs.Cmp.{unsigned_tied}
-use Rattle.std.specs.Cmp.Lexicographic.{slice_cmp}
 use Rattle.std.specs.FinMap.{get, nat_cmp-IsAntisymmetric}
 use Rattle.std.specs.FinMap.Entries.{below_all, find, is_sorted, same_entries}
 use Rattle.std.specs.List.{AllByRecursion}
@@ -67,13 +66,15 @@ get-compared ImageNode own name = get-without (properties_by_name own) name
 get-compared OtherNode own name = refl
 
 -- Properties in any order have by a name what a look-up finds.
-named_is : (name : List ℕ) (keyed : List KeyedProperty) → lookup (same_name name) (map (λ one. property_of one.1) keyed) ≡ value_named name keyed
+named_is : (name : List ℕ) (keyed : List KeyedProperty) →
+    lookup (same_name name) (map (λ one. property_of one.1) keyed) ≡ value_named name keyed
 named_is name [] = refl
 named_is name (one ∷ keyed) =
     ap (λ b. cond b (Some one.1.value) (lookup (same_name name) (map (λ one. property_of one.1) keyed))) (is_eq-slice_cmp name one.1.name)
     ∙ ap (cond (bytes_eq name one.1.name) (Some one.1.value)) (named_is name keyed)
 
-got : (role : Role) (own : FileNode) (keyed : List KeyedProperty) → HasDistinctNames own → IsPermutation own.properties (map (λ one. one.1) keyed) →
+got : (role : Role) (own : FileNode) (keyed : List KeyedProperty) → HasDistinctNames own →
+    IsPermutation own.properties (map (λ one. one.1) keyed) →
     (name : List ℕ) → get (compared_properties role own) name ≡ cond (is_compared role name) (value_named name keyed) None
 got role own keyed distinct moved name =
     get-compared role own name
@@ -82,11 +83,13 @@ got role own keyed distinct moved name =
 -- ---- values in the order of numbers
 
 -- A number that is below others is below their values.
-below_values : (role : Role) (number : ℕ) (keyed : List KeyedProperty) → AllByRecursion (λ other. nat_cmp number other ≡ Less) (keys_of keyed) →
+below_values : (role : Role) (number : ℕ) (keyed : List KeyedProperty) → AllByRecursion (λ other. nat_cmp number other ≡ Less)
+    (keys_of keyed) →
     T (below_all nat_cmp number (compared_values role keyed))
 below_values role number [] below = tt
 below_values role number (one ∷ keyed) below =
-    elim (is_compared role one.1.name) as (λ b. T (below_all nat_cmp number (cond b ((one.0, one.1.value) ∷ compared_values role keyed) (compared_values role keyed)))) [
+    elim (is_compared role one.1.name) as (λ b. T (below_all nat_cmp number (cond b ((one.0, one.1.value) ∷ compared_values role keyed)
+    (compared_values role keyed)))) [
       | true ↦ both_hold (is_lt (nat_cmp number one.0)) (below_all nat_cmp number (compared_values role keyed))
           (subst (λ o. T (is_lt o)) (sym below.0) tt) (below_values role number keyed below.1)
       | false ↦ below_values role number keyed below.1
@@ -98,7 +101,8 @@ sorted_values : (role : Role) (keyed : List KeyedProperty) → IsStrictlySortedB
 sorted_values role [] ascend = tt
 sorted_values role (one ∷ keyed) ascend =
     let rest = sorted_values role keyed (sorted_tail nat_cmp one.0 (keys_of keyed) ascend) in
-    elim (is_compared role one.1.name) as (λ b. T (is_sorted nat_cmp (cond b ((one.0, one.1.value) ∷ compared_values role keyed) (compared_values role keyed)))) [
+    elim (is_compared role one.1.name) as (λ b. T (is_sorted nat_cmp (cond b ((one.0, one.1.value) ∷ compared_values role keyed)
+    (compared_values role keyed)))) [
       | true ↦ both_hold (below_all nat_cmp one.0 (compared_values role keyed)) (is_sorted nat_cmp (compared_values role keyed))
           (below_values role one.0 keyed (sorted_head nat_cmp one.0 (keys_of keyed) ascend)) rest
       | false ↦ rest
@@ -108,12 +112,14 @@ module _ (names : List (List ℕ)) (distinct : AreDistinct names) (role : Role) 
   -- Numbers are equal if and only if the names are.
   same_test : (number wanted : ℕ) (property_name name : List ℕ) → slice_get names number ≡ Some property_name →
       slice_get names wanted ≡ Some name → (wanted == number) ≡ bytes_eq name property_name
-  same_test number wanted property_name name is wanted_is = same_from_decides (wanted == number) (bytes_eq name property_name) (Decides-eqb wanted number) (
-    (λ true. one_number names distinct wanted number name wanted_is (is ∙ ap (λ n. Some n) (sym ((bytes_eq-Decides name property_name).0 true)))),
-    (λ equal.
-        (bytes_eq-Decides name property_name).1
-        (same_Some name property_name (sym wanted_is ∙ ap (slice_get names) equal ∙ is))),
-  )
+  same_test number wanted property_name name is wanted_is = same_from_decides (wanted == number) (bytes_eq name property_name)
+      (Decides-eqb wanted number) (
+        (λ true. one_number names distinct wanted number name wanted_is (is
+            ∙ ap (λ n. Some n) (sym ((bytes_eq-Decides name property_name).0 true)))),
+        (λ equal.
+            (bytes_eq-Decides name property_name).1
+            (same_Some name property_name (sym wanted_is ∙ ap (slice_get names) equal ∙ is))),
+      )
 
   abbrev AreNumbered : List KeyedProperty → Type 0
   AreNumbered keyed = AllByRecursion (λ (one : KeyedProperty). HasNumber names one.1 one.0) keyed
@@ -134,7 +140,8 @@ module _ (names : List (List ℕ)) (distinct : AreDistinct names) (role : Role) 
 
       where_same : (b : Bool) → bytes_eq name one.1.name ≡ b → (c : Bool) → is_compared role one.1.name ≡ c →
           find nat_cmp wanted (compared_values role keyed) ≡ cond (is_compared role name) (value_named name keyed) None →
-          find nat_cmp wanted (cond (is_compared role one.1.name) ((one.0, one.1.value) ∷ compared_values role keyed) (compared_values role keyed))
+          find nat_cmp wanted (cond (is_compared role one.1.name) ((one.0, one.1.value) ∷ compared_values role keyed)
+          (compared_values role keyed))
           ≡ cond (is_compared role name) (cond (bytes_eq name one.1.name) (Some one.1.value) (value_named name keyed)) None
       where_same true equal true compared rest =
           let own : is_compared role name ≡ true = ap (is_compared role) ((bytes_eq-Decides name one.1.name).0 equal) ∙ compared in
@@ -154,7 +161,8 @@ module _ (names : List (List ℕ)) (distinct : AreDistinct names) (role : Role) 
     where
       where_same : (b : Bool) → (wanted == one.0) ≡ b → (c : Bool) → is_compared role one.1.name ≡ c →
           find nat_cmp wanted (compared_values role keyed) ≡ None →
-          find nat_cmp wanted (cond (is_compared role one.1.name) ((one.0, one.1.value) ∷ compared_values role keyed) (compared_values role keyed))
+          find nat_cmp wanted (cond (is_compared role one.1.name) ((one.0, one.1.value) ∷ compared_values role keyed)
+          (compared_values role keyed))
           ≡ None
       where_same true equal c compared rest =
           let nothing : None ≡ Some one.1.name = sym is ∙ ap (slice_get names) ((Decides-eqb wanted one.0).0 equal) ∙ numbered.0 in
@@ -178,8 +186,10 @@ module _ (names : List (List ℕ)) (distinct : AreDistinct names) (role : Role) 
       (distinct_other : HasDistinctNames other) (are : AreByNumber names own.properties keyed)
       (other_are : AreByNumber names other.properties other_keyed) where
     -- The properties that are compared are the same by name if their values are,
-    pub same_by_name : compared_values role keyed ≡ compared_values role other_keyed → compared_properties role own ≡ compared_properties role other
-    same_by_name equal = same (compared_properties role own) (compared_properties role other) (λ name. by_number name (number_or_none name names))
+    pub same_by_name : compared_values role keyed ≡ compared_values role other_keyed →
+        compared_properties role own ≡ compared_properties role other
+    same_by_name equal = same (compared_properties role own) (compared_properties role other) (λ name. by_number name
+        (number_or_none name names))
       where
         by_number : (name : List ℕ) →
             ((number : ℕ) × (slice_get names number ≡ Some name)) ⊎ ((number : ℕ) → slice_get names number ≡ Some name → ⊥) →
@@ -197,7 +207,8 @@ module _ (names : List (List ℕ)) (distinct : AreDistinct names) (role : Role) 
             ∙ sym (got role other other_keyed distinct_other other_are.permutation name)
 
     -- and only then.
-    pub same_by_number : compared_properties role own ≡ compared_properties role other → compared_values role keyed ≡ compared_values role other_keyed
+    pub same_by_number : compared_properties role own ≡ compared_properties role other →
+        compared_values role keyed ≡ compared_values role other_keyed
     same_by_number equal =
         same_entries nat_cmp nat_cmp_total nat_cmp-IsAntisymmetric (compared_values role keyed) (compared_values role other_keyed)
         (sorted_values role keyed are.ascending) (sorted_values role other_keyed other_are.ascending)

@@ -33,8 +33,9 @@ impl<'a> Fit<'a> {
     /// by name. The payloads of images are compared, and not where the files have them.
     ///
     /// No normal text is made, so no limit applies. Properties are put in the order of the numbers
-    /// of their names first, and names are compared by their numbers. Bytes that the payloads of several images share are compared
-    /// once, if the two payloads that are compared are as far apart in the two files each time.
+    /// of their names first, and names are compared by their numbers. Bytes that the payloads of
+    /// several images share are compared once, if the two payloads that are compared are as far
+    /// apart in the two files each time.
     ///
     /// The only error is OutOfMemory.
     pub fn has_same_meaning(&self, alloc: Global, other: &Fit<'a>) -> Result<bool, Error>

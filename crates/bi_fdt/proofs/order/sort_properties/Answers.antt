@@ -29,7 +29,8 @@ loop-index-preserved c = elim c.match-entry.branch [
       let count : w.in-Node.node.property_count ≡ length (node_in blob.table c.loop-index.index).own.properties =
       property_count_is blob.file blob.table c.loop-index.index w.in-Node.node there.1 in
       subst (AreInOrderBefore blob.table (c.loop-index.index + 1) c.args.pairs.now) (sym w.pairs-is)
-      (node_more blob.table c.loop-index.index (c.loop-index.index + 1) (c.loop-index.index + 1 + w.in-Node.node.property_count - (c.loop-index.index + 1))
+      (node_more blob.table c.loop-index.index (c.loop-index.index + 1) (c.loop-index.index + 1 + w.in-Node.node.property_count -
+      (c.loop-index.index + 1))
       c.args.pairs.now c.loop-index.pairs w.sort_unstable.new.self there.0 refl (omega arith) (omega arith)
       c.loop-index.invariant w.sort_unstable.ensures.permutation w.sort_unstable.ensures.sorted)
   | in_default w ↦

@@ -16,7 +16,8 @@ returns-in_err-entry-clause-steps c =
 -- The first of the properties is the one at the index of the first pair.
 first_is : (c : goal.After-property_in) → c.args.self.now
     ≡ (c.in_ok-key.field-0.now.0, file_property_of c.property_in.result)
-    ∷ keyed_properties (map (item_in c.self.inside.file.now) c.self.inside.entries.now) (drop (c.self.inside.index + 1) c.self.inside.pairs.now)
+    ∷ keyed_properties (map (item_in c.self.inside.file.now) c.self.inside.entries.now) (drop
+    (c.self.inside.index + 1) c.self.inside.pairs.now)
 first_is c =
     let pair = c.in_ok-key.ensures.lookup.3 in
     let found = c.in_ok-entry.ensures.lookup.3 in
@@ -25,7 +26,8 @@ first_is c =
     ∙ keyed_item c.self.inside.file.now c.self.inside.entries.now c.self.inside.pairs.now c.self.inside.index c.in_ok-key.field-0.now
     c.in_ok-key.field-0.now pair.0 (sym (pair.1 c.in_ok-key.field-0.now)) _ c.in_ok-entry.field-0.now found.0
     (sym (found.1 c.in_ok-entry.field-0.now) ∙ c.in-Property.is)
-    ∙ ap (λ property. (c.in_ok-key.field-0.now.0, property) ∷ keyed_properties table (drop (c.self.inside.index + 1) c.self.inside.pairs.now))
+    ∙ ap (λ property. (c.in_ok-key.field-0.now.0, property) ∷ keyed_properties table (drop
+    (c.self.inside.index + 1) c.self.inside.pairs.now))
     (sym c.property_in.ensures)
 
 pub returns-in-Property-clause-steps : goal.returns-in-Property-clause-steps

@@ -1,4 +1,5 @@
-use Rattle.std.proofs.Common.{◌≡◌, ◌↔◌, ℕ, Bool, true, false, not, List, [], ◌∷◌, ◌++◌, Option, Some, None, is_some, Bor, refl, sym, ap, ◌∙◌}
+use Rattle.std.proofs.Common.{◌≡◌, ◌↔◌, ℕ, Bool, true, false, not, List, [], ◌∷◌, ◌++◌, Option, Some, None, is_some, Bor, refl, sym, ap}
+use Rattle.std.proofs.Common.{◌∙◌}
 use Rattle.std.specs.Prelude.{IsTrue, MatchOption}
 use Rattle.std.proofs.lemmas.Bool.{false≢true}
 use Rattle.std.proofs.lemmas.Slice.Eq.{bytes_eq-Decides}
@@ -7,7 +8,9 @@ use Rattle.bi_fit.specs.ComparedNodes.{compared_properties, compared_values}
 use Rattle.bi_fit.proofs.CommonNumbers.{order_stays}
 use Rattle.bi_fit.proofs.ComparedValues.{same_by_name, same_by_number}
 use Rattle.bi_fit.proofs.comparing.properties.have_same_properties.Goals as goal
-use Rattle.bi_fit.proofs.comparing.properties.have_same_properties.Goals.{After-properties_in-others, then-key-other_key-via-then-key-other_key, then-key-other_key-via-else-key-other_key+then-ne}
+use Rattle.bi_fit.proofs.comparing.properties.have_same_properties.Goals.{After-properties_in-others}
+use Rattle.bi_fit.proofs.comparing.properties.have_same_properties.Goals.{then-key-other_key-via-then-key-other_key}
+use Rattle.bi_fit.proofs.comparing.properties.have_same_properties.Goals.{then-key-other_key-via-else-key-other_key+then-ne}
 
 -- The properties are the same by name if and only if their values are the same in the order of the numbers of their names.
 same_values : (c : After-properties_in-others) →

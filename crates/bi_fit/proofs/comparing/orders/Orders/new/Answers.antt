@@ -1,9 +1,9 @@
-use Rattle.std.proofs.Common.{◌≡◌, ◌++◌, sym, ap, subst, ◌∙◌}
+use Rattle.std.proofs.Common.{◌++◌, sym, subst}
 use Rattle.std.specs.List.{AllZip}
 use Rattle.std.proofs.lemmas.Slice.Zip.{AllZip-long}
 use Rattle.bi_blob.specs.Tree.{AreDistinct}
 use Rattle.bi_fdt.specs.Numbers.{FindsNumber, IsNumberOf, IsNumbered, AreNumbered, names_of_table}
-use Rattle.bi_fdt.specs.Order.{IsNumberOrder, IsPropertyOrder}
+use Rattle.bi_fdt.specs.Order.{IsPropertyOrder}
 use Rattle.bi_fit.specs.CommonNumbers.{HaveNumbersAfter}
 use Rattle.bi_fit.proofs.comparing.orders.Orders.new.Goals as goal
 use Rattle.bi_fit.proofs.comparing.orders.Orders.new.Goals.{After-deref-4}
@@ -28,10 +28,12 @@ numbered c =
     c.args.other.now.table
     (subst (AllZip (IsNumberOf (names_of_table c.args.own.now.table ++ (common c).more)) (names_of_table c.args.other.now.table))
     (sym c.deref-2.ensures.value) (common c).numbered)
-    (subst (AreNumbered (names_of_table c.args.other.now.table) c.args.other.now.table) (sym c.deref-3.ensures.value) c.in_ok-name_numbers.ensures)
+    (subst (AreNumbered (names_of_table c.args.other.now.table) c.args.other.now.table)
+    (sym c.deref-3.ensures.value) c.in_ok-name_numbers.ensures)
 
 pub new-requires : goal.new-requires
-new-requires c = rw c.deref-4.ensures.value (AllZip-long (IsNumbered (names_of_table c.args.own.now.table)) c.args.own.now.table c.in_ok-keys.keys.items c.in_ok-keys.ensures)
+new-requires c = rw c.deref-4.ensures.value (AllZip-long (IsNumbered
+    (names_of_table c.args.own.now.table)) c.args.own.now.table c.in_ok-keys.keys.items c.in_ok-keys.ensures)
 
 pub new-requires-2 : goal.new-requires-2
 new-requires-2 c =
@@ -47,6 +49,16 @@ returns c node other_node same other_same =
       names = names;
       more = (common before).more;
       distinct = (common before).distinct;
-      own_order = rw same (record { keys = c.in_ok-keys.keys.items; numbered = c.in_ok-keys.ensures; ordered = subst (λ keys. IsPropertyOrder c.args.own.now.table keys c.in_ok-new.field-0) c.deref-4.ensures.value c.in_ok-new.ensures });
-      other_order = rw other_same (record { keys = c.in_ok-other_keys.other_keys.items; numbered = numbered before; ordered = subst (λ keys. IsPropertyOrder c.args.other.now.table keys c.in_ok-new-2.field-0) c.deref-5.ensures.value c.in_ok-new-2.ensures });
+      own_order = rw same (record {
+        keys = c.in_ok-keys.keys.items;
+        numbered = c.in_ok-keys.ensures;
+        ordered = subst
+            (λ keys. IsPropertyOrder c.args.own.now.table keys c.in_ok-new.field-0) c.deref-4.ensures.value c.in_ok-new.ensures;
+      });
+      other_order = rw other_same (record {
+        keys = c.in_ok-other_keys.other_keys.items;
+        numbered = numbered before;
+        ordered = subst
+            (λ keys. IsPropertyOrder c.args.other.now.table keys c.in_ok-new-2.field-0) c.deref-5.ensures.value c.in_ok-new-2.ensures;
+      });
     }
