@@ -8,7 +8,6 @@ ghost use Rattle.bi_blob.specs.Following.{stage_of_events, MayHaveNextProperty};
 ghost use Rattle.bi_lay.specs.Contents.{with_event};
 ghost use Rattle.bi_lay.specs.Values.{value_bytes};
 ghost use Rattle.bi_fdt.specs.KeyOrder.{IsKeyOrder};
-ghost use Rattle.bi_fit.specs.Names.{is_payload_name as is_payload_name_of};
 ghost use Rattle.bi_fit.specs.ImageTree.{without_payload};
 ghost use Rattle.bi_fit.specs.Text.{with_payload};
 ghost use Rattle.bi_fit.specs.Updating.{with_time};
@@ -24,6 +23,7 @@ ghost use Rattle.bi_fit.specs.EntryOrder.{index_of_name, is_entry_named, IsEntry
 use crate::document::ranked_node::RankedNode;
 use crate::form::Form;
 use crate::memory::only_memory;
+use crate::payload_names::is_payload_name;
 use bi_hash::Algo;
 use bi_lay::{Doc, Value};
 use std::alloc::{AllocError, Global};
@@ -271,14 +271,4 @@ fn has_name_at(entries: &[MapEntry<'_>], index: usize, name: &[u8]) -> bool
         Some(entry) => entry.name == name,
         None => false,
     }
-}
-
-/// Returns whether a property of this name holds a payload or names its region.
-pub(crate) fn is_payload_name(name: &[u8]) -> bool
-    ensures { result ≡ is_payload_name_of name.now }
-{
-    name == b"data".as_slice()
-        || name == b"data-offset".as_slice()
-        || name == b"data-position".as_slice()
-        || name == b"data-size".as_slice()
 }
