@@ -35,6 +35,5 @@ pub use hashes::Checked;
 pub use image::{Image, Place};
 pub use key::Key;
 pub use lists::split_name;
-pub use long_names::long_name;
 pub use payload_names::is_payload_name;
 pub use text::FitText;

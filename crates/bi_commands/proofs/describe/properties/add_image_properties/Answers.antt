@@ -28,9 +28,9 @@ loop-property-preserved-in-Continue-1 c =
     let property = property_of (file_property_of c.in-Some.property) in
     let later = left_of c.next.new.self in
     let left =
-        ap (λ left. start ++ map PropertyEntry left) (sym (others_first property later (sym c.is_payload_name.ensures ∙ c.if-not-is_payload_name.true)))
-        ∙ ap (λ keyed. start ++ map PropertyEntry (others_of (left_of keyed))) (sym c.in-Some.ensures.steps)
-        ∙ c.loop-property.invariant in
+    ap (λ left. start ++ map PropertyEntry left) (sym (others_first property later (sym c.is_payload_name.ensures ∙ c.if-not-is_payload_name.true)))
+    ∙ ap (λ keyed. start ++ map PropertyEntry (others_of (left_of keyed))) (sym c.in-Some.ensures.steps)
+    ∙ c.loop-property.invariant in
     appended_first start (PropertyEntry property ∷ []) (map PropertyEntry (others_of later)) _ (map as_entry c.push.new.self.items) left
     (ap (map as_entry) c.in_ok-push.ensures.items ∙ entries-push c.loop-property.entries.items _)
 
